@@ -27,6 +27,7 @@ cusip_text-number_of (b ∷ bs) size h =
 -- what is read is a CUSIP, and its text is what was read
 pub is_cusip : (text : List ℕ) (n : ℕ) → length text ≡ 9 → ((i : ℕ) → get_or text i 0 < 256) → first_bad 1 text ≡ None
     → slice_index text 8 ≡ 48 + check_digit text → n ≡ number_of text → IsCusip n
+unfolding read_cusip
 is_cusip text n size bytes listed digit is =
     let back : cusip_text n ≡ text = ap cusip_text is ∙ cusip_text-number_of text size bytes in
     let right = eq-eqb (slice_index text 8) (48 + check_digit text) digit in

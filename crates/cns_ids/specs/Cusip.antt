@@ -54,7 +54,7 @@ with_digit text (Some place) = Err (fault.BadChar place)
 with_digit text None = if slice_index text 8 == 48 + check_digit text then Ok (number_of text) else Err (fault.CheckDigit (check_digit text))
 
 -- a text as a CUSIP, or its first fault
-abbrev pub read_cusip : List ℕ → Result ℕ CusipFault
+unfoldable pub read_cusip : List ℕ → Result ℕ CusipFault
 read_cusip text = if length text == 9 then with_digit text (first_bad 1 text) else Err fault.Length
 
 -- a number is a CUSIP's where its nine bytes are read back as it

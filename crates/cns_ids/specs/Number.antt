@@ -16,7 +16,7 @@ abbrev pub within : ℕ → ℕ → ℕ → Result ℕ ReadFault
 within low high n = if nat_le low n && nat_le n high then Ok n else Err fault.OutOfRange
 
 -- the number from low to high that a text is, or the text's first fault
-abbrev pub number_in : ℕ → ℕ → List ℕ → Result ℕ ReadFault
+unfoldable pub number_in : ℕ → ℕ → List ℕ → Result ℕ ReadFault
 number_in low high [] = Err fault.BadNumber
 number_in low high (c ∷ cs) = if list_all is_digit (c ∷ cs) then within low high (decimal_value (c ∷ cs)) else Err fault.BadNumber
 

@@ -126,6 +126,7 @@ impl Cusip {
     /// Reads a CUSIP.
     ///
     /// Refuses `Length`, then the first `BadChar`, then `CheckDigit`.
+    #[tactic(auto, unfolding(crate::specs::Cusip::read_cusip))]
     pub fn read(text: &[u8]) -> Result<Cusip, CusipFault>
         ensures exact { result ≡ read_cusip text.now }
     {

@@ -95,6 +95,7 @@ impl Day {
     /// Reads a date in the form `dddd-dd-dd`.
     ///
     /// Refuses every other text.
+    #[tactic(auto, unfolding(crate::specs::ReadDay::read_day))]
     pub fn read(text: &[u8]) -> Result<Day, BadDate>
         ensures exact { result ≡ read_day text.now }
     {

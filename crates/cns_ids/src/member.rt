@@ -44,6 +44,7 @@ impl MemberNo {
     /// Reads a member's number.
     ///
     /// Refuses `BadNumber`, then `OutOfRange`.
+    #[tactic(auto, unfolding(crate::specs::Number::number_in))]
     pub fn read(text: &[u8]) -> Result<MemberNo, ReadFault>
         ensures exact { result ≡ number_in 1 9999 text.now }
     {

@@ -45,6 +45,7 @@ fn capped_value_of(text: &[u8]) -> Option<u128>
 ///
 /// Refuses `BadNumber`, then `OutOfRange`; a number past 64 bits is out of range. (This project's own
 /// rule.)
+#[tactic(auto, unfolding(crate::specs::Number::number_in))]
 pub fn read_number(text: &[u8], low: u64, high: u64) -> Result<u64, ReadFault>
     ensures exact { result ≡ number_in low high text.now }
 {

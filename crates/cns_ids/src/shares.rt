@@ -44,6 +44,7 @@ impl Shares {
     /// Reads a count of shares.
     ///
     /// Refuses `BadNumber`, then `OutOfRange`.
+    #[tactic(auto, unfolding(crate::specs::Number::number_in))]
     pub fn read(text: &[u8]) -> Result<Shares, ReadFault>
         ensures exact { result ≡ number_in 0 (10 ^ 18) text.now }
     {
@@ -109,6 +110,7 @@ impl Quantity {
 /// Reads a trade's quantity.
 ///
 /// Refuses `BadNumber`, then `OutOfRange`.
+#[tactic(auto, unfolding(crate::specs::Number::number_in))]
 pub fn read_quantity(text: &[u8]) -> Result<Quantity, ReadFault>
     ensures exact { result ≡ number_in 1 999999999999 text.now }
 {

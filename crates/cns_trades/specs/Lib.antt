@@ -1,0 +1,7 @@
+pub mod TradeId
+pub mod ReadId
+pub mod Fields
+pub mod Records
+pub mod Rows
+pub mod Listed
+pub mod Verdicts

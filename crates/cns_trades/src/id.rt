@@ -1,0 +1,127 @@
+ghost use Rattle.std.specs.Prelude.{◌≡◌, ◌≤◌, ◌==◌, length, take};
+ghost use Rattle.std.specs.Cmp.Lexicographic.{pointwise};
+ghost use Rattle.std.specs.List.{list_all};
+ghost use Rattle.std.proofs.Common.{rules};
+ghost use Rattle.std.specs.Hash as fed;
+ghost use Rattle.std.specs.Cmp.Rules.{comparing, hashing};
+ghost use Rattle.cns_trades.specs.TradeId.{is_id_byte, IsId, is_id_text};
+
+use std::fmt;
+use std::hash::{Hash, Hasher};
+use std::marker::Model;
+use thiserror::Error;
+
+/// A text is no trade id.
+#[derive(Clone, Copy, PartialEq, Eq, Debug, Error)]
+#[error("not 1 to 16 capital letters and digits")]
+pub struct BadId;
+
+/// A trade's id: 1 to 16 capital letters and digits. (This project's own rule.)
+///
+/// Contracts see its bytes.
+#[derive(Clone, Copy, Debug)]
+pub struct TradeId {
+    // The bytes, with zeros after them.
+    bytes: [u8; 16],
+    len: u8,
+}
+
+impl Model for TradeId {
+    ghost use Rattle.std.specs.Prelude.{List, ℕ, take, length};
+    ghost use Rattle.std.proofs.Common.{refl};
+    ghost use Rattle.cns_trades.specs.TradeId.{IsStored, padded};
+
+    ghost Value = { List ℕ };
+
+    ghost view = { λ a. take a.len a.bytes };
+
+    ghost invariant = { λ a. IsStored a.len a.bytes };
+
+    ghost inverse = { λ v. record { bytes = padded v; len = length v } };
+
+    ghost inverse_ok = { λ a h. Prim.rw (h.rest, h.size) refl };
+}
+
+fn is_id_character(character: u8) -> bool
+    ensures { result ≡ is_id_byte character }
+{
+    character.is_ascii_uppercase() || character.is_ascii_digit()
+}
+
+fn all_id_characters(text: &[u8]) -> bool
+    ensures { result ≡ list_all is_id_byte text.now }
+{
+    text.iter().all(|character| is_id_character(*character))
+}
+
+// Whether a text is 1 to 16 capital letters and digits.
+fn is_id(text: &[u8]) -> bool
+    ensures { result ≡ is_id_text text.now }
+{
+    !text.is_empty() && text.len() <= 16 && all_id_characters(text)
+}
+
+impl TradeId {
+    ghost use Rattle.cns_trades.specs.ReadId.{read_id};
+
+    /// Reads a trade id.
+    pub fn read(text: &[u8]) -> Result<TradeId, BadId>
+        ensures exact { result ≡ read_id text.now }
+    {
+        if !is_id(text) {
+            return Err(BadId);
+        }
+        let mut bytes = [0; 16];
+        let len = text.len();
+        bytes[..len].copy_from_slice(text);
+        Ok(TradeId {
+            bytes,
+            len: len as u8,
+        })
+    }
+
+    /// The 1 to 16 bytes.
+    pub fn as_bytes(&self) -> &[u8]
+        ensures text { result.now ≡ self.now }
+        ensures id { IsId self.now }
+    {
+        &self.bytes[..self.len as usize]
+    }
+}
+
+impl PartialEq for TradeId {
+    ghost eq = { pointwise ◌==◌ };
+
+    ghost laws = { Prim.search (comparing, rules) };
+
+    fn eq(&self, other: &TradeId) -> bool {
+        self.as_bytes() == other.as_bytes()
+    }
+}
+
+impl Eq for TradeId {
+    ghost laws = { Prim.search (comparing, rules) };
+}
+
+impl Hash for TradeId {
+    ghost hash_input = { fed.slice fed.u8 };
+
+    ghost respects_eq = { Prim.search (hashing, rules) };
+
+    fn hash<H: Hasher>(&self, state: &mut H) {
+        self.as_bytes().hash(state);
+    }
+}
+
+impl fmt::Display for TradeId {
+    ghost use Rattle.std.specs.Prelude.{Some};
+
+    ghost output = { λ id. Some id };
+
+    fn fmt<W: fmt::Write>(&self, f: &mut fmt::Formatter<W>) -> fmt::Result {
+        match str::from_utf8(self.as_bytes()) {
+            Ok(text) => f.write_str(text),
+            Err(_) => Err(fmt::Error),
+        }
+    }
+}

@@ -1,0 +1,21 @@
+//! Trades: the rows of a text, and the list of accepted trades.
+//!
+//! A row is read exactly where it is well formed, and otherwise told by its number and its first
+//! fault. A trade is judged against the accepted ones.
+#![tactic(auto)]
+
+mod fault;
+mod id;
+mod list;
+mod record;
+mod row;
+mod trade;
+
+pub use fault::{CsvFault, RowFault};
+pub use id::{BadId, TradeId};
+pub use list::{TradeList, Verdict};
+pub use row::{Row, read_trades};
+pub use trade::Trade;
+
+#[cfg(test)]
+mod tests;

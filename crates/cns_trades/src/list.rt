@@ -1,0 +1,127 @@
+ghost use Rattle.std.specs.Prelude.{◌≡◌, ◌∷◌, [], ◌++◌, ◌<◌, ◌≤◌, ◌==◌, OnOk, OnErr, IsOk, length};
+ghost use Rattle.cns_trades.specs.Listed.{same_trade};
+
+use crate::id::TradeId;
+use crate::trade::Trade;
+use indexmap::IndexMap;
+use std::alloc::{AllocError, Global};
+use std::marker::Model;
+
+/// What a list of accepted trades says of a trade.
+#[derive(Clone, Copy, PartialEq, Eq, Debug)]
+pub enum Verdict {
+    /// The trade may be accepted.
+    New,
+    /// A trade with this id is accepted, and all fields are equal.
+    Same,
+    /// A trade with this id is accepted, and another field differs.
+    Conflict,
+    /// The buyer is the seller.
+    SameMember,
+    /// A million trades are accepted.
+    Full,
+}
+
+/// The accepted trades by id, in the order in which they were accepted.
+///
+/// Contracts see the trades, and for how many more there is room without taking memory.
+#[derive(Drop)]
+pub struct TradeList {
+    by_id: IndexMap<TradeId, Trade>,
+}
+
+impl Model for TradeList {
+    ghost use Rattle.std.specs.Prelude.{◌≡◌, ◌≤◌, length, map};
+    ghost use Rattle.indexmap.specs.IndexMap.{spare};
+    ghost use Rattle.cns_trades.specs.Listed.{Listed, keyed, IsKeyed};
+
+    ghost Value = { Listed };
+
+    ghost view = { λ a. record { trades = map (λ e. e.1) a.by_id.entries; room = spare a.by_id } };
+
+    ghost invariant = { λ a. IsKeyed a.by_id.entries };
+}
+
+// Whether two trades are equal in all fields.
+fn is_same(a: &Trade, b: &Trade) -> bool
+    ensures { result ≡ same_trade a.now b.now }
+{
+    a == b
+}
+
+impl TradeList {
+    ghost use Rattle.cns_trades.specs.Verdicts.{verdict};
+    ghost use Rattle.cns_trades.specs.declared.list.Verdict.TheVariants.{New};
+
+    /// The most trades that are accepted. (This project's own limit.)
+    pub const MAX: usize = 1_000_000;
+
+    /// An empty list.
+    pub fn new(alloc: Global) -> TradeList
+        ensures { result.trades ≡ [] }
+    {
+        TradeList {
+            by_id: IndexMap::new(alloc),
+        }
+    }
+
+    /// How many trades are accepted.
+    pub fn len(&self) -> usize
+        ensures len { result ≡ length self.now.trades }
+        ensures few { length self.now.trades ≤ 1000000 }
+    {
+        self.by_id.len()
+    }
+
+    /// Whether no trade is accepted.
+    pub fn is_empty(&self) -> bool
+        ensures { result ≡ (length self.now.trades == 0) }
+    {
+        self.len() == 0
+    }
+
+    /// What the list says of a trade, tested in this order: `SameMember`; for a known id `Same` or
+    /// `Conflict`; `Full`; else `New`. (This project's own rule.)
+    pub fn check(&self, trade: &Trade) -> Verdict
+        ensures { result ≡ verdict self.now.trades trade.now }
+    {
+        if trade.buyer == trade.seller {
+            return Verdict::SameMember;
+        }
+        match self.by_id.get(&trade.id) {
+            Some(known) => {
+                if is_same(known, trade) {
+                    Verdict::Same
+                } else {
+                    Verdict::Conflict
+                }
+            }
+            None => {
+                if self.by_id.len() < Self::MAX {
+                    Verdict::New
+                } else {
+                    Verdict::Full
+                }
+            }
+        }
+    }
+
+    /// Takes the memory that `add` of a trade needs; `add` then takes none until the next change.
+    pub fn add_room(&mut self, _trade: Trade) -> Result<(), AllocError>
+        ensures same { self.new.trades ≡ self.old.trades }
+        ensures room { OnOk result (0 < self.new.room) }
+    {
+        self.by_id.reserve(1)
+    }
+
+    /// Accepts a trade that is new.
+    pub fn add(&mut self, trade: Trade) -> Result<(), AllocError>
+        requires { verdict self.old.trades trade ≡ New }
+        ensures ok { OnOk result (self.new.trades ≡ self.old.trades ++ trade ∷ []) }
+        ensures err { OnErr result (self.new.trades ≡ self.old.trades) }
+        ensures room { 0 < self.old.room → IsOk result }
+    {
+        self.by_id.insert(trade.id, trade)?;
+        Ok(())
+    }
+}

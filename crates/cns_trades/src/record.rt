@@ -1,0 +1,88 @@
+ghost use Rattle.std.specs.Prelude.{◌≡◌, ◌++◌, ◌∷◌, [], ℕ, List, Bool, true, false, Some, MatchResult, OnOk, IfErr};
+ghost use Rattle.csv.specs.Records.{fields_of};
+ghost use Rattle.cns_trades.specs.Fields.{field_or_empty};
+ghost use Rattle.cns_trades.specs.Records.{Records, Fields, under_header, rows_of, TellsRows, StandBefore, IsReaderFault};
+ghost use Rattle.cns_trades.specs.declared.fault.CsvFault.TheVariants.{Header};
+
+use crate::fault::CsvFault;
+use csv::{ByteRecord, Error, ErrorKind, ReaderBuilder};
+use std::alloc::Global;
+
+/// What one record of a text is read as.
+pub(crate) trait FromRecord: Drop {
+    /// Whether a record is the header of such rows.
+    ghost is_header: { Fields → Bool };
+
+    /// The row that a record is, by its number.
+    ghost row_at: { ℕ → Fields → Self };
+
+    fn is_header(fields: &ByteRecord) -> bool
+        ensures { result ≡ is_header (fields_of fields.now) };
+
+    fn from_record(row: u64, fields: &ByteRecord) -> Self
+        ensures { result ≡ row_at row (fields_of fields.now) };
+}
+
+/// A field of a record; empty where there is none.
+pub(crate) fn field(fields: &ByteRecord, place: usize) -> &[u8]
+    ensures { result.now ≡ field_or_empty (fields_of fields.now) place }
+{
+    fields.get(place).unwrap_or(&[])
+}
+
+// Why reading stopped. A flexible reader of bytes fails for nothing else.
+fn stopped(error: &Error) -> CsvFault
+    requires { IsReaderFault error.now.kind }
+    ensures { result ≡ Header → ⊥ }
+{
+    match error.kind() {
+        ErrorKind::OutOfMemory => CsvFault::OutOfMemory,
+        ErrorKind::Io(_) => CsvFault::Reading,
+        _ => unreachable!(),
+    }
+}
+
+// Takes the next record: the header, or a row.
+fn take_record<R: FromRecord>(
+    rows: &mut Vec<R>,
+    header_is_next: bool,
+    fields: &ByteRecord,
+) -> Result<(), CsvFault>
+    ensures ok { OnOk result ((before : Records) → StandBefore header_is_next before → under_header R.is_header R.row_at before ≡ Some rows.old.items
+        → under_header R.is_header R.row_at (before ++ fields_of fields.now ∷ []) ≡ Some rows.new.items) }
+    ensures err { IfErr result (λ e. e ≡ Header → (header_is_next ≡ true) × (R.is_header (fields_of fields.now) ≡ false)) }
+{
+    if header_is_next {
+        return if R::is_header(fields) {
+            Ok(())
+        } else {
+            Err(CsvFault::Header)
+        };
+    }
+    let number = rows.len() as u64 + 1;
+    if rows.push(R::from_record(number, fields)).is_err() {
+        return Err(CsvFault::OutOfMemory);
+    }
+    Ok(())
+}
+
+/// The rows of a text: the records that `csv` reads as bytes under the header, numbered from 1.
+pub(crate) fn read_rows<R: FromRecord>(alloc: Global, text: &[u8]) -> Result<Vec<R>, CsvFault>
+    ensures exact { MatchResult result (λ v. rows_of R.is_header R.row_at text.now ≡ Some v.items) (λ e. TellsRows e (rows_of R.is_header R.row_at text.now)) }
+{
+    let reader = ReaderBuilder::new()
+        .has_headers(false)
+        .flexible(true)
+        .from_reader(alloc, text);
+    let mut rows = Vec::new(alloc);
+    let mut header_is_next = true;
+    for record in reader.into_byte_records() {
+        let fields = match record {
+            Ok(fields) => fields,
+            Err(error) => return Err(stopped(&error)),
+        };
+        take_record(&mut rows, header_is_next, &fields)?;
+        header_is_next = false;
+    }
+    Ok(rows)
+}
