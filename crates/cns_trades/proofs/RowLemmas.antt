@@ -1,5 +1,5 @@
 -- Rows under a header, one record after another.
-use Rattle.std.proofs.Common.{◌≡◌, ◌≤◌, ◌<◌, ◌+◌, ◌-◌, ℕ, suc, List, [], ◌∷◌, ◌++◌, length, Option, Some, None, Bool, true, false, refl, sym, ap, ◌∙◌, arith, add-one}
+use Rattle.std.proofs.Common.{◌≡◌, ◌<◌, ◌+◌, ℕ, suc, List, [], ◌∷◌, ◌++◌, length, Option, Some, None, Bool, true, false, refl, sym, ap, ◌∙◌, arith, add-one}
 use Rattle.std.specs.Prelude.{if◌then◌else◌}
 use Rattle.csv.specs.Reading.{ExplainsRead, Reached, default_config, is_flexible, records, records_from}
 use Rattle.csv.specs.declared.parser.State.{State}
@@ -9,7 +9,7 @@ use Rattle.csv.specs.declared.error.ErrorKind.TheVariants as kind
 use Rattle.csv.specs.declared.reader.Reader.{Reader}
 use Rattle.cns_trades.specs.declared.fault.CsvFault.{CsvFault}
 use Rattle.cns_trades.specs.declared.fault.CsvFault.TheVariants as fault
-use Rattle.cns_trades.specs.Records.{Fields, IsReaderFault, Records, StandBefore, TellsRows, rows_from, under_header}
+use Rattle.cns_trades.specs.Records.{Fields, IsReaderFault, Records, TellsRows, rows_from, under_header}
 use Rattle.cns_trades.proofs.AllRead.{some_same}
 
 pub rows_from-append : {R : Type 0} (row_at : ℕ → Fields → R) (n : ℕ) (rs : Records) (r : Fields)

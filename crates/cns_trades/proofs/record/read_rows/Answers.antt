@@ -1,4 +1,4 @@
-use Rattle.std.proofs.Common.{Bor, List, ℕ, ◌≡◌, ◌+◌, ◌<◌, ◌∙◌, sym, refl, ap, rules, inl, inr, true, Some, ◌∷◌, [], ◌++◌, length, length-append, arith}
+use Rattle.std.proofs.Common.{Bor, List, ℕ, ◌+◌, ◌<◌, ◌∙◌, sym, refl, ap, inl, inr, Some, ◌∷◌, [], ◌++◌, length, length-append, arith}
 use Rattle.std.proofs.lemmas.Result.{err_from_is_err_and}
 use Rattle.csv.specs.Reading.{Reached, default_config, strip_bom}
 use Rattle.csv.specs.Records.{fields_of}

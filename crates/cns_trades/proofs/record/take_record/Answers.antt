@@ -1,4 +1,4 @@
-use Rattle.std.proofs.Common.{◌≡◌, ◌∙◌, sym, rules, arith, ◌++◌, ◌∷◌, [], true, length}
+use Rattle.std.proofs.Common.{◌≡◌, ◌∙◌, sym, rules, true, length}
 use Rattle.std.specs.Result.{is_ok}
 use Rattle.cns_trades.proofs.RowLemmas.{takes_header, takes_row}
 use Rattle.cns_trades.proofs.record.take_record.Goals as goal

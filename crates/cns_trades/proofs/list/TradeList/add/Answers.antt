@@ -1,4 +1,4 @@
-use Rattle.std.proofs.Common.{◌≡◌, ◌∙◌, ◌++◌, ◌∷◌, [], sym, refl, map, None, ap}
+use Rattle.std.proofs.Common.{◌∙◌, sym}
 use Rattle.indexmap.proofs.CallerLemmas.{insert_entry-new}
 use Rattle.cns_trades.proofs.ListLemmas.{keyed-more, known-lookup, new-few, new-unknown, trades-more}
 use Rattle.cns_trades.specs.Fields.{same_text}

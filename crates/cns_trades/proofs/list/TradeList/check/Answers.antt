@@ -1,4 +1,4 @@
-use Rattle.std.proofs.Common.{◌≡◌, ◌∙◌, sym, refl, length, map}
+use Rattle.std.proofs.Common.{◌∙◌, sym, refl}
 use Rattle.std.proofs.lemmas.Bool.{lt-ltb, le-ltb}
 use Rattle.cns_trades.proofs.ListLemmas.{known-lookup, trades_size, verdict-found, verdict-none}
 use Rattle.cns_trades.proofs.list.TradeList.check.Goals as goal

@@ -1,0 +1,172 @@
+-- What a book keeps as it grows.
+use Rattle.std.proofs.Common.{◌≡◌, ◌≤◌, ◌<◌, ◌+◌, ◌-◌, ◌*◌, ◌^◌, ℕ, List, [], ◌∷◌, length, length-append, Option, Some, None, Bool, true, false, refl, sym, arith}
+use Rattle.std.specs.Prelude.{◌&&◌, ◌==◌, ℤ, pos, negsuc, ◌-ℤ◌, ◌+ℤ◌, if◌then◌else◌}
+use Rattle.std.proofs.lemmas.Int.{ints}
+use Rattle.std.proofs.lemmas.Bool.{eqb-true}
+use Rattle.cns_trades.specs.declared.trade.Trade.{Trade}
+use Rattle.cns_netting.specs.History.{accepted, bought, credit, credit_part, debit, debit_part, due_since, is_reached, latest, position_of, settled_in, settled_out, sold}
+use Rattle.cns_netting.specs.Rows.{holdings_of, netted_by}
+use Rattle.cns_netting.specs.Tally.{AreSmall, credit_from, debit_from}
+use Rattle.cns_netting.specs.Book.{AmountsFit, IsBook, IsSettled, IsWithin, QuantitiesFit}
+use Rattle.cns_netting.specs.declared.entry.NetEntry.{NetEntry}
+use Rattle.cns_netting.specs.declared.entry.NetEntry.TheVariants.{Accepted, Netted, Settled}
+use Rattle.cns_netting.proofs.TallyLemmas.{bought-due, credit_from-sums, debit_from-sums, sold-due}
+
+share_most : (b : Bool) (q n : ℕ) → q ≤ n → (if b then q else 0) ≤ n
+share_most true q n h = h
+share_most false q n h = omega arith
+
+-- the shares that due trades bring a member are at most those of all accepted trades
+pub bought-most : (reached : Option ℕ) (h : List NetEntry) (m i : ℕ) → QuantitiesFit h → bought (due_since reached h) m i ≤ length (accepted h) * 999999999999
+unfolding bought QuantitiesFit
+bought-most reached [] m i fit = omega arith
+bought-most reached (Accepted t ∷ h) m i fit =
+    let due = bought-due (is_reached reached t.settle) t (due_since reached h) m i in
+    let one = share_most ((t.buyer == m) && (t.issue == i)) t.quantity 999999999999 fit.0 in
+    let most = share_most (is_reached reached t.settle) (if (t.buyer == m) && (t.issue == i) then t.quantity else 0) 999999999999 one in
+    omega (arith, due, most, bought-most reached h m i fit.1, length-append (accepted h) (t ∷ []))
+bought-most reached (Netted d ∷ h) m i fit = bought-most (latest reached d) h m i fit
+bought-most reached (Settled k j z ∷ h) m i fit = bought-most reached h m i fit
+
+pub sold-most : (reached : Option ℕ) (h : List NetEntry) (m i : ℕ) → QuantitiesFit h → sold (due_since reached h) m i ≤ length (accepted h) * 999999999999
+unfolding sold QuantitiesFit
+sold-most reached [] m i fit = omega arith
+sold-most reached (Accepted t ∷ h) m i fit =
+    let due = sold-due (is_reached reached t.settle) t (due_since reached h) m i in
+    let one = share_most ((t.seller == m) && (t.issue == i)) t.quantity 999999999999 fit.0 in
+    let most = share_most (is_reached reached t.settle) (if (t.seller == m) && (t.issue == i) then t.quantity else 0) 999999999999 one in
+    omega (arith, due, most, sold-most reached h m i fit.1, length-append (accepted h) (t ∷ []))
+sold-most reached (Netted d ∷ h) m i fit = sold-most (latest reached d) h m i fit
+sold-most reached (Settled k j z ∷ h) m i fit = sold-most reached h m i fit
+
+settled_in-most : (h : List NetEntry) (m i : ℕ) → AmountsFit h → settled_in h m i ≤ length h * 2000000000000000000
+unfolding settled_in AmountsFit
+settled_in-most [] m i fit = omega arith
+settled_in-most (Accepted t ∷ h) m i fit = omega (arith, settled_in-most h m i fit)
+settled_in-most (Netted d ∷ h) m i fit = omega (arith, settled_in-most h m i fit)
+settled_in-most (Settled k j z ∷ h) m i fit =
+    let one = share_most ((k == m) && (j == i)) (credit_part z) 2000000000000000000 fit.0 in
+    omega (arith, one, settled_in-most h m i fit.2)
+
+settled_out-most : (h : List NetEntry) (m i : ℕ) → AmountsFit h → settled_out h m i ≤ length h * 2000000000000000000
+unfolding settled_out AmountsFit
+settled_out-most [] m i fit = omega arith
+settled_out-most (Accepted t ∷ h) m i fit = omega (arith, settled_out-most h m i fit)
+settled_out-most (Netted d ∷ h) m i fit = omega (arith, settled_out-most h m i fit)
+settled_out-most (Settled k j z ∷ h) m i fit =
+    let one = share_most ((k == m) && (j == i)) (debit_part z) 2000000000000000000 fit.1 in
+    omega (arith, one, settled_out-most h m i fit.2)
+
+-- the sums of a book fit
+pub small : (reached : Option ℕ) (m i : ℕ) (h : List NetEntry) → IsBook h → length h < 2 ^ 63 → AreSmall reached m i h
+small reached m i h book size = record {
+  credit = omega (arith, credit_from-sums reached m i h, bought-most reached h m i book.quantities, settled_in-most h m i book.amounts, book.few, size);
+  debit = omega (arith, debit_from-sums reached m i h, sold-most reached h m i book.quantities, settled_out-most h m i book.amounts, book.few, size);
+}
+
+pub book_empty : IsBook []
+unfolding QuantitiesFit AmountsFit settled_in settled_out
+book_empty = record { few = omega arith; quantities = tt; amounts = tt; settled = λ m i. record { in_most = omega arith; out_most = omega arith } }
+
+pub book_accepted : (h : List NetEntry) (t : Trade) → IsBook h → length (accepted h) < 1000000 → t.quantity ≤ 999999999999 → IsBook (Accepted t ∷ h)
+unfolding QuantitiesFit AmountsFit settled_in settled_out
+book_accepted h t book few fits = record {
+  few = omega (arith, few, length-append (accepted h) (t ∷ []));
+  quantities = (fits, book.quantities);
+  amounts = book.amounts;
+  settled = λ m i. record { in_most = (book.settled m i).in_most; out_most = (book.settled m i).out_most };
+}
+
+pub book_netted : (h : List NetEntry) (d : ℕ) → IsBook h → IsBook (Netted d ∷ h)
+unfolding QuantitiesFit AmountsFit settled_in settled_out
+book_netted h d book = record {
+  few = book.few;
+  quantities = book.quantities;
+  amounts = book.amounts;
+  settled = λ m i. record { in_most = (book.settled m i).in_most; out_most = (book.settled m i).out_most };
+}
+
+pub record AreNear (c d : ℕ) : Type 0 where
+  pub above : c ≤ d + 1000000000000000000
+  pub below : d ≤ c + 1000000000000000000
+
+pub record AreSettled (come gone : ℕ) : Type 0 where
+  pub in_most : come ≤ gone + 2000000000000000000
+  pub out_most : gone ≤ come + 2000000000000000000
+
+-- a position within 10^18 of 0, by its two sides
+pub sides_near : (c d : ℕ) → IsWithin (pos c -ℤ pos d) → AreNear c d
+sides_near c d w = record { above = omega (arith, ints, w.high); below = omega (arith, ints, w.low) }
+
+pub moved_near : (c d : ℕ) (z : ℤ) → IsWithin ((pos c -ℤ pos d) +ℤ z) → AreNear (c + credit_part z) (d + debit_part z)
+moved_near c d (pos n) w = record { above = omega (arith, ints, w.high); below = omega (arith, ints, w.low) }
+moved_near c d (negsuc n) w = record { above = omega (arith, ints, w.high); below = omega (arith, ints, w.low) }
+
+same_place : (k m j i : ℕ) → ((k == m) && (j == i)) ≡ true → (k ≡ m) × (j ≡ i)
+same_place k m j i h = by (k == m) refl h
+  where
+    by : (b : Bool) → (k == m) ≡ b → (b && (j == i)) ≡ true → (k ≡ m) × (j ≡ i)
+    by true e g = (eqb-true k m e, eqb-true j i g)
+    by false e g = cc g
+
+-- a settlement that leaves the position within 10^18 of 0
+pub book_settled : (h : List NetEntry) (m i : ℕ) (z : ℤ) → IsBook h → IsWithin (position_of h m i) → IsWithin (position_of h m i +ℤ z) → IsBook (Settled m i z ∷ h)
+unfolding QuantitiesFit AmountsFit settled_in settled_out
+book_settled h m i z book before after =
+    let was = sides_near (credit h m i) (debit h m i) before in
+    let is = moved_near (credit h m i) (debit h m i) z after in
+    let buys = bought-most None h m i book.quantities in
+    let sells = sold-most None h m i book.quantities in
+    let fits = parts_fit (credit h m i) (debit h m i) z was is in
+    record {
+      few = book.few;
+      quantities = book.quantities;
+      amounts = (fits.0, fits.1, book.amounts);
+      settled = λ k j. by k j ((m == k) && (i == j)) refl
+          (record {
+            in_most = omega (arith, was.above, was.below, is.above, is.below, buys, sells, book.few);
+            out_most = omega (arith, was.above, was.below, is.above, is.below, buys, sells, book.few);
+          });
+    }
+  where
+    parts_fit : (c d : ℕ) (z : ℤ) → AreNear c d → AreNear (c + credit_part z) (d + debit_part z)
+        → (credit_part z ≤ 2000000000000000000) × (debit_part z ≤ 2000000000000000000)
+    parts_fit c d (pos n) a b = (omega (arith, a.below, b.above), omega arith)
+    parts_fit c d (negsuc n) a b = (omega arith, omega (arith, a.above, b.below))
+
+    by : (k j : ℕ) (b : Bool) → ((m == k) && (i == j)) ≡ b → AreSettled (credit_part z + settled_in h m i) (debit_part z + settled_out h m i)
+        → IsSettled (Settled m i z ∷ h) k j
+    by k j true e s =
+        let same = same_place m k i j e in
+        record {
+          in_most = rw (e, ← same.0, ← same.1) s.in_most;
+          out_most = rw (e, ← same.0, ← same.1) s.out_most;
+        }
+    by k j false e s = record {
+      in_most = rw e (omega (arith, (book.settled k j).in_most));
+      out_most = rw e (omega (arith, (book.settled k j).out_most));
+    }
+
+-- the sums of a history as after a netting
+pub credit-netted : (reached : Option ℕ) (m i : ℕ) (h : List NetEntry) → credit (netted_by reached h) m i ≡ credit_from reached m i h
+unfolding settled_in
+credit-netted None m i h = sym (credit_from-sums None m i h)
+credit-netted (Some day) m i h = sym (credit_from-sums (Some day) m i h)
+
+pub debit-netted : (reached : Option ℕ) (m i : ℕ) (h : List NetEntry) → debit (netted_by reached h) m i ≡ debit_from reached m i h
+unfolding settled_out
+debit-netted None m i h = sym (debit_from-sums None m i h)
+debit-netted (Some day) m i h = sym (debit_from-sums (Some day) m i h)
+
+-- a position of a book lies within 3 * 10^18 of 0
+pub long-most : (h : List NetEntry) (m i : ℕ) → IsBook h → credit h m i - debit h m i ≤ 3000000000000000000
+long-most h m i book = omega (arith, bought-most None h m i book.quantities, (book.settled m i).in_most, book.few)
+
+pub short-most : (h : List NetEntry) (m i : ℕ) → IsBook h → debit h m i - credit h m i ≤ 3000000000000000000
+short-most h m i book = omega (arith, sold-most None h m i book.quantities, (book.settled m i).out_most, book.few)
+
+-- a netting names no holding
+pub holdings-netted : (reached : Option ℕ) (h : List NetEntry) → holdings_of (netted_by reached h) ≡ holdings_of h
+unfolding holdings_of
+holdings-netted None h = refl
+holdings-netted (Some day) h = refl

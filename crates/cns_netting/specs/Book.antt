@@ -1,0 +1,41 @@
+-- What a book keeps.
+use Rattle.std.specs.Prelude.{ℕ, ◌+◌, ◌≤◌, List, [], ◌∷◌, length, ℤ, pos, neg_ℤ, ◌≤ℤ◌}
+use Rattle.cns_netting.specs.History.{accepted, credit_part, debit_part, settled_in, settled_out}
+use Rattle.cns_netting.specs.declared.entry.NetEntry.{NetEntry}
+use Rattle.cns_netting.specs.declared.entry.NetEntry.TheVariants.{Accepted, Netted, Settled}
+
+-- the history, the newest entry first, and for how many more entries there is room
+pub record NetRoom : Type 0 where
+  pub history : List NetEntry
+  pub room : ℕ
+
+-- a position within 10^18 of 0
+pub record IsWithin (z : ℤ) : Type 0 where
+  pub low : neg_ℤ (pos 1000000000000000000) ≤ℤ z
+  pub high : z ≤ℤ pos 1000000000000000000
+
+-- the accepted trades' quantities are in range
+unfoldable pub QuantitiesFit : List NetEntry → Type 0
+QuantitiesFit [] = Unit {0}
+QuantitiesFit (Accepted t ∷ h) = (t.quantity ≤ 999999999999) × QuantitiesFit h
+QuantitiesFit (Netted d ∷ h) = QuantitiesFit h
+QuantitiesFit (Settled m i z ∷ h) = QuantitiesFit h
+
+-- settled amounts are at most 2 * 10^18 in size
+unfoldable pub AmountsFit : List NetEntry → Type 0
+AmountsFit [] = Unit {0}
+AmountsFit (Accepted t ∷ h) = AmountsFit h
+AmountsFit (Netted d ∷ h) = AmountsFit h
+AmountsFit (Settled m i z ∷ h) = (credit_part z ≤ 2000000000000000000) × (debit_part z ≤ 2000000000000000000) × AmountsFit h
+
+-- the settlements of a member in an issue come to at most 2 * 10^18 either way
+pub record IsSettled (h : List NetEntry) (member issue : ℕ) : Type 0 where
+  pub in_most : settled_in h member issue ≤ settled_out h member issue + 2000000000000000000
+  pub out_most : settled_out h member issue ≤ settled_in h member issue + 2000000000000000000
+
+-- at most a million trades, their quantities in range, and settlements that leave each position within 10^18 of 0
+pub record IsBook (h : List NetEntry) : Type 0 where
+  pub few : length (accepted h) ≤ 1000000
+  pub quantities : QuantitiesFit h
+  pub amounts : AmountsFit h
+  pub settled : (member issue : ℕ) → IsSettled h member issue

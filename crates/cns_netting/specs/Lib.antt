@@ -1,0 +1,4 @@
+pub mod History
+pub mod Tally
+pub mod Rows
+pub mod Book

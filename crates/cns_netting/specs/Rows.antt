@@ -1,0 +1,44 @@
+-- The positions of a history, by issue, then member.
+use Rattle.std.specs.Prelude.{ℕ, ◌==◌, List, [], ◌∷◌, Option, Some, None, if◌then◌else◌}
+use Rattle.std.specs.List.{filter_map}
+use Rattle.std.specs.declared.cmp.Ordering.{Ordering}
+use Rattle.std.specs.Ordering.{nat_cmp, ordering_then}
+use Rattle.std.specs.BTreeSet.{insert_key}
+use Rattle.cns_netting.specs.History.{credit, debit, position_of}
+use Rattle.cns_netting.specs.declared.entry.NetEntry.{NetEntry}
+use Rattle.cns_netting.specs.declared.entry.NetEntry.TheVariants.{Accepted, Netted, Settled}
+use Rattle.cns_netting.specs.declared.position.Holding.{Holding}
+use Rattle.cns_netting.specs.declared.position.PositionRow.{PositionRow}
+
+-- the order of holdings: by issue, then member
+abbrev pub holding_cmp : Holding → Holding → Ordering
+holding_cmp a b = ordering_then (nat_cmp a.issue b.issue) (nat_cmp a.member b.member)
+
+abbrev pub holding_at : ℕ → ℕ → Holding
+holding_at issue member = record { issue = issue; member = member }
+
+-- holdings with those that an entry names, each once, in order
+abbrev pub with_holdings : List Holding → NetEntry → List Holding
+with_holdings ks (Accepted t) = insert_key holding_cmp (insert_key holding_cmp ks (holding_at t.issue t.buyer)) (holding_at t.issue t.seller)
+with_holdings ks (Netted d) = ks
+with_holdings ks (Settled m i z) = insert_key holding_cmp ks (holding_at i m)
+
+-- the holdings that some entry names, each once, in order
+unfoldable pub holdings_of : List NetEntry → List Holding
+holdings_of [] = []
+holdings_of (e ∷ h) = with_holdings (holdings_of h) e
+
+-- the row of a holding, where its position is not 0
+unfoldable pub open_row : List NetEntry → Holding → Option PositionRow
+open_row h k =
+    if credit h k.member k.issue == debit h k.member k.issue then None
+    else Some (record { issue = k.issue; member = k.member; position = position_of h k.member k.issue })
+
+-- the positions other than 0
+abbrev pub rows_of : List NetEntry → List PositionRow
+rows_of h = filter_map (open_row h) (holdings_of h)
+
+-- a history as after a netting of a date, where there is one
+abbrev pub netted_by : Option ℕ → List NetEntry → List NetEntry
+netted_by None h = h
+netted_by (Some day) h = Netted day ∷ h

@@ -1,0 +1,14 @@
+//! Netting: each member's due trades in an issue become one long or short position.
+#![tactic(auto)]
+
+mod book;
+mod entry;
+mod position;
+mod tally;
+
+pub use book::NetBook;
+pub use entry::NetEntry;
+pub use position::{Holding, PositionRow};
+
+#[cfg(test)]
+mod tests;
