@@ -1,0 +1,36 @@
+-- The names of faults, as lines show them (this project's own format).
+use Rattle.std.specs.Prelude.{ℕ, List, ◌++◌, codes}
+use Rattle.std.specs.Fmt.{decimal}
+use Rattle.cns_ids.specs.declared.cusip.CusipFault.{CusipFault}
+use Rattle.cns_ids.specs.declared.cusip.CusipFault.TheVariants as cusip
+use Rattle.cns_ids.specs.declared.number.ReadFault.{ReadFault}
+use Rattle.cns_ids.specs.declared.number.ReadFault.TheVariants as number
+use Rattle.cns_trades.specs.declared.fault.RowFault.{RowFault}
+use Rattle.cns_trades.specs.declared.fault.RowFault.TheVariants as fault
+use Rattle.cns_trades.specs.declared.list.Verdict.{Verdict}
+use Rattle.cns_trades.specs.declared.list.Verdict.TheVariants as verdicts
+
+abbrev pub read_fault_text : ReadFault → List ℕ
+read_fault_text number.BadNumber = codes "BadNumber"
+read_fault_text number.OutOfRange = codes "OutOfRange"
+
+abbrev pub cusip_fault_text : CusipFault → List ℕ
+cusip_fault_text cusip.Length = codes "Length"
+cusip_fault_text (cusip.BadChar place) = codes "BadChar " ++ decimal place
+cusip_fault_text (cusip.CheckDigit want) = codes "CheckDigit " ++ decimal want
+
+abbrev pub row_fault_text : RowFault → List ℕ
+row_fault_text fault.Fields = codes "Fields"
+row_fault_text fault.Id = codes "Id"
+row_fault_text fault.Settle = codes "Settle BadDate"
+row_fault_text (fault.Buyer e) = codes "Buyer " ++ read_fault_text e
+row_fault_text (fault.Seller e) = codes "Seller " ++ read_fault_text e
+row_fault_text (fault.Cusip e) = codes "Cusip " ++ cusip_fault_text e
+row_fault_text (fault.Quantity e) = codes "Quantity " ++ read_fault_text e
+
+abbrev pub verdict_text : Verdict → List ℕ
+verdict_text verdicts.New = codes "New"
+verdict_text verdicts.Same = codes "Same"
+verdict_text verdicts.Conflict = codes "Conflict"
+verdict_text verdicts.SameMember = codes "SameMember"
+verdict_text verdicts.Full = codes "Full"

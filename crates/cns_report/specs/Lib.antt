@@ -1,0 +1,4 @@
+pub mod Right
+pub mod Faults
+pub mod Lines
+pub mod Report

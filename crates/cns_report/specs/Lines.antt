@@ -1,0 +1,40 @@
+-- The outcome lines (this project's own format). Each ends with LF.
+use Rattle.std.specs.Prelude.{ℕ, List, [], ◌∷◌, ◌++◌, codes}
+use Rattle.std.specs.Fmt.{decimal}
+use Rattle.cns_ids.specs.Cycle.{kind_text}
+use Rattle.cns_ids.specs.Day.{day_text}
+use Rattle.cns_ids.specs.declared.cycle.CycleId.{CycleId}
+use Rattle.cns_trades.specs.declared.fault.RowFault.{RowFault}
+use Rattle.cns_trades.specs.declared.list.Verdict.{Verdict}
+use Rattle.cns_trades.specs.declared.list.Verdict.TheVariants as verdicts
+use Rattle.cns_report.specs.Faults.{row_fault_text, verdict_text}
+
+abbrev pub line_end : List ℕ
+line_end = 10 ∷ []
+
+abbrev pub answer_text : Verdict → List ℕ
+answer_text verdicts.New = codes " accepted"
+answer_text verdicts.Same = codes " refused " ++ verdict_text verdicts.Same
+answer_text verdicts.Conflict = codes " refused " ++ verdict_text verdicts.Conflict
+answer_text verdicts.SameMember = codes " refused " ++ verdict_text verdicts.SameMember
+answer_text verdicts.Full = codes " refused " ++ verdict_text verdicts.Full
+
+-- trade ID accepted, or: trade ID refused NAME
+abbrev pub trade_line : List ℕ → Verdict → List ℕ
+trade_line id verdict = codes "trade " ++ id ++ answer_text verdict ++ line_end
+
+-- row N fault ..
+abbrev pub row_fault_line : ℕ → RowFault → List ℕ
+row_fault_line row fault = codes "row " ++ decimal row ++ codes " fault " ++ row_fault_text fault ++ line_end
+
+-- line N bad command
+abbrev pub bad_command_line : ℕ → List ℕ
+bad_command_line line = codes "line " ++ decimal line ++ codes " bad command" ++ line_end
+
+-- cycle DATE KIND due N
+abbrev pub cycle_line : CycleId → ℕ → List ℕ
+cycle_line cycle due = codes "cycle " ++ day_text cycle.day ++ 32 ∷ kind_text cycle.kind ++ codes " due " ++ decimal due ++ line_end
+
+-- cycle refused CycleOrder
+abbrev pub cycle_refused_line : List ℕ
+cycle_refused_line = codes "cycle refused CycleOrder" ++ line_end

@@ -1,0 +1,87 @@
+ghost use Rattle.std.specs.Prelude.{Some};
+ghost use Rattle.cns_report.specs.Faults.{read_fault_text, cusip_fault_text, row_fault_text, verdict_text};
+
+use cns_ids::{CusipFault, ReadFault};
+use cns_trades::{RowFault, Verdict};
+use std::fmt;
+
+/// The name of a number's fault.
+#[derive(Clone, Copy)]
+pub(crate) struct ReadFaultName(pub(crate) ReadFault);
+
+impl fmt::Display for ReadFaultName {
+    ghost output = { λ name. Some (read_fault_text name.0) };
+
+    fn fmt<W: fmt::Write>(&self, f: &mut fmt::Formatter<W>) -> fmt::Result {
+        f.write_str(match self.0 {
+            ReadFault::BadNumber => "BadNumber",
+            ReadFault::OutOfRange => "OutOfRange",
+        })
+    }
+}
+
+/// The name of a CUSIP's fault.
+#[derive(Clone, Copy)]
+pub(crate) struct CusipFaultName(pub(crate) CusipFault);
+
+impl fmt::Display for CusipFaultName {
+    ghost output = { λ name. Some (cusip_fault_text name.0) };
+
+    fn fmt<W: fmt::Write>(&self, f: &mut fmt::Formatter<W>) -> fmt::Result {
+        match self.0 {
+            CusipFault::Length => f.write_str("Length"),
+            CusipFault::BadChar { place } => write!(f, "BadChar {place}"),
+            CusipFault::CheckDigit { want } => write!(f, "CheckDigit {want}"),
+        }
+    }
+}
+
+/// The name of a row's fault: the field and what is wrong with it.
+#[derive(Clone, Copy)]
+pub(crate) struct RowFaultName(pub(crate) RowFault);
+
+impl fmt::Display for RowFaultName {
+    ghost output = { λ name. Some (row_fault_text name.0) };
+
+    fn fmt<W: fmt::Write>(&self, f: &mut fmt::Formatter<W>) -> fmt::Result {
+        match self.0 {
+            RowFault::Fields => f.write_str("Fields"),
+            RowFault::Id => f.write_str("Id"),
+            RowFault::Settle => f.write_str("Settle BadDate"),
+            RowFault::Buyer(fault) => {
+                let name = ReadFaultName(fault);
+                write!(f, "Buyer {name}")
+            }
+            RowFault::Seller(fault) => {
+                let name = ReadFaultName(fault);
+                write!(f, "Seller {name}")
+            }
+            RowFault::Cusip(fault) => {
+                let name = CusipFaultName(fault);
+                write!(f, "Cusip {name}")
+            }
+            RowFault::Quantity(fault) => {
+                let name = ReadFaultName(fault);
+                write!(f, "Quantity {name}")
+            }
+        }
+    }
+}
+
+/// The name of a verdict.
+#[derive(Clone, Copy)]
+pub(crate) struct VerdictName(pub(crate) Verdict);
+
+impl fmt::Display for VerdictName {
+    ghost output = { λ name. Some (verdict_text name.0) };
+
+    fn fmt<W: fmt::Write>(&self, f: &mut fmt::Formatter<W>) -> fmt::Result {
+        f.write_str(match self.0 {
+            Verdict::New => "New",
+            Verdict::Same => "Same",
+            Verdict::Conflict => "Conflict",
+            Verdict::SameMember => "SameMember",
+            Verdict::Full => "Full",
+        })
+    }
+}

@@ -1,0 +1,77 @@
+use crate::{
+    write_bad_command, write_cycle, write_cycle_refused, write_cycle_report, write_report_end,
+    write_row_fault, write_trade,
+};
+use cns_ids::{Cusip, CusipFault, CycleId, CycleKind, Day, MemberNo, ReadFault};
+use cns_netting::PositionRow;
+use cns_trades::{RowFault, TradeId, Verdict};
+use std::test::Fail;
+
+#[test]
+fn lines(rt: HostRuntime) -> Result<(), Fail> {
+    let id = TradeId::read(b"A1")?;
+    let night = CycleId {
+        day: Day::read(b"2025-03-04")?,
+        kind: CycleKind::Night,
+    };
+    let mut out = String::new(rt.alloc());
+    write_trade(&mut out, id, Verdict::New)?;
+    write_trade(&mut out, id, Verdict::Same)?;
+    write_trade(&mut out, id, Verdict::Conflict)?;
+    write_trade(&mut out, id, Verdict::SameMember)?;
+    write_trade(&mut out, id, Verdict::Full)?;
+    write_row_fault(&mut out, 5, RowFault::Settle)?;
+    write_row_fault(&mut out, 6, RowFault::Fields)?;
+    write_row_fault(&mut out, 7, RowFault::Id)?;
+    write_row_fault(&mut out, 8, RowFault::Buyer(ReadFault::BadNumber))?;
+    write_row_fault(&mut out, 9, RowFault::Seller(ReadFault::OutOfRange))?;
+    write_row_fault(
+        &mut out,
+        10,
+        RowFault::Cusip(CusipFault::BadChar { place: 6 }),
+    )?;
+    write_row_fault(
+        &mut out,
+        11,
+        RowFault::Cusip(CusipFault::CheckDigit { want: 0 }),
+    )?;
+    write_row_fault(&mut out, 12, RowFault::Cusip(CusipFault::Length))?;
+    write_row_fault(&mut out, 13, RowFault::Quantity(ReadFault::OutOfRange))?;
+    write_bad_command(&mut out, 1)?;
+    write_cycle(&mut out, night, 2)?;
+    write_cycle_refused(&mut out)?;
+    let want =
+        "trade A1 accepted\ntrade A1 refused Same\ntrade A1 refused Conflict\ntrade A1 refused SameMember\ntrade A1 refused Full\nrow 5 fault Settle BadDate\nrow 6 fault Fields\nrow 7 fault Id\nrow 8 fault Buyer BadNumber\nrow 9 fault Seller OutOfRange\nrow 10 fault Cusip BadChar 6\nrow 11 fault Cusip CheckDigit 0\nrow 12 fault Cusip Length\nrow 13 fault Quantity OutOfRange\nline 1 bad command\ncycle 2025-03-04 NIGHT due 2\ncycle refused CycleOrder\n";
+    assert_eq!(rt; out.as_str(), want);
+    Ok(())
+}
+
+#[test]
+fn a_report(rt: HostRuntime) -> Result<(), Fail> {
+    let issue = Cusip::read(b"037833100")?;
+    let rows = [
+        PositionRow {
+            issue,
+            member: MemberNo::read(b"1")?,
+            position: -60,
+        },
+        PositionRow {
+            issue,
+            member: MemberNo::read(b"2")?,
+            position: 1_000_000_000_000_000_000,
+        },
+    ];
+    let day = CycleId {
+        day: Day::read(b"2025-03-04")?,
+        kind: CycleKind::Day,
+    };
+    let mut out = String::new(rt.alloc());
+    write_cycle_report(&mut out, None, &[])?;
+    write_report_end(&mut out)?;
+    write_cycle_report(&mut out, Some(day), &rows)?;
+    write_report_end(&mut out)?;
+    let want =
+        "REPORT cycle none\nEND\nREPORT cycle 2025-03-04 DAY\nPOS 037833100 0001                  -60\nPOS 037833100 0002  1000000000000000000\nEND\n";
+    assert_eq!(rt; out.as_str(), want);
+    Ok(())
+}
