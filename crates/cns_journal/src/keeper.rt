@@ -1,0 +1,113 @@
+//! What every keeper of a journal promises.
+
+ghost use Rattle.std.specs.Prelude.{◌≡◌, ◌≤◌, Bool, true, false, None, length};
+ghost use Rattle.cns_journal.specs.Keeper.{Running, Journal, CommitLeaves, CommitKeeps, ReopenLeaves, ReopenKeeps, given_by};
+
+use std::alloc::{AllocError, AllocFailed};
+use thiserror::Error;
+
+/// The longest payload that a record may have, in bytes. (This project's own limit.)
+pub const MAX_PAYLOAD: usize = 1_048_576;
+
+/// The most records that a keeper counts. (This project's own limit.)
+pub const MAX_RECORDS: u64 = 4_611_686_018_427_387_904;
+
+/// Why a keeper refuses a call.
+#[derive(Clone, Copy, PartialEq, Eq, Debug, Error)]
+pub enum KeepFault {
+    /// There is no memory, or the keeper counts `MAX_RECORDS` records. Nothing has changed.
+    #[error("out of memory")]
+    Memory,
+    /// The keeper is down. Nothing has changed.
+    #[error("the journal is down")]
+    Down,
+    /// The device of the journal failed. The keeper is down until it is reopened.
+    #[error("the journal's device failed")]
+    Device,
+}
+
+impl From<AllocError> for KeepFault {
+    ghost use Rattle.std.specs.Prelude.{◌≡◌};
+    ghost use Rattle.cns_journal.specs.declared.keeper.KeepFault.TheVariants.{Memory};
+
+    ghost from_gives = { λ _ fault. fault ≡ Memory };
+
+    fn from(_: AllocError) -> KeepFault {
+        KeepFault::Memory
+    }
+}
+
+impl<T: Drop> From<AllocFailed<T>> for KeepFault {
+    ghost use Rattle.std.specs.Prelude.{◌≡◌};
+    ghost use Rattle.cns_journal.specs.declared.keeper.KeepFault.TheVariants.{Memory};
+
+    ghost from_gives = { λ _ fault. fault ≡ Memory };
+
+    fn from(_: AllocFailed<T>) -> KeepFault {
+        KeepFault::Memory
+    }
+}
+
+/// The keeper plans no failures.
+#[derive(Clone, Copy, PartialEq, Eq, Debug, Error)]
+#[error("this journal plans no failures")]
+pub struct NotPlanned;
+
+/// A journal of records, each a payload of bytes, that is read again after a failure.
+///
+/// A keeper is up or down. One that is up goes down only by answering `Device`, and a reopening that
+/// succeeds is what brings it up. What is said of the journal's records holds where the keeper is
+/// honest, and each call leaves it as honest as it was; the rest holds always. (This project's own
+/// rules.)
+pub trait Keeper {
+    /// Whether the keeper is down, how often its device has failed, and how many records it counts.
+    ghost run: { Self → Running };
+
+    /// The acknowledged records, and the one whose commit failed.
+    ghost journal: { Self → Journal };
+
+    /// Whether a reopening gives what was acknowledged.
+    ghost honest: { Self → Bool };
+
+    /// Adds a record, and answers `Ok` once it is acknowledged.
+    ///
+    /// Answers `Down` only where the keeper is down, and there nothing but `Down` or `Memory`. After
+    /// `Device` the record is undecided, and the keeper is down.
+    fn commit(&mut self, payload: &[u8]) -> Result<(), KeepFault>
+        requires { length payload.now ≤ MAX_PAYLOAD }
+        ensures honest { honest self.new ≡ honest self.old }
+        ensures leaves { CommitLeaves result (run self.old) (run self.new) }
+        ensures keeps { honest self.old ≡ true
+            → CommitKeeps payload.now result (journal self.old) (journal self.new) };
+
+    /// Reads the journal again, and gives its records: those that were acknowledged, then at most the
+    /// undecided one. They are acknowledged from then on, and the keeper is up.
+    ///
+    /// Answers `Memory`, and then nothing has changed, or `Device`, and then the keeper is down. Either
+    /// leaves the acknowledged records and the undecided one.
+    fn reopen(&mut self) -> Result<Vec<Vec<u8>>, KeepFault>
+        ensures honest { honest self.new ≡ honest self.old }
+        ensures leaves { ReopenLeaves (given_by result) (run self.old) (run self.new) }
+        ensures keeps { honest self.old ≡ true
+            → ReopenKeeps (given_by result) (journal self.old) (journal self.new) };
+
+    /// Whether the keeper is down. While it is up, no record is undecided.
+    fn is_down(&self) -> bool
+        ensures value { result ≡ (run self.now).down }
+        ensures decided { honest self.now ≡ true → result ≡ false
+            → (journal self.now).undecided ≡ None };
+
+    /// The records that the last reopening gave, none before the first, and those acknowledged since.
+    fn count(&self) -> u64
+        ensures value { result ≡ (run self.now).count }
+        ensures limit { result ≤ MAX_RECORDS };
+
+    /// Makes the next commit fail at the device. Its record stands at the reopening, or does not.
+    ///
+    /// Answers `NotPlanned` where the keeper plans no failures. Whatever it answers, nothing that a
+    /// keeper promises has changed.
+    fn plan(&mut self, stands: bool) -> Result<(), NotPlanned>
+        ensures honest { honest self.new ≡ honest self.old }
+        ensures leaves { run self.new ≡ run self.old }
+        ensures keeps { honest self.old ≡ true → journal self.new ≡ journal self.old };
+}

@@ -1,0 +1,110 @@
+-- What keeps a book in order.
+use Rattle.std.proofs.Common.{◌≡◌, ℕ, suc, zero, ◌+◌, ◌<◌, ◌≤◌, List, [], ◌∷◌, ◌++◌, length, map, Option, Some, None, sym, refl, ap, ◌∙◌, arith, length-append}
+use Rattle.std.specs.Prelude.{slice_get, slice_set, option_map, replicate}
+use Rattle.std.specs.Option.{option_flatten}
+use Rattle.std.proofs.lemmas.Option.{slice_get-map}
+use Rattle.std.proofs.lemmas.List.{map-append, length-map}
+use Rattle.cns_movements.specs.declared.order.Order.{Order}
+use Rattle.cns_movements.specs.declared.order.Ask.{Ask}
+use Rattle.cns_movements.specs.declared.order.Reply.{Reply}
+use Rattle.cns_movements.specs.Order.{order_of, moved_of, numbered, IsNumbered, AreKnown}
+use Rattle.cns_movements.specs.Book.{Orders, with_asks, with_reply, IsOrderBook, IsStored}
+use Rattle.cns_movements.proofs.OrderLemmas.{order_of_number, order_of-slice_get, IsNumbered-append, IsNumbered-numbered, length-numbered}
+use Rattle.cns_movements.proofs.ReplyLemmas.{moved_of_same, moved_of_other, moved_of_unknown, moved_of_above, AreKnown-append}
+
+-- what the order of a number moved, by its look-up
+moved_by_order : (os : List Order) (rs : List Reply) (n : ℕ) (x : Option Order) → order_of os n ≡ x → AreKnown os rs
+    → option_flatten (option_map (λ (o : Order). moved_of rs o.number) x) ≡ moved_of rs n
+moved_by_order os rs n None e known = sym (moved_of_unknown os rs n known e)
+moved_by_order os rs n (Some o) e known = ap (moved_of rs) (order_of_number os n o e)
+
+-- what stands beside the order of a number is what that moved
+pub moved_at : (book : Orders) (ms : List (Option ℕ)) (n i : ℕ) → IsStored book ms → i + 1 ≡ n → option_flatten (slice_get ms i) ≡ moved_of book.replies n
+moved_at book ms n i stored e =
+    let os = book.orders in
+    let rs = book.replies in
+    ap (λ (l : List (Option ℕ)). option_flatten (slice_get l i)) stored.moves
+    ∙ ap option_flatten (slice_get-map (λ (o : Order). moved_of rs o.number) os i)
+    ∙ ap (λ (x : Option Order). option_flatten (option_map (λ (o : Order). moved_of rs o.number) x)) (sym (order_of-slice_get os 1 n i stored.lawful.numbered (omega arith)))
+    ∙ moved_by_order os rs n (order_of os n) refl stored.lawful.known
+
+-- there is one place beside each order
+pub moves_length : (book : Orders) (ms : List (Option ℕ)) → IsStored book ms → length ms ≡ length book.orders
+moves_length book ms stored = ap (λ (l : List (Option ℕ)). length l) stored.moves ∙ length-map book.orders (λ (o : Order). moved_of book.replies o.number)
+
+-- a confirmation of a lower number changes nothing beside these orders
+moves_same : (os : List Order) (rs : List Reply) (r : Reply) (k : ℕ) → IsNumbered k os → r.number < k
+    → map (λ (o : Order). moved_of rs o.number) os ≡ map (λ (o : Order). moved_of (r ∷ rs) o.number) os
+moves_same [] rs r k h below = refl
+moves_same (x ∷ xs) rs r k h below =
+    let here : moved_of rs x.number ≡ moved_of (r ∷ rs) x.number = sym (moved_of_other r rs x.number (λ e. let first = h.0 in omega arith)) in
+    ap (λ (m : Option ℕ). m ∷ map (λ (o : Order). moved_of rs o.number) xs) here
+    ∙ ap (λ (l : List (Option ℕ)). moved_of (r ∷ rs) x.number ∷ l) (moves_same xs rs r (suc k) h.1 (omega arith))
+
+-- a confirmation changes what stands beside its own order
+moves_set : (os : List Order) (rs : List Reply) (r : Reply) (k i : ℕ) → IsNumbered k os → r.number ≡ k + i
+    → slice_set (map (λ (o : Order). moved_of rs o.number) os) i (Some r.moved) ≡ map (λ (o : Order). moved_of (r ∷ rs) o.number) os
+moves_set [] rs r k i h e = refl
+moves_set (x ∷ xs) rs r k zero h e =
+    let here : Some r.moved ≡ moved_of (r ∷ rs) x.number = sym (moved_of_same r rs x.number (let first = h.0 in omega arith)) in
+    ap (λ (m : Option ℕ). m ∷ map (λ (o : Order). moved_of rs o.number) xs) here
+    ∙ ap (λ (l : List (Option ℕ)). moved_of (r ∷ rs) x.number ∷ l) (moves_same xs rs r (suc k) h.1 (omega arith))
+moves_set (x ∷ xs) rs r k (suc i) h e =
+    let here : moved_of rs x.number ≡ moved_of (r ∷ rs) x.number = sym (moved_of_other r rs x.number (λ z. let first = h.0 in omega arith)) in
+    ap (λ (m : Option ℕ). m ∷ slice_set (map (λ (o : Order). moved_of rs o.number) xs) i (Some r.moved)) here
+    ∙ ap (λ (l : List (Option ℕ)). moved_of (r ∷ rs) x.number ∷ l) (moves_set xs rs r (suc k) i h.1 (omega arith))
+
+-- nothing is confirmed of new numbers
+moves_none : (asks : List Ask) (rs : List Reply) (k : ℕ) → ((n : ℕ) → k ≤ n → moved_of rs n ≡ None)
+    → map (λ (o : Order). moved_of rs o.number) (numbered k asks) ≡ replicate (length asks) None
+moves_none [] rs k new = refl
+moves_none (a ∷ asks) rs k new =
+    ap (λ (m : Option ℕ). m ∷ map (λ (o : Order). moved_of rs o.number) (numbered (suc k) asks)) (new k (omega arith))
+    ∙ ap (λ (l : List (Option ℕ)). None ∷ l) (moves_none asks rs (suc k) (λ n le. new n (omega arith)))
+
+-- a first confirmation of an order, not above what that asked for, keeps a book in order
+pub with_reply_lawful : (book : Orders) (r : Reply) (o : Order) → IsOrderBook book
+    → order_of book.orders r.number ≡ Some o → moved_of book.replies r.number ≡ None → r.moved ≤ o.asked → IsOrderBook (with_reply book r)
+with_reply_lawful book r o lawful found first within = record {
+  numbered = lawful.numbered;
+  few = lawful.few;
+  known = (record { order = o; found = found; within = within }, lawful.known);
+  once = (first, lawful.once);
+}
+
+-- more orders under the next numbers keep a book in order
+pub with_asks_lawful : (book : Orders) (asks : List Ask) → IsOrderBook book → length book.orders + length asks ≤ 1000000 → IsOrderBook (with_asks book asks)
+with_asks_lawful book asks lawful fits =
+    let os = book.orders in
+    record {
+      numbered = IsNumbered-append os (numbered (length os + 1) asks) 1 (length os + 1) (omega arith) lawful.numbered (IsNumbered-numbered _ _);
+      few = simp (length-append, length-numbered) fits;
+      known = AreKnown-append os (numbered (length os + 1) asks) book.replies lawful.known;
+      once = lawful.once;
+    }
+
+-- the same with what each order moved beside it
+pub stored_reply : (book : Orders) (ms : List (Option ℕ)) (r : Reply) (o : Order) (i : ℕ) → IsStored book ms → i + 1 ≡ r.number
+    → order_of book.orders r.number ≡ Some o → moved_of book.replies r.number ≡ None → r.moved ≤ o.asked → IsStored (with_reply book r) (slice_set ms i (Some r.moved))
+stored_reply book ms r o i stored e found first within = record {
+  lawful = with_reply_lawful book r o stored.lawful found first within;
+  moves =
+      ap (λ (l : List (Option ℕ)). slice_set l i (Some r.moved)) stored.moves
+      ∙ moves_set book.orders book.replies r 1 i stored.lawful.numbered (omega arith);
+}
+
+pub stored_asks : (book : Orders) (ms : List (Option ℕ)) (asks : List Ask) → IsStored book ms → length book.orders + length asks ≤ 1000000
+    → IsStored (with_asks book asks) (ms ++ replicate (length asks) None)
+stored_asks book ms asks stored fits =
+    let os = book.orders in
+    let rs = book.replies in
+    let lawful = stored.lawful in
+    let new : map (λ (o : Order). moved_of rs o.number) (numbered (length os + 1) asks) ≡ replicate (length asks) None =
+    moves_none asks rs (length os + 1) (λ n le. moved_of_above os rs n lawful.numbered lawful.known (omega arith)) in
+    record {
+      lawful = with_asks_lawful book asks lawful fits;
+      moves =
+          ap (λ (l : List (Option ℕ)). l ++ replicate (length asks) None) stored.moves
+          ∙ ap (λ (l : List (Option ℕ)). map (λ (o : Order). moved_of rs o.number) os ++ l) (sym new)
+          ∙ sym (map-append (λ (o : Order). moved_of rs o.number) os (numbered (length os + 1) asks));
+    }

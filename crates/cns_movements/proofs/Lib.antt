@@ -1,0 +1,4 @@
+pub mod OrderLemmas
+pub mod ReplyLemmas
+pub mod BookLemmas
+pub mod ConfirmLemmas

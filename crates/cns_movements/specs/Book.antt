@@ -1,0 +1,37 @@
+-- What contracts see of an order book.
+use Rattle.std.specs.Prelude.{◌≡◌, ℕ, ◌+◌, ◌≤◌, List, ◌∷◌, ◌++◌, length, map, Option}
+use Rattle.cns_movements.specs.declared.order.Ask.{Ask}
+use Rattle.cns_movements.specs.declared.order.Order.{Order}
+use Rattle.cns_movements.specs.declared.order.Reply.{Reply}
+use Rattle.cns_movements.specs.Order.{moved_of, numbered, IsNumbered, AreKnown, AreConfirmedOnce}
+
+-- the orders with the oldest first, and the confirmations with the newest first
+pub record Orders : Type 0 where
+  pub orders : List Order
+  pub replies : List Reply
+
+-- a book, and how many orders and confirmations it takes with no more memory
+pub record OrderRoom : Type 0 where
+  pub book : Orders
+  pub order_room : ℕ
+  pub reply_room : ℕ
+
+-- the book with these asks as its next orders
+abbrev pub with_asks : Orders → List Ask → Orders
+with_asks book asks = record { orders = book.orders ++ numbered (length book.orders + 1) asks; replies = book.replies }
+
+-- the book with one more confirmation
+abbrev pub with_reply : Orders → Reply → Orders
+with_reply book reply = record { orders = book.orders; replies = reply ∷ book.replies }
+
+-- the orders have the numbers 1, 2, and so on; each is confirmed at most once and at most in full
+pub record IsOrderBook (book : Orders) : Type 0 where
+  pub numbered : IsNumbered 1 book.orders
+  pub few : length book.orders ≤ 1000000
+  pub known : AreKnown book.orders book.replies
+  pub once : AreConfirmedOnce book.replies
+
+-- a book with what each of its orders moved beside it, in the order of the numbers
+pub record IsStored (book : Orders) (moved : List (Option ℕ)) : Type 0 where
+  pub lawful : IsOrderBook book
+  pub moves : moved ≡ map (λ o. moved_of book.replies o.number) book.orders

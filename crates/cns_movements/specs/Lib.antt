@@ -1,0 +1,6 @@
+pub mod Number
+pub mod Asked
+pub mod Order
+pub mod Book
+pub mod Confirm
+pub mod IssueFault

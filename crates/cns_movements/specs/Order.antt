@@ -1,0 +1,82 @@
+-- What a list of movement orders and the list of their confirmations amount to (this project's own rules).
+-- Confirmations stand newest first.
+use Rattle.std.specs.Prelude.{◌≡◌, ℕ, suc, ◌≤◌, Bool, true, false, ◌&&◌, ◌==◌, List, [], ◌∷◌, Option, Some, None, is_some, unwrap_or, option_map, find, sum_by, codes, if◌then◌else◌}
+use Rattle.cns_movements.specs.declared.order.MoveKind.{MoveKind}
+use Rattle.cns_movements.specs.declared.order.MoveKind.TheVariants.{Cover, Delivery}
+use Rattle.cns_movements.specs.declared.order.Ask.{Ask}
+use Rattle.cns_movements.specs.declared.order.Order.{Order}
+use Rattle.cns_movements.specs.declared.order.Reply.{Reply}
+
+-- a kind's name
+abbrev pub kind_text : MoveKind → List ℕ
+kind_text Cover = codes "COVER"
+kind_text Delivery = codes "DELIVERY"
+
+-- whether a kind is a cover
+abbrev pub is_cover : MoveKind → Bool
+is_cover Cover = true
+is_cover Delivery = false
+
+-- whether a kind is a delivery
+abbrev pub is_delivery : MoveKind → Bool
+is_delivery Cover = false
+is_delivery Delivery = true
+
+-- whether two kinds are the same
+abbrev pub same_kind : MoveKind → MoveKind → Bool
+same_kind Cover kind = is_cover kind
+same_kind Delivery kind = is_delivery kind
+
+-- the order of this number, where there is one
+abbrev pub order_of : List Order → ℕ → Option Order
+order_of orders n = find (λ o. o.number == n) orders
+
+-- the shares that the order of this number moved, where it is confirmed
+abbrev pub moved_of : List Reply → ℕ → Option ℕ
+moved_of replies n = option_map (λ (r : Reply). r.moved) (find (λ r. r.number == n) replies)
+
+-- whether an order is of this kind, member and issue
+abbrev pub is_of : MoveKind → ℕ → ℕ → Order → Bool
+is_of kind member issue o = same_kind kind o.kind && ((o.member == member) && (o.issue == issue))
+
+-- what an order asks for while it is not confirmed, and nothing from then on
+abbrev pub open_part : List Reply → Order → ℕ
+open_part replies o = if is_some (moved_of replies o.number) then 0 else o.asked
+
+-- what a confirmed order moved, and nothing before
+abbrev pub moved_part : List Reply → Order → ℕ
+moved_part replies o = unwrap_or (moved_of replies o.number) 0
+
+-- the shares asked by the unconfirmed orders of a kind, a member and an issue
+unfoldable pub open_sum : List Order → List Reply → MoveKind → ℕ → ℕ → ℕ
+open_sum orders replies kind member issue = sum_by (λ o. if is_of kind member issue o then open_part replies o else 0) orders
+
+-- the shares moved by the confirmed orders of a kind, a member and an issue
+unfoldable pub moved_sum : List Order → List Reply → MoveKind → ℕ → ℕ → ℕ
+moved_sum orders replies kind member issue = sum_by (λ o. if is_of kind member issue o then moved_part replies o else 0) orders
+
+-- the asks as orders with the numbers n, n + 1, and so on
+abbrev pub numbered : ℕ → List Ask → List Order
+numbered n [] = []
+numbered n (a ∷ asks) = record { number = n; kind = a.kind; member = a.member; issue = a.issue; asked = a.asked } ∷ numbered (suc n) asks
+
+-- the orders have the numbers n, n + 1, and so on
+abbrev pub IsNumbered : ℕ → List Order → Type 0
+IsNumbered n [] = Unit {0}
+IsNumbered n (o ∷ orders) = (o.number ≡ n) × IsNumbered (suc n) orders
+
+-- a confirmation is of an order, and not above what that asked for
+pub record IsKnown (orders : List Order) (reply : Reply) : Type 0 where
+  pub order : Order
+  pub found : order_of orders reply.number ≡ Some order
+  pub within : reply.moved ≤ order.asked
+
+-- each confirmation is such a one
+abbrev pub AreKnown : List Order → List Reply → Type 0
+AreKnown orders [] = Unit {0}
+AreKnown orders (r ∷ replies) = IsKnown orders r × AreKnown orders replies
+
+-- no number is confirmed twice
+abbrev pub AreConfirmedOnce : List Reply → Type 0
+AreConfirmedOnce [] = Unit {0}
+AreConfirmedOnce (r ∷ replies) = (moved_of replies r.number ≡ None) × AreConfirmedOnce replies

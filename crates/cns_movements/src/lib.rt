@@ -1,0 +1,19 @@
+//! Movement orders: shares to be moved between a member's account and account 0, their numbers, and
+//! the depository's confirmations of them.
+//!
+//! An order is issued once, under the next number, and confirmed at most once. Nothing is ever
+//! taken out of the book.
+#![tactic(auto)]
+
+mod asked;
+mod book;
+mod number;
+mod order;
+
+pub use asked::Asked;
+pub use book::{Confirm, IssueFault, OrderBook};
+pub use number::MoveNo;
+pub use order::{Ask, MoveKind, Order, Reply};
+
+#[cfg(test)]
+mod tests;

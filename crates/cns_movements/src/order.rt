@@ -1,0 +1,53 @@
+ghost use Rattle.std.specs.Prelude.{Some};
+ghost use Rattle.cns_movements.specs.Order.{kind_text};
+
+use crate::asked::Asked;
+use crate::number::MoveNo;
+use cns_ids::{Cusip, MemberNo, Shares};
+use std::fmt;
+
+/// Which way the shares of a movement go. (This project's own rule.)
+#[derive(Clone, Copy, PartialEq, Eq, Debug)]
+pub enum MoveKind {
+    /// From the member to account 0.
+    Cover,
+    /// From account 0 to the member.
+    Delivery,
+}
+
+impl fmt::Display for MoveKind {
+    ghost output = { λ k. Some (kind_text k) };
+
+    fn fmt<W: fmt::Write>(&self, f: &mut fmt::Formatter<W>) -> fmt::Result {
+        f.write_str(match self {
+            MoveKind::Cover => "COVER",
+            MoveKind::Delivery => "DELIVERY",
+        })
+    }
+}
+
+/// A movement that is to be ordered: an order without a number.
+#[derive(Clone, Copy, PartialEq, Eq, Debug)]
+pub struct Ask {
+    pub kind: MoveKind,
+    pub member: MemberNo,
+    pub issue: Cusip,
+    pub asked: Asked,
+}
+
+/// A movement order.
+#[derive(Clone, Copy, PartialEq, Eq, Debug)]
+pub struct Order {
+    pub number: MoveNo,
+    pub kind: MoveKind,
+    pub member: MemberNo,
+    pub issue: Cusip,
+    pub asked: Asked,
+}
+
+/// The depository's reply to an order: the shares that it moved, possibly none.
+#[derive(Clone, Copy, PartialEq, Eq, Debug)]
+pub struct Reply {
+    pub number: MoveNo,
+    pub moved: Shares,
+}
