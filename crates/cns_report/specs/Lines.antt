@@ -20,21 +20,21 @@ answer_text verdicts.SameMember = codes " refused " ++ verdict_text verdicts.Sam
 answer_text verdicts.Full = codes " refused " ++ verdict_text verdicts.Full
 
 -- trade ID accepted, or: trade ID refused NAME
-abbrev pub trade_line : List ℕ → Verdict → List ℕ
+unfoldable pub trade_line : List ℕ → Verdict → List ℕ
 trade_line id verdict = codes "trade " ++ id ++ answer_text verdict ++ line_end
 
 -- row N fault ..
-abbrev pub row_fault_line : ℕ → RowFault → List ℕ
+unfoldable pub row_fault_line : ℕ → RowFault → List ℕ
 row_fault_line row fault = codes "row " ++ decimal row ++ codes " fault " ++ row_fault_text fault ++ line_end
 
 -- line N bad command
-abbrev pub bad_command_line : ℕ → List ℕ
+unfoldable pub bad_command_line : ℕ → List ℕ
 bad_command_line line = codes "line " ++ decimal line ++ codes " bad command" ++ line_end
 
 -- cycle DATE KIND due N
-abbrev pub cycle_line : CycleId → ℕ → List ℕ
+unfoldable pub cycle_line : CycleId → ℕ → List ℕ
 cycle_line cycle due = codes "cycle " ++ day_text cycle.day ++ 32 ∷ kind_text cycle.kind ++ codes " due " ++ decimal due ++ line_end
 
 -- cycle refused CycleOrder
-abbrev pub cycle_refused_line : List ℕ
+unfoldable pub cycle_refused_line : List ℕ
 cycle_refused_line = codes "cycle refused CycleOrder" ++ line_end

@@ -11,7 +11,7 @@ use Rattle.cns_report.specs.Lines.{line_end}
 use Rattle.cns_report.specs.Right.{right_20}
 
 -- REPORT cycle none, or: REPORT cycle DATE KIND
-abbrev pub report_head : Option CycleId → List ℕ
+unfoldable pub report_head : Option CycleId → List ℕ
 report_head None = codes "REPORT cycle none" ++ line_end
 report_head (Some cycle) = codes "REPORT cycle " ++ day_text cycle.day ++ 32 ∷ kind_text cycle.kind ++ line_end
 
@@ -23,8 +23,8 @@ unfoldable pub position_lines : List PositionRow → List ℕ
 position_lines [] = []
 position_lines (row ∷ rows) = position_line row ++ position_lines rows
 
-abbrev pub cycle_report_text : Option CycleId → List PositionRow → List ℕ
+unfoldable pub cycle_report_text : Option CycleId → List PositionRow → List ℕ
 cycle_report_text latest positions = report_head latest ++ position_lines positions
 
-abbrev pub report_end : List ℕ
+unfoldable pub report_end : List ℕ
 report_end = codes "END" ++ line_end

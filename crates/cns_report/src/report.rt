@@ -7,6 +7,7 @@ use cns_netting::PositionRow;
 use std::alloc::AllocError;
 
 // The first line: the latest recorded cycle.
+#[tactic(auto, unfolding(crate::specs::Report::report_head))]
 fn write_head(out: &mut String, latest: Option<CycleId>) -> Result<(), AllocError>
     ensures { OnOk result (string_bytes out.new ≡ string_bytes out.old ++ report_head latest) }
 {
@@ -44,6 +45,7 @@ fn write_positions(out: &mut String, rows: &[PositionRow]) -> Result<(), AllocEr
 
 /// The book's part of the report: the latest recorded cycle, and the positions other than 0, which
 /// the caller hands in by issue, then member.
+#[tactic(auto, unfolding(crate::specs::Report::cycle_report_text))]
 pub fn write_cycle_report(
     out: &mut String,
     latest: Option<CycleId>,
@@ -56,6 +58,7 @@ pub fn write_cycle_report(
 }
 
 /// The report's last line: `END`.
+#[tactic(auto, unfolding(crate::specs::Report::report_end))]
 pub fn write_report_end(out: &mut String) -> Result<(), AllocError>
     ensures { OnOk result (string_bytes out.new ≡ string_bytes out.old ++ report_end) }
 {

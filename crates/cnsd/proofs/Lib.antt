@@ -1,0 +1,4 @@
+pub mod BytesLemmas
+pub mod SectionLemmas
+pub mod WordLemmas
+pub mod RunLemmas

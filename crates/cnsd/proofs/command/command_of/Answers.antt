@@ -1,0 +1,35 @@
+use Rattle.std.proofs.Common.{◌≡◌, ◌∙◌, sym, ap, false, length, rules}
+use Rattle.std.specs.Prelude.{◌==◌}
+use Rattle.cnsd.specs.Script.{command_of_words}
+use Rattle.cnsd.proofs.WordLemmas.{command-words, words-more, words-one, words-some}
+use Rattle.cnsd.proofs.command.command_of.Goals as goal
+
+pub returns-in_default : goal.returns-in_default
+returns-in_default c =
+    let some : (length c.args.line.now == 0) ≡ false = search rules in
+    let words = words-one _ _ (rw c.in_default.is at c.split_word.ensures) in
+    c.single.ensures ∙ sym (command-words c.args.line.now some c.if-line-eq35.false ∙ ap command_of_words words)
+
+pub returns-in_default-rest : goal.returns-in_default-rest
+returns-in_default-rest c =
+    let some : (length c.args.line.now == 0) ≡ false = search rules in
+    let first = words-more _ _ _ (rw c.in-Some.is at c.split_word.ensures) in
+    let second = words-one _ _ (rw c.in_default-rest.is at c.split_word-2.ensures) in
+    c.pair.ensures ∙ sym (command-words c.args.line.now some c.if-line-eq35.false ∙ ap command_of_words (rw second at first))
+
+pub returns-in-None : goal.returns-in-None
+returns-in-None c =
+    let some : (length c.args.line.now == 0) ≡ false = search rules in
+    let first = words-more _ _ _ (rw c.in-Some.is at c.split_word.ensures) in
+    let second = words-more _ _ _ (rw c.in-Some-rest.is at c.split_word-2.ensures) in
+    let third = words-one _ _ (rw c.in-None.is at c.split_word-3.ensures) in
+    c.triple.ensures ∙ sym (command-words c.args.line.now some c.if-line-eq35.false ∙ ap command_of_words (rw (second, third) at first))
+
+pub returns-in-Some-rest-2 : goal.returns-in-Some-rest-2
+returns-in-Some-rest-2 c =
+    let some : (length c.args.line.now == 0) ≡ false = search rules in
+    let first = words-more _ _ _ (rw c.in-Some.is at c.split_word.ensures) in
+    let second = words-more _ _ _ (rw c.in-Some-rest.is at c.split_word-2.ensures) in
+    let third = words-more _ _ _ (rw c.in-Some-rest-2.is at c.split_word-3.ensures) in
+    let last = words-some c.in-Some-rest-2.field-0.now in
+    sym (command-words c.args.line.now some c.if-line-eq35.false ∙ ap command_of_words (rw (second, third, last.2) at first))

@@ -1,0 +1,6 @@
+pub mod Reading
+pub mod Sections
+pub mod Words
+pub mod Script
+pub mod Run
+pub mod Text

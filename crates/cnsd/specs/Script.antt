@@ -1,0 +1,52 @@
+-- The commands of a script (this project's own language).
+use Rattle.std.specs.Prelude.{ℕ, ◌==◌, ◌||◌, List, [], ◌∷◌, length, slice_index, codes, Result, Ok, Err, if◌then◌else◌}
+use Rattle.cns_ids.specs.Number.{number_in}
+use Rattle.cns_ids.specs.ReadDay.{read_day}
+use Rattle.cns_ids.specs.declared.number.ReadFault.{ReadFault}
+use Rattle.cns_ids.specs.declared.day.BadDate.{BadDate}
+use Rattle.cns_ids.specs.declared.cycle.CycleKind.{CycleKind}
+use Rattle.cns_ids.specs.declared.cycle.CycleKind.TheVariants.{Night, Day}
+use Rattle.cns_trades.specs.Fields.{same_text}
+use Rattle.cnsd.specs.Words.{words_of}
+use Rattle.cnsd.specs.declared.command.Command.{Command}
+use Rattle.cnsd.specs.declared.command.Command.TheVariants as command
+
+abbrev pub take_count : Result ℕ ReadFault → Command
+take_count (Ok rows) = command.Take rows
+take_count (Err fault) = command.Bad
+
+-- TAKE ALL, or TAKE and a number from 1 to 1,000,000
+abbrev pub take_command : List ℕ → Command
+take_command argument = if same_text argument (codes "ALL") then command.TakeAll else take_count (number_in 1 1000000 argument)
+
+abbrev pub cycle_on : CycleKind → Result ℕ BadDate → Command
+cycle_on kind (Ok day) = command.Cycle (record { day = day; kind = kind })
+cycle_on kind (Err fault) = command.Bad
+
+-- CYCLE NIGHT or CYCLE DAY, and a date
+abbrev pub cycle_command : List ℕ → List ℕ → Command
+cycle_command kind date =
+    if same_text kind (codes "NIGHT") then cycle_on Night (read_day date)
+    else if same_text kind (codes "DAY") then cycle_on Day (read_day date)
+    else command.Bad
+
+-- the commands of one word, of two, and of three
+abbrev pub single : List ℕ → Command
+single word = if same_text word (codes "REPORT") then command.Report else command.Bad
+
+abbrev pub pair : List ℕ → List ℕ → Command
+pair word first = if same_text word (codes "TAKE") then take_command first else command.Bad
+
+abbrev pub triple : List ℕ → List ℕ → List ℕ → Command
+triple word first second = if same_text word (codes "CYCLE") then cycle_command first second else command.Bad
+
+abbrev pub command_of_words : List (List ℕ) → Command
+command_of_words [] = command.Bad
+command_of_words (word ∷ []) = single word
+command_of_words (word ∷ first ∷ []) = pair word first
+command_of_words (word ∷ first ∷ second ∷ []) = triple word first second
+command_of_words (word ∷ first ∷ second ∷ third ∷ more) = command.Bad
+
+-- the command that a line is: blank lines and those that begin with # are passed over
+unfoldable pub command_of : List ℕ → Command
+command_of line = if (length line == 0) || (slice_index line 0 == 35) then command.Skip else command_of_words (words_of line)

@@ -1,0 +1,136 @@
+ghost use Rattle.std.specs.Prelude.{◌≡◌, ◌==◌, ◌<◌, option_map, length, IfSome};
+ghost use Rattle.std.specs.List.{position_from};
+ghost use Rattle.cnsd.specs.Words.{split_at_space};
+ghost use Rattle.cnsd.specs.Script.{command_of as command_of_line, cycle_command as cycle_command_of, single as single_of, pair as pair_of, triple as triple_of, take_command as take_command_of};
+
+use cns_ids::{CycleId, CycleKind, Day, read_number};
+
+/// A line of the script.
+#[derive(Clone, Copy, PartialEq, Eq, Debug)]
+pub enum Command {
+    /// A blank line or a comment.
+    Skip,
+    /// `TAKE ALL`: all rows of trades that are left.
+    TakeAll,
+    /// `TAKE n`: the next n rows of trades.
+    Take(u64),
+    /// `CYCLE NIGHT date` or `CYCLE DAY date`.
+    Cycle(CycleId),
+    /// `REPORT`.
+    Report,
+    /// A line that fits no form.
+    Bad,
+}
+
+// The place of the first space.
+fn first_space(line: &[u8]) -> Option<usize>
+    ensures place { result ≡ position_from (λ c. c == 32) 0 line.now }
+    ensures within { IfSome result (λ i. i < length line.now) }
+{
+    for (place, byte) in line.iter().enumerate() {
+        if *byte == b' ' {
+            return Some(place);
+        }
+    }
+    None
+}
+
+// The bytes before the first space, and those after it where there is one.
+fn split_word(line: &[u8]) -> (&[u8], Option<&[u8]>)
+    ensures { (result.0.now, option_map (λ r. r.now) result.1) ≡ split_at_space line.now }
+{
+    match first_space(line) {
+        Some(place) => {
+            let (word, _) = line.split_at(place);
+            let (_, rest) = line.split_at(place + 1);
+            (word, Some(rest))
+        }
+        None => (line, None),
+    }
+}
+
+// The command `TAKE argument`.
+fn take_command(argument: &[u8]) -> Command
+    ensures { result ≡ take_command_of argument.now }
+{
+    if argument == b"ALL".as_slice() {
+        return Command::TakeAll;
+    }
+    match read_number(argument, 1, 1_000_000) {
+        Ok(rows) => Command::Take(rows),
+        Err(_) => Command::Bad,
+    }
+}
+
+// The command `CYCLE kind date`.
+fn cycle_command(kind: &[u8], date: &[u8]) -> Command
+    ensures { result ≡ cycle_command_of kind.now date.now }
+{
+    let kind = if kind == b"NIGHT".as_slice() {
+        CycleKind::Night
+    } else if kind == b"DAY".as_slice() {
+        CycleKind::Day
+    } else {
+        return Command::Bad;
+    };
+    match Day::read(date) {
+        Ok(day) => Command::Cycle(CycleId { day, kind }),
+        Err(_) => Command::Bad,
+    }
+}
+
+// The command of one word.
+fn single(word: &[u8]) -> Command
+    ensures { result ≡ single_of word.now }
+{
+    if word == b"REPORT".as_slice() {
+        Command::Report
+    } else {
+        Command::Bad
+    }
+}
+
+// The command of two words.
+fn pair(word: &[u8], first: &[u8]) -> Command
+    ensures { result ≡ pair_of word.now first.now }
+{
+    if word == b"TAKE".as_slice() {
+        take_command(first)
+    } else {
+        Command::Bad
+    }
+}
+
+// The command of three words.
+fn triple(word: &[u8], first: &[u8], second: &[u8]) -> Command
+    ensures { result ≡ triple_of word.now first.now second.now }
+{
+    if word == b"CYCLE".as_slice() {
+        cycle_command(first, second)
+    } else {
+        Command::Bad
+    }
+}
+
+/// The command that a line of the script is.
+#[tactic(auto, unfolding(crate::specs::Script::command_of))]
+pub(crate) fn command_of(line: &[u8]) -> Command
+    ensures { result ≡ command_of_line line.now }
+{
+    if line.is_empty() || line[0] == b'#' {
+        return Command::Skip;
+    }
+    let (word, rest) = split_word(line);
+    let Some(rest) = rest else {
+        return single(word);
+    };
+    let (first, rest) = split_word(rest);
+    let Some(rest) = rest else {
+        return pair(word, first);
+    };
+    let (second, rest) = split_word(rest);
+    match rest {
+        None => triple(word, first, second),
+        Some(_) => Command::Bad,
+    }
+}

@@ -1,0 +1,33 @@
+use thiserror::Error;
+
+/// Why a batch ended before its text was written.
+#[derive(Clone, Copy, PartialEq, Eq, Debug, Error)]
+pub enum BatchFault {
+    /// The reader failed.
+    #[error("cnsd: input cannot be read")]
+    Read,
+    /// The input has more than 67,108,864 bytes.
+    #[error("cnsd: input too long")]
+    TooLong,
+    /// The section heads are missing or out of order.
+    #[error("cnsd: bad sections")]
+    Sections,
+    /// The first record of a section of rows is not its header.
+    #[error("cnsd: bad rows")]
+    Csv,
+    #[error("cnsd: out of memory")]
+    Memory,
+    /// The writer failed, or took no byte.
+    #[error("cnsd: output failed")]
+    Write,
+}
+
+impl BatchFault {
+    /// The exit status: 2 for a fault of the input, 3 for one of the surroundings.
+    pub fn status(self) -> u8 {
+        match self {
+            BatchFault::Read | BatchFault::TooLong | BatchFault::Sections | BatchFault::Csv => 2,
+            BatchFault::Memory | BatchFault::Write => 3,
+        }
+    }
+}

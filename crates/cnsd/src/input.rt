@@ -1,0 +1,59 @@
+ghost use Rattle.std.specs.Prelude.{◌≡◌, ◌+◌, ◌<◌, ◌≤◌, ◌⊎◌, length, vec_len, IfOk, IfErr, IfSome, OnOk};
+ghost use Rattle.std.specs.Io.KnownBytes.{ReadConsumes};
+ghost use Rattle.cnsd.specs.Reading.{IsReadFault};
+ghost use Rattle.cnsd.specs.declared.fault.BatchFault.TheVariants.{TooLong};
+
+use crate::fault::BatchFault;
+use crate::steps::Steps;
+use std::alloc::Global;
+use std::io::Read;
+use std::sync::ledger::Ledger;
+
+// The most bytes of an input.
+pub(crate) const MAX_INPUT: usize = 67_108_864;
+
+// One read call.
+fn read_once<R: Read, L: Ledger>(
+    reader: &mut R,
+    buf: &mut [u8],
+    steps: &mut Steps<L>,
+) -> std::io::Result<usize>
+    ensures bound { IfOk result (λ n. n ≤ length buf.new) }
+    ensures bytes { ReadConsumes (R.remaining reader.old) (R.remaining reader.new) result buf.new }
+    ensures step { steps.new ≡ steps.old + 1 }
+{
+    steps.tick();
+    reader.read(buf)
+}
+
+// The whole input, if it is not too long.
+pub(crate) fn read_input<R: Read, L: Ledger>(
+    alloc: Global,
+    reader: &mut R,
+    steps: &mut Steps<L>,
+) -> Result<Vec<u8>, BatchFault>
+    ensures text { IfOk result (λ t. IfSome (R.remaining reader.old) (λ input. t.items ≡ input)) }
+    ensures size { IfOk result (λ t. length t.items ≤ MAX_INPUT) }
+    ensures long { result ≡ Err TooLong → IfSome (R.remaining reader.old) (λ input. MAX_INPUT < length input) }
+    ensures kind { IfErr result IsReadFault }
+    ensures reads { steps.new ≤ steps.old + 67108866 }
+{
+    let mut text = Vec::new(alloc);
+    let mut buf = [0u8; 8192];
+    for turn in 0..67_108_866u32 {
+        let n = match read_once(reader, &mut buf, steps) {
+            Ok(n) => n,
+            Err(_) => return Err(BatchFault::Read),
+        };
+        if n == 0 {
+            return Ok(text);
+        }
+        if n > MAX_INPUT - text.len() {
+            return Err(BatchFault::TooLong);
+        }
+        if text.extend_from_slice(&buf[..n]).is_err() {
+            return Err(BatchFault::Memory);
+        }
+    }
+    unreachable!()
+}

@@ -1,0 +1,164 @@
+ghost use Rattle.std.specs.Prelude.{◌≡◌, ◌≤◌, ◌++◌, [], None, min, drop, length, IfOk, OnOk, string_bytes};
+ghost use Rattle.cnsd.specs.Run.{Books, State, told_row, told_rows, cycled, is_later as is_later_cycle, step as step_of, report_text, no_books};
+ghost use Rattle.cnsd.specs.Script.{command_of as command_of_line};
+
+use crate::command::{Command, command_of};
+use cns_ids::CycleId;
+use cns_netting::NetBook;
+use cns_report::{
+    write_bad_command, write_cycle, write_cycle_refused, write_cycle_report, write_report_end,
+    write_row_fault, write_trade,
+};
+use cns_trades::{Row, Trade, TradeList, Verdict};
+use std::alloc::{AllocError, Global};
+use std::marker::Model;
+
+/// The book that a script works on: the accepted trades by id, their netting, and the latest cycle.
+///
+/// Contracts see the book's history and the latest cycle.
+#[derive(Drop)]
+pub(crate) struct Runner {
+    trades: TradeList,
+    book: NetBook,
+    latest: Option<CycleId>,
+}
+
+impl Model for Runner {
+    ghost use Rattle.std.specs.Prelude.{◌≡◌};
+    ghost use Rattle.cns_netting.specs.History.{accepted};
+    ghost use Rattle.cnsd.specs.Run.{Books};
+
+    ghost Value = { Books };
+
+    ghost view = { λ r. record { history = r.book.history; latest = r.latest } };
+
+    ghost invariant = { λ r. r.trades.trades ≡ accepted r.book.history };
+}
+
+impl Runner {
+    /// An empty book.
+    pub(crate) fn new(alloc: Global) -> Runner
+        ensures { result ≡ no_books }
+    {
+        Runner {
+            trades: TradeList::new(alloc),
+            book: NetBook::new(alloc),
+            latest: None,
+        }
+    }
+
+    // Accepts a trade where it is new, and answers the verdict on it.
+    fn accept(&mut self, trade: Trade) -> Result<Verdict, AllocError>
+        ensures verdict { IfOk result (λ v. v ≡ verdict (accepted self.old.history) trade) }
+        ensures after { IfOk result (λ v. self.new ≡ after_trade self.old trade v) }
+    {
+        let verdict = self.trades.check(&trade);
+        if verdict == Verdict::New {
+            self.trades.add_room(trade)?;
+            self.book.accept_room(trade)?;
+            let Ok(()) = self.trades.add(trade) else {
+                unreachable!()
+            };
+            let Ok(()) = self.book.accept(trade) else {
+                unreachable!()
+            };
+        }
+        Ok(verdict)
+    }
+
+    // Takes a row of trades, and tells it.
+    fn take_row(&mut self, row: &Row, out: &mut String) -> Result<(), AllocError>
+        ensures after { OnOk result (self.new ≡ (told_row self.old row.now).0) }
+        ensures text { OnOk result (string_bytes out.new ≡ string_bytes out.old ++ (told_row self.old row.now).1) }
+    {
+        match row {
+            Row::Trade(trade) => {
+                let verdict = self.accept(*trade)?;
+                write_trade(out, trade.id, verdict)
+            }
+            Row::Fault { row, fault } => write_row_fault(out, *row, *fault),
+        }
+    }
+
+    // Whether a cycle is later than the last one.
+    fn is_later(&self, cycle: &CycleId) -> bool
+        ensures { result ≡ is_later_cycle self.now.latest cycle.now }
+    {
+        match self.latest {
+            None => true,
+            Some(last) => cycle.is_after(last),
+        }
+    }
+
+    // Records a cycle where it is later than the last one, and tells it.
+    fn cycle(&mut self, cycle: &CycleId, out: &mut String) -> Result<(), AllocError>
+        ensures after { OnOk result (self.new ≡ (cycled self.old cycle.now).0) }
+        ensures text { OnOk result (string_bytes out.new ≡ string_bytes out.old ++ (cycled self.old cycle.now).1) }
+    {
+        if !self.is_later(cycle) {
+            return write_cycle_refused(out);
+        }
+        let due = self.book.net(cycle.day)?;
+        self.latest = Some(*cycle);
+        write_cycle(out, *cycle, due)
+    }
+
+    // Tells the report.
+    fn report(&self, out: &mut String) -> Result<(), AllocError>
+        ensures { OnOk result (string_bytes out.new ≡ string_bytes out.old ++ report_text self.now) }
+    {
+        let positions = self.book.rows()?;
+        write_cycle_report(out, self.latest, positions.as_slice())?;
+        write_report_end(out)
+    }
+}
+
+ghost use Rattle.cns_netting.specs.History.{accepted};
+ghost use Rattle.cns_trades.specs.Verdicts.{verdict};
+ghost use Rattle.cnsd.specs.Run.{after_trade};
+
+// Takes rows one after another.
+#[tactic(auto, unfolding(crate::specs::Run::told_rows))]
+fn take_rows(runner: &mut Runner, rows: &[Row], out: &mut String) -> Result<(), AllocError>
+    ensures after { OnOk result (runner.new ≡ (told_rows runner.old rows.now).0) }
+    ensures text { OnOk result (string_bytes out.new ≡ string_bytes out.old ++ (told_rows runner.old rows.now).1) }
+{
+    for row in rows {
+        runner.take_row(row, out)?;
+    }
+    Ok(())
+}
+
+/// Runs a line of the script by its number, and answers how many of the rows that are left it took.
+pub(crate) fn run_line(
+    runner: &mut Runner,
+    left: &[Row],
+    number: u64,
+    line: &[u8],
+    out: &mut String,
+) -> Result<usize, AllocError>
+    ensures bound { IfOk result (λ n. n ≤ length left.now) }
+    ensures after { IfOk result (λ n. (step_of number (record { books = runner.old; left = left.now }) (command_of_line line.now)).0 ≡ record { books = runner.new; left = drop n left.now }) }
+    ensures text { OnOk result (string_bytes out.new ≡ string_bytes out.old ++ (step_of number (record { books = runner.old; left = left.now }) (command_of_line line.now)).1) }
+{
+    let taken = match command_of(line) {
+        Command::Skip => return Ok(0),
+        Command::Bad => {
+            write_bad_command(out, number)?;
+            return Ok(0);
+        }
+        Command::Cycle(cycle) => {
+            runner.cycle(&cycle, out)?;
+            return Ok(0);
+        }
+        Command::Report => {
+            runner.report(out)?;
+            return Ok(0);
+        }
+        Command::TakeAll => left.len(),
+        Command::Take(rows) => (rows as usize).min(left.len()),
+    };
+    let (rows, _) = left.split_at(taken);
+    take_rows(runner, rows, out)?;
+    Ok(taken)
+}
