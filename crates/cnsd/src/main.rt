@@ -1,7 +1,8 @@
-//! A Continuous Net Settlement book: reads one text of trades and a script from standard input, and
-//! writes what the script's commands tell to standard output.
+//! A Continuous Net Settlement book: `cnsd run` reads one text of trades and a script from standard
+//! input, and writes what the script's commands tell to standard output.
 #![tactic(auto)]
 
+mod arguments;
 mod batch;
 mod command;
 mod fault;
@@ -12,15 +13,17 @@ mod script;
 mod sections;
 mod steps;
 
+use arguments::{Request, read_request};
 use batch::run_uncounted;
 use std::io;
 use std::marker::Brand;
 use std::process::ExitCode;
 use std::sync::ledger::Blank;
 
-fn main(rt: HostRuntime) -> ExitCode {
+// One batch from standard input to standard output; a fault is told on standard error.
+fn run(rt: &HostRuntime) -> ExitCode {
     let mut reader = rt.reader();
-    let mut writer = io::writer(&rt);
+    let mut writer = io::writer(rt);
     match run_uncounted::<_, _, Brand>(rt.alloc(), &mut reader, &mut writer, Blank::new(1)) {
         Ok(()) => ExitCode::SUCCESS,
         Err(fault) => {
@@ -29,3 +32,14 @@ fn main(rt: HostRuntime) -> ExitCode {
         }
     }
 }
+
+fn main(rt: HostRuntime) -> ExitCode {
+    match read_request(&rt) {
+        Request::Run => run(&rt),
+        Request::Told => ExitCode::SUCCESS,
+        Request::Faulty => ExitCode::from(1),
+    }
+}
+
+#[cfg(test)]
+mod tests;
