@@ -4,3 +4,4 @@ pub mod Words
 pub mod Script
 pub mod Run
 pub mod Text
+pub mod Status

@@ -1,3 +1,5 @@
+ghost use Rattle.std.specs.Prelude.{◌≡◌};
+
 use thiserror::Error;
 
 /// Why a batch ended before its text was written.
@@ -23,8 +25,12 @@ pub enum BatchFault {
 }
 
 impl BatchFault {
+    ghost use Rattle.cnsd.specs.Status.{status_of};
+
     /// The exit status: 2 for a fault of the input, 3 for one of the surroundings.
-    pub fn status(self) -> u8 {
+    pub fn status(self) -> u8
+        ensures { result ≡ status_of self }
+    {
         match self {
             BatchFault::Read | BatchFault::TooLong | BatchFault::Sections | BatchFault::Csv => 2,
             BatchFault::Memory | BatchFault::Write => 3,

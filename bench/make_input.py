@@ -1,0 +1,51 @@
+#!/usr/bin/env python3
+"""Writes a large input on standard output: always the same text for the same arguments.
+
+    make_input.py N [--members M] [--issues I] [--net]
+
+N trades between M members in I issues. The script is `TAKE ALL`; with --net two cycles
+and a report follow it, and between them every trade becomes due.
+"""
+import argparse
+import random
+import sys
+
+CHARACTERS = '0123456789ABCDEFGHIJKLMNOPQRSTUVWXYZ*@#'
+DATES = ['2025-03-%02d' % day for day in (3, 4, 5, 6, 7, 10, 11, 12, 13, 14)]
+
+
+def cusip(number):
+    """A CUSIP with a right check digit, another one for each number."""
+    eight = '%06d%s%s' % (100000 + number * 37 % 900000, CHARACTERS[10 + number % 26], CHARACTERS[number % 10])
+    total = 0
+    for place, character in enumerate(eight, 1):
+        value = CHARACTERS.index(character) * (2 if place % 2 == 0 else 1)
+        total += value // 10 + value % 10
+    return eight + str((10 - total % 10) % 10)
+
+
+def main():
+    parser = argparse.ArgumentParser(description='Writes a large input on standard output.')
+    parser.add_argument('trades', type=int)
+    parser.add_argument('--members', type=int, default=500)
+    parser.add_argument('--issues', type=int, default=200)
+    parser.add_argument('--net', action='store_true')
+    given = parser.parse_args()
+    rng = random.Random(given.trades)
+    issues = [cusip(number) for number in range(given.issues)]
+    out = ['[openings]', '[trades]', 'trade,settle,buyer,seller,cusip,quantity']
+    for number in range(1, given.trades + 1):
+        buyer = rng.randint(1, given.members)
+        seller = (buyer + rng.randint(0, given.members - 2)) % given.members + 1
+        out.append('T%07d,%s,%d,%d,%s,%d' % (number, rng.choice(DATES), buyer, seller, rng.choice(issues), rng.randint(1, 99999)))
+    out += ['[script]', 'TAKE ALL']
+    if given.net:
+        out += ['CYCLE NIGHT %s' % DATES[4], 'CYCLE NIGHT %s' % DATES[-1], 'REPORT']
+    text = '\n'.join(out) + '\n'
+    if len(text) > 67108864:
+        sys.exit('make_input.py: %d bytes are more than an input may have' % len(text))
+    sys.stdout.write(text)
+
+
+if __name__ == '__main__':
+    main()

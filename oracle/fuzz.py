@@ -1,0 +1,532 @@
+#!/usr/bin/env python3
+"""Compares a program with the oracle on random inputs.
+
+    fuzz.py PROGRAM --stage S --seed N --count K [--from F] [--no-shrink]
+
+Input number i of a seed and a stage is always the same text, so a difference is found
+again with `--seed N --from i --count 1`. At the first difference the input is told in
+full, then with as many lines left out as still make a difference; that smaller one is
+left in the file fuzz-difference.in of the working folder, and the exit status is 1.
+Without a difference it is told how often each kind of line was met, and the exit status
+is 0. What a program is to do at each stage is told at the head of cnsd_oracle.py.
+"""
+import argparse
+import collections
+import difflib
+import os
+import random
+import subprocess
+import sys
+
+sys.path.insert(0, os.path.dirname(os.path.abspath(__file__)))
+import cnsd_oracle  # noqa: E402
+
+ISSUES = [b'037833100', b'17275R102', b'594918104', b'12345*AA7', b'12345@AA5', b'#12345673']
+BAD_ISSUES = [b'037833101', b'03783310', b'0378331000', b'03783a100', b'03783310A', b'', b'594918140', b'#12345670',
+              b' 37833100', b'03783310\xff', b'0378\x0033100', b'12345*AA#']
+DATES = [b'2025-03-03', b'2025-03-04', b'2025-03-05', b'2025-03-06', b'2025-03-07']
+RARE_DATES = [b'1900-01-01', b'2199-12-31', b'2024-02-29', b'2000-02-29', b'2025-12-31']
+BAD_DATES = [b'2025-02-29', b'1900-02-29', b'2100-02-29', b'1899-12-31', b'2200-01-01', b'2025-3-4', b'2025-13-01',
+             b'2025-00-01', b'2025-01-00', b'2025-04-31', b'2025-03-04 ', b' 2025-03-04', b'20250304', b'2025/03/04',
+             b'+025-03-04', b'-001-03-04', b'02025-03-04', b'', b'today', b'2025-03-0x', b'2025-03-32', b'2025-03-04T00:00']
+NOT_NUMBERS = [b'', b'x', b'1x', b'-1', b'+1', b' 1', b'1 ', b'1.0', b'1e3', b'0x1', b'1,0', b'\xd9\xa1', b'99999999999999999999999x']
+HUGE = [b'18446744073709551615', b'18446744073709551616', b'18446744073709551617', b'99999999999999999999999999', b'1' + b'0' * 60]
+MARK = b'\xef\xbb\xbf'
+
+
+class Maker:
+    """Makes one input."""
+
+    def __init__(self, rng, stage):
+        self.rng = rng
+        self.stage = stage
+        self.members = rng.sample([1, 2, 3, 4, 12, 345, 9999], rng.randint(2, 5))
+        self.issues = rng.sample(ISSUES, rng.choice([1, 1, 1, 2, 3, 6]))
+        self.row_fault = rng.choice([0, 0, 0, 0.02, 0.1, 0.4])  # how often a field or row is made bad
+        self.line_fault = rng.choice([0, 0, 0, 0.02, 0.1, 0.4])  # how often a line or word of the script is
+        self.fault = self.row_fault
+        self.odd = rng.choice([0, 0, 0.02, 0.2])              # how often csv is written in an odd way
+        # A market: few members sell what they hold to the others, in one or two issues.
+        self.market = stage >= 3 and rng.random() < 0.5
+        if self.market:
+            self.members = rng.sample([1, 2, 3, 4, 5, 12, 345, 9999], rng.randint(4, 8))
+            self.sellers = self.members[:rng.choice([1, 1, 2])]
+            self.issues = self.issues[:rng.choice([1, 1, 2])]
+            self.row_fault = self.fault = rng.choice([0, 0, 0.01])
+        self.rows = []
+        self.day = 0                                          # the next cycle, in half days
+        self.trade_rows, self.openings = [], {}
+        self.book = None                                      # where the script so far has led, as the oracle sees it
+
+    def chance(self, share):
+        return self.rng.random() < share
+
+    def zeros(self, digits):
+        return b'0' * self.rng.choice([1, 2, 3, 30]) + digits if self.chance(0.05) else digits
+
+    # Values, good and bad.
+
+    def member(self):
+        if self.chance(self.fault):
+            return self.rng.choice(NOT_NUMBERS + HUGE + [b'0', b'10000', b'000'])
+        return self.zeros(b'%d' % self.rng.choice(self.members))
+
+    def issue(self):
+        if self.chance(self.fault):
+            return self.rng.choice(BAD_ISSUES)
+        return self.rng.choice(self.issues)
+
+    def date(self):
+        if self.chance(self.fault):
+            return self.rng.choice(BAD_DATES + RARE_DATES)
+        return self.rng.choice(DATES if self.chance(0.5) else DATES[:2])
+
+    def quantity(self):
+        if self.chance(self.fault):
+            return self.rng.choice(NOT_NUMBERS + HUGE + [b'0', b'1000000000000'])
+        return self.zeros(b'%d' % self.rng.choice([1, 2, 5, 10, 30, 60, 100, self.rng.randint(1, 200), 999999999999]
+                                                  if self.chance(0.05) else [10, 20, 30, 40, 60, 100]))
+
+    def shares(self):
+        if self.chance(self.fault):
+            return self.rng.choice(NOT_NUMBERS + HUGE + [b'1000000000000000001'])
+        return self.zeros(b'%d' % self.rng.choice([0, 10, 25, 40, 60, 100, 150, 300, 1000]
+                                                  + ([10 ** 18, 10 ** 18 - 40, 5 * 10 ** 17] if self.chance(0.2) else [])))
+
+    def identifier(self):
+        if self.chance(self.fault):
+            return self.rng.choice([b'', b'a1', b'A' * 17, b'A 1', b'A-1', b'\xff', b'A\x00', b'A"1', MARK + b'A1', b' A1'])
+        if self.chance(0.1):
+            return self.rng.choice([b'A' * 16, b'0', b'01', b'Z9'])
+        return b'%s%d' % (self.rng.choice([b'A', b'B', b'C']), self.rng.randint(1, 12))
+
+    # Rows.
+
+    def trade(self):
+        if self.rows and self.chance(0.15):
+            row = list(self.rng.choice(self.rows))
+            if self.chance(0.5):
+                place = self.rng.randrange(6)
+                row[place] = self.trade_field(place)
+        else:
+            row = [self.trade_field(place) for place in range(6)]
+            if self.market and self.chance(0.9):
+                row[3] = b'%d' % self.rng.choice(self.sellers)
+            while row[2] == row[3] and not self.chance(0.1):
+                row[2] = self.member()
+        self.rows.append(list(row))
+        if self.chance(self.fault / 4):
+            row = row[:self.rng.randint(0, 5)] if self.chance(0.5) else row + [b''] * self.rng.randint(1, 3)
+        return row
+
+    def trade_field(self, place):
+        return [self.identifier, self.date, self.member, self.member, self.issue, self.quantity][place]()
+
+    def opening(self):
+        row = [self.member(), self.issue(), self.shares()]
+        if self.market and self.chance(0.7):
+            row = [b'%d' % self.rng.choice(self.sellers), self.issue(), b'%d' % self.rng.choice([30, 50, 90, 100, 150, 400])]
+        if self.chance(self.fault / 4):
+            row = row[:self.rng.randint(0, 2)] if self.chance(0.5) else row + [b''] * self.rng.randint(1, 2)
+        return row
+
+    def field(self, text):
+        """A field as it is written in a row."""
+        if self.chance(self.odd):
+            kind = self.rng.randrange(8)
+            if kind == 0:
+                return b'"' + text                             # perhaps never closed
+            if kind == 1:
+                return b'"' + text + b'"' + self.rng.choice([b'x', b' ', b'""', b'"', b'"y"'])
+            if kind == 2:
+                return text + b'"'
+            if kind == 3:
+                return b'"' + text + self.rng.choice([b'\n', b'\r\n', b',', b'""', b'\r']) + b'"'
+            if kind == 4:
+                return b' "' + text + b'"'
+            if kind == 5:
+                return b'""' + text
+            return b'"' + text.replace(b'"', b'""') + b'"'
+        if b'"' in text or self.chance(0.03):
+            return b'"' + text.replace(b'"', b'""') + b'"'
+        return text
+
+    def row_end(self):
+        if self.chance(self.odd):
+            return self.rng.choice([b'\r\n', b'\r', b'\n\n', b'\r\n\r\n', b'\n\r', b'\r\r\n', b'\n \n', b'\n""\n', b'\n,\n', b'\n#\n'])
+        return b'\n'
+
+    def section(self, header, make, count):
+        if count == 0 and self.chance(0.7):
+            return self.rng.choice([b'', b'', header + b'\n', b'\n', b'\r\n'])
+        if self.chance(self.odd):
+            header = self.rng.choice([MARK + header, b'"' + header.replace(b',', b'","') + b'"', b'\n\r\n' + header, header + b'\r',
+                                      MARK + b'"' + header.replace(b',', b'","') + b'"'])
+        if self.chance(self.fault / 10):
+            header = self.rng.choice([header.upper(), header + b',', header[:-1], header.replace(b',', b';'), b' ' + header,
+                                      MARK + MARK + header, b'', header.replace(b',', b', '), b'[trades]'])
+        rows = [b','.join(self.field(text) for text in make()) + self.row_end() for _ in range(count)]
+        return header + b'\n' + b''.join(rows)
+
+    # Scripts. Words are mostly chosen by what the oracle knows after the lines so
+    # far, so that most commands have something to do.
+
+    def look_at(self, lines):
+        run = cnsd_oracle.Run(self.stage, self.trade_rows, dict(self.openings), lines)
+        run.run()
+        self.book = run.book
+
+    def cycle(self):
+        if self.chance(0.2):
+            return b'CYCLE %s %s' % (self.rng.choice([b'NIGHT', b'DAY']), self.date())
+        self.day += self.rng.choice([0, 1, 1, 1, 2, 3])
+        return b'CYCLE %s 2025-03-%02d' % ([b'NIGHT', b'DAY'][self.day % 2], min(3 + self.day // 2, 31))
+
+    def number(self, high):
+        if self.chance(self.fault):
+            return self.rng.choice(NOT_NUMBERS + HUGE + [b'1000000000', b'1000000001', b'1000000', b'1000001'])
+        return self.zeros(b'%d' % self.rng.randint(0, high))
+
+    def known_number(self, known):
+        """Mostly one of 1 to known, often the last."""
+        if known and self.chance(0.85):
+            return b'%d' % (known if self.chance(0.3) else self.rng.randint(1, known))
+        return self.number(known + 2)
+
+    def lot_number(self):
+        still = [number for number, lot in enumerate(self.book.lots, 1) if not lot.ended]
+        if still and self.chance(0.8):
+            return b'%d' % self.rng.choice(still)
+        return self.known_number(len(self.book.lots))
+
+    def lot_issue(self):
+        """Mostly one that has shares for a lot."""
+        orders = self.book.orders()
+        full = [issue for issue in self.issues if self.book.free(issue) > 0]
+        if full and self.chance(0.7) and not self.chance(self.fault):
+            return self.rng.choice(full)
+        long = [order.issue for order in orders]
+        return self.rng.choice(long) if long and self.chance(0.5) else self.issue()
+
+    def place(self):
+        """A member and an issue, mostly a pair with a position or an exemption."""
+        records = self.book.clear.records
+        known = [(member, issue) for issue, member in cnsd_oracle.positions(records, self.book.orders())]
+        known += [(record.member, record.issue) for record in records if isinstance(record, (cnsd_oracle.Exempt, cnsd_oracle.Priority))]
+        if known and self.chance(0.8) and not self.chance(self.fault):
+            member, issue = self.rng.choice(known)
+            return [b'%d' % member, issue]
+        return [self.member(), self.issue()]
+
+    def planned_member(self, number):
+        """Mostly a member that the lot has still to serve."""
+        if number.isdigit() and 1 <= int(number) <= len(self.book.lots) and self.chance(0.8):
+            lot = self.book.lots[int(number) - 1]
+            left = [one.member for one in lot.plan if one.member not in [ticket.member for ticket in lot.tickets]]
+            if left:
+                return b'%d' % self.rng.choice(left)
+        return self.member()
+
+    def command(self, stage, *wanted):
+        """One good command of a stage, or of one before it; of the wanted names where there are some."""
+        rng = self.rng
+        known = [b'TAKE', b'TAKE', b'CYCLE', b'CYCLE', b'REPORT']
+        if stage >= 2:
+            known += [b'EXEMPT', b'PRIORITY', b'CYCLE']
+        if stage >= 3:
+            known += [b'SEND', b'ORDER', b'REPLY', b'PUMP', b'PUMP', b'ORDER', b'REPLY']
+        if stage >= 4:
+            known += [b'FAIL', b'RESTART'] if self.chance(0.4) else []
+        if stage >= 5:
+            known += [b'LOT', b'POUR', b'RESERVE', b'RESERVE', b'LOOK', b'SEAL', b'CLOSE', b'ALLOCATE', b'ALLOCATE', b'BESIDE', b'BESIDE']
+        if stage >= 6:
+            known += [b'DEPOSIT', b'WITHDRAW', b'WITHDRAW']
+        name = rng.choice(wanted or known)
+        if name == b'TAKE':
+            words = [rng.choice([b'ALL', self.number(4), self.number(4), b'1'])]
+        elif name == b'CYCLE':
+            return self.cycle()
+        elif name == b'EXEMPT':
+            words = self.place() + [self.shares()]
+        elif name == b'PRIORITY':
+            words = self.place() + [rng.choice([b'ON', b'OFF'])]
+        elif name in (b'SEND', b'ORDER', b'REPLY'):
+            known = {b'SEND': len(self.book.orders()), b'ORDER': len(self.book.order_packets), b'REPLY': len(self.book.reply_packets)}
+            words = [self.known_number(known[name])]
+        elif name == b'FAIL':
+            words = [rng.choice([b'CLEAR', b'CLEAR', b'DEPOT']), rng.choice([b'KEEP', b'DROP'])]
+        elif name == b'RESTART':
+            words = [rng.choice([b'CLEAR', b'CLEAR', b'DEPOT'])]
+        elif name in (b'LOT', b'ALLOCATE'):
+            words = [self.lot_issue()]
+        elif name == b'BESIDE':
+            words = [self.lot_issue(), rng.choice([b'0', b'1', b'2', b'3', b'4', self.number(6), b'1000', b'1001'])]
+        elif name == b'RESERVE':
+            number = self.lot_number()
+            words = [number, self.planned_member(number)]
+        elif name in (b'POUR', b'LOOK', b'SEAL', b'CLOSE'):
+            words = [self.lot_number()]
+        elif name in (b'DEPOSIT', b'WITHDRAW'):
+            words = [self.member(), self.number(4), self.issue(), self.shares()]
+        else:
+            words = []
+        return b' '.join([name] + words)
+
+    def spoilt(self, line):
+        """A line that is most likely no command."""
+        rng = self.rng
+        words = line.split(b' ')
+        kind = rng.randrange(11)
+        if kind == 0:
+            return line.lower()
+        if kind == 1:
+            return line.replace(b' ', b'  ', 1)
+        if kind == 2:
+            return line + rng.choice([b' ', b'\r', b'\t', b' 1', b'\x00', b'\xff', b'\x0b'])
+        if kind == 3:
+            return rng.choice([b' ', b'\t', MARK]) + line
+        if kind == 4:
+            return b' '.join(words[:-1])
+        if kind == 5:
+            rng.shuffle(words)
+            return b' '.join(words)
+        if kind == 6:
+            return line.replace(b' ', b'\t')
+        if kind == 7:
+            return rng.choice([b' ', b' # x', b'[trades]', b'[script]', b'FOO', b'TAKE', b'CYCLE', b'"REPORT"', b'\x00'])
+        if kind == 8:
+            return self.command(6)                             # perhaps of a later stage
+        if kind == 9:
+            at = rng.randrange(len(line) + 1)
+            return line[:at] + bytes([rng.choice([x for x in range(256) if x != 10])]) + line[at + 1:]
+        return bytes(rng.choice([x for x in range(256) if x != 10]) for _ in range(rng.randint(1, 12)))
+
+    def start(self):
+        """Lines that lead to where the rarer commands have something to do."""
+        lines = [b'TAKE ALL']
+        self.day = 1
+        for _ in range(self.rng.choice([1, 1, 2, 3])):
+            if self.stage >= 2 and self.chance(0.2):
+                self.look_at(lines)
+                lines += [self.command(2, b'EXEMPT') for _ in range(self.rng.randint(1, 3))]
+            lines.append(self.cycle() if self.day > 1 else b'CYCLE NIGHT 2025-03-04')
+            self.day = max(2, self.day)
+            if self.stage >= 3 and self.chance(0.7):
+                lines.append(b'PUMP')
+        return lines
+
+    def failing_story(self):
+        """A commit that fails, what follows while the node is down, and a restart."""
+        side = self.rng.choice([b'CLEAR', b'CLEAR', b'DEPOT'])
+        lines = [b'FAIL %s %s' % (side, self.rng.choice([b'KEEP', b'DROP']))]
+        if side == b'DEPOT' and self.chance(0.7):
+            lines += [self.cycle(), b'PUMP']
+        lines += [self.command(self.stage) for _ in range(self.rng.randint(1, 5))]
+        if self.chance(0.5):
+            packets = len(self.book.order_packets if side == b'DEPOT' else self.book.reply_packets)
+            lines += [b'%s %d' % (b'ORDER' if side == b'DEPOT' else b'REPLY', packets + extra) for extra in (0, 1, 5)]
+        return lines + [b'RESTART ' + side] * self.rng.choice([0, 1, 1, 1, 2])
+
+    def lot_story(self):
+        """A lot with steps of every kind in any order, by itself or beside an allocation."""
+        issue = self.lot_issue()
+        number = b'%d' % (len(self.book.lots) + 1)
+        plan = cnsd_oracle.plan(self.book.clear.records, self.book.orders(), issue)
+        members = [b'%d' % one.member for one in plan]
+        lines = [self.cycle()] if self.chance(0.3) else []
+        for member in members:
+            if self.chance(0.25):
+                for word in self.rng.choice([[b'ON'], [b'ON'], [b'OFF'], [b'ON', b'OFF'], [b'ON', b'OFF', b'ON']]):
+                    lines.append(b'PRIORITY %s %s %s' % (member, issue, word))
+        inner = [b'RESERVE %s %s' % (number, member) for member in members if self.chance(0.8)]
+        if self.chance(0.5):
+            self.rng.shuffle(inner)
+        else:
+            inner.sort(key=lambda line: self.chance(0.1))      # the plan's own order, with few exceptions
+        kinds = [b'LOOK', b'LOOK', b'POUR', b'PUMP', b'SEAL', b'REPORT', b'CLOSE', b'LOT', b'CYCLE', b'TAKE', b'ALLOCATE', b'BESIDE',
+                 b'RESERVE', b'EXEMPT', b'PRIORITY']
+        kinds += [b'RESTART', b'FAIL'] if self.chance(0.3) else []
+        for _ in range(self.rng.randint(0, 4)):
+            line = self.command(self.stage, self.rng.choice(kinds))
+            words = line.split(b' ')
+            if words[0] in (b'RESERVE', b'LOOK', b'POUR', b'SEAL', b'CLOSE') and self.chance(0.8):
+                line = b' '.join([words[0], number] + words[2:])
+            inner.insert(self.rng.randint(0, len(inner)), line)
+        if self.chance(0.4):
+            at = self.rng.randint(0, len(inner))
+            inner[at:at] = [b'PUMP', b'POUR ' + number] * self.rng.choice([1, 1, 2])
+        kind = self.rng.randrange(3)
+        if kind == 0:
+            return lines + [b'BESIDE %s %d' % (issue, max(0, len(inner) - self.rng.choice([0, 0, 0, 1, -1])))] + inner
+        if kind == 1:
+            return lines + [b'ALLOCATE ' + issue] + inner
+        return lines + [b'LOT ' + issue] + inner + [b'SEAL ' + number] * self.rng.choice([0, 0, 1]) + [b'CLOSE ' + number] * self.rng.choice([0, 1, 1])
+
+    def lines(self):
+        """The lines of a script."""
+        rng = self.rng
+        self.fault = self.line_fault
+        lines = []
+        if self.chance(0.7):
+            lines = self.start()
+        end = len(lines) + rng.choice([3, 8, 15, 30])
+        stories = [self.failing_story] * (self.stage >= 4) + [self.lot_story] * (4 * (self.stage >= 5))
+        while len(lines) < end:
+            self.look_at(lines)
+            if stories and self.chance(0.15):
+                lines += rng.choice(stories)()
+            elif self.chance(0.06):
+                lines.append(rng.choice([b'', b'# a comment', b'#', b'#TAKE ALL']))
+            elif self.stage >= 5 and self.chance(0.15):
+                still = [number for number, lot in enumerate(self.book.lots, 1) if not lot.ended]
+                lines += [b'CLOSE %d' % number for number in still]
+            else:
+                line = self.command(self.stage)
+                lines.append(self.spoilt(line) if self.chance(self.fault) else line)
+        return lines + [b'REPORT']
+
+    def script(self):
+        lines = self.lines()
+        ends = [b'\r\n' if self.chance(0.5 if self.odd else 0.02) else b'\n' for _ in lines]
+        if self.chance(0.1):
+            ends[-1] = self.rng.choice([b'', b'\r', b'\r\r\n'])
+        return b''.join(line + end for line, end in zip(lines, ends))
+
+    def text(self):
+        rng = self.rng
+        openings = self.section(b'account,cusip,shares', self.opening, rng.choice([0, 2, 5, 10]))
+        trades = self.section(b'trade,settle,buyer,seller,cusip,quantity', self.trade, rng.choice([0, 2, 5, 12, 25]))
+        try:
+            self.trade_rows = cnsd_oracle.rows_under(b'trade,settle,buyer,seller,cusip,quantity', trades)
+            if self.stage >= 3:
+                self.openings = cnsd_oracle.good_openings(cnsd_oracle.rows_under(b'account,cusip,shares', openings), lambda line: None)
+        except cnsd_oracle.BadInput:
+            pass
+        parts = [b'[openings]\n', openings, b'[trades]\n', trades, b'[script]\n', self.script()]
+        if self.chance(self.odd):
+            parts = [part.replace(b']\n', b']\r\n') for part in parts]
+        if self.chance(self.row_fault / 10):
+            place = rng.randrange(len(parts))
+            kind = rng.randrange(4)
+            if kind == 0:
+                del parts[place]
+            elif kind == 1:
+                rng.shuffle(parts)
+            elif kind == 2:
+                parts.insert(place, rng.choice([MARK, b'[trades]\n', b'[script]\n', b'[openings]\n', b'\n', b'\r']))
+            else:
+                parts[0] = rng.choice([b'', b' ', MARK, b'\n']) + parts[0]
+        text = b''.join(parts)
+        if self.chance(0.03):                                  # some bytes of it are changed
+            changed = bytearray(text)
+            for _ in range(rng.choice([1, 1, 3, 20])):
+                place = rng.randrange(len(changed) + 1)
+                what = rng.randrange(3)
+                if what == 0 and place < len(changed):
+                    changed[place] = rng.randrange(256)
+                elif what == 1:
+                    changed[place:place] = rng.choice([b'"', b',', b'\r', b'\n', b'\x00', b'\xff', b' '])
+                else:
+                    del changed[place:place + rng.choice([1, 1, 5, 40])]
+            text = bytes(changed)
+        elif self.chance(0.01):                                # nothing but bytes
+            text = bytes(rng.randrange(256) for _ in range(rng.choice([0, 1, 50, 400])))
+        return text
+
+
+def input_number(seed, number, stage):
+    rng = random.Random('%d/%d' % (seed, number))
+    return Maker(rng, stage).text()
+
+
+def run_program(program, text):
+    """(exit status, standard output, standard error)."""
+    try:
+        done = subprocess.run([program, 'run'], input=text, capture_output=True, timeout=60)
+    except subprocess.TimeoutExpired:
+        return 'no end within 60 seconds', b'', b''
+    return done.returncode, done.stdout, done.stderr
+
+
+def differs(program, stage, text):
+    return run_program(program, text) != cnsd_oracle.answer(text, stage)
+
+
+def smaller(program, stage, text):
+    """The input with as many lines left out as still makes a difference."""
+    lines = text.splitlines(True)
+    size = max(1, len(lines) // 2)
+    while True:
+        place, changed = 0, False
+        while place < len(lines):
+            fewer = lines[:place] + lines[place + size:]
+            if differs(program, stage, b''.join(fewer)):
+                lines, changed = fewer, True
+            else:
+                place += size
+        if size == 1 and not changed:
+            return b''.join(lines)
+        size = max(1, size // 2)
+
+
+def shown(data):
+    return data.decode('utf-8', 'backslashreplace').replace('\r', '\\r').replace('\0', '\\0')
+
+
+def tell(program, stage, text):
+    want, got = cnsd_oracle.answer(text, stage), run_program(program, text)
+    print('---- input (%d bytes)' % len(text))
+    print(shown(text))
+    for name, wanted, written in (('exit status', str(want[0]).encode(), str(got[0]).encode()),
+                                  ('standard output', want[1], got[1]), ('standard error', want[2], got[2])):
+        if wanted != written:
+            print('---- %s (- oracle, + program)' % name)
+            for line in difflib.unified_diff(shown(wanted).split('\n'), shown(written).split('\n'), lineterm='', n=2):
+                print(line)
+
+
+def kind_of(line):
+    """What is counted of a line: its first word, and the name of a refusal or fault."""
+    words = line.split(' ')
+    for word in ('refused', 'fault'):
+        if word in words:
+            return ' '.join(words[:1] + [other for other in words[words.index(word):] if not other.isdigit()])
+    return words[0] + (' ' + words[2] if words[0] == 'order' else '')
+
+
+def main():
+    parser = argparse.ArgumentParser(description='Compares a program with the oracle on random inputs.')
+    parser.add_argument('program')
+    parser.add_argument('--stage', type=int, default=5)
+    parser.add_argument('--seed', type=int, default=1)
+    parser.add_argument('--count', type=int, default=1000)
+    parser.add_argument('--from', type=int, default=0, dest='first')
+    parser.add_argument('--no-shrink', action='store_true')
+    given = parser.parse_args()
+    program = os.path.abspath(given.program) if os.sep in given.program else given.program
+    met = collections.Counter()
+    for number in range(given.first, given.first + given.count):
+        text = input_number(given.seed, number, given.stage)
+        want, got = cnsd_oracle.answer(text, given.stage), run_program(program, text)
+        met['exit status %d' % want[0]] += 1
+        met.update(kind_of(line) for line in want[1].decode('ascii').splitlines())
+        if want != got:
+            print('input %d of seed %d (stage %d): program and oracle differ' % (number, given.seed, given.stage))
+            tell(program, given.stage, text)
+            if not given.no_shrink:
+                text = smaller(program, given.stage, text)
+                print('==== the same difference, or another one, with fewer lines')
+                tell(program, given.stage, text)
+            with open('fuzz-difference.in', 'wb') as out:
+                out.write(text)
+            print('left in %s' % os.path.abspath('fuzz-difference.in'))
+            print('again: fuzz.py %s --stage %d --seed %d --from %d --count 1' % (given.program, given.stage, given.seed, number))
+            return 1
+    for kind, count in sorted(met.items()):
+        print('%8d %s' % (count, kind))
+    print('%d inputs of seed %d (stage %d): no difference' % (given.count, given.seed, given.stage))
+    return 0
+
+
+if __name__ == '__main__':
+    sys.exit(main())
