@@ -1,12 +1,18 @@
 -- The outcome lines (this project's own format). Each ends with LF.
 use Rattle.std.specs.Prelude.{ℕ, List, [], ◌∷◌, ◌++◌, codes}
 use Rattle.std.specs.Fmt.{decimal}
+use Rattle.cns_ids.specs.Cusip.{cusip_text}
 use Rattle.cns_ids.specs.Cycle.{kind_text}
+use Rattle.cns_ids.specs.Member.{member_text}
 use Rattle.cns_ids.specs.Day.{day_text}
 use Rattle.cns_ids.specs.declared.cycle.CycleId.{CycleId}
+use Rattle.cns_movements.specs.Order.{kind_text as move_kind_text}
+use Rattle.cns_movements.specs.declared.order.Order.{Order}
 use Rattle.cns_trades.specs.declared.fault.RowFault.{RowFault}
 use Rattle.cns_trades.specs.declared.list.Verdict.{Verdict}
 use Rattle.cns_trades.specs.declared.list.Verdict.TheVariants as verdicts
+use Rattle.cns_report.specs.declared.line.CycleRefusal.{CycleRefusal}
+use Rattle.cns_report.specs.declared.line.CycleRefusal.TheVariants as refusal
 use Rattle.cns_report.specs.Faults.{row_fault_text, verdict_text}
 
 abbrev pub line_end : List ℕ
@@ -35,6 +41,24 @@ bad_command_line line = codes "line " ++ decimal line ++ codes " bad command" ++
 unfoldable pub cycle_line : CycleId → ℕ → List ℕ
 cycle_line cycle due = codes "cycle " ++ day_text cycle.day ++ 32 ∷ kind_text cycle.kind ++ codes " due " ++ decimal due ++ line_end
 
--- cycle refused CycleOrder
-unfoldable pub cycle_refused_line : List ℕ
-cycle_refused_line = codes "cycle refused CycleOrder" ++ line_end
+-- cycle refused NAME
+unfoldable pub cycle_refused_line : CycleRefusal → List ℕ
+cycle_refused_line refusal.CycleOrder = codes "cycle refused CycleOrder" ++ line_end
+cycle_refused_line refusal.NumbersSpent = codes "cycle refused NumbersSpent" ++ line_end
+
+-- exempt ok
+unfoldable pub exempt_line : List ℕ
+exempt_line = codes "exempt ok" ++ line_end
+
+-- priority ok
+unfoldable pub priority_line : List ℕ
+priority_line = codes "priority ok" ++ line_end
+
+-- order N KIND MEMBER CUSIP ASKED
+unfoldable pub order_line : Order → List ℕ
+order_line o =
+    codes "order " ++ decimal o.number ++ 32 ∷ move_kind_text o.kind ++ 32 ∷ member_text o.member ++ 32 ∷ cusip_text o.issue ++ 32 ∷ decimal o.asked ++ line_end
+
+unfoldable pub order_lines : List Order → List ℕ
+order_lines [] = []
+order_lines (o ∷ orders) = order_line o ++ order_lines orders

@@ -9,7 +9,10 @@ mod line;
 mod position;
 mod report;
 
-pub use line::{write_bad_command, write_cycle, write_cycle_refused, write_row_fault, write_trade};
+pub use line::{
+    CycleRefusal, write_bad_command, write_cycle, write_cycle_refused, write_exempt, write_orders,
+    write_priority, write_row_fault, write_trade,
+};
 pub use report::{write_cycle_report, write_report_end};
 
 #[cfg(test)]

@@ -1,11 +1,32 @@
 use crate::{
-    write_bad_command, write_cycle, write_cycle_refused, write_cycle_report, write_report_end,
-    write_row_fault, write_trade,
+    CycleRefusal, write_bad_command, write_cycle, write_cycle_refused, write_cycle_report,
+    write_exempt, write_orders, write_priority, write_report_end, write_row_fault, write_trade,
 };
 use cns_ids::{Cusip, CusipFault, CycleId, CycleKind, Day, MemberNo, ReadFault};
+use cns_movements::{Asked, MoveKind, MoveNo, Order};
 use cns_netting::PositionRow;
 use cns_trades::{RowFault, TradeId, Verdict};
 use std::test::Fail;
+
+// A cover of member 1, and the largest delivery under the last number.
+fn two_orders() -> Result<[Order; 2], Fail> {
+    let issue = Cusip::read(b"037833100")?;
+    let cover = Order {
+        number: MoveNo::new(1).ok_or("number")?,
+        kind: MoveKind::Cover,
+        member: MemberNo::read(b"1")?,
+        issue,
+        asked: Asked::new(60).ok_or("asked")?,
+    };
+    let delivery = Order {
+        number: MoveNo::new(1_000_000).ok_or("number")?,
+        kind: MoveKind::Delivery,
+        member: MemberNo::read(b"42")?,
+        issue,
+        asked: Asked::new(1_000_000_000_000_000_000).ok_or("asked")?,
+    };
+    Ok([cover, delivery])
+}
 
 #[test]
 fn lines(rt: HostRuntime) -> Result<(), Fail> {
@@ -39,9 +60,13 @@ fn lines(rt: HostRuntime) -> Result<(), Fail> {
     write_row_fault(&mut out, 13, RowFault::Quantity(ReadFault::OutOfRange))?;
     write_bad_command(&mut out, 1)?;
     write_cycle(&mut out, night, 2)?;
-    write_cycle_refused(&mut out)?;
+    write_cycle_refused(&mut out, CycleRefusal::CycleOrder)?;
+    write_cycle_refused(&mut out, CycleRefusal::NumbersSpent)?;
+    write_exempt(&mut out)?;
+    write_priority(&mut out)?;
+    write_orders(&mut out, &two_orders()?)?;
     let want =
-        "trade A1 accepted\ntrade A1 refused Same\ntrade A1 refused Conflict\ntrade A1 refused SameMember\ntrade A1 refused Full\nrow 5 fault Settle BadDate\nrow 6 fault Fields\nrow 7 fault Id\nrow 8 fault Buyer BadNumber\nrow 9 fault Seller OutOfRange\nrow 10 fault Cusip BadChar 6\nrow 11 fault Cusip CheckDigit 0\nrow 12 fault Cusip Length\nrow 13 fault Quantity OutOfRange\nline 1 bad command\ncycle 2025-03-04 NIGHT due 2\ncycle refused CycleOrder\n";
+        "trade A1 accepted\ntrade A1 refused Same\ntrade A1 refused Conflict\ntrade A1 refused SameMember\ntrade A1 refused Full\nrow 5 fault Settle BadDate\nrow 6 fault Fields\nrow 7 fault Id\nrow 8 fault Buyer BadNumber\nrow 9 fault Seller OutOfRange\nrow 10 fault Cusip BadChar 6\nrow 11 fault Cusip CheckDigit 0\nrow 12 fault Cusip Length\nrow 13 fault Quantity OutOfRange\nline 1 bad command\ncycle 2025-03-04 NIGHT due 2\ncycle refused CycleOrder\ncycle refused NumbersSpent\nexempt ok\npriority ok\norder 1 COVER 0001 037833100 60\norder 1000000 DELIVERY 0042 037833100 1000000000000000000\n";
     assert_eq!(rt; out.as_str(), want);
     Ok(())
 }

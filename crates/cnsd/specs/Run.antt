@@ -14,6 +14,7 @@ use Rattle.cns_netting.specs.declared.entry.NetEntry.{NetEntry}
 use Rattle.cns_netting.specs.declared.entry.NetEntry.TheVariants.{Accepted, Netted}
 use Rattle.cns_report.specs.Lines.{trade_line, row_fault_line, bad_command_line, cycle_line, cycle_refused_line}
 use Rattle.cns_report.specs.Report.{cycle_report_text, report_end}
+use Rattle.cns_report.specs.declared.line.CycleRefusal.TheVariants as refusal
 use Rattle.cnsd.specs.Script.{command_of}
 use Rattle.cnsd.specs.Sections.{line_text, raw_lines}
 use Rattle.cnsd.specs.declared.command.Command.{Command}
@@ -56,7 +57,7 @@ is_later (Some last) cycle = is_after cycle last
 
 -- a cycle is recorded where it is later than the last one
 abbrev pub cycled : Books → CycleId → Books × List ℕ
-cycled books cycle = if is_later books.latest cycle then recorded books cycle else (books, cycle_refused_line)
+cycled books cycle = if is_later books.latest cycle then recorded books cycle else (books, cycle_refused_line refusal.CycleOrder)
 
 abbrev pub report_text : Books → List ℕ
 report_text books = cycle_report_text books.latest (rows_of books.history) ++ report_end
@@ -80,6 +81,8 @@ step n s command.TakeAll = taken s (length s.left)
 step n s (command.Take rows) = taken s (min rows (length s.left))
 step n s (command.Cycle cycle) = with_books s (cycled s.books cycle)
 step n s command.Report = (s, report_text s.books)
+step n s (command.Exempt member issue shares) = (s, bad_command_line n)
+step n s (command.Priority member issue on) = (s, bad_command_line n)
 step n s command.Bad = (s, bad_command_line n)
 
 -- lines one after another, numbered from n on

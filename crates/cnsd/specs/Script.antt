@@ -1,6 +1,8 @@
 -- The commands of a script (this project's own language).
-use Rattle.std.specs.Prelude.{ℕ, ◌==◌, ◌||◌, List, [], ◌∷◌, length, slice_index, codes, Result, Ok, Err, if◌then◌else◌}
+use Rattle.std.specs.Prelude.{ℕ, ◌^◌, ◌==◌, ◌||◌, Bool, true, false, Option, Some, None, List, [], ◌∷◌, length, slice_index, codes, Result, Ok, Err, if◌then◌else◌}
+use Rattle.cns_ids.specs.Cusip.{read_cusip}
 use Rattle.cns_ids.specs.Number.{number_in}
+use Rattle.cns_ids.specs.declared.cusip.CusipFault.{CusipFault}
 use Rattle.cns_ids.specs.ReadDay.{read_day}
 use Rattle.cns_ids.specs.declared.number.ReadFault.{ReadFault}
 use Rattle.cns_ids.specs.declared.day.BadDate.{BadDate}
@@ -30,7 +32,29 @@ cycle_command kind date =
     else if same_text kind (codes "DAY") then cycle_on Day (read_day date)
     else command.Bad
 
--- the commands of one word, of two, and of three
+abbrev pub exempt_with : Result ℕ ReadFault → Result ℕ CusipFault → Result ℕ ReadFault → Command
+exempt_with (Ok member) (Ok issue) (Ok shares) = command.Exempt member issue shares
+exempt_with member issue shares = command.Bad
+
+-- EXEMPT, a member, an issue, and shares from 0 to 10^18
+abbrev pub exempt_command : List ℕ → List ℕ → List ℕ → Command
+exempt_command member issue shares = exempt_with (number_in 1 9999 member) (read_cusip issue) (number_in 0 (10 ^ 18) shares)
+
+abbrev pub switch_of : List ℕ → Option Bool
+switch_of text =
+    if same_text text (codes "ON") then Some true
+    else if same_text text (codes "OFF") then Some false
+    else None
+
+abbrev pub priority_with : Result ℕ ReadFault → Result ℕ CusipFault → Option Bool → Command
+priority_with (Ok member) (Ok issue) (Some on) = command.Priority member issue on
+priority_with member issue on = command.Bad
+
+-- PRIORITY, a member, an issue, and ON or OFF
+abbrev pub priority_command : List ℕ → List ℕ → List ℕ → Command
+priority_command member issue switch = priority_with (number_in 1 9999 member) (read_cusip issue) (switch_of switch)
+
+-- the commands of one word, of two, of three, and of four
 abbrev pub single : List ℕ → Command
 single word = if same_text word (codes "REPORT") then command.Report else command.Bad
 
@@ -40,12 +64,19 @@ pair word first = if same_text word (codes "TAKE") then take_command first else 
 abbrev pub triple : List ℕ → List ℕ → List ℕ → Command
 triple word first second = if same_text word (codes "CYCLE") then cycle_command first second else command.Bad
 
+abbrev pub quadruple : List ℕ → List ℕ → List ℕ → List ℕ → Command
+quadruple word first second third =
+    if same_text word (codes "EXEMPT") then exempt_command first second third
+    else if same_text word (codes "PRIORITY") then priority_command first second third
+    else command.Bad
+
 abbrev pub command_of_words : List (List ℕ) → Command
 command_of_words [] = command.Bad
 command_of_words (word ∷ []) = single word
 command_of_words (word ∷ first ∷ []) = pair word first
 command_of_words (word ∷ first ∷ second ∷ []) = triple word first second
-command_of_words (word ∷ first ∷ second ∷ third ∷ more) = command.Bad
+command_of_words (word ∷ first ∷ second ∷ third ∷ []) = quadruple word first second third
+command_of_words (word ∷ first ∷ second ∷ third ∷ fourth ∷ more) = command.Bad
 
 -- the command that a line is: blank lines and those that begin with # are passed over
 unfoldable pub command_of : List ℕ → Command

@@ -1,9 +1,9 @@
 ghost use Rattle.std.specs.Prelude.{◌≡◌, ◌==◌, ◌<◌, option_map, length, IfSome};
 ghost use Rattle.std.specs.List.{position_from};
 ghost use Rattle.cnsd.specs.Words.{split_at_space};
-ghost use Rattle.cnsd.specs.Script.{command_of as command_of_line, cycle_command as cycle_command_of, single as single_of, pair as pair_of, triple as triple_of, take_command as take_command_of};
+ghost use Rattle.cnsd.specs.Script.{command_of as command_of_line, cycle_command as cycle_command_of, single as single_of, pair as pair_of, triple as triple_of, quadruple as quadruple_of, take_command as take_command_of, exempt_command as exempt_command_of, priority_command as priority_command_of, switch_of};
 
-use cns_ids::{CycleId, CycleKind, Day, read_number};
+use cns_ids::{Cusip, CycleId, CycleKind, Day, MemberNo, Shares, read_number};
 
 /// A line of the script.
 #[derive(Clone, Copy, PartialEq, Eq, Debug)]
@@ -16,6 +16,18 @@ pub enum Command {
     Take(u64),
     /// `CYCLE NIGHT date` or `CYCLE DAY date`.
     Cycle(CycleId),
+    /// `EXEMPT member cusip shares`.
+    Exempt {
+        member: MemberNo,
+        issue: Cusip,
+        shares: Shares,
+    },
+    /// `PRIORITY member cusip ON` or `OFF`.
+    Priority {
+        member: MemberNo,
+        issue: Cusip,
+        on: bool,
+    },
     /// `REPORT`.
     Report,
     /// A line that fits no form.
@@ -79,6 +91,51 @@ fn cycle_command(kind: &[u8], date: &[u8]) -> Command
     }
 }
 
+// The command `EXEMPT member cusip shares`.
+fn exempt_command(member: &[u8], issue: &[u8], shares: &[u8]) -> Command
+    ensures { result ≡ exempt_command_of member.now issue.now shares.now }
+{
+    match (
+        MemberNo::read(member),
+        Cusip::read(issue),
+        Shares::read(shares),
+    ) {
+        (Ok(member), Ok(issue), Ok(shares)) => Command::Exempt {
+            member,
+            issue,
+            shares,
+        },
+        _ => Command::Bad,
+    }
+}
+
+// A switch: `ON` or `OFF`.
+fn read_switch(text: &[u8]) -> Option<bool>
+    ensures { result ≡ switch_of text.now }
+{
+    if text == b"ON".as_slice() {
+        Some(true)
+    } else if text == b"OFF".as_slice() {
+        Some(false)
+    } else {
+        None
+    }
+}
+
+// The command `PRIORITY member cusip switch`.
+fn priority_command(member: &[u8], issue: &[u8], switch: &[u8]) -> Command
+    ensures { result ≡ priority_command_of member.now issue.now switch.now }
+{
+    match (
+        MemberNo::read(member),
+        Cusip::read(issue),
+        read_switch(switch),
+    ) {
+        (Ok(member), Ok(issue), Some(on)) => Command::Priority { member, issue, on },
+        _ => Command::Bad,
+    }
+}
+
 // The command of one word.
 fn single(word: &[u8]) -> Command
     ensures { result ≡ single_of word.now }
@@ -112,6 +169,19 @@ fn triple(word: &[u8], first: &[u8], second: &[u8]) -> Command
     }
 }
 
+// The command of four words.
+fn quadruple(word: &[u8], first: &[u8], second: &[u8], third: &[u8]) -> Command
+    ensures { result ≡ quadruple_of word.now first.now second.now third.now }
+{
+    if word == b"EXEMPT".as_slice() {
+        exempt_command(first, second, third)
+    } else if word == b"PRIORITY".as_slice() {
+        priority_command(first, second, third)
+    } else {
+        Command::Bad
+    }
+}
+
 /// The command that a line of the script is.
 #[tactic(auto, unfolding(crate::specs::Script::command_of))]
 pub(crate) fn command_of(line: &[u8]) -> Command
@@ -129,8 +199,12 @@ pub(crate) fn command_of(line: &[u8]) -> Command
         return pair(word, first);
     };
     let (second, rest) = split_word(rest);
+    let Some(rest) = rest else {
+        return triple(word, first, second);
+    };
+    let (third, rest) = split_word(rest);
     match rest {
-        None => triple(word, first, second),
+        None => quadruple(word, first, second, third),
         Some(_) => Command::Bad,
     }
 }

@@ -6,8 +6,8 @@ use crate::command::{Command, command_of};
 use cns_ids::CycleId;
 use cns_netting::NetBook;
 use cns_report::{
-    write_bad_command, write_cycle, write_cycle_refused, write_cycle_report, write_report_end,
-    write_row_fault, write_trade,
+    CycleRefusal, write_bad_command, write_cycle, write_cycle_refused, write_cycle_report,
+    write_report_end, write_row_fault, write_trade,
 };
 use cns_trades::{Row, Trade, TradeList, Verdict};
 use std::alloc::{AllocError, Global};
@@ -96,7 +96,7 @@ impl Runner {
         ensures text { OnOk result (string_bytes out.new ≡ string_bytes out.old ++ (cycled self.old cycle.now).1) }
     {
         if !self.is_later(cycle) {
-            return write_cycle_refused(out);
+            return write_cycle_refused(out, CycleRefusal::CycleOrder);
         }
         let due = self.book.net(cycle.day)?;
         self.latest = Some(*cycle);
@@ -143,7 +143,7 @@ pub(crate) fn run_line(
 {
     let taken = match command_of(line) {
         Command::Skip => return Ok(0),
-        Command::Bad => {
+        Command::Bad | Command::Exempt { .. } | Command::Priority { .. } => {
             write_bad_command(out, number)?;
             return Ok(0);
         }

@@ -17,19 +17,29 @@ returns-in_default-rest c =
     let second = words-one _ _ (rw c.in_default-rest.is at c.split_word-2.ensures) in
     c.pair.ensures ∙ sym (command-words c.args.line.now some c.if-line-eq35.false ∙ ap command_of_words (rw second at first))
 
+pub returns-in_default-rest-2 : goal.returns-in_default-rest-2
+returns-in_default-rest-2 c =
+    let some : (length c.args.line.now == 0) ≡ false = search rules in
+    let first = words-more _ _ _ (rw c.in-Some.is at c.split_word.ensures) in
+    let second = words-more _ _ _ (rw c.in-Some-rest.is at c.split_word-2.ensures) in
+    let third = words-one _ _ (rw c.in_default-rest-2.is at c.split_word-3.ensures) in
+    c.triple.ensures ∙ sym (command-words c.args.line.now some c.if-line-eq35.false ∙ ap command_of_words (rw (second, third) at first))
+
 pub returns-in-None : goal.returns-in-None
 returns-in-None c =
     let some : (length c.args.line.now == 0) ≡ false = search rules in
     let first = words-more _ _ _ (rw c.in-Some.is at c.split_word.ensures) in
     let second = words-more _ _ _ (rw c.in-Some-rest.is at c.split_word-2.ensures) in
-    let third = words-one _ _ (rw c.in-None.is at c.split_word-3.ensures) in
-    c.triple.ensures ∙ sym (command-words c.args.line.now some c.if-line-eq35.false ∙ ap command_of_words (rw (second, third) at first))
+    let third = words-more _ _ _ (rw c.in-Some-rest-2.is at c.split_word-3.ensures) in
+    let fourth = words-one _ _ (rw c.in-None.is at c.split_word-4.ensures) in
+    c.quadruple.ensures ∙ sym (command-words c.args.line.now some c.if-line-eq35.false ∙ ap command_of_words (rw (second, third, fourth) at first))
 
-pub returns-in-Some-rest-2 : goal.returns-in-Some-rest-2
-returns-in-Some-rest-2 c =
+pub returns-in-Some-rest-3 : goal.returns-in-Some-rest-3
+returns-in-Some-rest-3 c =
     let some : (length c.args.line.now == 0) ≡ false = search rules in
     let first = words-more _ _ _ (rw c.in-Some.is at c.split_word.ensures) in
     let second = words-more _ _ _ (rw c.in-Some-rest.is at c.split_word-2.ensures) in
     let third = words-more _ _ _ (rw c.in-Some-rest-2.is at c.split_word-3.ensures) in
-    let last = words-some c.in-Some-rest-2.field-0.now in
-    sym (command-words c.args.line.now some c.if-line-eq35.false ∙ ap command_of_words (rw (second, third, last.2) at first))
+    let fourth = words-more _ _ _ (rw c.in-Some-rest-3.is at c.split_word-4.ensures) in
+    let last = words-some c.in-Some-rest-3.field-0.now in
+    sym (command-words c.args.line.now some c.if-line-eq35.false ∙ ap command_of_words (rw (second, third, fourth, last.2) at first))
