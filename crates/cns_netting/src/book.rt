@@ -241,6 +241,7 @@ impl NetBook {
     pub fn net_room(&mut self, _day: Day) -> Result<(), AllocError>
         ensures same { self.new.history ≡ self.old.history }
         ensures room { OnOk result (0 < self.new.room) }
+        ensures lawful { IsBook self.new.history }
     {
         self.entries.reserve(1)
     }
@@ -290,7 +291,8 @@ impl NetBook {
 
     /// The position of a member in an issue: bought less sold over the due trades, and settlements.
     pub fn position(&self, member: MemberNo, issue: Cusip) -> i128
-        ensures { result ≡ position_of self.now.history member issue }
+        ensures value { result ≡ position_of self.now.history member issue }
+        ensures lawful { IsBook self.now.history }
     {
         tally_at(self.entries.as_slice(), None, member, issue).position()
     }

@@ -1,42 +1,70 @@
-ghost use Rattle.std.specs.Prelude.{◌≡◌, ◌≤◌, ◌++◌, [], None, min, drop, length, IfOk, OnOk, string_bytes};
-ghost use Rattle.cnsd.specs.Run.{Books, State, told_row, told_rows, cycled, is_later as is_later_cycle, step as step_of, report_text, no_books};
+ghost use Rattle.std.specs.Prelude.{◌≡◌, ◌≤◌, ◌++◌, [], None, true, false, min, drop, length, IfOk, IfErr, OnOk, OnErr, string_bytes};
+ghost use Rattle.cns_movements.specs.Book.{with_asks};
+ghost use Rattle.cns_movements.specs.declared.book.IssueFault.TheVariants.{NumbersSpent};
+ghost use Rattle.cnsd.specs.Run.{Books, State, are_spent, told_row, told_rows, cycled, exempted, prioritized, is_later as is_later_cycle, step as step_of, report_text, no_books};
 ghost use Rattle.cnsd.specs.Script.{command_of as command_of_line};
 
 use crate::command::{Command, command_of};
-use cns_ids::CycleId;
+use cns_covers::{Exemptions, Priorities, covers};
+use cns_ids::{Cusip, CycleId, MemberNo, Shares};
+use cns_movements::{Ask, IssueFault, OrderBook};
 use cns_netting::NetBook;
 use cns_report::{
     CycleRefusal, write_bad_command, write_cycle, write_cycle_refused, write_cycle_report,
-    write_report_end, write_row_fault, write_trade,
+    write_exempt, write_orders, write_priority, write_report_end, write_row_fault, write_trade,
 };
 use cns_trades::{Row, Trade, TradeList, Verdict};
 use std::alloc::{AllocError, Global};
 use std::marker::Model;
 
-/// The book that a script works on: the accepted trades by id, their netting, and the latest cycle.
+/// The books that a script works on: the accepted trades by id and their netting, the latest cycle,
+/// the movement orders, exemptions and priorities.
 ///
-/// Contracts see the book's history and the latest cycle.
+/// Contracts see the history, the latest cycle, the orders and the settings.
 #[derive(Drop)]
 pub(crate) struct Runner {
     trades: TradeList,
     book: NetBook,
     latest: Option<CycleId>,
+    orders: OrderBook,
+    exemptions: Exemptions,
+    priorities: Priorities,
+    alloc: Global,
 }
 
 impl Model for Runner {
-    ghost use Rattle.std.specs.Prelude.{◌≡◌};
-    ghost use Rattle.cns_netting.specs.History.{accepted};
-    ghost use Rattle.cnsd.specs.Run.{Books};
+    ghost use Rattle.cnsd.specs.Run.{Books, IsRunning};
 
     ghost Value = { Books };
 
-    ghost view = { λ r. record { history = r.book.history; latest = r.latest } };
+    ghost view = { λ r. record {
+      history = r.book.history;
+      latest = r.latest;
+      orders = r.orders.book;
+      exemptions = r.exemptions.settings;
+      priorities = r.priorities.settings;
+    } };
 
-    ghost invariant = { λ r. r.trades.trades ≡ accepted r.book.history };
+    ghost invariant = { λ r. IsRunning r.trades.trades r.book.history };
+}
+
+// Issues covers, where there are any.
+fn issue_covers(orders: &mut OrderBook, asks: &[Ask]) -> Result<(), IssueFault>
+    ensures ok { OnOk result ((orders.new.book ≡ with_asks orders.old.book asks.now) × (are_spent orders.old.book asks.now ≡ false)) }
+    ensures err { IfErr result (λ fault. fault ≡ NumbersSpent → are_spent orders.old.book asks.now ≡ true) }
+    ensures same { OnErr result (orders.new.book ≡ orders.old.book) }
+{
+    if asks.is_empty() {
+        return Ok(());
+    }
+    match orders.issue(asks) {
+        Ok(_) => Ok(()),
+        Err(fault) => Err(fault),
+    }
 }
 
 impl Runner {
-    /// An empty book.
+    /// Empty books.
     pub(crate) fn new(alloc: Global) -> Runner
         ensures { result ≡ no_books }
     {
@@ -44,6 +72,10 @@ impl Runner {
             trades: TradeList::new(alloc),
             book: NetBook::new(alloc),
             latest: None,
+            orders: OrderBook::new(alloc),
+            exemptions: Exemptions::new(alloc),
+            priorities: Priorities::new(alloc),
+            alloc,
         }
     }
 
@@ -90,7 +122,8 @@ impl Runner {
         }
     }
 
-    // Records a cycle where it is later than the last one, and tells it.
+    // Runs a cycle: refuses one that is not later than the last one, or whose covers are more than
+    // the numbers that are left, and else records it. Tells what became of it.
     fn cycle(&mut self, cycle: &CycleId, out: &mut String) -> Result<(), AllocError>
         ensures after { OnOk result (self.new ≡ (cycled self.old cycle.now).0) }
         ensures text { OnOk result (string_bytes out.new ≡ string_bytes out.old ++ (cycled self.old cycle.now).1) }
@@ -98,9 +131,59 @@ impl Runner {
         if !self.is_later(cycle) {
             return write_cycle_refused(out, CycleRefusal::CycleOrder);
         }
-        let due = self.book.net(cycle.day)?;
+        self.book.net_room(cycle.day)?;
+        let asks = covers(
+            self.alloc,
+            &self.book,
+            cycle.day,
+            &self.orders,
+            &self.exemptions,
+        )?;
+        let before = self.orders.len();
+        match issue_covers(&mut self.orders, asks.as_slice()) {
+            Ok(()) => {}
+            Err(IssueFault::NumbersSpent) => {
+                return write_cycle_refused(out, CycleRefusal::NumbersSpent);
+            }
+            Err(IssueFault::OutOfMemory) => return Err(AllocError),
+        }
+        let Ok(due) = self.book.net(cycle.day) else {
+            unreachable!()
+        };
         self.latest = Some(*cycle);
-        write_cycle(out, *cycle, due)
+        write_cycle(out, *cycle, due)?;
+        let (_, issued) = self.orders.orders().split_at(before);
+        write_orders(out, issued)
+    }
+
+    // Sets an exemption, and tells it.
+    fn exempt(
+        &mut self,
+        member: MemberNo,
+        issue: Cusip,
+        shares: Shares,
+        out: &mut String,
+    ) -> Result<(), AllocError>
+        ensures after { OnOk result (self.new ≡ (exempted self.old member issue shares).0) }
+        ensures text { OnOk result (string_bytes out.new ≡ string_bytes out.old ++ (exempted self.old member issue shares).1) }
+    {
+        self.exemptions.set(member, issue, shares)?;
+        write_exempt(out)
+    }
+
+    // Sets a priority, and tells it.
+    fn prioritize(
+        &mut self,
+        member: MemberNo,
+        issue: Cusip,
+        on: bool,
+        out: &mut String,
+    ) -> Result<(), AllocError>
+        ensures after { OnOk result (self.new ≡ (prioritized self.old member issue on).0) }
+        ensures text { OnOk result (string_bytes out.new ≡ string_bytes out.old ++ (prioritized self.old member issue on).1) }
+    {
+        self.priorities.set(member, issue, on)?;
+        write_priority(out)
     }
 
     // Tells the report.
@@ -143,7 +226,19 @@ pub(crate) fn run_line(
 {
     let taken = match command_of(line) {
         Command::Skip => return Ok(0),
-        Command::Bad | Command::Exempt { .. } | Command::Priority { .. } => {
+        Command::Exempt {
+            member,
+            issue,
+            shares,
+        } => {
+            runner.exempt(member, issue, shares, out)?;
+            return Ok(0);
+        }
+        Command::Priority { member, issue, on } => {
+            runner.prioritize(member, issue, on, out)?;
+            return Ok(0);
+        }
+        Command::Bad => {
             write_bad_command(out, number)?;
             return Ok(0);
         }

@@ -96,7 +96,7 @@ const INPUT: &[u8] =
     b"[openings]\n[trades]\ntrade,settle,buyer,seller,cusip,quantity\nA1,2025-03-04,2,1,037833100,100\nA2,2025-03-04,1,2,037833100,40\n[script]\nTAKE ALL\nCYCLE NIGHT 2025-03-04\nREPORT\n";
 
 const OUTPUT: &[u8] =
-    b"trade A1 accepted\ntrade A2 accepted\ncycle 2025-03-04 NIGHT due 2\nREPORT cycle 2025-03-04 NIGHT\nPOS 037833100 0001                  -60\nPOS 037833100 0002                   60\nEND\n";
+    b"trade A1 accepted\ntrade A2 accepted\ncycle 2025-03-04 NIGHT due 2\norder 1 COVER 0001 037833100 60\nREPORT cycle 2025-03-04 NIGHT\nPOS 037833100 0001                  -60\nPOS 037833100 0002                   60\nEND\n";
 
 // A batch from a reader to a writer.
 fn batch<R: Read, W: Write>(

@@ -1,0 +1,3 @@
+pub mod Exemptions
+pub mod Priorities
+pub mod Covers
