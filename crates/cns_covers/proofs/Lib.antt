@@ -1,1 +1,2 @@
 pub mod CoverLemmas
+pub mod BoundLemmas

@@ -48,7 +48,7 @@ IsUnsettled (Settled m i z ∷ h) = ⊥
 abbrev pub short_of : PositionRow → ℕ
 short_of row = debit_part row.position
 
--- the cover of a position, where something is left to cover
+-- the cover of a position as a row, where something is left to cover
 unfoldable pub row_ask : Orders → List Exempted → PositionRow → Option Ask
 row_ask book settings row =
     ask_for row.member row.issue

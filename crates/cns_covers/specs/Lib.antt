@@ -1,3 +1,4 @@
 pub mod Exemptions
 pub mod Priorities
 pub mod Covers
+pub mod Bounds

@@ -10,10 +10,10 @@ use cns_movements::{Ask, Asked, MoveKind, OrderBook};
 use cns_netting::{NetBook, PositionRow};
 use std::alloc::{AllocError, Global};
 
-/// The covers that a cycle of this date orders: for each member and issue the shares that the member
-/// is short of once `net` has made the trades of that date due, less the shares of open covers and of
-/// the exemption. They stand by issue, then member; where nothing is left there is no cover. (This
-/// project's own rule.)
+/// The covers that a cycle of this date orders, by issue, then member: for each the shares that the
+/// member is short of in the issue, once `net` has made the trades due that settle by the date, less
+/// the shares of its open covers and of its exemption. Where nothing is left there is no cover.
+/// (This project's own rule.)
 ///
 /// Nothing is changed. No member may be short of more than 10^18 shares in an issue.
 pub fn covers(

@@ -50,8 +50,8 @@ impl Exemptions {
     /// Sets the shares that a member exempts in an issue, in place of those before; 0 ends the
     /// exemption.
     pub fn set(&mut self, member: MemberNo, issue: Cusip, shares: Shares) -> Result<(), AllocError>
-        ensures ok { let setting : Exempted = record { member = member; issue = issue; shares = shares } in
-            OnOk result (self.new.settings ≡ setting ∷ self.old.settings) }
+        ensures ok { OnOk result (self.new.settings
+            ≡ record { member = member; issue = issue; shares = shares } ∷ self.old.settings) }
         ensures err { OnErr result (self.new.settings ≡ self.old.settings) }
         ensures room { 0 < self.old.room → IsOk result }
     {

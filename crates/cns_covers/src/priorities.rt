@@ -50,8 +50,8 @@ impl Priorities {
 
     /// Sets whether a member has priority in an issue, in place of what was set before.
     pub fn set(&mut self, member: MemberNo, issue: Cusip, on: bool) -> Result<(), AllocError>
-        ensures ok { let setting : Prioritized = record { member = member; issue = issue; on = on } in
-            OnOk result (self.new.settings ≡ setting ∷ self.old.settings) }
+        ensures ok { OnOk result (self.new.settings
+            ≡ record { member = member; issue = issue; on = on } ∷ self.old.settings) }
         ensures err { OnErr result (self.new.settings ≡ self.old.settings) }
         ensures room { 0 < self.old.room → IsOk result }
     {

@@ -27,6 +27,8 @@ row_fault_text (fault.Buyer e) = codes "Buyer " ++ read_fault_text e
 row_fault_text (fault.Seller e) = codes "Seller " ++ read_fault_text e
 row_fault_text (fault.Cusip e) = codes "Cusip " ++ cusip_fault_text e
 row_fault_text (fault.Quantity e) = codes "Quantity " ++ read_fault_text e
+row_fault_text (fault.Account e) = codes "Account " ++ read_fault_text e
+row_fault_text (fault.Shares e) = codes "Shares " ++ read_fault_text e
 
 abbrev pub verdict_text : Verdict → List ℕ
 verdict_text verdicts.New = codes "New"

@@ -1,4 +1,5 @@
 pub mod Right
 pub mod Faults
+pub mod Refusals
 pub mod Lines
 pub mod Report

@@ -11,8 +11,9 @@ use Rattle.cns_movements.specs.declared.order.Order.{Order}
 use Rattle.cns_trades.specs.declared.fault.RowFault.{RowFault}
 use Rattle.cns_trades.specs.declared.list.Verdict.{Verdict}
 use Rattle.cns_trades.specs.declared.list.Verdict.TheVariants as verdicts
-use Rattle.cns_report.specs.declared.line.CycleRefusal.{CycleRefusal}
-use Rattle.cns_report.specs.declared.line.CycleRefusal.TheVariants as refusal
+use Rattle.cns_report.specs.Refusals.{subject_text, refusal_text}
+use Rattle.cns_report.specs.declared.refusal.Subject.{Subject}
+use Rattle.cns_report.specs.declared.refusal.Refusal.{Refusal}
 use Rattle.cns_report.specs.Faults.{row_fault_text, verdict_text}
 
 abbrev pub line_end : List ℕ
@@ -41,10 +42,9 @@ bad_command_line line = codes "line " ++ decimal line ++ codes " bad command" ++
 unfoldable pub cycle_line : CycleId → ℕ → List ℕ
 cycle_line cycle due = codes "cycle " ++ day_text cycle.day ++ 32 ∷ kind_text cycle.kind ++ codes " due " ++ decimal due ++ line_end
 
--- cycle refused NAME
-unfoldable pub cycle_refused_line : CycleRefusal → List ℕ
-cycle_refused_line refusal.CycleOrder = codes "cycle refused CycleOrder" ++ line_end
-cycle_refused_line refusal.NumbersSpent = codes "cycle refused NumbersSpent" ++ line_end
+-- WORD refused NAME
+unfoldable pub refused_line : Subject → Refusal → List ℕ
+refused_line subject refusal = subject_text subject ++ codes " refused " ++ refusal_text refusal ++ line_end
 
 -- exempt ok
 unfoldable pub exempt_line : List ℕ
@@ -62,3 +62,27 @@ order_line o =
 unfoldable pub order_lines : List Order → List ℕ
 order_lines [] = []
 order_lines (o ∷ orders) = order_line o ++ order_lines orders
+
+-- opening row N fault ..
+unfoldable pub opening_row_fault_line : ℕ → RowFault → List ℕ
+opening_row_fault_line row fault = codes "opening " ++ row_fault_line row fault
+
+-- send N packet K
+unfoldable pub send_line : ℕ → ℕ → List ℕ
+send_line number packet = codes "send " ++ decimal number ++ codes " packet " ++ decimal packet ++ line_end
+
+-- exec N moved Q packet K
+unfoldable pub exec_line : ℕ → ℕ → ℕ → List ℕ
+exec_line number moved packet = codes "exec " ++ decimal number ++ codes " moved " ++ decimal moved ++ codes " packet " ++ decimal packet ++ line_end
+
+-- again N moved Q packet K
+unfoldable pub again_line : ℕ → ℕ → ℕ → List ℕ
+again_line number moved packet = codes "again " ++ decimal number ++ codes " moved " ++ decimal moved ++ codes " packet " ++ decimal packet ++ line_end
+
+-- confirm N moved Q done
+unfoldable pub confirm_done_line : ℕ → ℕ → List ℕ
+confirm_done_line number moved = codes "confirm " ++ decimal number ++ codes " moved " ++ decimal moved ++ codes " done" ++ line_end
+
+-- confirm N moved Q again
+unfoldable pub confirm_again_line : ℕ → ℕ → List ℕ
+confirm_again_line number moved = codes "confirm " ++ decimal number ++ codes " moved " ++ decimal moved ++ codes " again" ++ line_end

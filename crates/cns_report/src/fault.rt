@@ -64,6 +64,14 @@ impl fmt::Display for RowFaultName {
                 let name = ReadFaultName(fault);
                 write!(f, "Quantity {name}")
             }
+            RowFault::Account(fault) => {
+                let name = ReadFaultName(fault);
+                write!(f, "Account {name}")
+            }
+            RowFault::Shares(fault) => {
+                let name = ReadFaultName(fault);
+                write!(f, "Shares {name}")
+            }
         }
     }
 }

@@ -1,7 +1,8 @@
 ghost use Rattle.std.specs.Prelude.{◌≡◌, ◌++◌, OnOk, string_bytes};
-ghost use Rattle.cns_report.specs.Lines.{trade_line, row_fault_line, bad_command_line, cycle_line, cycle_refused_line, exempt_line, priority_line, order_line, order_lines};
+ghost use Rattle.cns_report.specs.Lines.{trade_line, row_fault_line, bad_command_line, cycle_line, refused_line, exempt_line, priority_line, order_line, order_lines, opening_row_fault_line, send_line, exec_line, again_line, confirm_done_line, confirm_again_line};
 
 use crate::fault::{RowFaultName, VerdictName};
+use crate::refusal::{Refusal, Subject};
 use cns_ids::CycleId;
 use cns_movements::Order;
 use cns_trades::{RowFault, TradeId, Verdict};
@@ -48,24 +49,12 @@ pub fn write_cycle(out: &mut String, cycle: CycleId, due: u64) -> Result<(), All
     write!(out, "cycle {day} {kind} due {due}\n")
 }
 
-/// Why a cycle was not recorded.
-#[derive(Clone, Copy, PartialEq, Eq, Debug)]
-pub enum CycleRefusal {
-    /// It is not later than the last one.
-    CycleOrder,
-    /// Its orders are more than the numbers that are left.
-    NumbersSpent,
-}
-
-/// The line of a cycle that was not recorded: `cycle refused NAME`.
-#[tactic(auto, unfolding(crate::specs::Lines::cycle_refused_line))]
-pub fn write_cycle_refused(out: &mut String, refusal: CycleRefusal) -> Result<(), AllocError>
-    ensures { OnOk result (string_bytes out.new ≡ string_bytes out.old ++ cycle_refused_line refusal) }
+/// The line of a refused command: `WORD refused NAME`.
+#[tactic(auto, unfolding(crate::specs::Lines::refused_line))]
+pub fn write_refused(out: &mut String, subject: Subject, refusal: Refusal) -> Result<(), AllocError>
+    ensures { OnOk result (string_bytes out.new ≡ string_bytes out.old ++ refused_line subject refusal) }
 {
-    match refusal {
-        CycleRefusal::CycleOrder => out.push_str("cycle refused CycleOrder\n"),
-        CycleRefusal::NumbersSpent => out.push_str("cycle refused NumbersSpent\n"),
-    }
+    write!(out, "{subject} refused {refusal}\n")
 }
 
 /// The line of an exemption that was set: `exempt ok`.
@@ -107,4 +96,57 @@ pub fn write_orders(out: &mut String, orders: &[Order]) -> Result<(), AllocError
         write_order(out, order)?;
     }
     Ok(())
+}
+
+/// The line of a faulty row of openings: `opening row N fault ..`.
+#[tactic(auto, unfolding(crate::specs::Lines::opening_row_fault_line))]
+pub fn write_opening_row_fault(
+    out: &mut String,
+    row: u64,
+    fault: RowFault,
+) -> Result<(), AllocError>
+    ensures { OnOk result (string_bytes out.new ≡ string_bytes out.old ++ opening_row_fault_line row fault) }
+{
+    write!(out, "opening ")?;
+    write_row_fault(out, row, fault)
+}
+
+/// The line of an order that was sent: `send N packet K`.
+#[tactic(auto, unfolding(crate::specs::Lines::send_line))]
+pub fn write_send(out: &mut String, number: u64, packet: u64) -> Result<(), AllocError>
+    ensures { OnOk result (string_bytes out.new ≡ string_bytes out.old ++ send_line number packet) }
+{
+    write!(out, "send {number} packet {packet}\n")
+}
+
+/// The line of an order that came in and was executed: `exec N moved Q packet K`.
+#[tactic(auto, unfolding(crate::specs::Lines::exec_line))]
+pub fn write_exec(out: &mut String, number: u64, moved: u64, packet: u64) -> Result<(), AllocError>
+    ensures { OnOk result (string_bytes out.new ≡ string_bytes out.old ++ exec_line number moved packet) }
+{
+    write!(out, "exec {number} moved {moved} packet {packet}\n")
+}
+
+/// The line of an order that came in once more: `again N moved Q packet K`.
+#[tactic(auto, unfolding(crate::specs::Lines::again_line))]
+pub fn write_again(out: &mut String, number: u64, moved: u64, packet: u64) -> Result<(), AllocError>
+    ensures { OnOk result (string_bytes out.new ≡ string_bytes out.old ++ again_line number moved packet) }
+{
+    write!(out, "again {number} moved {moved} packet {packet}\n")
+}
+
+/// The line of a reply that confirms its order: `confirm N moved Q done`.
+#[tactic(auto, unfolding(crate::specs::Lines::confirm_done_line))]
+pub fn write_confirm_done(out: &mut String, number: u64, moved: u64) -> Result<(), AllocError>
+    ensures { OnOk result (string_bytes out.new ≡ string_bytes out.old ++ confirm_done_line number moved) }
+{
+    write!(out, "confirm {number} moved {moved} done\n")
+}
+
+/// The line of a reply that came in once more: `confirm N moved Q again`.
+#[tactic(auto, unfolding(crate::specs::Lines::confirm_again_line))]
+pub fn write_confirm_again(out: &mut String, number: u64, moved: u64) -> Result<(), AllocError>
+    ensures { OnOk result (string_bytes out.new ≡ string_bytes out.old ++ confirm_again_line number moved) }
+{
+    write!(out, "confirm {number} moved {moved} again\n")
 }

@@ -20,3 +20,11 @@ is_trade_header fs =
     && same_text (field_or_empty fs 3) (codes "seller")
     && same_text (field_or_empty fs 4) (codes "cusip")
     && same_text (field_or_empty fs 5) (codes "quantity")
+
+-- account,cusip,shares
+abbrev pub is_opening_header : List (List ℕ) → Bool
+is_opening_header fs =
+    (length fs == 3)
+    && same_text (field_or_empty fs 0) (codes "account")
+    && same_text (field_or_empty fs 1) (codes "cusip")
+    && same_text (field_or_empty fs 2) (codes "shares")

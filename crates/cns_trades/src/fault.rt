@@ -21,6 +21,10 @@ pub enum RowFault {
     Cusip(CusipFault),
     #[error("quantity: {0}")]
     Quantity(ReadFault),
+    #[error("account: {0}")]
+    Account(ReadFault),
+    #[error("shares: {0}")]
+    Shares(ReadFault),
 }
 
 /// Why a text gave no rows.

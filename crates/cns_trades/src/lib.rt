@@ -1,4 +1,4 @@
-//! Trades: the rows of a text, and the list of accepted trades.
+//! Trades and openings: the rows of a text, and the list of accepted trades.
 //!
 //! A row is read exactly where it is well formed, and otherwise told by its number and its first
 //! fault. A trade is judged against the accepted ones.
@@ -7,6 +7,7 @@
 mod fault;
 mod id;
 mod list;
+mod opening;
 mod record;
 mod row;
 mod trade;
@@ -14,6 +15,7 @@ mod trade;
 pub use fault::{CsvFault, RowFault};
 pub use id::{BadId, TradeId};
 pub use list::{TradeList, Verdict};
+pub use opening::{Opening, OpeningRow, read_openings};
 pub use row::{Row, read_trades};
 pub use trade::Trade;
 

@@ -1,5 +1,8 @@
-use crate::{CsvFault, Row, RowFault, Trade, TradeId, TradeList, Verdict, read_trades};
-use cns_ids::{Cusip, CusipFault, Day, MemberNo, ReadFault, read_quantity};
+use crate::{
+    CsvFault, Opening, OpeningRow, Row, RowFault, Trade, TradeId, TradeList, Verdict,
+    read_openings, read_trades,
+};
+use cns_ids::{Cusip, CusipFault, Day, MemberNo, ReadFault, Shares, read_quantity};
 use std::alloc::Global;
 use std::test::Fail;
 
@@ -149,5 +152,38 @@ fn verdicts(rt: HostRuntime) -> Result<(), Fail> {
     assert_eq!(rt; list.check(other), Verdict::Conflict);
     assert_eq!(rt; list.check(own), Verdict::SameMember);
     assert!(rt; TradeId::read(b"").is_err());
+    Ok(())
+}
+
+#[test]
+fn openings(rt: HostRuntime) -> Result<(), Fail> {
+    let rows = read_openings(
+        rt.alloc(),
+        b"account,cusip,shares\n1,037833100,1000000000000000000\n0,037833100,5\n3,037833101,5\n2,037833100,1000000000000000001\n2,037833100\n",
+    )?;
+    let faults = [
+        RowFault::Account(ReadFault::OutOfRange),
+        RowFault::Cusip(CusipFault::CheckDigit { want: 0 }),
+        RowFault::Shares(ReadFault::OutOfRange),
+        RowFault::Fields,
+    ];
+    assert_eq!(rt; rows.len(), 5);
+    let opening = Opening {
+        member: MemberNo::read(b"1")?,
+        issue: Cusip::read(b"037833100")?,
+        shares: Shares::read(b"1000000000000000000")?,
+    };
+    assert_eq!(rt; rows.first().copied(), Some(OpeningRow::Opening(opening)));
+    for (place, fault) in faults.iter().enumerate() {
+        let row = place as u64 + 2;
+        assert_eq!(rt;
+            rows.get(place + 1).copied(),
+            Some(OpeningRow::Fault { row, fault: *fault })
+        );
+    }
+    assert_eq!(rt;
+        read_openings(rt.alloc(), b"account,cusip\n").err(),
+        Some(CsvFault::Header)
+    );
     Ok(())
 }

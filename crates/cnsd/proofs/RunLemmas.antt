@@ -11,8 +11,9 @@ use Rattle.cns_netting.specs.History.{becoming_due}
 use Rattle.cns_netting.specs.declared.entry.NetEntry.{NetEntry}
 use Rattle.cns_netting.specs.declared.entry.NetEntry.TheVariants.{Netted}
 use Rattle.cns_covers.specs.Covers.{covers_of}
-use Rattle.cns_report.specs.Lines.{cycle_refused_line}
-use Rattle.cns_report.specs.declared.line.CycleRefusal.TheVariants as refusal
+use Rattle.cns_report.specs.Lines.{refused_line}
+use Rattle.cns_report.specs.declared.refusal.Subject.TheVariants as subject
+use Rattle.cns_report.specs.declared.refusal.Refusal.TheVariants as refusal
 use Rattle.cnsd.specs.Run.{Books, State, are_spent, covers_on, cycled, is_later, recorded, run_lines, step}
 use Rattle.cnsd.specs.Script.{command_of}
 use Rattle.cnsd.specs.Sections.{line_size, line_text, raw_lines}
@@ -47,12 +48,12 @@ run_end n s script out all at le inv =
 
 -- a cycle that is not later, one whose covers are more than the numbers that are left, and one that is recorded
 pub cycled-early : (books : Books) (cycle : CycleId) → is_later books.latest cycle ≡ false
-    → cycled books cycle ≡ (books, cycle_refused_line refusal.CycleOrder)
+    → cycled books cycle ≡ (books, refused_line subject.Cycle refusal.CycleOrder)
 unfolding cycled
 cycled-early books cycle early = rw early refl
 
 pub cycled-spent : (books : Books) (cycle : CycleId) (asks : List Ask) → is_later books.latest cycle ≡ true → asks ≡ covers_on books cycle.day
-    → are_spent books.orders asks ≡ true → cycled books cycle ≡ (books, cycle_refused_line refusal.NumbersSpent)
+    → are_spent books.orders asks ≡ true → cycled books cycle ≡ (books, refused_line subject.Cycle refusal.NumbersSpent)
 unfolding cycled
 cycled-spent books cycle asks later are spent = rw (later, ← are, spent) refl
 

@@ -18,9 +18,10 @@ use Rattle.cns_movements.specs.declared.order.Ask.{Ask}
 use Rattle.cns_covers.specs.Covers.{IsUnsettled, covers_of}
 use Rattle.cns_covers.specs.declared.exemptions.Exempted.{Exempted}
 use Rattle.cns_covers.specs.declared.priorities.Prioritized.{Prioritized}
-use Rattle.cns_report.specs.Lines.{trade_line, row_fault_line, bad_command_line, cycle_line, cycle_refused_line, exempt_line, priority_line, order_lines}
+use Rattle.cns_report.specs.Lines.{trade_line, row_fault_line, bad_command_line, cycle_line, refused_line, exempt_line, priority_line, order_lines}
 use Rattle.cns_report.specs.Report.{cycle_report_text, report_end}
-use Rattle.cns_report.specs.declared.line.CycleRefusal.TheVariants as refusal
+use Rattle.cns_report.specs.declared.refusal.Subject.TheVariants as subject
+use Rattle.cns_report.specs.declared.refusal.Refusal.TheVariants as refusal
 use Rattle.cnsd.specs.Script.{command_of}
 use Rattle.cnsd.specs.Sections.{line_text, raw_lines}
 use Rattle.cnsd.specs.declared.command.Command.{Command}
@@ -81,13 +82,13 @@ is_later (Some last) cycle = is_after cycle last
 
 abbrev pub cycled_with : Books → CycleId → List Ask → Books × List ℕ
 cycled_with books cycle asks =
-    if are_spent books.orders asks then (books, cycle_refused_line refusal.NumbersSpent) else recorded books cycle asks
+    if are_spent books.orders asks then (books, refused_line subject.Cycle refusal.NumbersSpent) else recorded books cycle asks
 
 -- a cycle is recorded where it is later than the last one and there are numbers for its covers
 unfoldable pub cycled : Books → CycleId → Books × List ℕ
 cycled books cycle =
     if is_later books.latest cycle then cycled_with books cycle (covers_on books cycle.day)
-    else (books, cycle_refused_line refusal.CycleOrder)
+    else (books, refused_line subject.Cycle refusal.CycleOrder)
 
 abbrev pub exempted : Books → ℕ → ℕ → ℕ → Books × List ℕ
 exempted books m i s = (record books { exemptions = record { member = m; issue = i; shares = s } ∷ books.exemptions }, exempt_line)

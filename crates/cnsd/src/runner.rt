@@ -10,8 +10,8 @@ use cns_ids::{Cusip, CycleId, MemberNo, Shares};
 use cns_movements::{Ask, IssueFault, OrderBook};
 use cns_netting::NetBook;
 use cns_report::{
-    CycleRefusal, write_bad_command, write_cycle, write_cycle_refused, write_cycle_report,
-    write_exempt, write_orders, write_priority, write_report_end, write_row_fault, write_trade,
+    Refusal, Subject, write_bad_command, write_cycle, write_cycle_report,
+    write_exempt, write_orders, write_priority, write_refused, write_report_end, write_row_fault, write_trade,
 };
 use cns_trades::{Row, Trade, TradeList, Verdict};
 use std::alloc::{AllocError, Global};
@@ -129,7 +129,7 @@ impl Runner {
         ensures text { OnOk result (string_bytes out.new ≡ string_bytes out.old ++ (cycled self.old cycle.now).1) }
     {
         if !self.is_later(cycle) {
-            return write_cycle_refused(out, CycleRefusal::CycleOrder);
+            return write_refused(out, Subject::Cycle, Refusal::CycleOrder);
         }
         self.book.net_room(cycle.day)?;
         let asks = covers(
@@ -143,7 +143,7 @@ impl Runner {
         match issue_covers(&mut self.orders, asks.as_slice()) {
             Ok(()) => {}
             Err(IssueFault::NumbersSpent) => {
-                return write_cycle_refused(out, CycleRefusal::NumbersSpent);
+                return write_refused(out, Subject::Cycle, Refusal::NumbersSpent);
             }
             Err(IssueFault::OutOfMemory) => return Err(AllocError),
         }

@@ -1,4 +1,4 @@
-use Rattle.std.proofs.Common.{◌≡◌, ◌++◌, ℕ, ◌∙◌, ap, subst, rules, FitsSigned}
+use Rattle.std.proofs.Common.{◌≡◌, ◌∙◌, ap, subst, rules, FitsSigned}
 use Rattle.std.specs.Prelude.{IsOk}
 use Rattle.std.specs.Fmt.{HasWritten, IsPlainFormatter, signed_decimal, styled_signed_decimal}
 use Rattle.cns_report.specs.Right.{right_20}

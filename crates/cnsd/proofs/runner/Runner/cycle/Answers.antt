@@ -12,7 +12,7 @@ returns-then-not-is_later-clause-after c =
 pub returns-then-not-is_later-clause-text : goal.returns-then-not-is_later-clause-text
 returns-then-not-is_later-clause-text c =
     let early = sym c.is_later.ensures ∙ c.if-not-is_later.true in
-    rw (cycled-early c.args.self.now c.args.cycle.now early) c.write_cycle_refused.ensures
+    rw (cycled-early c.args.self.now c.args.cycle.now early) c.write_refused.ensures
 
 pub covers-requires : goal.covers-requires
 covers-requires c =
@@ -32,7 +32,7 @@ returns-in-Err-NumbersSpent-clause-text c =
     let later = sym c.is_later.ensures ∙ c.if-not-is_later.false in
     let covers = covers_same c.args.self.now _ c.args.cycle.now.day c.in_ok-asks.asks.items _ c.self.view_is c.in_ok-net_room.ensures.same c.in_ok-asks.ensures in
     let spent = spent_same c.args.self.now _ c.in_ok-asks.asks.items _ _ c.self.view_is c.as_slice.ensures.value (c.in-Err-NumbersSpent.ensures.err c.in-Err-NumbersSpent.field-0-is) in
-    rw (cycled-spent c.args.self.now c.args.cycle.now c.in_ok-asks.asks.items later covers spent) c.write_cycle_refused-in-Err-NumbersSpent.ensures
+    rw (cycled-spent c.args.self.now c.args.cycle.now c.in_ok-asks.asks.items later covers spent) c.write_refused-in-Err-NumbersSpent.ensures
 
 pub returns-clause-after : goal.returns-clause-after
 returns-clause-after c =

@@ -1,0 +1,20 @@
+-- The names of commands and refusals, as lines show them (this project's own format).
+use Rattle.std.specs.Prelude.{ℕ, List, codes}
+use Rattle.cns_report.specs.declared.refusal.Subject.{Subject}
+use Rattle.cns_report.specs.declared.refusal.Subject.TheVariants as subject
+use Rattle.cns_report.specs.declared.refusal.Refusal.{Refusal}
+use Rattle.cns_report.specs.declared.refusal.Refusal.TheVariants as refusal
+
+abbrev pub subject_text : Subject → List ℕ
+subject_text subject.Cycle = codes "cycle"
+subject_text subject.Send = codes "send"
+subject_text subject.Order = codes "order"
+subject_text subject.Reply = codes "reply"
+
+abbrev pub refusal_text : Refusal → List ℕ
+refusal_text refusal.CycleOrder = codes "CycleOrder"
+refusal_text refusal.NumbersSpent = codes "NumbersSpent"
+refusal_text refusal.UnknownMove = codes "UnknownMove"
+refusal_text refusal.NoPacket = codes "NoPacket"
+refusal_text refusal.Conflict = codes "Conflict"
+refusal_text refusal.TooMuch = codes "TooMuch"

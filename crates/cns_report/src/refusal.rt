@@ -1,0 +1,58 @@
+ghost use Rattle.std.specs.Prelude.{Some};
+ghost use Rattle.cns_report.specs.Refusals.{subject_text, refusal_text};
+
+use std::fmt;
+
+/// The command that a line tells of, as its refusals name it.
+#[derive(Clone, Copy, PartialEq, Eq, Debug)]
+pub enum Subject {
+    Cycle,
+    Send,
+    Order,
+    Reply,
+}
+
+impl fmt::Display for Subject {
+    ghost output = { λ s. Some (subject_text s) };
+
+    fn fmt<W: fmt::Write>(&self, f: &mut fmt::Formatter<W>) -> fmt::Result {
+        f.write_str(match self {
+            Subject::Cycle => "cycle",
+            Subject::Send => "send",
+            Subject::Order => "order",
+            Subject::Reply => "reply",
+        })
+    }
+}
+
+/// Why a command was refused, as its line names it.
+#[derive(Clone, Copy, PartialEq, Eq, Debug)]
+pub enum Refusal {
+    /// The cycle is not later than the last one.
+    CycleOrder,
+    /// The orders are more than the numbers that are left.
+    NumbersSpent,
+    /// No order has this number.
+    UnknownMove,
+    /// No packet has this number.
+    NoPacket,
+    /// Another order, or another confirmation, stands under the number.
+    Conflict,
+    /// The shares are more than the order asked for.
+    TooMuch,
+}
+
+impl fmt::Display for Refusal {
+    ghost output = { λ r. Some (refusal_text r) };
+
+    fn fmt<W: fmt::Write>(&self, f: &mut fmt::Formatter<W>) -> fmt::Result {
+        f.write_str(match self {
+            Refusal::CycleOrder => "CycleOrder",
+            Refusal::NumbersSpent => "NumbersSpent",
+            Refusal::UnknownMove => "UnknownMove",
+            Refusal::NoPacket => "NoPacket",
+            Refusal::Conflict => "Conflict",
+            Refusal::TooMuch => "TooMuch",
+        })
+    }
+}

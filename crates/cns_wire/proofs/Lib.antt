@@ -1,0 +1,2 @@
+pub mod FrameLemmas
+pub mod ReadLemmas

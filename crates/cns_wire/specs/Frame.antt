@@ -1,0 +1,58 @@
+-- The frames of orders and of replies, byte by byte (this project's own format).
+use Rattle.std.specs.Prelude.{◌≡◌, ℕ, List, [], ◌∷◌, ◌++◌, codes}
+use Rattle.std.specs.Int.{to_be_bytes, w16, w64}
+use Rattle.cns_ids.specs.Cusip.{cusip_text, IsCusip}
+use Rattle.cns_ids.specs.Member.{IsMember}
+use Rattle.cns_ids.specs.Shares.{IsShares}
+use Rattle.cns_movements.specs.Asked.{IsAsked}
+use Rattle.cns_movements.specs.Number.{IsMoveNo}
+use Rattle.cns_movements.specs.declared.order.MoveKind.{MoveKind}
+use Rattle.cns_movements.specs.declared.order.MoveKind.TheVariants.{Cover, Delivery}
+use Rattle.cns_movements.specs.declared.order.Order.{Order}
+use Rattle.cns_movements.specs.declared.order.Reply.{Reply}
+use Rattle.cns_wire.specs.declared.frame.Frame.{Frame}
+use Rattle.cns_wire.specs.declared.frame.Frame.TheVariants as frame
+
+-- the byte that stands for a kind of order
+abbrev pub kind_byte : MoveKind → ℕ
+kind_byte Cover = 1
+kind_byte Delivery = 2
+
+-- the magic bytes, version 1 and the kind
+abbrev pub header : ℕ → List ℕ
+header kind = codes "CD" ++ 1 ∷ kind ∷ []
+
+-- an order: its kind, number, member, issue and shares asked
+unfoldable pub order_frame : Order → List ℕ
+order_frame o = header (kind_byte o.kind) ++ to_be_bytes w64 o.number ++ to_be_bytes w16 o.member ++ cusip_text o.issue ++ to_be_bytes w64 o.asked
+
+-- a reply: the kind 3, its number and the shares moved
+unfoldable pub reply_frame : Reply → List ℕ
+reply_frame r = header 3 ++ to_be_bytes w64 r.number ++ to_be_bytes w64 r.moved
+
+-- the one spelling of a frame
+abbrev pub frame_text : Frame → List ℕ
+frame_text (frame.Order o) = order_frame o
+frame_text (frame.Reply r) = reply_frame r
+
+-- an order's fields are in their ranges
+pub record IsOrderInRange (o : Order) : Type 0 where
+  pub number : IsMoveNo o.number
+  pub member : IsMember o.member
+  pub issue : IsCusip o.issue
+  pub asked : IsAsked o.asked
+
+-- a reply's fields are in their ranges
+pub record IsReplyInRange (r : Reply) : Type 0 where
+  pub number : IsMoveNo r.number
+  pub moved : IsShares r.moved
+
+-- a frame's fields are in their ranges
+abbrev pub IsInRange : Frame → Type 0
+IsInRange (frame.Order o) = IsOrderInRange o
+IsInRange (frame.Reply r) = IsReplyInRange r
+
+-- bytes are the spelling of a frame whose fields are in their ranges
+pub record IsFrame (bytes : List ℕ) (f : Frame) : Type 0 where
+  pub text : frame_text f ≡ bytes
+  pub in_range : IsInRange f

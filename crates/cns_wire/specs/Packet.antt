@@ -1,0 +1,20 @@
+-- Packets of bytes: how one is stored, and which one a number means.
+use Rattle.std.specs.Prelude.{◌≡◌, ℕ, ◌-◌, ◌==◌, List, ◌++◌, length, take, replicate, slice_get, Option, None, if◌then◌else◌}
+
+-- bytes with zeros after them, 36 in all
+abbrev pub padded : List ℕ → List ℕ
+padded text = text ++ replicate (36 - length text) 0
+
+-- how a packet is stored: its length, and its bytes with zeros after them
+pub record IsStored (len : ℕ) (bytes : List ℕ) : Type 0 where
+  pub size : length (take len bytes) ≡ len
+  pub rest : padded (take len bytes) ≡ bytes
+
+-- the packet of this number, counted from 1
+abbrev pub packet_at : List (List ℕ) → ℕ → Option (List ℕ)
+packet_at packets number = if number == 0 then None else slice_get packets (number - 1)
+
+-- the packets that were put, the oldest first, and how many more there is memory for
+pub record PacketRoom : Type 0 where
+  pub packets : List (List ℕ)
+  pub room : ℕ
