@@ -3,18 +3,21 @@ use Rattle.std.proofs.Common.{◌≡◌, ◌≤◌, ◌<◌, ◌+◌, ℕ, List,
 use Rattle.std.proofs.lemmas.List.{append-nil, drop-drop, drop_all}
 use Rattle.std.proofs.Math.Seq.{drop-append_seam}
 use Rattle.cns_ids.specs.declared.cycle.CycleId.{CycleId}
-use Rattle.cns_movements.specs.Book.{with_asks}
+use Rattle.cns_movements.specs.Book.{Orders, IsOrderBook, with_asks}
 use Rattle.cns_movements.specs.Order.{numbered}
 use Rattle.cns_movements.specs.declared.order.Ask.{Ask}
 use Rattle.cns_movements.specs.declared.order.Order.{Order}
 use Rattle.cns_netting.specs.History.{becoming_due}
 use Rattle.cns_netting.specs.declared.entry.NetEntry.{NetEntry}
-use Rattle.cns_netting.specs.declared.entry.NetEntry.TheVariants.{Netted}
+use Rattle.cns_netting.specs.declared.entry.NetEntry.TheVariants.{Accepted, Netted}
+use Rattle.cns_trades.specs.declared.trade.Trade.{Trade}
+use Rattle.cns_covers.specs.declared.exemptions.Exempted.{Exempted}
+use Rattle.cns_covers.proofs.BoundLemmas.{bounded_accepted, bounded_cycle, bounded_empty}
 use Rattle.cns_covers.specs.Covers.{covers_of}
 use Rattle.cns_report.specs.Lines.{refused_line}
 use Rattle.cns_report.specs.declared.refusal.Subject.TheVariants as subject
 use Rattle.cns_report.specs.declared.refusal.Refusal.TheVariants as refusal
-use Rattle.cnsd.specs.Run.{Books, State, are_spent, covers_on, cycled, is_later, recorded, run_lines, step}
+use Rattle.cnsd.specs.Run.{Books, IsRunning, State, are_spent, covers_on, cycled, is_later, recorded, run_lines, step}
 use Rattle.cnsd.specs.Script.{command_of}
 use Rattle.cnsd.specs.Sections.{line_size, line_text, raw_lines}
 use Rattle.cnsd.proofs.SectionLemmas.{lines_step}
@@ -84,3 +87,18 @@ pub due_same : (books parts : Books) (day due : ℕ) (h : List NetEntry) → par
     → due ≡ becoming_due books.history day
 due_same books parts day due h view same is =
     is ∙ ap (λ (l : List NetEntry). becoming_due l day) same ∙ ap (λ (b : Books). becoming_due b.history day) view
+
+-- what holds of the books at the start, after an accepted trade, and after a cycle with its covers
+pub running_new : (trades : List Trade) (h : List NetEntry) (book : Orders) → trades ≡ [] → h ≡ [] → book ≡ record { orders = []; replies = [] }
+    → IsRunning trades h book
+running_new trades h book none empty no_orders = rw (none, empty, no_orders) (record { trades_are = refl; bounded = bounded_empty })
+
+pub running_accepted : (trades more : List Trade) (h after : List NetEntry) (book : Orders) (t : Trade) → IsRunning trades h book
+    → more ≡ trades ++ t ∷ [] → after ≡ Accepted t ∷ h → IsRunning more after book
+running_accepted trades more h after book t running added entry =
+    rw (added, entry) (record { trades_are = ap (λ ts. ts ++ t ∷ []) running.trades_are; bounded = bounded_accepted h book t running.bounded })
+
+pub running_cycle : (trades : List Trade) (h after : List NetEntry) (book next : Orders) (settings : List Exempted) (day : ℕ) → IsOrderBook book
+    → IsRunning trades h book → after ≡ Netted day ∷ h → next ≡ with_asks book (covers_of (Netted day ∷ h) book settings) → IsRunning trades after next
+running_cycle trades h after book next settings day lawful running entry issued =
+    rw (entry, issued) (record { trades_are = running.trades_are; bounded = bounded_cycle h book settings day lawful running.bounded })

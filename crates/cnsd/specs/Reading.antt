@@ -1,5 +1,4 @@
 -- Reading an input.
-use Rattle.std.specs.Prelude.{ℕ, List, Option, Some, None}
 use Rattle.cnsd.specs.declared.fault.BatchFault.{BatchFault}
 use Rattle.cnsd.specs.declared.fault.BatchFault.TheVariants as fault
 

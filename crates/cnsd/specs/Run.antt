@@ -15,7 +15,8 @@ use Rattle.cns_netting.specs.declared.entry.NetEntry.TheVariants.{Accepted, Nett
 use Rattle.cns_movements.specs.Order.{numbered}
 use Rattle.cns_movements.specs.Book.{Orders, with_asks}
 use Rattle.cns_movements.specs.declared.order.Ask.{Ask}
-use Rattle.cns_covers.specs.Covers.{IsUnsettled, covers_of}
+use Rattle.cns_covers.specs.Bounds.{AreBounded}
+use Rattle.cns_covers.specs.Covers.{covers_of}
 use Rattle.cns_covers.specs.declared.exemptions.Exempted.{Exempted}
 use Rattle.cns_covers.specs.declared.priorities.Prioritized.{Prioritized}
 use Rattle.cns_report.specs.Lines.{trade_line, row_fault_line, bad_command_line, cycle_line, refused_line, exempt_line, priority_line, order_lines}
@@ -38,10 +39,10 @@ pub record Books : Type 0 where
 abbrev pub no_books : Books
 no_books = record { history = []; latest = None; orders = record { orders = []; replies = [] }; exemptions = []; priorities = [] }
 
--- what holds of a runner's books: the accepted trades are those of the history, and nothing is settled yet
-pub record IsRunning (trades : List Trade) (history : List NetEntry) : Type 0 where
+-- what holds of a runner's books: the accepted trades are those of the history, and covers keep its positions small
+pub record IsRunning (trades : List Trade) (history : List NetEntry) (orders : Orders) : Type 0 where
   pub trades_are : trades ≡ accepted history
-  pub unsettled : IsUnsettled history
+  pub bounded : AreBounded history orders
 
 -- a new trade is accepted; any other changes nothing
 abbrev pub after_trade : Books → Trade → Verdict → Books

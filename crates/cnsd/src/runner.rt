@@ -10,8 +10,8 @@ use cns_ids::{Cusip, CycleId, MemberNo, Shares};
 use cns_movements::{Ask, IssueFault, OrderBook};
 use cns_netting::NetBook;
 use cns_report::{
-    Refusal, Subject, write_bad_command, write_cycle, write_cycle_report,
-    write_exempt, write_orders, write_priority, write_refused, write_report_end, write_row_fault, write_trade,
+    Refusal, Subject, write_bad_command, write_cycle, write_cycle_report, write_exempt,
+    write_orders, write_priority, write_refused, write_report_end, write_row_fault, write_trade,
 };
 use cns_trades::{Row, Trade, TradeList, Verdict};
 use std::alloc::{AllocError, Global};
@@ -45,7 +45,7 @@ impl Model for Runner {
       priorities = r.priorities.settings;
     } };
 
-    ghost invariant = { λ r. IsRunning r.trades.trades r.book.history };
+    ghost invariant = { λ r. IsRunning r.trades.trades r.book.history r.orders.book };
 }
 
 // Issues covers, where there are any.

@@ -1,4 +1,4 @@
-use Rattle.std.proofs.Common.{arith, ◌∙◌, ◌<◌, length, sym}
+use Rattle.std.proofs.Common.{arith}
 use Rattle.cnsd.proofs.BytesLemmas.{read_end, read_long}
 use Rattle.cnsd.proofs.input.read_input.Goals as goal
 

@@ -1,5 +1,4 @@
-use Rattle.std.proofs.Common.{◌≡◌, ◌<◌, ◌≤◌, ◌∙◌, sym, length, drop, refl, ap, arith, length-drop}
-use Rattle.cnsd.specs.Run.{State}
+use Rattle.std.proofs.Common.{◌<◌, length, refl, arith, length-drop}
 use Rattle.cnsd.proofs.RunLemmas.{run_end, run_step}
 use Rattle.cnsd.proofs.script.run_script.Goals as goal
 

@@ -1,4 +1,4 @@
-use Rattle.std.proofs.Common.{◌≡◌, ◌<◌, ◌≤◌, ◌∙◌, sym, length, drop, refl, arith, length-drop}
+use Rattle.std.proofs.Common.{◌<◌, ◌∙◌, sym, length, arith, length-drop}
 use Rattle.std.proofs.lemmas.List.{drop_all}
 use Rattle.cnsd.specs.Sections.{find_head, raw_lines}
 use Rattle.cnsd.proofs.SectionLemmas.{found, passed}

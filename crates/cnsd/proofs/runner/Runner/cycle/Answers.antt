@@ -1,7 +1,7 @@
 use Rattle.std.proofs.Common.{◌∙◌, ap, sym, rules, append_assoc}
-use Rattle.cns_movements.specs.Book.{Orders}
-use Rattle.cns_covers.proofs.CoverLemmas.{shorts_fit_netted}
-use Rattle.cnsd.proofs.RunLemmas.{covers_same, due_same, cycled-early, cycled-recorded, cycled-spent, issued_last, spent_same}
+use Rattle.cns_movements.specs.Book.{Orders, with_asks}
+use Rattle.cns_covers.proofs.BoundLemmas.{bounded_shorts_netted}
+use Rattle.cnsd.proofs.RunLemmas.{covers_same, due_same, cycled-early, cycled-recorded, cycled-spent, issued_last, running_cycle, spent_same}
 use Rattle.cnsd.proofs.runner.Runner.cycle.Goals as goal
 
 pub returns-then-not-is_later-clause-after : goal.returns-then-not-is_later-clause-after
@@ -16,9 +16,8 @@ returns-then-not-is_later-clause-text c =
 
 pub covers-requires : goal.covers-requires
 covers-requires c =
-    let book = c.in_ok-net_room.ensures.lawful in
-    let unsettled = rw (← c.in_ok-net_room.ensures.same) at c.self.invariant.unsettled in
-    record { short = shorts_fit_netted c.args.cycle.now.day c.net_room.new.self.history book.few book.quantities unsettled }
+    let bounded = rw (← c.in_ok-net_room.ensures.same) at c.self.invariant.bounded in
+    record { short = bounded_shorts_netted c.net_room.new.self.history _ c.args.cycle.now.day c.in_ok-net_room.ensures.lawful bounded }
 
 pub returns-in-Err-NumbersSpent-clause-after : goal.returns-in-Err-NumbersSpent-clause-after
 returns-in-Err-NumbersSpent-clause-after c =
@@ -51,3 +50,15 @@ returns-clause-text c =
     let issued = issued_last c.args.self.now _ c.in_ok-asks.asks.items _ _ c.split_at.result.1.now _ c.self.view_is c.as_slice.ensures.value all c.len-before.ensures.value c.split_at.ensures.back in
     let told = rw (issued, c.in_ok-write_cycle.ensures, due, append_assoc) at c.write_orders.ensures in
     rw (cycled-recorded c.args.self.now c.args.cycle.now c.in_ok-asks.asks.items later covers spent) told
+
+pub invariant_of-self-in_err-write_cycle : goal.invariant_of-self-in_err-write_cycle
+invariant_of-self-in_err-write_cycle c =
+    let running = rw (← c.in_ok-net_room.ensures.same) at c.self.invariant in
+    let issued = c.in-Ok.ensures.ok.0 ∙ ap (with_asks c.self.inside.orders.book) (c.as_slice.ensures.value ∙ c.in_ok-asks.ensures) in
+    running_cycle _ _ _ _ _ _ c.args.cycle.now.day c.len-before.ensures.lawful running c.in-Ok-net.ensures.ok issued
+
+pub invariant_of-self-2 : goal.invariant_of-self-2
+invariant_of-self-2 c =
+    let running = rw (← c.in_ok-net_room.ensures.same) at c.self.invariant in
+    let issued = c.in-Ok.ensures.ok.0 ∙ ap (with_asks c.self.inside.orders.book) (c.as_slice.ensures.value ∙ c.in_ok-asks.ensures) in
+    running_cycle _ _ _ _ _ _ c.args.cycle.now.day c.len-before.ensures.lawful running c.in-Ok-net.ensures.ok issued
