@@ -1,0 +1,192 @@
+-- The two laws of the clearing node's records: what is read is spelled so, and what is spelled so is read.
+-- With them: no two records are spelled alike.
+use Rattle.std.proofs.Common.{◌≡◌, ◌≢◌, ℕ, suc, ◌≤◌, true, false, List, [], ◌∷◌, ◌++◌, length, map, Result, Ok, Err, refl, sym, ap, subst, ◌∙◌, inl, inr, arith, lit≤}
+use Rattle.std.specs.Prelude.{IfOk, ◌==◌, not}
+use Rattle.std.specs.Int.{w16, w64, to_be_bytes}
+use Rattle.std.proofs.lemmas.Bool.{eqb-true, eqb-false, ne_eqb, not-true}
+use Rattle.cns_ids.specs.Cusip.{cusip_text}
+use Rattle.cns_trades.specs.TradeId.{IsId}
+use Rattle.cns_ids.specs.declared.cycle.CycleKind.TheVariants.{Night, Day}
+use Rattle.std.proofs.lemmas.Bool.Decides.{nat_tests}
+use Rattle.std.proofs.lemmas.List.{length-append}
+use Rattle.cns_trades.specs.declared.trade.Trade.{Trade}
+use Rattle.cns_ids.specs.declared.cycle.CycleId.{CycleId}
+use Rattle.cns_records.specs.declared.bad_record.BadRecord.{BadRecord}
+use Rattle.cns_records.specs.declared.clear_record.ClearRecord.{ClearRecord}
+use Rattle.cns_records.specs.declared.clear_record.ClearRecord.TheVariants.{Accept, Exempt, Priority, Cycle, Confirm}
+use Rattle.cns_records.specs.Fields.{bad, whole, id_bytes, day_bytes, flag_bytes, cycle_kind_bytes}
+use Rattle.cns_records.specs.Clear.{spelling, IsTradeInRange, HasRanges, IsWritable, AreWritable, accepted, accept_of, exempt_of, priority_of, cycle_of, confirm_of, of_kind, read_clear_of}
+use Rattle.cns_records.proofs.FieldLemmas.{IsBytes, bind_ok, chosen, tested_ok, whole_ok, done, ok_is, step, chain, last, again_last}
+use Rattle.cns_records.proofs.FieldLaws.{id_field, day_field, member_field, issue_field, quantity_field, shares_field, flag_field, cycle_kind_field, move_no_field}
+
+id_short : (id : List ℕ) → IsId id → length id ≤ 16
+id_short id is = grind (arith, nat_tests)
+
+cycle_short : (id : CycleId) → length (1 ∷ 4 ∷ (day_bytes id.day ++ cycle_kind_bytes id.kind)) ≤ 1048576
+cycle_short id = elim id.kind as (λ kind. length (1 ∷ 4 ∷ (day_bytes id.day ++ cycle_kind_bytes kind)) ≤ 1048576) [ Night ↦ lit≤ tt | Day ↦ lit≤ tt ]
+
+-- the bytes spell this record, with its ranges
+abbrev Spells : ℕ → List ℕ → ClearRecord → Type 0
+Spells kind fields r = (spelling r ≡ 1 ∷ kind ∷ fields) × HasRanges r × IsWritable r
+
+bad_is_not_ok : (r : ClearRecord) → bad ≡ done r → ⊥
+bad_is_not_ok r e = cc
+
+front : (kind : ℕ) {a b : List ℕ} → a ≡ b → 1 ∷ kind ∷ b ≡ 1 ∷ kind ∷ a
+front kind e = ap (λ (t : List ℕ). 1 ∷ kind ∷ t) (sym e)
+
+accept_takes : (bytes : List ℕ) (r : ClearRecord) → IsBytes bytes → accept_of bytes ≡ Ok r → Spells 1 bytes r
+unfolding accept_of spelling
+accept_takes bytes r fits e =
+    let id = step id_field bytes _ r fits e in
+    let settle = step day_field id.rest _ r id.rest_fits id.then in
+    let buyer = step member_field settle.rest _ r settle.rest_fits settle.then in
+    let seller = step member_field buyer.rest _ r buyer.rest_fits buyer.then in
+    let issue = step issue_field seller.rest _ r seller.rest_fits seller.then in
+    let quantity = step quantity_field issue.rest _ r issue.rest_fits issue.then in
+    let trade : Trade = record { id = id.value; settle = settle.value; buyer = buyer.value; seller = seller.value; issue = issue.value; quantity = quantity.value } in
+    let w = bind_ok (whole quantity.rest trade) accepted r quantity.then in
+    let d = whole_ok quantity.rest trade w.0 w.1 in
+    let t = tested_ok (not (w.0.buyer == w.0.seller)) (Accept w.0) r w.2 in
+    let parts = chain (id_bytes id.value) id.parts (chain (day_bytes settle.value) settle.parts (chain (to_be_bytes w16 buyer.value) buyer.parts
+    (chain (to_be_bytes w16 seller.value) seller.parts (chain (cusip_text issue.value) issue.parts (last (to_be_bytes w64 quantity.value) quantity.parts d.0))))) in
+    let ranges : IsTradeInRange trade = record { id = id.fits; settle = settle.fits; buyer = buyer.fits; seller = seller.fits; issue = issue.fits; quantity = quantity.fits } in
+    let differ : w.0.buyer ≢ w.0.seller = eqb-false _ _ (not-true _ t.0) in
+    let spelled : (spelling (Accept w.0) ≡ 1 ∷ 1 ∷ bytes) × IsTradeInRange w.0 =
+    subst (λ (u : Trade). (spelling (Accept u) ≡ 1 ∷ 1 ∷ bytes) × IsTradeInRange u) d.1 (front 1 parts, ranges) in
+    subst (Spells 1 bytes) t.1 (spelled.0, spelled.1, differ)
+
+exempt_takes : (bytes : List ℕ) (r : ClearRecord) → IsBytes bytes → exempt_of bytes ≡ Ok r → Spells 2 bytes r
+unfolding exempt_of spelling
+exempt_takes bytes r fits e =
+    let member = step member_field bytes _ r fits e in
+    let issue = step issue_field member.rest _ r member.rest_fits member.then in
+    let shares = step shares_field issue.rest _ r issue.rest_fits issue.then in
+    let d = whole_ok shares.rest (Exempt member.value issue.value shares.value) r shares.then in
+    let parts = chain (to_be_bytes w16 member.value) member.parts (chain (cusip_text issue.value) issue.parts (last (to_be_bytes w64 shares.value) shares.parts d.0)) in
+    subst (Spells 2 bytes) d.1 (front 2 parts, (member.fits, issue.fits, shares.fits), tt)
+
+priority_takes : (bytes : List ℕ) (r : ClearRecord) → IsBytes bytes → priority_of bytes ≡ Ok r → Spells 3 bytes r
+unfolding priority_of spelling
+priority_takes bytes r fits e =
+    let member = step member_field bytes _ r fits e in
+    let issue = step issue_field member.rest _ r member.rest_fits member.then in
+    let on = step flag_field issue.rest _ r issue.rest_fits issue.then in
+    let d = whole_ok on.rest (Priority member.value issue.value on.value) r on.then in
+    let parts = chain (to_be_bytes w16 member.value) member.parts (chain (cusip_text issue.value) issue.parts (last (flag_bytes on.value) on.parts d.0)) in
+    subst (Spells 3 bytes) d.1 (front 3 parts, (member.fits, issue.fits), tt)
+
+cycle_takes : (bytes : List ℕ) (r : ClearRecord) → IsBytes bytes → cycle_of bytes ≡ Ok r → Spells 4 bytes r
+unfolding cycle_of spelling
+cycle_takes bytes r fits e =
+    let day = step day_field bytes _ r fits e in
+    let kind = step cycle_kind_field day.rest _ r day.rest_fits day.then in
+    let d = whole_ok kind.rest (Cycle (record { day = day.value; kind = kind.value })) r kind.then in
+    let parts = chain (day_bytes day.value) day.parts (last (cycle_kind_bytes kind.value) kind.parts d.0) in
+    subst (Spells 4 bytes) d.1 (front 4 parts, day.fits, tt)
+
+confirm_takes : (bytes : List ℕ) (r : ClearRecord) → IsBytes bytes → confirm_of bytes ≡ Ok r → Spells 6 bytes r
+unfolding confirm_of spelling
+confirm_takes bytes r fits e =
+    let number = step move_no_field bytes _ r fits e in
+    let moved = step shares_field number.rest _ r number.rest_fits number.then in
+    let d = whole_ok moved.rest (Confirm (record { number = number.value; moved = moved.value })) r moved.then in
+    let parts = chain (to_be_bytes w64 number.value) number.parts (last (to_be_bytes w64 moved.value) moved.parts d.0) in
+    subst (Spells 6 bytes) d.1 (front 6 parts, (number.fits, moved.fits), tt)
+
+-- a kind's number
+kind_is : (k n : ℕ) → (k == n) ≡ true → (bytes : List ℕ) (r : ClearRecord) → Spells n bytes r → Spells k bytes r
+kind_is k n e bytes r h = subst (λ (m : ℕ). Spells m bytes r) (sym (eqb-true k n e)) h
+
+of_kind_takes : (kind : ℕ) (bytes : List ℕ) (r : ClearRecord) → IsBytes bytes → of_kind kind bytes ≡ Ok r → Spells kind bytes r
+of_kind_takes k bytes r fits e1 = elim (chosen (k == 1) _ _ _ e1) [
+  | inl f ↦ kind_is k 1 f.0 bytes r (accept_takes bytes r fits f.1)
+  | inr e2 ↦ elim (chosen (k == 2) _ _ _ e2.1) [
+    | inl f ↦ kind_is k 2 f.0 bytes r (exempt_takes bytes r fits f.1)
+    | inr e3 ↦ elim (chosen (k == 3) _ _ _ e3.1) [
+      | inl f ↦ kind_is k 3 f.0 bytes r (priority_takes bytes r fits f.1)
+      | inr e4 ↦ elim (chosen (k == 4) _ _ _ e4.1) [
+        | inl f ↦ kind_is k 4 f.0 bytes r (cycle_takes bytes r fits f.1)
+        | inr e6 ↦ elim (chosen (k == 6) _ _ _ e6.1) [
+          | inl f ↦ kind_is k 6 f.0 bytes r (confirm_takes bytes r fits f.1)
+          | inr f ↦ absurd (bad_is_not_ok r f.1)
+        ]
+      ]
+    ]
+  ]
+]
+
+-- What is read as a record is spelled by just these bytes, has its ranges, and is read again.
+pub read_takes : (bytes : List ℕ) (r : ClearRecord) → IsBytes bytes → read_clear_of bytes ≡ Ok r → (spelling r ≡ bytes) × HasRanges r × IsWritable r
+unfolding read_clear_of
+read_takes [] r fits e = absurd (bad_is_not_ok r e)
+read_takes (v ∷ []) r fits e = absurd (bad_is_not_ok r e)
+read_takes (v ∷ k ∷ bytes) r fits e =
+    elim (chosen (v == 1) _ _ _ e) [
+      | inl f ↦
+          let s = of_kind_takes k bytes r (λ i. fits (suc (suc i))) f.1 in
+          (s.0 ∙ ap (λ (n : ℕ). n ∷ k ∷ bytes) (sym (eqb-true v 1 f.0)), s.1, s.2)
+      | inr f ↦ absurd (bad_is_not_ok r f.1)
+    ]
+
+-- A record with its ranges is read again, where it is writable.
+pub read-spelling : (r : ClearRecord) → HasRanges r → IsWritable r → read_clear_of (spelling r) ≡ Ok r
+unfolding read_clear_of spelling accept_of exempt_of priority_of cycle_of confirm_of
+read-spelling (Accept t) fits differ =
+    let quantity = to_be_bytes w64 t.quantity in
+    let issue = cusip_text t.issue ++ quantity in
+    let seller = to_be_bytes w16 t.seller ++ issue in
+    let buyer = to_be_bytes w16 t.buyer ++ seller in
+    let settle = day_bytes t.settle ++ buyer in
+    rw (
+      id_field.again t.id settle fits.id,
+      day_field.again t.settle buyer fits.settle,
+      member_field.again t.buyer seller fits.buyer,
+      member_field.again t.seller issue fits.seller,
+      issue_field.again t.issue quantity fits.issue,
+      again_last quantity_field t.quantity fits.quantity,
+      ne_eqb t.buyer t.seller differ,
+    ) refl
+read-spelling (Exempt m i s) fits u =
+    rw (member_field.again m (cusip_text i ++ to_be_bytes w64 s) fits.0, issue_field.again i (to_be_bytes w64 s) fits.1, again_last shares_field s fits.2) refl
+read-spelling (Priority m i on) fits u =
+    rw (member_field.again m (cusip_text i ++ flag_bytes on) fits.0, issue_field.again i (flag_bytes on) fits.1, again_last flag_field on tt) refl
+read-spelling (Cycle id) fits u =
+    rw (day_field.again id.day (cycle_kind_bytes id.kind) fits, again_last cycle_kind_field id.kind tt) refl
+read-spelling (Confirm r) fits u =
+    rw (move_no_field.again r.number (to_be_bytes w64 r.moved) fits.0, again_last shares_field r.moved fits.1) refl
+
+-- what read answers
+pub is_spelled : (bytes : List ℕ) (r : Result ClearRecord BadRecord) → IsBytes bytes → r ≡ read_clear_of bytes → IfOk r (λ v. (spelling v ≡ bytes) × IsWritable v)
+is_spelled bytes (Ok v) fits e = let t = read_takes bytes v fits (sym e) in (t.0, t.2)
+is_spelled bytes (Err f) fits e = tt
+
+-- how long a payload can be
+pub spelling_short : (r : ClearRecord) → HasRanges r → length (spelling r) ≤ 1048576
+unfolding spelling
+spelling_short (Accept t) fits =
+    let rest : List ℕ = day_bytes t.settle ++ (to_be_bytes w16 t.buyer ++ (to_be_bytes w16 t.seller ++ (cusip_text t.issue ++ to_be_bytes w64 t.quantity))) in
+    let id : length t.id ≤ 16 = id_short t.id fits.id in
+    let size = length-append t.id rest in
+    omega (arith, size, id)
+spelling_short (Exempt m i s) fits = lit≤ tt
+spelling_short (Priority m i false) fits = lit≤ tt
+spelling_short (Priority m i true) fits = lit≤ tt
+spelling_short (Cycle id) fits = cycle_short id
+spelling_short (Confirm r) fits = lit≤ tt
+
+-- No two records are spelled alike.
+pub spelling_injective : (a b : ClearRecord) → HasRanges a → HasRanges b → IsWritable a → IsWritable b → spelling a ≡ spelling b → a ≡ b
+spelling_injective a b fits_a fits_b is_a is_b same = ok_is a b (sym (read-spelling a fits_a is_a) ∙ ap read_clear_of same ∙ read-spelling b fits_b is_b)
+
+-- No two lists of records are.
+pub spellings_injective : (xs ys : List ClearRecord) → AreWritable xs → AreWritable ys → map spelling xs ≡ map spelling ys → xs ≡ ys
+spellings_injective [] [] fits_x fits_y same = refl
+spellings_injective [] (y ∷ ys) fits_x fits_y same = absurd cc
+spellings_injective (x ∷ xs) [] fits_x fits_y same = absurd cc
+spellings_injective (x ∷ xs) (y ∷ ys) fits_x fits_y same =
+    let head : spelling x ≡ spelling y = cc in
+    let tail : map spelling xs ≡ map spelling ys = cc in
+    let first = spelling_injective x y fits_x.0 fits_y.0 fits_x.1 fits_y.1 head in
+    let others = spellings_injective xs ys fits_x.2 fits_y.2 tail in
+    ap (λ (z : ClearRecord). z ∷ xs) first ∙ ap (λ (zs : List ClearRecord). y ∷ zs) others

@@ -1,0 +1,4 @@
+pub mod FieldLemmas
+pub mod FieldLaws
+pub mod ClearLaws
+pub mod DepLaws

@@ -1,0 +1,109 @@
+-- The records of the clearing node and the payload of each (this project's own format).
+use Rattle.std.specs.Prelude.{◌≢◌, ℕ, ◌==◌, not, List, [], ◌∷◌, ◌++◌, Result, if◌then◌else◌}
+use Rattle.std.specs.Int.{w16, w64, to_be_bytes}
+use Rattle.cns_ids.specs.Cusip.{IsCusip, cusip_text}
+use Rattle.cns_ids.specs.Day.{IsDayNumber}
+use Rattle.cns_ids.specs.Member.{IsMember}
+use Rattle.cns_ids.specs.Shares.{IsShares, IsQuantity}
+use Rattle.cns_movements.specs.Number.{IsMoveNo}
+use Rattle.cns_trades.specs.TradeId.{IsId}
+use Rattle.cns_trades.specs.declared.trade.Trade.{Trade}
+use Rattle.cns_records.specs.Fields.{bad, ◌>>=◌, tested, whole, id_bytes, id_at, day_bytes, day_at, member_at, issue_at, quantity_at, shares_at, flag_bytes, flag_at, cycle_kind_bytes, cycle_kind_at, move_no_at}
+use Rattle.cns_records.specs.declared.bad_record.BadRecord.{BadRecord}
+use Rattle.cns_records.specs.declared.clear_record.ClearRecord.{ClearRecord}
+use Rattle.cns_records.specs.declared.clear_record.ClearRecord.TheVariants.{Accept, Exempt, Priority, Cycle, Confirm}
+
+-- the one payload of a record: the version 1, the kind, and the fields
+unfoldable pub spelling : ClearRecord → List ℕ
+spelling (Accept t) =
+    1 ∷ 1 ∷ (id_bytes t.id ++ (day_bytes t.settle ++ (to_be_bytes w16 t.buyer ++ (to_be_bytes w16 t.seller ++ (cusip_text t.issue ++ to_be_bytes w64 t.quantity)))))
+spelling (Exempt member issue shares) = 1 ∷ 2 ∷ (to_be_bytes w16 member ++ (cusip_text issue ++ to_be_bytes w64 shares))
+spelling (Priority member issue on) = 1 ∷ 3 ∷ (to_be_bytes w16 member ++ (cusip_text issue ++ flag_bytes on))
+spelling (Cycle id) = 1 ∷ 4 ∷ (day_bytes id.day ++ cycle_kind_bytes id.kind)
+spelling (Confirm r) = 1 ∷ 6 ∷ (to_be_bytes w64 r.number ++ to_be_bytes w64 r.moved)
+
+-- what the types of a trade's fields promise
+pub record IsTradeInRange (t : Trade) : Type 0 where
+  pub id : IsId t.id
+  pub settle : IsDayNumber t.settle
+  pub buyer : IsMember t.buyer
+  pub seller : IsMember t.seller
+  pub issue : IsCusip t.issue
+  pub quantity : IsQuantity t.quantity
+
+-- what the types of a record's fields promise
+abbrev pub HasRanges : ClearRecord → Type 0
+HasRanges (Accept t) = IsTradeInRange t
+HasRanges (Exempt member issue shares) = IsMember member × IsCusip issue × IsShares shares
+HasRanges (Priority member issue on) = IsMember member × IsCusip issue
+HasRanges (Cycle id) = IsDayNumber id.day
+HasRanges (Confirm r) = IsMoveNo r.number × IsShares r.moved
+
+-- the records that are read again: of a trade, buyer and seller differ
+abbrev pub IsWritable : ClearRecord → Type 0
+IsWritable (Accept t) = t.buyer ≢ t.seller
+IsWritable (Exempt member issue shares) = Unit {0}
+IsWritable (Priority member issue on) = Unit {0}
+IsWritable (Cycle id) = Unit {0}
+IsWritable (Confirm r) = Unit {0}
+
+-- the same of each record of a list
+abbrev pub AreWritable : List ClearRecord → Type 0
+AreWritable [] = Unit {0}
+AreWritable (r ∷ rs) = HasRanges r × IsWritable r × AreWritable rs
+
+-- a trade has two members
+abbrev pub accepted : Trade → Result ClearRecord BadRecord
+accepted t = tested (not (t.buyer == t.seller)) (Accept t)
+
+unfoldable pub accept_of : List ℕ → Result ClearRecord BadRecord
+accept_of bytes = do
+  id ← id_at bytes
+  settle ← day_at id.1
+  buyer ← member_at settle.1
+  seller ← member_at buyer.1
+  issue ← issue_at seller.1
+  quantity ← quantity_at issue.1
+  trade ← whole quantity.1 (record { id = id.0; settle = settle.0; buyer = buyer.0; seller = seller.0; issue = issue.0; quantity = quantity.0 })
+  accepted trade
+
+unfoldable pub exempt_of : List ℕ → Result ClearRecord BadRecord
+exempt_of bytes = do
+  member ← member_at bytes
+  issue ← issue_at member.1
+  shares ← shares_at issue.1
+  whole shares.1 (Exempt member.0 issue.0 shares.0)
+
+unfoldable pub priority_of : List ℕ → Result ClearRecord BadRecord
+priority_of bytes = do
+  member ← member_at bytes
+  issue ← issue_at member.1
+  on ← flag_at issue.1
+  whole on.1 (Priority member.0 issue.0 on.0)
+
+unfoldable pub cycle_of : List ℕ → Result ClearRecord BadRecord
+cycle_of bytes = do
+  day ← day_at bytes
+  kind ← cycle_kind_at day.1
+  whole kind.1 (Cycle (record { day = day.0; kind = kind.0 }))
+
+unfoldable pub confirm_of : List ℕ → Result ClearRecord BadRecord
+confirm_of bytes = do
+  number ← move_no_at bytes
+  moved ← shares_at number.1
+  whole moved.1 (Confirm (record { number = number.0; moved = moved.0 }))
+
+-- the record of this kind that the bytes after version and kind are
+abbrev pub of_kind : ℕ → List ℕ → Result ClearRecord BadRecord
+of_kind kind fields =
+    if kind == 1 then accept_of fields
+    else if kind == 2 then exempt_of fields
+    else if kind == 3 then priority_of fields
+    else if kind == 4 then cycle_of fields
+    else if kind == 6 then confirm_of fields
+    else bad
+
+-- the record that a payload is
+unfoldable pub read_clear_of : List ℕ → Result ClearRecord BadRecord
+read_clear_of (version ∷ kind ∷ fields) = if version == 1 then of_kind kind fields else bad
+read_clear_of _ = bad

@@ -1,0 +1,121 @@
+ghost use Rattle.std.specs.Prelude.{◌≡◌, ◌≤◌, length, IfOk};
+ghost use Rattle.cns_records.specs.Dep.{dep_spelling, HasDepRanges, IsDepWritable, exec_of, read_dep_of};
+
+use crate::bad_record::BadRecord;
+use crate::fields::{COVER_ORDER, DELIVERY_ORDER, Fields, VERSION, joined};
+use cns_ids::Shares;
+use cns_movements::{MoveKind, Order};
+use std::alloc::{AllocError, Global};
+
+// The kind of the record, as its payload tells it. The clearing node's kinds are below it.
+const EXEC: u8 = 7;
+
+/// A record of the depository: what one accepted call added to its stock record.
+#[derive(Clone, Copy, PartialEq, Eq, Debug)]
+pub enum DepRecord {
+    /// An order was executed: `moved` of the shares that it asks for were moved.
+    Exec { order: Order, moved: Shares },
+}
+
+impl DepRecord {
+    /// The record's payload.
+    ///
+    /// After version and kind stand, of `Exec`: the order's kind, 1 for a cover or 2 for a delivery
+    /// (1), its number (8), member (2), CUSIP (9) and asked shares (8), and the shares moved (8).
+    /// (This project's own format.)
+    ///
+    /// A record that moves more than was asked has a payload too, but `read` refuses it.
+    pub fn write(&self, alloc: Global) -> Result<Vec<u8>, AllocError>
+        ensures spelled { IfOk result (λ v. v.items ≡ dep_spelling self.now) }
+        ensures size { IfOk result (λ v. length v.items ≤ 1048576) }
+
+        // What was written is read again.
+        ensures back { IsDepWritable self.now → read_dep_of (dep_spelling self.now) ≡ Ok self.now }
+        ensures ranges { HasDepRanges self.now }
+    {
+        payload_of(alloc, self)
+    }
+
+    /// Reads a payload.
+    ///
+    /// Refuses all that is not the payload of a record whose fields are in their ranges and that
+    /// moves no more than was asked.
+    pub fn read(payload: &[u8]) -> Result<DepRecord, BadRecord>
+        ensures exact { result ≡ read_dep_of payload.now }
+
+        // What is read is spelled by just these bytes.
+        ensures spelled { IfOk result (λ entry. (dep_spelling entry ≡ payload.now) × IsDepWritable entry) }
+        ensures ranges { IfOk result HasDepRanges }
+    {
+        record_of(payload)
+    }
+}
+
+#[tactic(auto, unfolding(crate::specs::Dep::dep_spelling))]
+fn write_exec(alloc: Global, order: &Order, moved: Shares) -> Result<Vec<u8>, AllocError>
+    ensures spelled { IfOk result (λ v. v.items ≡ dep_spelling (DepRecord.Exec order.now moved)) }
+    ensures ranges { HasDepRanges (DepRecord.Exec order.now moved) }
+{
+    let kind = match order.kind {
+        MoveKind::Cover => COVER_ORDER,
+        MoveKind::Delivery => DELIVERY_ORDER,
+    };
+    let number = order.number.number().to_be_bytes();
+    let member = order.member.number().to_be_bytes();
+    let issue = order.issue.to_bytes();
+    let asked = order.asked.shares().to_be_bytes();
+    let moved = moved.count().to_be_bytes();
+    joined(
+        alloc,
+        &[
+            &[VERSION, EXEC, kind],
+            &number,
+            &member,
+            &issue,
+            &asked,
+            &moved,
+        ],
+    )
+}
+
+#[tactic(auto, unfolding(crate::specs::Dep::exec_of))]
+fn read_exec(mut fields: Fields) -> Result<DepRecord, BadRecord>
+    ensures { result ≡ exec_of fields.entry }
+{
+    let kind = fields.take_move_kind()?;
+    let number = fields.take_move_no()?;
+    let member = fields.take_member()?;
+    let issue = fields.take_issue()?;
+    let asked = fields.take_asked()?;
+    let moved = fields.take_shares()?;
+    if !fields.is_at_end() || moved.count() > asked.shares() {
+        return Err(BadRecord);
+    }
+    let order = Order {
+        number,
+        kind,
+        member,
+        issue,
+        asked,
+    };
+    Ok(DepRecord::Exec { order, moved })
+}
+
+fn payload_of(alloc: Global, entry: &DepRecord) -> Result<Vec<u8>, AllocError>
+    ensures spelled { IfOk result (λ v. v.items ≡ dep_spelling entry.now) }
+    ensures ranges { HasDepRanges entry.now }
+{
+    match entry {
+        DepRecord::Exec { order, moved } => write_exec(alloc, order, *moved),
+    }
+}
+
+#[tactic(auto, unfolding(crate::specs::Dep::read_dep_of))]
+fn record_of(payload: &[u8]) -> Result<DepRecord, BadRecord>
+    ensures { result ≡ read_dep_of payload.now }
+{
+    match payload {
+        [VERSION, EXEC, fields @ ..] => read_exec(Fields::new(fields)),
+        _ => Err(BadRecord),
+    }
+}

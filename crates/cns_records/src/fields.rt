@@ -1,0 +1,242 @@
+//! The fields of a payload: how each is taken from its front, and the parts that are put together.
+ghost use Rattle.std.specs.Prelude.{◌≡◌, ◌==◌, IfOk, length};
+ghost use Rattle.std.specs.Int.{w16, w64};
+ghost use Rattle.std.specs.List.{flat_map};
+ghost use Rattle.cns_ids.specs.Day.{IsDayNumber};
+ghost use Rattle.cns_records.specs.Fields.{day_bytes as day_bytes_of, Gives, byte_at, number_at, text_at, GivesText, member_at, quantity_at, shares_at, move_no_at, asked_at, id_at, day_at, issue_at, flag_at, cycle_kind_at, move_kind_at};
+
+use crate::bad_record::BadRecord;
+use cns_ids::{Cusip, CycleKind, Day, MemberNo, Quantity, Shares};
+use cns_movements::{Asked, MoveKind, MoveNo};
+use cns_trades::TradeId;
+use std::alloc::{AllocError, Global};
+use std::marker::Model;
+
+/// The version of payloads.
+pub const VERSION: u8 = 1;
+
+/// The bytes that stand for a cycle's kind.
+pub const NIGHT_CYCLE: u8 = 0;
+
+pub const DAY_CYCLE: u8 = 1;
+
+/// The bytes that stand for an order's kind.
+pub const COVER_ORDER: u8 = 1;
+
+pub const DELIVERY_ORDER: u8 = 2;
+
+// The characters of a CUSIP.
+const CUSIP_LEN: usize = 9;
+
+/// A date: the year in 2 bytes, the month and the day in 1 each.
+pub fn day_bytes(day: Day) -> [u8; 4]
+    ensures bytes { result ≡ day_bytes_of day }
+    ensures real { IsDayNumber day }
+{
+    let number = day.number();
+    let [high, low] = ((number / 10_000) as u16).to_be_bytes();
+    [high, low, (number / 100 % 100) as u8, (number % 100) as u8]
+}
+
+/// The parts, one after the other.
+pub fn joined(alloc: Global, parts: &[&[u8]]) -> Result<Vec<u8>, AllocError>
+    ensures { IfOk result (λ v. v.items ≡ flat_map (λ part. part.now) parts.now) }
+{
+    let mut payload = Vec::new(alloc);
+    for part in parts {
+        payload.extend_from_slice(part)?;
+    }
+    Ok(payload)
+}
+
+/// The bytes of a payload that are not read yet. Each call takes one field from their front.
+///
+/// Contracts see these bytes. After a refusal they are of no use.
+#[derive(Drop)]
+pub struct Fields<'a> {
+    bytes: &'a [u8],
+}
+
+impl<'a> Model for Fields<'a> {
+    ghost use Rattle.std.specs.Prelude.{List, ℕ};
+
+    ghost Value = { List ℕ };
+
+    ghost view = { λ f. f.bytes.now };
+}
+
+impl<'a> Fields<'a> {
+    /// The fields that these bytes hold.
+    pub fn new(bytes: &'a [u8]) -> Self
+        ensures { result ≡ bytes.now }
+    {
+        Fields { bytes }
+    }
+
+    /// Whether all bytes are read.
+    pub fn is_at_end(&self) -> bool
+        ensures { result ≡ (length self.now == 0) }
+    {
+        self.bytes.is_empty()
+    }
+
+    #[tactic(auto, unfolding(crate::specs::Fields::byte_at))]
+    fn take_u8(&mut self) -> Result<u8, BadRecord>
+        ensures { Gives result self.new (byte_at self.old) }
+    {
+        let [byte, rest @ ..] = self.bytes else {
+            return Err(BadRecord);
+        };
+        self.bytes = rest;
+        Ok(*byte)
+    }
+
+    #[tactic(auto, unfolding(crate::specs::Fields::number_at))]
+    fn take_u16(&mut self) -> Result<u16, BadRecord>
+        ensures { Gives result self.new (number_at w16 self.old) }
+    {
+        let Some((front, rest)) = self.bytes.split_first_chunk::<2>() else {
+            return Err(BadRecord);
+        };
+        self.bytes = rest;
+        Ok(u16::from_be_bytes(*front))
+    }
+
+    #[tactic(auto, unfolding(crate::specs::Fields::number_at))]
+    fn take_u64(&mut self) -> Result<u64, BadRecord>
+        ensures { Gives result self.new (number_at w64 self.old) }
+    {
+        let Some((front, rest)) = self.bytes.split_first_chunk::<8>() else {
+            return Err(BadRecord);
+        };
+        self.bytes = rest;
+        Ok(u64::from_be_bytes(*front))
+    }
+
+    // The next `len` bytes.
+    #[tactic(auto, unfolding(crate::specs::Fields::text_at))]
+    fn take_text(&mut self, len: usize) -> Result<&'a [u8], BadRecord>
+        ensures { GivesText result self.new (text_at len self.old) }
+    {
+        if self.bytes.len() < len {
+            return Err(BadRecord);
+        }
+        let (text, rest) = self.bytes.split_at(len);
+        self.bytes = rest;
+        Ok(text)
+    }
+
+    /// A member's number: 2 bytes.
+    #[tactic(auto, unfolding(crate::specs::Fields::member_at))]
+    pub fn take_member(&mut self) -> Result<MemberNo, BadRecord>
+        ensures { Gives result self.new (member_at self.old) }
+    {
+        let number = self.take_u16()?;
+        MemberNo::new(number).ok_or(BadRecord)
+    }
+
+    /// A trade's quantity: 8 bytes.
+    #[tactic(auto, unfolding(crate::specs::Fields::quantity_at))]
+    pub fn take_quantity(&mut self) -> Result<Quantity, BadRecord>
+        ensures { Gives result self.new (quantity_at self.old) }
+    {
+        let shares = self.take_u64()?;
+        Quantity::new(shares).ok_or(BadRecord)
+    }
+
+    /// A count of shares: 8 bytes.
+    #[tactic(auto, unfolding(crate::specs::Fields::shares_at))]
+    pub fn take_shares(&mut self) -> Result<Shares, BadRecord>
+        ensures { Gives result self.new (shares_at self.old) }
+    {
+        let count = self.take_u64()?;
+        Shares::new(count).ok_or(BadRecord)
+    }
+
+    /// A movement's number: 8 bytes.
+    #[tactic(auto, unfolding(crate::specs::Fields::move_no_at))]
+    pub fn take_move_no(&mut self) -> Result<MoveNo, BadRecord>
+        ensures { Gives result self.new (move_no_at self.old) }
+    {
+        let number = self.take_u64()?;
+        MoveNo::new(number).ok_or(BadRecord)
+    }
+
+    /// The shares that an order asks for: 8 bytes.
+    #[tactic(auto, unfolding(crate::specs::Fields::asked_at))]
+    pub fn take_asked(&mut self) -> Result<Asked, BadRecord>
+        ensures { Gives result self.new (asked_at self.old) }
+    {
+        let shares = self.take_u64()?;
+        Asked::new(shares).ok_or(BadRecord)
+    }
+
+    /// A trade's id: its length in one byte, and its characters.
+    #[tactic(auto, unfolding(crate::specs::Fields::id_at))]
+    pub fn take_id(&mut self) -> Result<TradeId, BadRecord>
+        ensures { Gives result self.new (id_at self.old) }
+    {
+        let len = self.take_u8()?;
+        let text = self.take_text(usize::from(len))?;
+        TradeId::read(text).map_err(|_| BadRecord)
+    }
+
+    /// A date: the year in 2 bytes, the month and the day in 1 each.
+    #[tactic(auto, unfolding(crate::specs::Fields::day_at))]
+    pub fn take_day(&mut self) -> Result<Day, BadRecord>
+        ensures { Gives result self.new (day_at self.old) }
+    {
+        let year = self.take_u16()?;
+        let month = self.take_u8()?;
+        let day = self.take_u8()?;
+        if month > 12 || day > 31 {
+            return Err(BadRecord);
+        }
+        Day::new(year, month, day).map_err(|_| BadRecord)
+    }
+
+    /// An issue's CUSIP: its 9 characters.
+    #[tactic(auto, unfolding(crate::specs::Fields::issue_at))]
+    pub fn take_issue(&mut self) -> Result<Cusip, BadRecord>
+        ensures { Gives result self.new (issue_at self.old) }
+    {
+        let text = self.take_text(CUSIP_LEN)?;
+        Cusip::read(text).map_err(|_| BadRecord)
+    }
+
+    /// Yes or no: a byte 1 or 0.
+    #[tactic(auto, unfolding(crate::specs::Fields::flag_at))]
+    pub fn take_flag(&mut self) -> Result<bool, BadRecord>
+        ensures { Gives result self.new (flag_at self.old) }
+    {
+        match self.take_u8()? {
+            0 => Ok(false),
+            1 => Ok(true),
+            _ => Err(BadRecord),
+        }
+    }
+
+    /// A cycle's kind: a byte, 0 at night and 1 by day.
+    #[tactic(auto, unfolding(crate::specs::Fields::cycle_kind_at))]
+    pub fn take_cycle_kind(&mut self) -> Result<CycleKind, BadRecord>
+        ensures { Gives result self.new (cycle_kind_at self.old) }
+    {
+        match self.take_u8()? {
+            NIGHT_CYCLE => Ok(CycleKind::Night),
+            DAY_CYCLE => Ok(CycleKind::Day),
+            _ => Err(BadRecord),
+        }
+    }
+
+    /// An order's kind: a byte, 1 for a cover and 2 for a delivery.
+    #[tactic(auto, unfolding(crate::specs::Fields::move_kind_at))]
+    pub fn take_move_kind(&mut self) -> Result<MoveKind, BadRecord>
+        ensures { Gives result self.new (move_kind_at self.old) }
+    {
+        match self.take_u8()? {
+            COVER_ORDER => Ok(MoveKind::Cover),
+            DELIVERY_ORDER => Ok(MoveKind::Delivery),
+            _ => Err(BadRecord),
+        }
+    }
+}
