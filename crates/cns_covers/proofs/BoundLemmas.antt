@@ -1,6 +1,6 @@
 -- The bounds hold as a history and its covers grow, and what follows from them.
 use Rattle.std.proofs.Common.{◌≡◌, ◌≤◌, ◌+◌, ℕ, suc, List, [], ◌∷◌, ◌++◌, length, Option, Some, None, Bool, true, false, refl, sym, ◌∙◌, ap, arith, inl, inr, Ordering, Less, Equal, Greater}
-use Rattle.std.specs.Prelude.{◌&&◌, ◌||◌, ◌==◌, nat_le, All, pos, neg_ℤ, ◌-ℤ◌, ◌+ℤ◌, ◌≤ℤ◌, sum_by, if◌then◌else◌}
+use Rattle.std.specs.Prelude.{◌&&◌, ◌==◌, All, pos, neg_ℤ, ◌-ℤ◌, ◌+ℤ◌, ◌≤ℤ◌, sum_by, if◌then◌else◌}
 use Rattle.std.specs.List.{filter_map, cons_option}
 use Rattle.std.specs.Cmp.{IsTotalOrder}
 use Rattle.std.specs.Ordering.{match_ordering, ordering_reverse}
@@ -20,7 +20,7 @@ use Rattle.cns_netting.specs.declared.entry.NetEntry.{NetEntry}
 use Rattle.cns_netting.specs.declared.entry.NetEntry.TheVariants.{Accepted, Netted, Settled}
 use Rattle.cns_netting.specs.declared.position.Holding.{Holding}
 use Rattle.cns_netting.proofs.BookLemmas.{book_netted, bought-most, sold-most}
-use Rattle.cns_netting.proofs.TallyLemmas.{is_reached-latest, sold-due}
+use Rattle.cns_netting.proofs.TallyLemmas.{Reaches, reaches_latest, sold-due}
 use Rattle.cns_movements.specs.Order.{is_cover, is_of, moved_of, numbered, open_sum, order_of}
 use Rattle.cns_movements.specs.Book.{IsOrderBook, Orders, with_asks, with_reply}
 use Rattle.cns_movements.specs.declared.order.Ask.{Ask}
@@ -42,19 +42,6 @@ bounded_empty = record { covered = λ m i. omega arith; untaken = λ m i. refl; 
 pub bounded_accepted : (h : List NetEntry) (book : Orders) (t : Trade) → AreBounded h book → AreBounded (Accepted t ∷ h) book
 unfolding settled_in settled_out
 bounded_accepted h book t bounded = record { covered = λ m i. bounded.covered m i; untaken = λ m i. bounded.untaken m i; covers = bounded.covers }
-
--- what one date reaches, the other one reaches too
-Reaches : Option ℕ → Option ℕ → Type 0
-Reaches a b = (settle : ℕ) → is_reached a settle ≡ true → is_reached b settle ≡ true
-
-reaches_latest : (a b : Option ℕ) (day : ℕ) → Reaches a b → Reaches (latest a day) (latest b day)
-unfolding Reaches
-reaches_latest a b day more settle h =
-    rw (is_reached-latest b day settle) (by (nat_le settle day) (is_reached a settle) (is_reached b settle) (more settle) (sym (is_reached-latest a day settle) ∙ h))
-  where
-    by : (x y z : Bool) → (y ≡ true → z ≡ true) → (x || y) ≡ true → (x || z) ≡ true
-    by true y z f e = refl
-    by false y z f e = f e
 
 sold_grows : (a b : Option ℕ) → Reaches a b → (h : List NetEntry) (m i : ℕ) → sold (due_since a h) m i ≤ sold (due_since b h) m i
 unfolding Reaches

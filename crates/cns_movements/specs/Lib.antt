@@ -4,3 +4,4 @@ pub mod Order
 pub mod Book
 pub mod Confirm
 pub mod IssueFault
+pub mod Ranges

@@ -70,10 +70,11 @@ is_reached-latest None day settle = sym (or-false (nat_le settle day))
     or-false false = refl
 is_reached-latest (Some other) day settle = grind (arith, nat_tests)
 
-Reaches : Option ℕ → Option ℕ → Type 0
+-- what one date reaches, the other one reaches too
+unfoldable pub Reaches : Option ℕ → Option ℕ → Type 0
 Reaches a b = (settle : ℕ) → is_reached a settle ≡ true → is_reached b settle ≡ true
 
-reaches_latest : (a b : Option ℕ) (day : ℕ) → Reaches a b → Reaches (latest a day) (latest b day)
+pub reaches_latest : (a b : Option ℕ) (day : ℕ) → Reaches a b → Reaches (latest a day) (latest b day)
 unfolding Reaches
 reaches_latest a b day more settle h =
     rw (is_reached-latest b day settle) (by (nat_le settle day) (is_reached a settle) (is_reached b settle) (more settle) (sym (is_reached-latest a day settle) ∙ h))

@@ -5,6 +5,7 @@ use Rattle.std.specs.Prelude.{IfOk, ◌==◌, nat_le}
 use Rattle.std.specs.Int.{w16, w64, to_be_bytes}
 use Rattle.std.proofs.lemmas.Bool.{eqb-true, leb-true, le-leb}
 use Rattle.cns_ids.specs.Cusip.{cusip_text}
+use Rattle.cns_movements.specs.Ranges.{IsOrderInRange}
 use Rattle.cns_movements.specs.declared.order.MoveKind.{MoveKind}
 use Rattle.cns_movements.specs.declared.order.MoveKind.TheVariants.{Cover, Delivery}
 use Rattle.cns_movements.specs.declared.order.Order.{Order}
@@ -12,7 +13,7 @@ use Rattle.cns_records.specs.declared.bad_record.BadRecord.{BadRecord}
 use Rattle.cns_records.specs.declared.dep_record.DepRecord.{DepRecord}
 use Rattle.cns_records.specs.declared.dep_record.DepRecord.TheVariants.{Exec}
 use Rattle.cns_records.specs.Fields.{bad, whole, move_kind_bytes}
-use Rattle.cns_records.specs.Dep.{dep_spelling, IsOrderInRange, HasDepRanges, IsDepWritable, AreDepWritable, executed, exec_of, read_dep_of}
+use Rattle.cns_records.specs.Dep.{dep_spelling, HasDepRanges, IsDepWritable, AreDepWritable, executed, exec_of, read_dep_of}
 use Rattle.cns_records.proofs.FieldLemmas.{IsBytes, bind_ok, chosen, tested_ok, whole_ok, done, ok_is, step, chain, last, again_last}
 use Rattle.cns_records.proofs.FieldLaws.{move_kind_field, move_no_field, member_field, issue_field, asked_field, shares_field}
 

@@ -1,11 +1,9 @@
 -- The records of the depository and the payload of each (this project's own format).
 use Rattle.std.specs.Prelude.{ℕ, ◌≤◌, nat_le, ◌==◌, List, [], ◌∷◌, ◌++◌, Result, if◌then◌else◌}
 use Rattle.std.specs.Int.{w16, w64, to_be_bytes}
-use Rattle.cns_ids.specs.Cusip.{IsCusip, cusip_text}
-use Rattle.cns_ids.specs.Member.{IsMember}
+use Rattle.cns_ids.specs.Cusip.{cusip_text}
 use Rattle.cns_ids.specs.Shares.{IsShares}
-use Rattle.cns_movements.specs.Asked.{IsAsked}
-use Rattle.cns_movements.specs.Number.{IsMoveNo}
+use Rattle.cns_movements.specs.Ranges.{IsOrderInRange}
 use Rattle.cns_movements.specs.declared.order.Order.{Order}
 use Rattle.cns_records.specs.Fields.{bad, ◌>>=◌, tested, whole, member_at, issue_at, shares_at, asked_at, move_no_at, move_kind_bytes, move_kind_at}
 use Rattle.cns_records.specs.declared.bad_record.BadRecord.{BadRecord}
@@ -16,13 +14,6 @@ use Rattle.cns_records.specs.declared.dep_record.DepRecord.TheVariants.{Exec}
 unfoldable pub dep_spelling : DepRecord → List ℕ
 dep_spelling (Exec o moved) =
     1 ∷ 7 ∷ (move_kind_bytes o.kind ++ (to_be_bytes w64 o.number ++ (to_be_bytes w16 o.member ++ (cusip_text o.issue ++ (to_be_bytes w64 o.asked ++ to_be_bytes w64 moved)))))
-
--- what the types of an order's fields promise
-pub record IsOrderInRange (o : Order) : Type 0 where
-  pub number : IsMoveNo o.number
-  pub member : IsMember o.member
-  pub issue : IsCusip o.issue
-  pub asked : IsAsked o.asked
 
 -- what the types of a record's fields promise
 abbrev pub HasDepRanges : DepRecord → Type 0

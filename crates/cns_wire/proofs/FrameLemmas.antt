@@ -8,6 +8,7 @@ use Rattle.cns_ids.specs.Cusip.{cusip_text, read_cusip}
 use Rattle.cns_ids.specs.Member.{is_member}
 use Rattle.cns_ids.specs.Shares.{is_shares}
 use Rattle.cns_ids.specs.declared.cusip.CusipFault.{CusipFault}
+use Rattle.cns_movements.specs.Ranges.{IsOrderInRange, IsReplyInRange}
 use Rattle.cns_movements.specs.Asked.{is_asked}
 use Rattle.cns_movements.specs.Number.{is_move_no}
 use Rattle.cns_movements.specs.declared.order.MoveKind.{MoveKind}
@@ -16,7 +17,7 @@ use Rattle.cns_movements.specs.declared.order.Order.{Order}
 use Rattle.cns_movements.specs.declared.order.Reply.{Reply}
 use Rattle.cns_wire.specs.declared.frame.Frame.{Frame}
 use Rattle.cns_wire.specs.declared.frame.Frame.TheVariants as frame
-use Rattle.cns_wire.specs.Frame.{order_frame, reply_frame, frame_text, IsOrderInRange, IsReplyInRange, IsInRange}
+use Rattle.cns_wire.specs.Frame.{order_frame, reply_frame, frame_text, IsInRange}
 use Rattle.cns_wire.specs.ReadFrame.{order_of, reply_of, order_in, reply_in, with_order, with_reply, read_frame_of}
 
 same_order : (kind : MoveKind) (n' n m' m : ℕ) (r' r : Result ℕ CusipFault) (a' a : ℕ) → n' ≡ n → m' ≡ m → r' ≡ r → a' ≡ a

@@ -12,6 +12,7 @@ use Rattle.cns_ids.specs.Member.{is_member}
 use Rattle.cns_ids.specs.Shares.{is_shares}
 use Rattle.cns_ids.specs.declared.cusip.CusipFault.{CusipFault}
 use Rattle.cns_ids.proofs.CusipLemmas.{cusip_text-number_of, number_of-small}
+use Rattle.cns_movements.specs.Ranges.{IsOrderInRange, IsReplyInRange}
 use Rattle.cns_movements.specs.Asked.{is_asked}
 use Rattle.cns_movements.specs.Number.{is_move_no}
 use Rattle.cns_movements.specs.declared.order.MoveKind.{MoveKind}
@@ -22,7 +23,7 @@ use Rattle.cns_wire.specs.declared.frame.Frame.{Frame}
 use Rattle.cns_wire.specs.declared.frame.Frame.TheVariants as frame
 use Rattle.cns_wire.specs.declared.frame.FrameFault.{FrameFault}
 use Rattle.cns_wire.specs.declared.frame.FrameFault.TheVariants.{Short, Long, Field}
-use Rattle.cns_wire.specs.Frame.{header, kind_byte, order_frame, reply_frame, IsOrderInRange, IsReplyInRange, IsFrame}
+use Rattle.cns_wire.specs.Frame.{header, kind_byte, order_frame, reply_frame, IsFrame}
 use Rattle.cns_wire.specs.ReadFrame.{of_size, of_kind, order_of, reply_of, order_in, reply_in, with_order, with_reply, read_frame_of}
 
 -- every number of a list is a byte

@@ -1,11 +1,8 @@
 -- The frames of orders and of replies, byte by byte (this project's own format).
 use Rattle.std.specs.Prelude.{◌≡◌, ℕ, List, [], ◌∷◌, ◌++◌, codes}
 use Rattle.std.specs.Int.{to_be_bytes, w16, w64}
-use Rattle.cns_ids.specs.Cusip.{cusip_text, IsCusip}
-use Rattle.cns_ids.specs.Member.{IsMember}
-use Rattle.cns_ids.specs.Shares.{IsShares}
-use Rattle.cns_movements.specs.Asked.{IsAsked}
-use Rattle.cns_movements.specs.Number.{IsMoveNo}
+use Rattle.cns_ids.specs.Cusip.{cusip_text}
+use Rattle.cns_movements.specs.Ranges.{IsOrderInRange, IsReplyInRange}
 use Rattle.cns_movements.specs.declared.order.MoveKind.{MoveKind}
 use Rattle.cns_movements.specs.declared.order.MoveKind.TheVariants.{Cover, Delivery}
 use Rattle.cns_movements.specs.declared.order.Order.{Order}
@@ -34,18 +31,6 @@ reply_frame r = header 3 ++ to_be_bytes w64 r.number ++ to_be_bytes w64 r.moved
 abbrev pub frame_text : Frame → List ℕ
 frame_text (frame.Order o) = order_frame o
 frame_text (frame.Reply r) = reply_frame r
-
--- an order's fields are in their ranges
-pub record IsOrderInRange (o : Order) : Type 0 where
-  pub number : IsMoveNo o.number
-  pub member : IsMember o.member
-  pub issue : IsCusip o.issue
-  pub asked : IsAsked o.asked
-
--- a reply's fields are in their ranges
-pub record IsReplyInRange (r : Reply) : Type 0 where
-  pub number : IsMoveNo r.number
-  pub moved : IsShares r.moved
 
 -- a frame's fields are in their ranges
 abbrev pub IsInRange : Frame → Type 0
