@@ -11,8 +11,8 @@ The stage says which commands exist (the environment variable CNSD_STAGE where t
 option is not given; else 5):
 
     1  TAKE, CYCLE, REPORT; no order lines, openings unread
-    2  EXEMPT, PRIORITY and the cover orders of a cycle
-    3  SEND, ORDER, REPLY, PUMP, openings
+    2  EXEMPT, PRIORITY, the cover orders of a cycle, faulty openings
+    3  SEND, ORDER, REPLY, PUMP, pools and balances in reports
     4  FAIL, RESTART
     5  LOT, POUR, RESERVE, LOOK, SEAL, CLOSE, ALLOCATE, BESIDE
     6  DEPOSIT, WITHDRAW
@@ -843,6 +843,13 @@ class Run:
         for (issue, member), position in sorted(positions(records, orders).items()):
             if position != 0:
                 self.say('POS %s %04d %20d', issue.decode(), member, position)
+        if self.stage >= 3:
+            self.say_stock()
+        self.say('END')
+
+    def say_stock(self):
+        book = self.book
+        records, orders = book.clear.records, book.orders()
         moved = confirmed(records)
         for issue in sorted({order.issue for order in orders} | {lot.issue for lot in book.lots}):
             out = sum(order.asked for order in orders
@@ -860,7 +867,6 @@ class Run:
             shares = book.balance(account, issue)
             if shares != 0:
                 self.say('BAL %s %04d %20d', issue.decode(), account, shares)
-        self.say('END')
 
 
 def good_openings(rows, say):
@@ -885,7 +891,7 @@ def answer(text, stage):
         if len(text) > INPUT_LIMIT:
             raise BadInput('input too long')
         opening_text, trade_text, script = split_sections(text)
-        opening_rows = rows_under(b'account,cusip,shares', opening_text) if stage >= 3 else []
+        opening_rows = rows_under(b'account,cusip,shares', opening_text) if stage >= 2 else []
         rows = rows_under(b'trade,settle,buyer,seller,cusip,quantity', trade_text)
     except BadInput as fault:
         return 2, b'', b'cnsd: %s\n' % str(fault).encode()

@@ -11,7 +11,8 @@ use Rattle.cns_movements.specs.declared.order.Order.{Order}
 use Rattle.cns_trades.specs.declared.fault.RowFault.{RowFault}
 use Rattle.cns_trades.specs.declared.list.Verdict.{Verdict}
 use Rattle.cns_trades.specs.declared.list.Verdict.TheVariants as verdicts
-use Rattle.cns_report.specs.Refusals.{subject_text, refusal_text}
+use Rattle.cns_report.specs.Refusals.{subject_text, refusal_text, opening_refusal_text}
+use Rattle.cns_report.specs.declared.refusal.OpeningRefusal.{OpeningRefusal}
 use Rattle.cns_report.specs.declared.refusal.Subject.{Subject}
 use Rattle.cns_report.specs.declared.refusal.Refusal.{Refusal}
 use Rattle.cns_report.specs.Faults.{row_fault_text, verdict_text}
@@ -66,6 +67,14 @@ order_lines (o ∷ orders) = order_line o ++ order_lines orders
 -- opening row N fault ..
 unfoldable pub opening_row_fault_line : ℕ → RowFault → List ℕ
 opening_row_fault_line row fault = codes "opening " ++ row_fault_line row fault
+
+-- row N fault NAME
+unfoldable pub row_refused_line : ℕ → OpeningRefusal → List ℕ
+row_refused_line row refusal = codes "row " ++ decimal row ++ codes " fault " ++ opening_refusal_text refusal ++ line_end
+
+-- opening row N fault NAME
+unfoldable pub opening_refused_line : ℕ → OpeningRefusal → List ℕ
+opening_refused_line row refusal = codes "opening " ++ row_refused_line row refusal
 
 -- send N packet K
 unfoldable pub send_line : ℕ → ℕ → List ℕ

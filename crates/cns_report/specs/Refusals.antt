@@ -2,6 +2,8 @@
 use Rattle.std.specs.Prelude.{ℕ, List, codes}
 use Rattle.cns_report.specs.declared.refusal.Subject.{Subject}
 use Rattle.cns_report.specs.declared.refusal.Subject.TheVariants as subject
+use Rattle.cns_report.specs.declared.refusal.OpeningRefusal.{OpeningRefusal}
+use Rattle.cns_report.specs.declared.refusal.OpeningRefusal.TheVariants as opening
 use Rattle.cns_report.specs.declared.refusal.Refusal.{Refusal}
 use Rattle.cns_report.specs.declared.refusal.Refusal.TheVariants as refusal
 
@@ -18,3 +20,7 @@ refusal_text refusal.UnknownMove = codes "UnknownMove"
 refusal_text refusal.NoPacket = codes "NoPacket"
 refusal_text refusal.Conflict = codes "Conflict"
 refusal_text refusal.TooMuch = codes "TooMuch"
+
+abbrev pub opening_refusal_text : OpeningRefusal → List ℕ
+opening_refusal_text opening.Double = codes "Double"
+opening_refusal_text opening.IssueSum = codes "IssueSum"

@@ -12,10 +12,10 @@ mod report;
 
 pub use line::{
     write_again, write_bad_command, write_confirm_again, write_confirm_done, write_cycle,
-    write_exec, write_exempt, write_opening_row_fault, write_orders, write_priority, write_refused,
-    write_row_fault, write_send, write_trade,
+    write_exec, write_exempt, write_opening_refused, write_opening_row_fault, write_orders,
+    write_priority, write_refused, write_row_fault, write_send, write_trade,
 };
-pub use refusal::{Refusal, Subject};
+pub use refusal::{OpeningRefusal, Refusal, Subject};
 pub use report::{write_cycle_report, write_report_end};
 
 #[cfg(test)]

@@ -1,8 +1,8 @@
 ghost use Rattle.std.specs.Prelude.{◌≡◌, ◌++◌, OnOk, string_bytes};
-ghost use Rattle.cns_report.specs.Lines.{trade_line, row_fault_line, bad_command_line, cycle_line, refused_line, exempt_line, priority_line, order_line, order_lines, opening_row_fault_line, send_line, exec_line, again_line, confirm_done_line, confirm_again_line};
+ghost use Rattle.cns_report.specs.Lines.{trade_line, row_fault_line, bad_command_line, cycle_line, refused_line, exempt_line, priority_line, order_line, order_lines, opening_row_fault_line, row_refused_line, opening_refused_line, send_line, exec_line, again_line, confirm_done_line, confirm_again_line};
 
 use crate::fault::{RowFaultName, VerdictName};
-use crate::refusal::{Refusal, Subject};
+use crate::refusal::{OpeningRefusal, Refusal, Subject};
 use cns_ids::CycleId;
 use cns_movements::Order;
 use cns_trades::{RowFault, TradeId, Verdict};
@@ -109,6 +109,27 @@ pub fn write_opening_row_fault(
 {
     write!(out, "opening ")?;
     write_row_fault(out, row, fault)
+}
+
+// The line of a row that was refused, from its number on: `row N fault NAME`.
+#[tactic(auto, unfolding(crate::specs::Lines::row_refused_line))]
+fn write_row_refused(out: &mut String, row: u64, refusal: OpeningRefusal) -> Result<(), AllocError>
+    ensures { OnOk result (string_bytes out.new ≡ string_bytes out.old ++ row_refused_line row refusal) }
+{
+    write!(out, "row {row} fault {refusal}\n")
+}
+
+/// The line of a row of openings that was refused: `opening row N fault NAME`.
+#[tactic(auto, unfolding(crate::specs::Lines::opening_refused_line))]
+pub fn write_opening_refused(
+    out: &mut String,
+    row: u64,
+    refusal: OpeningRefusal,
+) -> Result<(), AllocError>
+    ensures { OnOk result (string_bytes out.new ≡ string_bytes out.old ++ opening_refused_line row refusal) }
+{
+    write!(out, "opening ")?;
+    write_row_refused(out, row, refusal)
 }
 
 /// The line of an order that was sent: `send N packet K`.

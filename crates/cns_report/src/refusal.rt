@@ -1,5 +1,5 @@
 ghost use Rattle.std.specs.Prelude.{Some};
-ghost use Rattle.cns_report.specs.Refusals.{subject_text, refusal_text};
+ghost use Rattle.cns_report.specs.Refusals.{subject_text, refusal_text, opening_refusal_text};
 
 use std::fmt;
 
@@ -53,6 +53,26 @@ impl fmt::Display for Refusal {
             Refusal::NoPacket => "NoPacket",
             Refusal::Conflict => "Conflict",
             Refusal::TooMuch => "TooMuch",
+        })
+    }
+}
+
+/// Why a well-formed row of openings was refused, as its line names it.
+#[derive(Clone, Copy, PartialEq, Eq, Debug)]
+pub enum OpeningRefusal {
+    /// The member has an opening in the issue already.
+    Double,
+    /// The openings of the issue would pass 10^18 shares.
+    IssueSum,
+}
+
+impl fmt::Display for OpeningRefusal {
+    ghost output = { λ r. Some (opening_refusal_text r) };
+
+    fn fmt<W: fmt::Write>(&self, f: &mut fmt::Formatter<W>) -> fmt::Result {
+        f.write_str(match self {
+            OpeningRefusal::Double => "Double",
+            OpeningRefusal::IssueSum => "IssueSum",
         })
     }
 }

@@ -1,8 +1,8 @@
 use crate::{
-    Refusal, Subject, write_again, write_bad_command, write_confirm_again, write_confirm_done,
-    write_cycle, write_cycle_report, write_exec, write_exempt, write_opening_row_fault,
-    write_orders, write_priority, write_refused, write_report_end, write_row_fault, write_send,
-    write_trade,
+    OpeningRefusal, Refusal, Subject, write_again, write_bad_command, write_confirm_again,
+    write_confirm_done, write_cycle, write_cycle_report, write_exec, write_exempt,
+    write_opening_refused, write_opening_row_fault, write_orders, write_priority, write_refused,
+    write_report_end, write_row_fault, write_send, write_trade,
 };
 use cns_ids::{Cusip, CusipFault, CycleId, CycleKind, Day, MemberNo, ReadFault};
 use cns_movements::{Asked, MoveKind, MoveNo, Order};
@@ -75,11 +75,13 @@ fn lines(rt: HostRuntime) -> Result<(), Fail> {
     write_confirm_again(&mut out, 1, 20)?;
     write_opening_row_fault(&mut out, 4, RowFault::Account(ReadFault::OutOfRange))?;
     write_opening_row_fault(&mut out, 5, RowFault::Shares(ReadFault::BadNumber))?;
+    write_opening_refused(&mut out, 6, OpeningRefusal::Double)?;
+    write_opening_refused(&mut out, 7, OpeningRefusal::IssueSum)?;
     write_exempt(&mut out)?;
     write_priority(&mut out)?;
     write_orders(&mut out, &two_orders()?)?;
     let want =
-        "trade A1 accepted\ntrade A1 refused Same\ntrade A1 refused Conflict\ntrade A1 refused SameMember\ntrade A1 refused Full\nrow 5 fault Settle BadDate\nrow 6 fault Fields\nrow 7 fault Id\nrow 8 fault Buyer BadNumber\nrow 9 fault Seller OutOfRange\nrow 10 fault Cusip BadChar 6\nrow 11 fault Cusip CheckDigit 0\nrow 12 fault Cusip Length\nrow 13 fault Quantity OutOfRange\nline 1 bad command\ncycle 2025-03-04 NIGHT due 2\ncycle refused CycleOrder\ncycle refused NumbersSpent\nsend refused UnknownMove\norder refused NoPacket\norder refused Conflict\nreply refused TooMuch\nsend 1 packet 2\nexec 1 moved 20 packet 3\nagain 1 moved 20 packet 4\nconfirm 1 moved 20 done\nconfirm 1 moved 20 again\nopening row 4 fault Account OutOfRange\nopening row 5 fault Shares BadNumber\nexempt ok\npriority ok\norder 1 COVER 0001 037833100 60\norder 1000000 DELIVERY 0042 037833100 1000000000000000000\n";
+        "trade A1 accepted\ntrade A1 refused Same\ntrade A1 refused Conflict\ntrade A1 refused SameMember\ntrade A1 refused Full\nrow 5 fault Settle BadDate\nrow 6 fault Fields\nrow 7 fault Id\nrow 8 fault Buyer BadNumber\nrow 9 fault Seller OutOfRange\nrow 10 fault Cusip BadChar 6\nrow 11 fault Cusip CheckDigit 0\nrow 12 fault Cusip Length\nrow 13 fault Quantity OutOfRange\nline 1 bad command\ncycle 2025-03-04 NIGHT due 2\ncycle refused CycleOrder\ncycle refused NumbersSpent\nsend refused UnknownMove\norder refused NoPacket\norder refused Conflict\nreply refused TooMuch\nsend 1 packet 2\nexec 1 moved 20 packet 3\nagain 1 moved 20 packet 4\nconfirm 1 moved 20 done\nconfirm 1 moved 20 again\nopening row 4 fault Account OutOfRange\nopening row 5 fault Shares BadNumber\nopening row 6 fault Double\nopening row 7 fault IssueSum\nexempt ok\npriority ok\norder 1 COVER 0001 037833100 60\norder 1000000 DELIVERY 0042 037833100 1000000000000000000\n";
     assert_eq!(rt; out.as_str(), want);
     Ok(())
 }

@@ -1,17 +1,46 @@
-ghost use Rattle.std.specs.Prelude.{◌≡◌, ◌+◌, ◌<◌, ◌≤◌, ℕ, List, Ok, MatchResult, IfSome, IfErr, OnOk, string_bytes};
+ghost use Rattle.std.specs.Prelude.{◌≡◌, ◌+◌, ◌<◌, ◌≤◌, ◌++◌, ℕ, List, [], Ok, MatchResult, IfOk, IfSome, IfErr, OnOk, string_bytes};
 ghost use Rattle.std.specs.Io.KnownBytes.{Appends};
-ghost use Rattle.cnsd.specs.Text.{text_of, Tells, Ends};
+ghost use Rattle.cnsd.specs.Opened.{told_openings};
+ghost use Rattle.cnsd.specs.Run.{script_text};
+ghost use Rattle.cnsd.specs.Text.{fault_of_rows, text_of, Tells, Ends};
 
 use crate::fault::BatchFault;
 use crate::input::read_input;
+use crate::opening::take_openings;
 use crate::output::write_text;
 use crate::script::run_script;
 use crate::sections::split_input;
 use crate::steps::Steps;
-use cns_trades::{CsvFault, read_trades};
-use std::alloc::Global;
+use cns_trades::{CsvFault, OpeningRow, Row, read_openings, read_trades};
+use std::alloc::{AllocError, Global};
 use std::io::{Read, Write};
 use std::sync::ledger::{Blank, Ledger};
+
+// The fault of a batch whose rows cannot be read.
+fn rows_fault(fault: CsvFault) -> BatchFault
+    ensures { result ≡ fault_of_rows fault }
+{
+    match fault {
+        CsvFault::OutOfMemory => BatchFault::Memory,
+        CsvFault::Reading => BatchFault::Read,
+        CsvFault::Header => BatchFault::Csv,
+    }
+}
+
+// What rows of openings tell, and then what a script tells over rows of trades.
+fn tell(
+    alloc: Global,
+    openings: &[OpeningRow],
+    trades: &[Row],
+    script: &[u8],
+) -> Result<String, AllocError>
+    ensures { IfOk result (λ t. string_bytes t ≡ (told_openings 1 [] openings.now).1 ++ script_text trades.now script.now) }
+{
+    let mut out = String::new(alloc);
+    take_openings(alloc, openings, &mut out)?;
+    run_script(alloc, trades, script, &mut out)?;
+    Ok(out)
+}
 
 // What an input text gives.
 fn answer(alloc: Global, input: &[u8]) -> Result<String, BatchFault>
@@ -20,13 +49,20 @@ fn answer(alloc: Global, input: &[u8]) -> Result<String, BatchFault>
     let Some(sections) = split_input(input) else {
         return Err(BatchFault::Sections);
     };
-    let rows = match read_trades(alloc, sections.trades) {
+    let openings = match read_openings(alloc, sections.openings) {
         Ok(rows) => rows,
-        Err(CsvFault::OutOfMemory) => return Err(BatchFault::Memory),
-        Err(CsvFault::Reading) => return Err(BatchFault::Read),
-        Err(CsvFault::Header) => return Err(BatchFault::Csv),
+        Err(fault) => return Err(rows_fault(fault)),
     };
-    match run_script(alloc, rows.as_slice(), sections.script) {
+    let trades = match read_trades(alloc, sections.trades) {
+        Ok(rows) => rows,
+        Err(fault) => return Err(rows_fault(fault)),
+    };
+    match tell(
+        alloc,
+        openings.as_slice(),
+        trades.as_slice(),
+        sections.script,
+    ) {
         Ok(text) => Ok(text),
         Err(_) => Err(BatchFault::Memory),
     }

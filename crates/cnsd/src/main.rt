@@ -7,6 +7,7 @@ mod batch;
 mod command;
 mod fault;
 mod input;
+mod opening;
 mod output;
 mod runner;
 mod script;

@@ -1,4 +1,4 @@
-ghost use Rattle.std.specs.Prelude.{◌≡◌, IfOk, string_bytes};
+ghost use Rattle.std.specs.Prelude.{◌≡◌, ◌++◌, OnOk, string_bytes};
 ghost use Rattle.cnsd.specs.Run.{script_text};
 
 use crate::runner::{Runner, run_line};
@@ -6,12 +6,16 @@ use crate::sections::{line_size, line_text};
 use cns_trades::Row;
 use std::alloc::{AllocError, Global};
 
-/// What a script tells over rows of trades.
-pub(crate) fn run_script(alloc: Global, rows: &[Row], script: &[u8]) -> Result<String, AllocError>
-    ensures { IfOk result (λ t. string_bytes t ≡ script_text rows.now script.now) }
+/// Runs a script over rows of trades, and adds what it tells.
+pub(crate) fn run_script(
+    alloc: Global,
+    rows: &[Row],
+    script: &[u8],
+    out: &mut String,
+) -> Result<(), AllocError>
+    ensures { OnOk result (string_bytes out.new ≡ string_bytes out.old ++ script_text rows.now script.now) }
 {
     let mut runner = Runner::new(alloc);
-    let mut out = String::new(alloc);
     let mut left = rows;
     let mut number = 1;
     let mut at = 0;
@@ -19,11 +23,11 @@ pub(crate) fn run_script(alloc: Global, rows: &[Row], script: &[u8]) -> Result<S
         let (_, rest) = script.split_at(at);
         let size = line_size(rest);
         let (line, _) = rest.split_at(size);
-        let taken = run_line(&mut runner, left, number, line_text(line), &mut out)?;
+        let taken = run_line(&mut runner, left, number, line_text(line), out)?;
         let (_, more) = left.split_at(taken);
         left = more;
         number += 1;
         at += size;
     }
-    Ok(out)
+    Ok(())
 }

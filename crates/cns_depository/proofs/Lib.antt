@@ -1,0 +1,5 @@
+pub mod OpeningLemmas
+pub mod StockLemmas
+pub mod NodeLemmas
+pub mod ReplayLemmas
+pub mod BalanceLemmas

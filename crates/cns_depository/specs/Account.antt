@@ -1,0 +1,27 @@
+-- Accounts, and which of them an order moves shares from and to (this project's own rule).
+use Rattle.std.specs.Prelude.{ℕ, Bool, ◌&&◌, ◌==◌}
+use Rattle.cns_movements.specs.Order.{is_cover, is_delivery}
+use Rattle.cns_movements.specs.declared.order.MoveKind.{MoveKind}
+use Rattle.cns_movements.specs.declared.order.MoveKind.TheVariants.{Cover, Delivery}
+use Rattle.cns_movements.specs.declared.order.Order.{Order}
+use Rattle.cns_depository.specs.declared.account.Account.{Account}
+use Rattle.cns_depository.specs.declared.account.Account.TheVariants.{Cns, Member}
+
+-- the account that gives, of a movement of this kind and member
+abbrev pub giver_by : MoveKind → ℕ → Account
+giver_by Cover member = Member member
+giver_by Delivery member = Cns
+
+-- the account that gives
+abbrev pub giver : Order → Account
+giver o = giver_by o.kind o.member
+
+-- whether an order moves shares into an account
+abbrev pub enters : Account → Order → Bool
+enters Cns o = is_cover o.kind
+enters (Member m) o = is_delivery o.kind && (o.member == m)
+
+-- whether an order moves shares out of an account
+abbrev pub leaves : Account → Order → Bool
+leaves Cns o = is_delivery o.kind
+leaves (Member m) o = is_cover o.kind && (o.member == m)

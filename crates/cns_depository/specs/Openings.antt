@@ -1,0 +1,47 @@
+-- The openings of a depository: what its accounts hold at the start (this project's own rules).
+use Rattle.std.specs.Prelude.{◌≡◌, ℕ, ◌+◌, ◌^◌, ◌≤◌, nat_lt, Bool, ◌&&◌, ◌==◌, List, [], ◌∷◌, ◌++◌, Option, Some, None, Result, Ok, Err, sum_by, if◌then◌else◌}
+use Rattle.std.specs.List.{list_any}
+use Rattle.cns_trades.specs.declared.opening.Opening.{Opening}
+use Rattle.cns_depository.specs.declared.account.Account.{Account}
+use Rattle.cns_depository.specs.declared.account.Account.TheVariants.{Cns, Member}
+use Rattle.cns_depository.specs.declared.openings.OpeningFault.{OpeningFault}
+use Rattle.cns_depository.specs.declared.openings.OpeningFault.TheVariants.{Double, IssueSum, OutOfMemory}
+
+-- whether an opening is of this member and issue
+abbrev pub is_opening_of : ℕ → ℕ → Opening → Bool
+is_opening_of member issue o = (o.member == member) && (o.issue == issue)
+
+-- whether a member has an opening in an issue
+abbrev pub is_open : List Opening → ℕ → ℕ → Bool
+is_open openings member issue = list_any (is_opening_of member issue) openings
+
+-- the shares of all openings in an issue
+unfoldable pub issue_sum : List Opening → ℕ → ℕ
+issue_sum openings issue = sum_by (λ (o : Opening). if o.issue == issue then o.shares else 0) openings
+
+-- the shares with which a member opens in an issue
+unfoldable pub member_opening : List Opening → ℕ → ℕ → ℕ
+member_opening openings member issue = sum_by (λ (o : Opening). if is_opening_of member issue o then o.shares else 0) openings
+
+-- the shares with which an account opens in an issue; the CNS account opens with none
+abbrev pub opening_shares : List Opening → Account → ℕ → ℕ
+opening_shares openings Cns issue = 0
+opening_shares openings (Member m) issue = member_opening openings m issue
+
+-- why an opening is refused, where it is
+abbrev pub opening_fault : List Opening → Opening → Option OpeningFault
+opening_fault openings o =
+    if is_open openings o.member o.issue then Some Double
+    else if nat_lt (10 ^ 18) (issue_sum openings o.issue + o.shares) then Some IssueSum
+    else None
+
+-- what adding an opening leaves, by its answer: only an accepted one changes the list
+abbrev pub AddLeaves : Opening → Result (Unit {0}) OpeningFault → List Opening → List Opening → Type 0
+AddLeaves o (Ok _) old new = (opening_fault old o ≡ None) × (new ≡ old ++ o ∷ [])
+AddLeaves o (Err Double) old new = (opening_fault old o ≡ Some Double) × (new ≡ old)
+AddLeaves o (Err IssueSum) old new = (opening_fault old o ≡ Some IssueSum) × (new ≡ old)
+AddLeaves o (Err OutOfMemory) old new = (opening_fault old o ≡ None) × (new ≡ old)
+
+-- the openings of no issue pass 10^18 shares
+abbrev pub DoIssuesFit : List Opening → Type 0
+DoIssuesFit openings = (issue : ℕ) → issue_sum openings issue ≤ 10 ^ 18

@@ -1,0 +1,212 @@
+ghost use Rattle.std.specs.Prelude.{◌≡◌, ◌+◌, ◌≤◌, option_map, Err, IfOk, IfErr};
+ghost use Rattle.cns_depository.specs.Openings.{opening_shares};
+ghost use Rattle.cns_depository.specs.Stock.{order_in, moved_by, record_of as record_in, moved_in, moved_out, balance_of as balance_in};
+ghost use Rattle.cns_depository.specs.Answers.{OrderLeaves, IsKnownAnswer};
+ghost use Rattle.cns_depository.specs.Replay.{IsOpened, Reread, RestartLeaves};
+
+use crate::account::Account;
+use crate::commit::commit_record;
+use crate::fault::{Answer, DepFault};
+use crate::openings::Openings;
+use crate::replay::{ReplayFault, reread};
+use crate::stock::{balance_of, movement, record_of};
+use cns_ids::{Cusip, Shares};
+use cns_journal::{Keeper, NotPlanned};
+use cns_movements::{MoveNo, Order, Reply};
+use cns_records::DepRecord;
+use std::alloc::Global;
+use std::marker::Model;
+
+/// A restart that succeeded.
+#[derive(Clone, Copy, PartialEq, Eq, Debug)]
+pub struct Restarted {
+    /// How many records the journal has.
+    pub records: u64,
+    /// Whether one more record came back than the depository held: the one whose commit failed.
+    pub kept: bool,
+}
+
+/// A refused opening: why, and the keeper as its reopening left it.
+#[derive(Drop)]
+pub struct Refused<K> {
+    /// The keeper, after its reopening.
+    pub keeper: K,
+    /// Why the depository was not opened.
+    pub fault: ReplayFault,
+}
+
+/// The depository's stock record: its openings and the movements that it executed, each of which its
+/// keeper acknowledged.
+///
+/// Contracts see the openings; the records of the executed movements, the newest first; the record
+/// whose commit failed, until a restart decides it; whether the depository is down; how often its
+/// keeper's device has failed; and whether its keeper is honest. (This project's own rules.)
+#[derive(Drop)]
+pub struct Depository<K: Keeper> {
+    keeper: K,
+    openings: Openings,
+    // In the order in which they were executed.
+    records: Vec<DepRecord>,
+    tried: Option<DepRecord>,
+    down: bool,
+    alloc: Global,
+}
+
+impl<K: Keeper> Model for Depository<K> {
+    ghost use Rattle.std.specs.Prelude.{reverse};
+    ghost use Rattle.cns_depository.specs.Node.{DepNode, IsNode};
+
+    ghost Value = { DepNode };
+
+    ghost view = { λ d. record {
+      openings = d.openings;
+      records = reverse d.records.items;
+      tried = d.tried;
+      down = d.down;
+      failures = (K.run d.keeper).failures;
+      honest = K.honest d.keeper;
+    } };
+
+    ghost invariant = { λ d. IsNode d.openings d.records.items d.tried d.down
+        (K.run d.keeper) (K.honest d.keeper) (K.journal d.keeper) };
+}
+
+impl<K: Keeper> Depository<K> {
+    /// Reads the keeper's journal again, and opens a depository that is up, with the records that it
+    /// gives. A refused opening hands the keeper back, and drops the openings.
+    ///
+    /// Refuses `BadJournal` where a payload is no record of a movement that may stand after those
+    /// before it, beginning from the openings. (This project's own rule.)
+    pub fn open(
+        alloc: Global,
+        mut keeper: K,
+        openings: Openings,
+    ) -> Result<Depository<K>, Refused<K>>
+        ensures ok { IfOk result (IsOpened openings (K.honest keeper) (K.run keeper) (K.journal keeper)) }
+        ensures err { IfErr result (λ refused. Reread openings (Err refused.fault) (K.honest keeper)
+            (K.run keeper) (K.run refused.keeper) (K.journal keeper) (K.journal refused.keeper)) }
+        ensures honest { IfErr result (λ refused. K.honest refused.keeper ≡ K.honest keeper) }
+    {
+        let records = match reread(alloc, &mut keeper, &openings) {
+            Ok(records) => records,
+            Err(fault) => return Err(Refused { keeper, fault }),
+        };
+        Ok(Depository {
+            keeper,
+            openings,
+            records,
+            tried: None,
+            down: false,
+            alloc,
+        })
+    }
+
+    /// Whether the depository is down: from a failure of the device, or a refused restart, until a
+    /// restart succeeds.
+    pub fn is_down(&self) -> bool
+        ensures { result ≡ self.now.down }
+    {
+        self.down
+    }
+
+    /// The order that was executed under this number, and the shares that it moved.
+    pub fn executed(&self, number: MoveNo) -> Option<(Order, Shares)>
+        ensures { result
+            ≡ option_map (λ entry. (order_in entry, moved_by entry)) (record_in self.now.records number) }
+    {
+        let DepRecord::Exec { order, moved } = record_of(self.records.as_slice(), number)?;
+        Some((order, moved))
+    }
+
+    /// The shares that an account holds in an issue: its opening, and what was moved into it, less
+    /// what was moved out of it. (This project's own rule.)
+    pub fn balance(&self, account: Account, issue: Cusip) -> u128
+        ensures balance { result ≡ balance_in self.now.openings self.now.records account issue }
+
+        // No more was moved out of the account than it had.
+        ensures covered { moved_out self.now.records account issue
+            ≤ opening_shares self.now.openings account issue + moved_in self.now.records account issue }
+    {
+        balance_of(&self.openings, self.records.as_slice(), &account, issue)
+    }
+
+    /// Executes an order once: it moves what the giving account has, at most what is asked, and
+    /// possibly nothing. The same order again is answered with the reply that was kept.
+    ///
+    /// Refuses `Down`, then `Conflict` where another order was executed under the number. After
+    /// `Device` nothing is executed, and the depository is down until it is restarted. (This
+    /// project's own rule.)
+    pub fn take_order(&mut self, order: &Order) -> Result<Answer, DepFault>
+        ensures { OrderLeaves order.now result self.old self.new }
+    {
+        if self.down {
+            return Err(DepFault::Down);
+        }
+        if let Some(known) = record_of(self.records.as_slice(), order.number) {
+            return again(&known, order);
+        }
+        let entry = movement(&self.openings, self.records.as_slice(), order);
+        commit_record(
+            self.alloc,
+            &mut self.keeper,
+            &mut self.records,
+            &mut self.tried,
+            &mut self.down,
+            &entry,
+        )?;
+        let DepRecord::Exec { moved, .. } = entry;
+        Ok(Answer::Done(Reply {
+            number: order.number,
+            moved,
+        }))
+    }
+
+    /// Reads the journal again, and puts the depository up. A refused restart leaves it down and
+    /// changes nothing else.
+    ///
+    /// Refuses `BadJournal` where a payload is no record of a movement that may stand after those
+    /// before it. (This project's own rule.)
+    pub fn restart(&mut self) -> Result<Restarted, ReplayFault>
+        ensures { RestartLeaves result self.old self.new }
+    {
+        self.down = true;
+        let records = match reread(self.alloc, &mut self.keeper, &self.openings) {
+            Ok(records) => records,
+            Err(fault) => return Err(fault),
+        };
+        let kept = records.len() > self.records.len();
+        self.records = records;
+        self.tried = None;
+        self.down = false;
+        Ok(Restarted {
+            records: self.records.len() as u64,
+            kept,
+        })
+    }
+
+    /// Makes the next commit of the keeper fail, where the keeper plans failures. Its record stands
+    /// at the restart, or does not.
+    pub fn plan(&mut self, stands: bool) -> Result<(), NotPlanned>
+        ensures { self.new ≡ self.old }
+    {
+        self.keeper.plan(stands)
+    }
+}
+
+// The answer to an order whose number has a record.
+fn again(known: &DepRecord, order: &Order) -> Result<Answer, DepFault>
+    ensures { IsKnownAnswer order.now known.now result }
+{
+    let DepRecord::Exec {
+        order: executed,
+        moved,
+    } = known;
+    if executed == order {
+        Ok(Answer::Again(Reply {
+            number: order.number,
+            moved: *moved,
+        }))
+    } else {
+        Err(DepFault::Conflict)
+    }
+}

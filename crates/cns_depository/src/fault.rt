@@ -1,0 +1,28 @@
+use cns_movements::Reply;
+use thiserror::Error;
+
+/// What the depository answers to an order.
+#[derive(Clone, Copy, PartialEq, Eq, Debug)]
+pub enum Answer {
+    /// The order is executed from now on.
+    Done(Reply),
+    /// The order was executed before, and this is the reply that was kept.
+    Again(Reply),
+}
+
+/// Why the depository refuses an order.
+#[derive(Clone, Copy, PartialEq, Eq, Debug, Error)]
+pub enum DepFault {
+    /// The depository is down until it is restarted.
+    #[error("the depository is down")]
+    Down,
+    /// Another order was executed under this number.
+    #[error("another order has this number")]
+    Conflict,
+    /// There is no memory. Nothing has changed.
+    #[error("out of memory")]
+    OutOfMemory,
+    /// The device of the journal failed. The depository is down until it is restarted.
+    #[error("the journal's device failed")]
+    Device,
+}

@@ -1,0 +1,23 @@
+//! The depository: what its accounts hold at the start, the movements that it executed, and the
+//! journal that keeps them.
+//!
+//! An order is executed once, and moves what the giving account has, at most what is asked. Nothing
+//! is ever taken out of the stock record.
+#![tactic(auto)]
+
+mod account;
+mod commit;
+mod depository;
+mod fault;
+mod openings;
+mod replay;
+mod stock;
+
+pub use account::Account;
+pub use depository::{Depository, Refused, Restarted};
+pub use fault::{Answer, DepFault};
+pub use openings::{OpeningFault, Openings};
+pub use replay::ReplayFault;
+
+#[cfg(test)]
+mod tests;
