@@ -1,4 +1,5 @@
-ghost use Rattle.std.specs.Prelude.{◌≡◌, Some};
+ghost use Rattle.std.specs.Prelude.{◌≡◌, ◌↔◌, IsTrue, Some};
+ghost use Rattle.std.specs.declared.cmp.Ordering.TheVariants.{Less};
 ghost use Rattle.cns_ids.specs.Cycle.{is_after as is_after_cycle, kind_text};
 
 use crate::day::Day;
@@ -32,7 +33,8 @@ pub struct CycleId {
 impl CycleId {
     /// Whether this cycle comes after the other: by date, then the night cycle before the day cycle.
     pub fn is_after(self, other: CycleId) -> bool
-        ensures { result ≡ is_after_cycle self other }
+        ensures value { result ≡ is_after_cycle self other }
+        ensures kinds { self.day ≡ other.day → (IsTrue result ↔ (⟦<CycleKind as Ord>⟧.cmp other.kind self.kind ≡ Less)) }
     {
         other.day < self.day
             || (other.day == self.day
