@@ -1,8 +1,9 @@
-ghost use Rattle.std.specs.Prelude.{◌≡◌, ◌++◌, ◌∷◌, [], ℕ, List, Bool, true, false, Some, MatchResult, OnOk, IfErr};
+ghost use Rattle.std.specs.Prelude.{◌≡◌, ◌≢◌, ◌↔◌, ◌++◌, ◌∷◌, [], ℕ, List, Bool, true, false, Some, MatchResult, OnOk, IfErr};
 ghost use Rattle.csv.specs.Records.{fields_of};
 ghost use Rattle.cns_trades.specs.Fields.{field_or_empty};
 ghost use Rattle.cns_trades.specs.Records.{Records, Fields, under_header, rows_of, TellsRows, StandBefore, IsReaderFault};
-ghost use Rattle.cns_trades.specs.declared.fault.CsvFault.TheVariants.{Header};
+ghost use Rattle.cns_trades.specs.declared.fault.CsvFault.TheVariants.{Header, OutOfMemory, Reading};
+ghost use Rattle.csv.specs.declared.error.ErrorKind.TheVariants as kind;
 
 use crate::fault::CsvFault;
 use csv::{ByteRecord, Error, ErrorKind, ReaderBuilder};
@@ -33,7 +34,8 @@ pub(crate) fn field(fields: &ByteRecord, place: usize) -> &[u8]
 // Why reading stopped. A flexible reader of bytes fails for nothing else.
 fn stopped(error: &Error) -> CsvFault
     requires { IsReaderFault error.now.kind }
-    ensures { result ≡ Header → ⊥ }
+    ensures header { result ≢ Header }
+    ensures memory { (result ≡ OutOfMemory) ↔ (error.now.kind ≡ kind.OutOfMemory) }
 {
     match error.kind() {
         ErrorKind::OutOfMemory => CsvFault::OutOfMemory,
@@ -51,6 +53,7 @@ fn take_record<R: FromRecord>(
     ensures ok { OnOk result ((before : Records) → StandBefore header_is_next before → under_header R.is_header R.row_at before ≡ Some rows.old.items
         → under_header R.is_header R.row_at (before ++ fields_of fields.now ∷ []) ≡ Some rows.new.items) }
     ensures err { IfErr result (λ e. e ≡ Header → (header_is_next ≡ true) × (R.is_header (fields_of fields.now) ≡ false)) }
+    ensures memory { IfErr result (λ e. e ≢ Reading) }
 {
     if header_is_next {
         return if R::is_header(fields) {
