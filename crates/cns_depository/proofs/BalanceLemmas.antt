@@ -15,11 +15,11 @@ use Rattle.cns_depository.specs.Account.{giver_by, giver, leaves}
 use Rattle.cns_depository.specs.Openings.{opening_shares}
 use Rattle.cns_depository.specs.Stock.{order_in, moved_by, part_in, part_out, moved_in, moved_out, balance_of, IsExecutable, IsLawfulDepot}
 
-and_left : (a b : Bool) → (a && b) ≡ true → a ≡ true
+pub and_left : (a b : Bool) → (a && b) ≡ true → a ≡ true
 and_left true b both = refl
 and_left false b both = absurd cc
 
-and_right : (a b : Bool) → (a && b) ≡ true → b ≡ true
+pub and_right : (a b : Bool) → (a && b) ≡ true → b ≡ true
 and_right true b both = both
 and_right false b both = absurd cc
 

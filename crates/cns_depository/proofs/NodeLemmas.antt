@@ -7,7 +7,8 @@ use Rattle.cns_movements.specs.declared.order.Order.{Order}
 use Rattle.cns_trades.specs.declared.opening.Opening.{Opening}
 use Rattle.cns_records.specs.declared.dep_record.DepRecord.{DepRecord}
 use Rattle.cns_records.specs.Dep.{dep_spelling, HasDepRanges, IsDepWritable, AreDepWritable}
-use Rattle.cns_journal.specs.Keeper.{Running, Journal, IsReopened}
+use Rattle.cns_journal.specs.Keeper.{Running, Journal, Foresight, IsReopened, PlanLeaves}
+use Rattle.cns_journal.specs.declared.keeper.NotPlanned.{NotPlanned}
 use Rattle.cns_depository.specs.Stock.{record_of, balance_of, movement, IsExecutable, IsLawfulDepot}
 use Rattle.cns_depository.specs.Account.{giver}
 use Rattle.cns_movements.specs.declared.order.Reply.{Reply}
@@ -16,7 +17,7 @@ use Rattle.cns_depository.specs.declared.fault.Answer.{Answer}
 use Rattle.cns_depository.specs.declared.fault.Answer.TheVariants.{Done, Again}
 use Rattle.cns_depository.specs.Answers.{OrderLeaves, IsKnownAnswer}
 use Rattle.cns_depository.specs.Node.{DepNode, IsNode, IsTried, GivesBack}
-use Rattle.cns_depository.specs.Commit.{CommittedList, CommittedTried, CommittedDown, CommittedRun, CommittedJournal}
+use Rattle.cns_depository.specs.Commit.{CommittedList, CommittedTried, CommittedDown, CommittedRun, CommittedJournal, CommittedForeseen}
 use Rattle.cns_depository.specs.declared.fault.DepFault.{DepFault}
 use Rattle.cns_depository.specs.declared.fault.DepFault.TheVariants.{Down, Conflict, OutOfMemory, Device}
 
@@ -58,11 +59,11 @@ kept_or_tried items e given gives =
 
 -- an acknowledged record
 pub node_added : (e : DepRecord) (openings : List Opening) (items items' : List DepRecord) (tried tried' : Option DepRecord) (down down' : Bool) (run run' : Running) (honest honest' : Bool) (j j' : Journal)
-    → IsNode openings items tried down run honest j → down ≡ false → IsExecutable openings (reverse items) e → HasDepRanges e → IsDepWritable e
+    (known known' : Foresight) → IsNode openings items tried down run honest j known → down ≡ false → IsExecutable openings (reverse items) e → HasDepRanges e → IsDepWritable e
     → items' ≡ items ++ e ∷ [] → tried' ≡ tried → down' ≡ down → run'.down ≡ false → honest' ≡ honest
-    → (honest ≡ true → j' ≡ record { kept = j.kept ++ dep_spelling e ∷ []; undecided = None })
-    → IsNode openings items' tried' down' run' honest' j'
-node_added e openings items items' tried tried' down down' run run' honest honest' j j' n up allowed ranges writable list same stays running honest_is journal =
+    → (honest ≡ true → j' ≡ record { kept = j.kept ++ dep_spelling e ∷ []; undecided = None }) → known' ≡ known
+    → IsNode openings items' tried' down' run' honest' j' known'
+node_added e openings items items' tried tried' down down' run run' honest honest' j j' known known' n up allowed ranges writable list same stays running honest_is journal foresees =
     let back : reverse items' ≡ e ∷ reverse items = ap reverse list ∙ reverse_more items e in
     let none : tried' ≡ None = same ∙ (n.up up).0 in
     let exact : honest' ≡ true → j' ≡ record { kept = map dep_spelling items'; undecided = None } =
@@ -78,15 +79,20 @@ node_added e openings items items' tried tried' down down' run run' honest hones
       up = λ _. (none, running);
       journal_up = λ _ h. exact h;
       journal_down = λ h given gives. only_kept items' tried' given (subst (λ (x : Journal). IsReopened x given) (exact h) gives);
+      foreseen = λ h s stands.
+          let was = n.foreseen (sym honest_is ∙ h) s (sym (ap (λ (f : Foresight). f.stands) foresees) ∙ stands) in
+          absurd (none-some was.0 (sym (n.up up).0 ∙ was.1));
     }
 
 -- a commit that was refused
 pub node_refused : (e : DepRecord) (fault : DepFault) (openings : List Opening) (items items' : List DepRecord) (tried tried' : Option DepRecord) (down down' : Bool) (run run' : Running) (honest honest' : Bool) (j j' : Journal)
-    → IsNode openings items tried down run honest j → down ≡ false → IsExecutable openings (reverse items) e → HasDepRanges e → IsDepWritable e
+    (known known' : Foresight) → IsNode openings items tried down run honest j known → down ≡ false → IsExecutable openings (reverse items) e → HasDepRanges e → IsDepWritable e
     → CommittedList e (Err fault) items items' → CommittedTried e (Err fault) tried tried' → CommittedDown (Err fault) down down' → CommittedRun (Err fault) run run' → honest' ≡ honest
-    → (honest ≡ true → CommittedJournal (dep_spelling e) (Err fault) j j')
-    → IsNode openings items' tried' down' run' honest' j'
-node_refused e Device openings items items' tried tried' down down' run run' honest honest' j j' n up allowed ranges writable list same stays running honest_is journal =
+    → (honest ≡ true → CommittedJournal (dep_spelling e) (Err fault) j j') → CommittedForeseen (Err fault) known known'
+    → IsNode openings items' tried' down' run' honest' j' known'
+node_refused e Device openings items items' tried tried' down down' run run' honest honest' j j' known known' n up allowed ranges writable list same stays running honest_is journal foresees =
+    let left : honest' ≡ true → j' ≡ record { kept = map dep_spelling items; undecided = Some (dep_spelling e) } =
+    λ h. journal (sym honest_is ∙ h) ∙ ap (λ (x : Journal). record { kept = x.kept; undecided = Some (dep_spelling e) }) (n.journal_up up (sym honest_is ∙ h)) in
     record {
       lawful = subst (λ (l : List DepRecord). IsLawfulDepot openings (reverse l)) (sym list) n.lawful;
       fits = subst AreDepWritable (sym list) n.fits;
@@ -95,14 +101,13 @@ node_refused e Device openings items items' tried tried' down down' run run' hon
       up = λ now. cc;
       journal_up = λ now. cc;
       journal_down = λ h given gives.
-          let was = n.journal_up up (sym honest_is ∙ h) in
-          let is : j' ≡ record { kept = map dep_spelling items; undecided = Some (dep_spelling e) } =
-          journal (sym honest_is ∙ h) ∙ ap (λ (x : Journal). record { kept = x.kept; undecided = Some (dep_spelling e) }) was in
           subst (λ (l : List DepRecord). GivesBack l tried' given) (sym list)
           (subst (λ (t : Option DepRecord). GivesBack items t given) (sym same)
-          (kept_or_tried items e given (subst (λ (x : Journal). IsReopened x given) is gives)));
+          (kept_or_tried items e given (subst (λ (x : Journal). IsReopened x given) (left h) gives)));
+      foreseen = λ h s stands.
+          (e, same, left h ∙ ap (λ (l : List DepRecord). record { kept = map dep_spelling l; undecided = Some (dep_spelling e) }) (sym list));
     }
-node_refused e OutOfMemory openings items items' tried tried' down down' run run' honest honest' j j' n up allowed ranges writable list same stays running honest_is journal =
+node_refused e OutOfMemory openings items items' tried tried' down down' run run' honest honest' j j' known known' n up allowed ranges writable list same stays running honest_is journal foresees =
     record {
       lawful = subst (λ (l : List DepRecord). IsLawfulDepot openings (reverse l)) (sym list) n.lawful;
       fits = subst AreDepWritable (sym list) n.fits;
@@ -116,14 +121,28 @@ node_refused e OutOfMemory openings items items' tried tried' down down' run run
           subst (λ (l : List DepRecord). GivesBack l tried' given) (sym list)
           (subst (λ (t : Option DepRecord). GivesBack items t given) (sym same)
           (n.journal_down (sym honest_is ∙ h) given (subst (λ (x : Journal). IsReopened x given) (journal (sym honest_is ∙ h)) gives)));
+      foreseen = λ h s stands.
+          let was = n.foreseen (sym honest_is ∙ h) s (sym (ap (λ (f : Foresight). f.stands) foresees) ∙ stands) in (
+            was.0,
+            same ∙ was.1,
+            journal (sym honest_is ∙ h) ∙ was.2
+                ∙ ap (λ (l : List DepRecord). record { kept = map dep_spelling l; undecided = Some (dep_spelling was.0) }) (sym list),
+          );
     }
-node_refused e Down openings items items' tried tried' down down' run run' honest honest' j j' n up allowed ranges writable list same stays running honest_is journal = absurd running
-node_refused e Conflict openings items items' tried tried' down down' run run' honest honest' j j' n up allowed ranges writable list same stays running honest_is journal = absurd running
+node_refused e Down openings items items' tried tried' down down' run run' honest honest' j j' known known' n up allowed ranges writable list same stays running honest_is journal foresees = absurd running
+node_refused e Conflict openings items items' tried tried' down down' run run' honest honest' j j' known known' n up allowed ranges writable list same stays running honest_is journal foresees = absurd running
 
--- a plan changes nothing
+-- a plan leaves what is known of the record whose commit failed
+plan_stands : (stands : Bool) (result : Result (Unit {0}) NotPlanned) (known known' : Foresight) → PlanLeaves stands result known known' → known'.stands ≡ known.stands
+plan_stands stands (Ok done) known known' planned = ap (λ (f : Foresight). f.stands) planned.1
+plan_stands stands (Err fault) known known' planned = ap (λ (f : Foresight). f.stands) planned.1
+
+-- a plan changes nothing else
 pub node_planned : (openings : List Opening) (items : List DepRecord) (tried : Option DepRecord) (down : Bool) (run run' : Running) (honest honest' : Bool) (j j' : Journal)
-    → IsNode openings items tried down run honest j → honest' ≡ honest → run' ≡ run → (honest ≡ true → j' ≡ j) → IsNode openings items tried down run' honest' j'
-node_planned openings items tried down run run' honest honest' j j' n is ran same =
+    (known known' : Foresight) (stands : Bool) (result : Result (Unit {0}) NotPlanned)
+    → IsNode openings items tried down run honest j known → honest' ≡ honest → run' ≡ run → (honest ≡ true → j' ≡ j) → PlanLeaves stands result known known'
+    → IsNode openings items tried down run' honest' j' known'
+node_planned openings items tried down run run' honest honest' j j' known known' stands result n is ran same planned =
     record {
       lawful = n.lawful;
       fits = n.fits;
@@ -131,6 +150,9 @@ node_planned openings items tried down run run' honest honest' j j' n is ran sam
       up = λ now. ((n.up now).0, ap (λ (x : Running). x.down) ran ∙ (n.up now).1);
       journal_up = λ now h. same (sym is ∙ h) ∙ n.journal_up now (sym is ∙ h);
       journal_down = λ h given gives. n.journal_down (sym is ∙ h) given (subst (λ (x : Journal). IsReopened x given) (same (sym is ∙ h)) gives);
+      foreseen = λ h s seen.
+          let was = n.foreseen (sym is ∙ h) s (sym (plan_stands stands result known known' planned) ∙ seen) in
+          (was.0, was.1, same (sym is ∙ h) ∙ was.2);
     }
 
 -- an order whose number has a record changes nothing

@@ -2,9 +2,9 @@
 use Rattle.std.proofs.Common.{◌≡◌, ℕ, ◌+◌, ◌<◌, Bool, true, false, List, [], ◌∷◌, ◌++◌, length, map, reverse, Option, Some, None, Result, Ok, Err, refl, sym, ap, ◌∙◌, subst, arith, inl, inr}
 use Rattle.std.proofs.Common.{ltb, take, drop, get_or, append_assoc, length-append}
 use Rattle.std.proofs.lemmas.Bool.{le-ltb, lt-ltb}
-use Rattle.std.proofs.lemmas.List.{map-append, take_more, take-append-drop, reverse-append, length-reverse}
+use Rattle.std.proofs.lemmas.List.{map-append, take_more, take-append-drop, reverse-append, length-reverse, length-map}
 use Rattle.std.proofs.lemmas.Option.{none-some}
-use Rattle.cns_journal.specs.Keeper.{Running, Journal, IsReopened, ReopenKeeps}
+use Rattle.cns_journal.specs.Keeper.{Running, Journal, Foresight, IsReopened, ReopenKeeps, StandsAsForeseen}
 use Rattle.cns_depository.specs.Node.{DepNode, IsNode, IsTried, GivesBack}
 use Rattle.cns_depository.specs.declared.replay.ReplayFault.{ReplayFault}
 use Rattle.cns_depository.specs.declared.replay.ReplayFault.TheVariants.{OutOfMemory, BadJournal, Device}
@@ -14,7 +14,7 @@ use Rattle.cns_records.specs.declared.dep_record.DepRecord.{DepRecord}
 use Rattle.cns_records.specs.Dep.{dep_spelling, HasDepRanges, IsDepWritable, AreDepWritable, read_dep_of}
 use Rattle.cns_records.proofs.DepLaws.{dep_read-spelling, dep_spelling_injective, dep_spellings_injective}
 use Rattle.cns_depository.specs.Stock.{order_in, IsExecutable, IsLawfulDepot}
-use Rattle.cns_depository.specs.Replay.{AreReplayed, IsBadPayload, IsBadPlace, IsAdmitted, AdmitLeaves, ReplayGives, Reread, Restarts, RestartLeaves}
+use Rattle.cns_depository.specs.Replay.{AreReplayed, IsBadPayload, IsBadPlace, IsAdmitted, AdmitLeaves, ReplayGives, Reread, Restarts, IsKeptAsForeseen, RestartLeaves}
 use Rattle.cns_depository.proofs.NodeLemmas.{reverse_more, writable_more, movement_writable}
 
 -- a record that may be executed is read again
@@ -156,9 +156,9 @@ gives_back_good openings items tried given place lawful fits allowed gives bad =
     ]
 
 -- a refused reopening leaves the node down
-node_down : (openings : List Opening) (items : List DepRecord) (tried : Option DepRecord) (down : Bool) (run run' : Running) (honest honest' : Bool) (j j' : Journal)
-    → IsNode openings items tried down run honest j → honest' ≡ honest → (honest ≡ true → j' ≡ j) → IsNode openings items tried true run' honest' j'
-node_down openings items tried down run run' honest honest' j j' n is same =
+node_down : (openings : List Opening) (items : List DepRecord) (tried : Option DepRecord) (down : Bool) (run run' : Running) (honest honest' : Bool) (j j' : Journal) (known known' : Foresight)
+    → IsNode openings items tried down run honest j known → honest' ≡ honest → (honest ≡ true → j' ≡ j) → known' ≡ known → IsNode openings items tried true run' honest' j' known'
+node_down openings items tried down run run' honest honest' j j' known known' n is same foresees =
     record {
       lawful = n.lawful;
       fits = n.fits;
@@ -166,12 +166,16 @@ node_down openings items tried down run run' honest honest' j j' n is same =
       up = λ now. cc;
       journal_up = λ now. cc;
       journal_down = λ h given gives. n.journal_down (sym is ∙ h) given (subst (λ (x : Journal). IsReopened x given) (same (sym is ∙ h)) gives);
+      foreseen = λ h s stands.
+          let was = n.foreseen (sym is ∙ h) s (sym (ap (λ (f : Foresight). f.stands) foresees) ∙ stands) in
+          (was.0, was.1, same (sym is ∙ h) ∙ was.2);
     }
 
 -- so does one whose payloads could not be taken; what it gave is kept from then on
-node_lost : (openings : List Opening) (items : List DepRecord) (tried : Option DepRecord) (down : Bool) (run run' : Running) (honest honest' : Bool) (j j' : Journal) (got : List (List ℕ))
-    → IsNode openings items tried down run honest j → honest' ≡ honest → (honest ≡ true → ReopenKeeps (Ok got) j j') → IsNode openings items tried true run' honest' j'
-node_lost openings items tried down run run' honest honest' j j' got n is gave =
+node_lost : (openings : List Opening) (items : List DepRecord) (tried : Option DepRecord) (down : Bool) (run run' : Running) (honest honest' : Bool) (j j' : Journal) (known known' : Foresight) (got : List (List ℕ))
+    → IsNode openings items tried down run honest j known → honest' ≡ honest → (honest ≡ true → ReopenKeeps (Ok got) j j') → known' ≡ record known { stands = None }
+    → IsNode openings items tried true run' honest' j' known'
+node_lost openings items tried down run run' honest honest' j j' known known' got n is gave lost =
     record {
       lawful = n.lawful;
       fits = n.fits;
@@ -183,42 +187,52 @@ node_lost openings items tried down run run' honest honest' j j' got n is gave =
           let same : IsReopened (record { kept = got; undecided = None }) given = subst (λ (x : Journal). IsReopened x given) g.1 gives in
           let e : given ≡ got = elim same [ inl e ↦ e | inr more ↦ absurd (none-some more.0 more.1) ] in
           subst (GivesBack items tried) (sym e) (n.journal_down (sym is ∙ h) got g.0);
+      foreseen = λ h s stands. absurd (none-some s (sym (ap (λ (f : Foresight). f.stands) lost) ∙ stands));
     }
 
-pub node_unread : (openings : List Opening) (items : List DepRecord) (tried : Option DepRecord) (down : Bool) (run run' : Running) (honest honest' : Bool) (j j' : Journal) (fault : ReplayFault)
-    → IsNode openings items tried down run honest j → honest' ≡ honest → Reread openings (Err fault) honest run run' j j' → IsNode openings items tried true run' honest' j'
-node_unread openings items tried down run run' honest honest' j j' Device n is r = node_down openings items tried down run run' honest honest' j j' n is r.keeps
-node_unread openings items tried down run run' honest honest' j j' (BadJournal place) n is r = node_lost openings items tried down run run' honest honest' j j' r.0 n is r.1.keeps
-node_unread openings items tried down run run' honest honest' j j' OutOfMemory n is r =
+pub node_unread : (openings : List Opening) (items : List DepRecord) (tried : Option DepRecord) (down : Bool) (run run' : Running) (honest honest' : Bool) (j j' : Journal) (known known' : Foresight) (fault : ReplayFault)
+    → IsNode openings items tried down run honest j known → honest' ≡ honest → Reread openings (Err fault) honest run run' j j' known known' → IsNode openings items tried true run' honest' j' known'
+node_unread openings items tried down run run' honest honest' j j' known known' Device n is r = node_down openings items tried down run run' honest honest' j j' known known' n is r.keeps r.foreseen.1
+node_unread openings items tried down run run' honest honest' j j' known known' (BadJournal place) n is r = node_lost openings items tried down run run' honest honest' j j' known known' r.0 n is r.1.keeps r.1.foreseen
+node_unread openings items tried down run run' honest honest' j j' known known' OutOfMemory n is r =
     elim r [
-      | inl none ↦ node_down openings items tried down run run' honest honest' j j' n is none.keeps
-      | inr some ↦ node_lost openings items tried down run run' honest honest' j j' some.0 n is some.1.keeps
+      | inl none ↦ node_down openings items tried down run run' honest honest' j j' known known' n is none.keeps none.foreseen
+      | inr some ↦ node_lost openings items tried down run run' honest honest' j j' known known' some.0 n is some.1.keeps some.1.foreseen
     ]
 
 -- the value of a node with these parts
-abbrev node_of : List Opening → List DepRecord → Option DepRecord → Bool → Running → Bool → DepNode
-node_of openings items tried down run honest = record { openings = openings; records = reverse items; tried = tried; down = down; failures = run.failures; honest = honest }
+abbrev node_of : List Opening → List DepRecord → Option DepRecord → Bool → Running → Bool → Foresight → DepNode
+node_of openings items tried down run honest known = record { openings = openings; records = reverse items; tried = tried; down = down; failures = run.failures; honest = honest; foresight = known }
 
-put_down : (openings : List Opening) (items : List DepRecord) (tried : Option DepRecord) (down : Bool) (run run' : Running) (honest honest' : Bool) → run'.failures ≡ run.failures → honest' ≡ honest
-    → node_of openings items tried true run' honest' ≡ record (node_of openings items tried down run honest) { down = true }
-put_down openings items tried down run run' honest honest' failed is =
-    ap (λ (f : ℕ). record { openings = openings; records = reverse items; tried = tried; down = true; failures = f; honest = honest' }) failed
-    ∙ ap (λ (h : Bool). record { openings = openings; records = reverse items; tried = tried; down = true; failures = run.failures; honest = h }) is
+put_down : (openings : List Opening) (items : List DepRecord) (tried : Option DepRecord) (down : Bool) (run run' : Running) (honest honest' : Bool) (known known' : Foresight)
+    → run'.failures ≡ run.failures → honest' ≡ honest
+    → node_of openings items tried true run' honest' known' ≡ record (node_of openings items tried down run honest known) { down = true; foresight = known' }
+put_down openings items tried down run run' honest honest' known known' failed is =
+    ap (λ (f : ℕ). record { openings = openings; records = reverse items; tried = tried; down = true; failures = f; honest = honest'; foresight = known' }) failed
+    ∙ ap (λ (h : Bool). record { openings = openings; records = reverse items; tried = tried; down = true; failures = run.failures; honest = h; foresight = known' }) is
+
+next_of : (known known' : Foresight) → known' ≡ record known { stands = None } → known'.next ≡ known.next
+next_of known known' lost = ap (λ (f : Foresight). f.next) lost
 
 -- what a refused restart leaves
-pub restart_refused : (openings : List Opening) (items : List DepRecord) (tried : Option DepRecord) (down : Bool) (run run' : Running) (honest honest' : Bool) (j j' : Journal) (fault : ReplayFault)
-    → IsNode openings items tried down run honest j → honest' ≡ honest → Reread openings (Err fault) honest run run' j j'
-    → RestartLeaves (Err fault) (node_of openings items tried down run honest) (node_of openings items tried true run' honest')
-restart_refused openings items tried down run run' honest honest' j j' Device n is r =
-    (ap (λ (h : Bool). record { openings = openings; records = reverse items; tried = tried; down = true; failures = run'.failures; honest = h }) is, r.leaves.1)
-restart_refused openings items tried down run run' honest honest' j j' (BadJournal place) n is r = (
-  put_down openings items tried down run run' honest honest' (ap (λ (x : Running). x.failures) r.1.leaves.0) is,
+pub restart_refused : (openings : List Opening) (items : List DepRecord) (tried : Option DepRecord) (down : Bool) (run run' : Running) (honest honest' : Bool) (j j' : Journal) (known known' : Foresight) (fault : ReplayFault)
+    → IsNode openings items tried down run honest j known → honest' ≡ honest → Reread openings (Err fault) honest run run' j j' known known'
+    → RestartLeaves (Err fault) (node_of openings items tried down run honest known) (node_of openings items tried true run' honest' known')
+restart_refused openings items tried down run run' honest honest' j j' known known' Device n is r = (
+  ap (λ (h : Bool). record { openings = openings; records = reverse items; tried = tried; down = true; failures = run'.failures; honest = h; foresight = known' }) is
+      ∙ ap (λ (f : Foresight). record { openings = openings; records = reverse items; tried = tried; down = true; failures = run'.failures; honest = honest; foresight = f }) r.foreseen.1,
+  r.leaves.1,
+  r.foreseen.0,
+)
+restart_refused openings items tried down run run' honest honest' j j' known known' (BadJournal place) n is r = (
+  put_down openings items tried down run run' honest honest' known known' (ap (λ (x : Running). x.failures) r.1.leaves.0) is,
+  next_of known known' r.1.foreseen,
   λ h. gives_back_good openings items tried r.0 place n.lawful n.fits n.tried_is (n.journal_down h r.0 (r.1.keeps h).0) r.2,
 )
-restart_refused openings items tried down run run' honest honest' j j' OutOfMemory n is r =
+restart_refused openings items tried down run run' honest honest' j j' known known' OutOfMemory n is r =
     elim r [
-      | inl none ↦ put_down openings items tried down run run' honest honest' (ap (λ (x : Running). x.failures) none.leaves) is
-      | inr some ↦ put_down openings items tried down run run' honest honest' (ap (λ (x : Running). x.failures) some.1.leaves.0) is
+      | inl none ↦ (put_down openings items tried down run run' honest honest' known known' (ap (λ (x : Running). x.failures) none.leaves) is, ap (λ (f : Foresight). f.next) none.foreseen)
+      | inr some ↦ (put_down openings items tried down run run' honest honest' known known' (ap (λ (x : Running). x.failures) some.1.leaves.0) is, next_of known known' some.1.foreseen)
     ]
 
 -- the ranges of a record that was tried
@@ -231,55 +245,73 @@ ranges_of openings p None may = tt
 ranges_of openings p (Some e) may = (may.1, may.2)
 
 -- whether one more record came back
-restarts : (openings : List Opening) (items items' : List DepRecord) (tried : Option DepRecord) (down : Bool) (run run' : Running) (honest honest' : Bool)
+restarts : (openings : List Opening) (items items' : List DepRecord) (tried : Option DepRecord) (down : Bool) (run run' : Running) (honest honest' : Bool) (known known' : Foresight)
     → AreDepWritable items → AreDepWritable items' → HasRanges tried → GivesBack items tried (map dep_spelling items')
-    → Restarts (ltb (length items) (length items')) (node_of openings items tried down run honest) (node_of openings items' None false run' honest')
-restarts openings items items' tried down run run' honest honest' fits fits' tries gives =
+    → Restarts (ltb (length items) (length items')) (node_of openings items tried down run honest known) (node_of openings items' None false run' honest' known')
+restarts openings items items' tried down run run' honest honest' known known' fits fits' tries gives =
     elim gives [
       | inl e ↦
           let is : items' ≡ items = dep_spellings_injective items' items fits' fits e in
           let test : ltb (length items) (length items') ≡ false = le-ltb (length items) (length items') (let same : length items' ≡ length items = ap length is in omega arith) in
-          subst (λ (k : Bool). Restarts k (node_of openings items tried down run honest) (node_of openings items' None false run' honest')) (sym test) (ap reverse is)
+          subst (λ (k : Bool). Restarts k (node_of openings items tried down run honest known) (node_of openings items' None false run' honest' known')) (sym test) (ap reverse is)
       | inr more ↦
           let may : HasRanges (Some more.0) = subst HasRanges more.1 tries in
           let is : items' ≡ items ++ more.0 ∷ [] = dep_spellings_injective items' (items ++ more.0 ∷ []) fits' (writable_more items more.0 fits may.0 may.1) more.2 in
           let test : ltb (length items) (length items') ≡ true = lt-ltb (length items) (length items') (let same : length items' ≡ length (items ++ more.0 ∷ []) = ap length is in omega (arith, length-append items (more.0 ∷ []))) in
-          subst (λ (k : Bool). Restarts k (node_of openings items tried down run honest) (node_of openings items' None false run' honest')) (sym test)
+          subst (λ (k : Bool). Restarts k (node_of openings items tried down run honest known) (node_of openings items' None false run' honest' known')) (sym test)
           (more.0, more.1, ap reverse is ∙ reverse_more items more.0)
     ]
 
+-- whether one more record came back, where that was known beforehand
+kept_as_foreseen : (items items' : List DepRecord) (tried : Option DepRecord) (j : Journal) (stands : Option Bool)
+    → ((s : Bool) → stands ≡ Some s → (e : DepRecord) × (tried ≡ Some e) × (j ≡ record { kept = map dep_spelling items; undecided = Some (dep_spelling e) }))
+    → StandsAsForeseen stands (Ok (map dep_spelling items')) j → IsKeptAsForeseen stands (ltb (length items) (length items'))
+kept_as_foreseen items items' tried j None foreseen given = tt
+kept_as_foreseen items items' tried j (Some true) foreseen given =
+    let kept : length j.kept ≡ length items = ap (λ (x : Journal). length x.kept) (foreseen true refl).2 ∙ length-map items dep_spelling in
+    let back : length (map dep_spelling items') ≡ length items' = length-map items' dep_spelling in
+    lt-ltb (length items) (length items') (omega (arith, given, kept, back))
+kept_as_foreseen items items' tried j (Some false) foreseen given =
+    let kept : length j.kept ≡ length items = ap (λ (x : Journal). length x.kept) (foreseen false refl).2 ∙ length-map items dep_spelling in
+    let back : length (map dep_spelling items') ≡ length items' = length-map items' dep_spelling in
+    let same : length (map dep_spelling items') ≡ length j.kept = ap length given in
+    le-ltb (length items) (length items') (omega (arith, same, kept, back))
+
 -- what a restart leaves that succeeds
-pub restart_accepted : (openings : List Opening) (items items' : List DepRecord) (tried : Option DepRecord) (down : Bool) (run run' : Running) (honest honest' : Bool) (j j' : Journal) (a b n : ℕ)
-    → IsNode openings items tried down run honest j → honest' ≡ honest → Reread openings (Ok items') honest run run' j j'
+pub restart_accepted : (openings : List Opening) (items items' : List DepRecord) (tried : Option DepRecord) (down : Bool) (run run' : Running) (honest honest' : Bool) (j j' : Journal) (known known' : Foresight) (a b n : ℕ)
+    → IsNode openings items tried down run honest j known → honest' ≡ honest → Reread openings (Ok items') honest run run' j j' known known'
     → a ≡ length items → b ≡ length items' → n ≡ length items'
-    → RestartLeaves (Ok (record { records = n; kept = ltb a b })) (node_of openings items tried down run honest) (node_of openings items' None false run' honest')
-restart_accepted openings items items' tried down run run' honest honest' j j' a b n node is r a_is b_is n_is =
+    → RestartLeaves (Ok (record { records = n; kept = ltb a b })) (node_of openings items tried down run honest known) (node_of openings items' None false run' honest' known')
+restart_accepted openings items items' tried down run run' honest honest' j j' known known' a b n node is r a_is b_is n_is =
     let size = length-reverse items' in
     let kept : ltb a b ≡ ltb (length items) (length items') = ap (λ (x : ℕ). ltb x b) a_is ∙ ap (λ (x : ℕ). ltb (length items) x) b_is in
     let seen : ltb (length items) (length items') ≡ ltb (length (reverse items)) (length (reverse items')) =
     ap (λ (x : ℕ). ltb x (length items')) (sym (length-reverse items)) ∙ ap (λ (x : ℕ). ltb (length (reverse items)) x) (sym size) in (
-      ap (λ (f : ℕ). record { openings = openings; records = reverse items'; tried = None; down = false; failures = f; honest = honest' }) (ap (λ (x : Running). x.failures) r.0.leaves.0)
-          ∙ ap (λ (h : Bool). record { openings = openings; records = reverse items'; tried = None; down = false; failures = run.failures; honest = h }) is,
+      ap (λ (f : ℕ). record { openings = openings; records = reverse items'; tried = None; down = false; failures = f; honest = honest'; foresight = known' }) (ap (λ (x : Running). x.failures) r.0.leaves.0)
+          ∙ ap (λ (h : Bool). record { openings = openings; records = reverse items'; tried = None; down = false; failures = run.failures; honest = h; foresight = known' }) is,
       n_is ∙ sym size,
       kept ∙ seen,
       r.1.lawful,
-      λ h. subst (λ (k : Bool). Restarts k (node_of openings items tried down run honest) (node_of openings items' None false run' honest')) (sym kept)
-          (restarts openings items items' tried down run run' honest honest' node.fits r.1.fits (ranges_of openings (reverse items) tried node.tried_is)
+      λ h. subst (λ (k : Bool). Restarts k (node_of openings items tried down run honest known) (node_of openings items' None false run' honest' known')) (sym kept)
+          (restarts openings items items' tried down run run' honest honest' known known' node.fits r.1.fits (ranges_of openings (reverse items) tried node.tried_is)
           (node.journal_down h (map dep_spelling items') (r.0.keeps h).0)),
+      r.0.foreseen,
+      λ h. subst (λ (k : Bool). IsKeptAsForeseen known.stands k) (sym kept)
+          (kept_as_foreseen items items' tried j known.stands (node.foreseen h) (r.0.stands h)),
     )
 
 -- the same of the values that a caller sees
-pub restart_refused_at : (openings : List Opening) (items : List DepRecord) (tried : Option DepRecord) (down : Bool) (run run' : Running) (honest honest' : Bool) (j j' : Journal) (fault : ReplayFault) (old : DepNode)
-    → IsNode openings items tried down run honest j → honest' ≡ honest → Reread openings (Err fault) honest run run' j j' → node_of openings items tried down run honest ≡ old
-    → RestartLeaves (Err fault) old (node_of openings items tried true run' honest')
-restart_refused_at openings items tried down run run' honest honest' j j' fault old n is r seen =
-    subst (λ (v : DepNode). RestartLeaves (Err fault) v (node_of openings items tried true run' honest')) seen
-    (restart_refused openings items tried down run run' honest honest' j j' fault n is r)
+pub restart_refused_at : (openings : List Opening) (items : List DepRecord) (tried : Option DepRecord) (down : Bool) (run run' : Running) (honest honest' : Bool) (j j' : Journal) (known known' : Foresight) (fault : ReplayFault) (old : DepNode)
+    → IsNode openings items tried down run honest j known → honest' ≡ honest → Reread openings (Err fault) honest run run' j j' known known' → node_of openings items tried down run honest known ≡ old
+    → RestartLeaves (Err fault) old (node_of openings items tried true run' honest' known')
+restart_refused_at openings items tried down run run' honest honest' j j' known known' fault old n is r seen =
+    subst (λ (v : DepNode). RestartLeaves (Err fault) v (node_of openings items tried true run' honest' known')) seen
+    (restart_refused openings items tried down run run' honest honest' j j' known known' fault n is r)
 
-pub restart_accepted_at : (openings : List Opening) (items items' : List DepRecord) (tried : Option DepRecord) (down : Bool) (run run' : Running) (honest honest' : Bool) (j j' : Journal) (a b n : ℕ) (old : DepNode)
-    → IsNode openings items tried down run honest j → honest' ≡ honest → Reread openings (Ok items') honest run run' j j'
-    → a ≡ length items → b ≡ length items' → n ≡ length items' → node_of openings items tried down run honest ≡ old
-    → RestartLeaves (Ok (record { records = n; kept = ltb a b })) old (node_of openings items' None false run' honest')
-restart_accepted_at openings items items' tried down run run' honest honest' j j' a b n old node is r a_is b_is n_is seen =
-    subst (λ (v : DepNode). RestartLeaves (Ok (record { records = n; kept = ltb a b })) v (node_of openings items' None false run' honest')) seen
-    (restart_accepted openings items items' tried down run run' honest honest' j j' a b n node is r a_is b_is n_is)
+pub restart_accepted_at : (openings : List Opening) (items items' : List DepRecord) (tried : Option DepRecord) (down : Bool) (run run' : Running) (honest honest' : Bool) (j j' : Journal) (known known' : Foresight) (a b n : ℕ) (old : DepNode)
+    → IsNode openings items tried down run honest j known → honest' ≡ honest → Reread openings (Ok items') honest run run' j j' known known'
+    → a ≡ length items → b ≡ length items' → n ≡ length items' → node_of openings items tried down run honest known ≡ old
+    → RestartLeaves (Ok (record { records = n; kept = ltb a b })) old (node_of openings items' None false run' honest' known')
+restart_accepted_at openings items items' tried down run run' honest honest' j j' known known' a b n old node is r a_is b_is n_is seen =
+    subst (λ (v : DepNode). RestartLeaves (Ok (record { records = n; kept = ltb a b })) v (node_of openings items' None false run' honest' known')) seen
+    (restart_accepted openings items items' tried down run run' honest honest' j j' known known' a b n node is r a_is b_is n_is)

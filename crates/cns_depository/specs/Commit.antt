@@ -1,6 +1,6 @@
 -- What the commit of a record leaves of each part of a depository.
 use Rattle.std.specs.Prelude.{◌≡◌, ℕ, Bool, true, false, List, [], ◌∷◌, ◌++◌, Option, Some, None, Result, Ok, Err}
-use Rattle.cns_journal.specs.Keeper.{Running, Journal, HasRisen}
+use Rattle.cns_journal.specs.Keeper.{Running, Journal, Foresight, MaySucceed, HasFailed, HasRisen}
 use Rattle.cns_records.specs.declared.dep_record.DepRecord.{DepRecord}
 use Rattle.cns_depository.specs.declared.fault.DepFault.{DepFault}
 use Rattle.cns_depository.specs.declared.fault.DepFault.TheVariants.{OutOfMemory, Device}
@@ -29,3 +29,8 @@ abbrev pub CommittedJournal : List ℕ → Result (Unit {0}) DepFault → Journa
 CommittedJournal payload (Ok _) old new = new ≡ record { kept = old.kept ++ payload ∷ []; undecided = None }
 CommittedJournal payload (Err Device) old new = new ≡ record { kept = old.kept; undecided = Some payload }
 CommittedJournal payload (Err _) old new = new ≡ old
+
+abbrev pub CommittedForeseen : Result (Unit {0}) DepFault → Foresight → Foresight → Type 0
+CommittedForeseen (Ok _) old new = MaySucceed old.next × (new ≡ old)
+CommittedForeseen (Err Device) old new = HasFailed old new
+CommittedForeseen (Err _) old new = new ≡ old

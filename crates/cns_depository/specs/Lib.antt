@@ -1,6 +1,8 @@
 pub mod Account
 pub mod Openings
+pub mod OpeningIndex
 pub mod Stock
+pub mod Balances
 pub mod Node
 pub mod Commit
 pub mod Answers

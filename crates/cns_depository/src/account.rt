@@ -4,8 +4,9 @@ ghost use Rattle.cns_depository.specs.Account.{giver, enters, leaves};
 use cns_ids::MemberNo;
 use cns_movements::{MoveKind, Order};
 
-/// An account at the depository. (This project's own rule.)
-#[derive(Clone, Copy, PartialEq, Eq, Debug)]
+/// An account at the depository. The CNS account stands before the members' accounts, and these stand
+/// by number. (This project's own rule.)
+#[derive(Clone, Copy, PartialEq, Eq, PartialOrd, Ord, Debug)]
 pub enum Account {
     /// The CNS account, through which each movement goes.
     Cns,

@@ -1,6 +1,6 @@
 ghost use Rattle.std.specs.Prelude.{◌≡◌, true, false};
 ghost use Rattle.cns_records.specs.Dep.{dep_spelling, HasDepRanges};
-ghost use Rattle.cns_depository.specs.Commit.{CommittedList, CommittedTried, CommittedDown, CommittedRun, CommittedJournal};
+ghost use Rattle.cns_depository.specs.Commit.{CommittedList, CommittedTried, CommittedDown, CommittedRun, CommittedJournal, CommittedForeseen};
 
 use crate::fault::DepFault;
 use cns_journal::{KeepFault, Keeper};
@@ -26,6 +26,7 @@ pub(crate) fn commit_record<K: Keeper>(
     ensures journal { K.honest keeper.old ≡ true
         → CommittedJournal (dep_spelling entry.now) result (K.journal keeper.old) (K.journal keeper.new) }
     ensures ranges { HasDepRanges entry.now }
+    ensures foreseen { CommittedForeseen result (K.foresight keeper.old) (K.foresight keeper.new) }
 {
     let written = entry.write(alloc);
     let Ok(payload) = written else {

@@ -1,10 +1,13 @@
 ghost use Rattle.std.specs.Prelude.{◌≡◌, ◌+◌, ◌≤◌, option_map, Err, IfOk, IfErr};
 ghost use Rattle.cns_depository.specs.Openings.{opening_shares};
 ghost use Rattle.cns_depository.specs.Stock.{order_in, moved_by, record_of as record_in, moved_in, moved_out, balance_of as balance_in};
+ghost use Rattle.cns_depository.specs.Balances.{balance_rows as balance_rows_of, AreComplete, AreAscending};
 ghost use Rattle.cns_depository.specs.Answers.{OrderLeaves, IsKnownAnswer};
+ghost use Rattle.cns_depository.specs.Node.{NodePlanned};
 ghost use Rattle.cns_depository.specs.Replay.{IsOpened, Reread, RestartLeaves};
 
 use crate::account::Account;
+use crate::balances::{BalanceRows, balance_rows};
 use crate::commit::commit_record;
 use crate::fault::{Answer, DepFault};
 use crate::openings::Openings;
@@ -14,7 +17,7 @@ use cns_ids::{Cusip, Shares};
 use cns_journal::{Keeper, NotPlanned};
 use cns_movements::{MoveNo, Order, Reply};
 use cns_records::DepRecord;
-use std::alloc::Global;
+use std::alloc::{AllocError, Global};
 use std::marker::Model;
 
 /// A restart that succeeded.
@@ -40,7 +43,9 @@ pub struct Refused<K> {
 ///
 /// Contracts see the openings; the records of the executed movements, the newest first; the record
 /// whose commit failed, until a restart decides it; whether the depository is down; how often its
-/// keeper's device has failed; and whether its keeper is honest. (This project's own rules.)
+/// keeper's device has failed; whether its keeper is honest; and what is known beforehand of its
+/// keeper: how the next commit ends, and whether a restart keeps the record whose commit failed. (This
+/// project's own rules.)
 #[derive(Drop)]
 pub struct Depository<K: Keeper> {
     keeper: K,
@@ -65,10 +70,11 @@ impl<K: Keeper> Model for Depository<K> {
       down = d.down;
       failures = (K.run d.keeper).failures;
       honest = K.honest d.keeper;
+      foresight = K.foresight d.keeper;
     } };
 
     ghost invariant = { λ d. IsNode d.openings d.records.items d.tried d.down
-        (K.run d.keeper) (K.honest d.keeper) (K.journal d.keeper) };
+        (K.run d.keeper) (K.honest d.keeper) (K.journal d.keeper) (K.foresight d.keeper) };
 }
 
 impl<K: Keeper> Depository<K> {
@@ -82,9 +88,11 @@ impl<K: Keeper> Depository<K> {
         mut keeper: K,
         openings: Openings,
     ) -> Result<Depository<K>, Refused<K>>
-        ensures ok { IfOk result (IsOpened openings (K.honest keeper) (K.run keeper) (K.journal keeper)) }
+        ensures ok { IfOk result (IsOpened openings (K.honest keeper) (K.run keeper) (K.journal keeper)
+            (K.foresight keeper)) }
         ensures err { IfErr result (λ refused. Reread openings (Err refused.fault) (K.honest keeper)
-            (K.run keeper) (K.run refused.keeper) (K.journal keeper) (K.journal refused.keeper)) }
+            (K.run keeper) (K.run refused.keeper) (K.journal keeper) (K.journal refused.keeper)
+            (K.foresight keeper) (K.foresight refused.keeper)) }
         ensures honest { IfErr result (λ refused. K.honest refused.keeper ≡ K.honest keeper) }
     {
         let records = match reread(alloc, &mut keeper, &openings) {
@@ -130,6 +138,18 @@ impl<K: Keeper> Depository<K> {
         balance_of(&self.openings, self.records.as_slice(), &account, issue)
     }
 
+    /// Each balance that is not 0, by issue, then account: the CNS account first, then the members by
+    /// number. (This project's own rule.)
+    pub fn balances(&self, alloc: Global) -> Result<BalanceRows, AllocError>
+        ensures rows { IfOk result (λ rows. rows ≡ balance_rows_of self.now.openings self.now.records) }
+
+        // No balance is left out.
+        ensures complete { IfOk result (AreComplete self.now.openings self.now.records) }
+        ensures ascending { IfOk result AreAscending }
+    {
+        balance_rows(alloc, &self.openings, self.records.as_slice())
+    }
+
     /// Executes an order once: it moves what the giving account has, at most what is asked, and
     /// possibly nothing. The same order again is answered with the reply that was kept.
     ///
@@ -162,7 +182,8 @@ impl<K: Keeper> Depository<K> {
     }
 
     /// Reads the journal again, and puts the depository up. A refused restart leaves it down and
-    /// changes nothing else.
+    /// changes nothing else, except that it may then no longer be known beforehand whether the record
+    /// whose commit failed stands. How the next commit ends stays known in any case.
     ///
     /// Refuses `BadJournal` where a payload is no record of a movement that may stand after those
     /// before it. (This project's own rule.)
@@ -184,10 +205,11 @@ impl<K: Keeper> Depository<K> {
         })
     }
 
-    /// Makes the next commit of the keeper fail, where the keeper plans failures. Its record stands
-    /// at the restart, or does not.
+    /// Makes the next commit of the keeper fail. Its record stands at the restart, or does not.
+    ///
+    /// Answers `NotPlanned` exactly where the keeper plans no failures. (This project's own rule.)
     pub fn plan(&mut self, stands: bool) -> Result<(), NotPlanned>
-        ensures { self.new ≡ self.old }
+        ensures { NodePlanned stands result self.old self.new }
     {
         self.keeper.plan(stands)
     }

@@ -6,14 +6,17 @@
 #![tactic(auto)]
 
 mod account;
+mod balances;
 mod commit;
 mod depository;
 mod fault;
+mod opening_index;
 mod openings;
 mod replay;
 mod stock;
 
 pub use account::Account;
+pub use balances::{BalanceRow, BalanceRows};
 pub use depository::{Depository, Refused, Restarted};
 pub use fault::{Answer, DepFault};
 pub use openings::{OpeningFault, Openings};

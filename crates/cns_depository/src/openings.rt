@@ -1,10 +1,12 @@
-ghost use Rattle.std.specs.Prelude.{◌≡◌, ◌*◌, ◌^◌, ◌≤◌, [], length};
-ghost use Rattle.cns_depository.specs.Openings.{AddLeaves, is_open as is_open_in, issue_sum as sum_of_issue, opening_shares as shares_of_opening};
+ghost use Rattle.std.specs.Prelude.{◌≡◌, ◌^◌, ◌≤◌, []};
+ghost use Rattle.cns_depository.specs.Openings.{AddLeaves, opening_shares as shares_of_opening};
 
 use crate::account::Account;
-use cns_ids::{Cusip, MemberNo, Shares};
+use crate::opening_index::{Holding, enter, held, is_held, make_room, set_sum, sum_of};
+use cns_ids::{Cusip, Shares};
 use cns_trades::Opening;
 use std::alloc::Global;
+use std::collections::HashMap;
 use std::marker::Model;
 use thiserror::Error;
 
@@ -29,28 +31,33 @@ pub enum OpeningFault {
 #[derive(Drop)]
 pub struct Openings {
     list: Vec<Opening>,
+    // The shares of each opening by its member and issue, and the sum of each issue.
+    shares: HashMap<Holding, Shares>,
+    sums: HashMap<Cusip, u128>,
 }
 
 impl Model for Openings {
-    ghost use Rattle.std.specs.Prelude.{List};
+    ghost use Rattle.std.specs.Prelude.{List, nat_eq};
+    ghost use Rattle.std.specs.HashMap.{get};
     ghost use Rattle.cns_trades.specs.declared.opening.Opening.{Opening};
-    ghost use Rattle.cns_depository.specs.Openings.{DoIssuesFit};
+    ghost use Rattle.cns_depository.specs.OpeningIndex.{IsIndex, holding_eq};
 
     ghost Value = { List Opening };
 
     ghost view = { λ o. o.list.items };
 
-    ghost invariant = { λ o. DoIssuesFit o.list.items };
+    ghost invariant = { λ o. IsIndex o.list.items (get holding_eq o.shares) (get nat_eq o.sums) };
 }
 
 impl Openings {
     /// No openings. It takes no memory.
-    #[tactic(auto, unfolding(crate::specs::Openings::issue_sum))]
     pub fn new(alloc: Global) -> Openings
         ensures { result ≡ [] }
     {
         Openings {
             list: Vec::new(alloc),
+            shares: HashMap::new(alloc),
+            sums: HashMap::new(alloc),
         }
     }
 
@@ -62,65 +69,37 @@ impl Openings {
     pub fn add(&mut self, opening: &Opening) -> Result<(), OpeningFault>
         ensures { AddLeaves opening.now result self.old self.new }
     {
-        if is_open(self.list.as_slice(), opening.member, opening.issue) {
+        if is_held(&self.shares, opening.member, opening.issue) {
             return Err(OpeningFault::Double);
         }
-        let held = issue_sum(self.list.as_slice(), opening.issue);
-        if held + u128::from(opening.shares.count()) > u128::from(Shares::MAX) {
+        let sum = sum_of(&self.sums, opening.issue) + u128::from(opening.shares.count());
+        if sum > u128::from(Shares::MAX) {
             return Err(OpeningFault::IssueSum);
         }
-        let Ok(()) = self.list.push(*opening) else {
+        let Ok(()) = make_room(&mut self.list, &mut self.shares, &mut self.sums) else {
             return Err(OpeningFault::OutOfMemory);
         };
+        enter(&mut self.shares, opening);
+        set_sum(&mut self.sums, opening.issue, sum);
+        self.list.push_reserved(*opening);
         Ok(())
     }
 
+    // The openings, in the order in which they were added.
+    pub(crate) fn as_slice(&self) -> &[Opening]
+        ensures { result.now ≡ self.now }
+    {
+        self.list.as_slice()
+    }
+
     // The shares with which an account opens in an issue.
-    #[tactic(auto, using(crate::proofs::OpeningLemmas::member_small))]
     pub(crate) fn shares(&self, account: &Account, issue: Cusip) -> u128
         ensures shares { result ≡ shares_of_opening self.now account.now issue }
         ensures small { result ≤ 10 ^ 18 }
     {
         match account {
             Account::Cns => 0,
-            Account::Member(member) => member_opening(self.list.as_slice(), *member, issue),
+            Account::Member(member) => held(&self.shares, *member, issue),
         }
     }
-}
-
-// Whether a member has an opening in an issue.
-fn is_open(openings: &[Opening], member: MemberNo, issue: Cusip) -> bool
-    ensures { result ≡ is_open_in openings.now member issue }
-{
-    openings.iter().any(|opening| opening.member == member && opening.issue == issue)
-}
-
-// The shares of all openings in an issue.
-#[tactic(auto, unfolding(crate::specs::Openings::issue_sum))]
-fn issue_sum(openings: &[Opening], issue: Cusip) -> u128
-    ensures sum { result ≡ sum_of_issue openings.now issue }
-    ensures small { result ≤ 10 ^ 18 * length openings.now }
-{
-    let mut total: u128 = 0;
-    for opening in openings {
-        if opening.issue == issue {
-            total += u128::from(opening.shares.count());
-        }
-    }
-    total
-}
-
-// The shares with which a member opens in an issue.
-#[tactic(auto, unfolding(crate::specs::Openings::member_opening))]
-fn member_opening(openings: &[Opening], member: MemberNo, issue: Cusip) -> u128
-    ensures shares { result ≡ shares_of_opening openings.now (Account.Member member) issue }
-    ensures small { result ≤ 10 ^ 18 * length openings.now }
-{
-    let mut total: u128 = 0;
-    for opening in openings {
-        if opening.member == member && opening.issue == issue {
-            total += u128::from(opening.shares.count());
-        }
-    }
-    total
 }

@@ -69,7 +69,8 @@ pub(crate) fn reread<K: Keeper>(
 ) -> Result<Vec<DepRecord>, ReplayFault>
     ensures honest { K.honest keeper.new ≡ K.honest keeper.old }
     ensures reread { Reread openings.now (records_by result) (K.honest keeper.old)
-        (K.run keeper.old) (K.run keeper.new) (K.journal keeper.old) (K.journal keeper.new) }
+        (K.run keeper.old) (K.run keeper.new) (K.journal keeper.old) (K.journal keeper.new)
+        (K.foresight keeper.old) (K.foresight keeper.new) }
 {
     let payloads = match keeper.reopen() {
         Ok(payloads) => payloads,

@@ -1,5 +1,6 @@
 use crate::{
-    Account, Answer, DepFault, Depository, OpeningFault, Openings, ReplayFault, Restarted,
+    Account, Answer, BalanceRow, DepFault, Depository, OpeningFault, Openings, ReplayFault,
+    Restarted,
 };
 use cns_ids::{Cusip, MemberNo, Shares};
 use cns_journal::{Keeper, ListKeeper};
@@ -118,6 +119,81 @@ fn orders_in_turn(rt: HostRuntime) -> Result<(), Fail> {
     assert_eq!(rt; node.balance(Account::Cns, issue()?), 10);
     let again = node.take_order(&order(4, MoveKind::Delivery, 3, 60)?);
     assert_eq!(rt; again, Ok(Answer::Again(reply(4, 40)?)));
+    Ok(())
+}
+
+fn row(issue: Cusip, account: Account, shares: u128) -> BalanceRow {
+    BalanceRow {
+        issue,
+        account,
+        shares,
+    }
+}
+
+#[test]
+fn balances_after_a_cover(rt: HostRuntime) -> Result<(), Fail> {
+    let mut node = depository(rt.alloc(), &[(1, 20)])?;
+    let before = [row(issue()?, account(1)?, 20)];
+    assert_eq!(rt; node.balances(rt.alloc())?.as_slice(), before.as_slice());
+    let cover = order(1, MoveKind::Cover, 1, 35)?;
+    assert_eq!(rt; node.take_order(&cover), Ok(Answer::Done(reply(1, 20)?)));
+    let after = [row(issue()?, Account::Cns, 20)];
+    assert_eq!(rt; node.balances(rt.alloc())?.as_slice(), after.as_slice());
+    Ok(())
+}
+
+#[test]
+fn balances_by_issue_and_account(rt: HostRuntime) -> Result<(), Fail> {
+    let later = Cusip::read(b"594918104")?;
+    let mut list = Openings::new(rt.alloc());
+    let mut other = opening(1, 7)?;
+    other.issue = later;
+    list.add(&other)?;
+    for (of, count) in [(9, 3), (2, 10), (4, 0), (1, 5)] {
+        list.add(&opening(of, count)?)?;
+    }
+    let mut node = match Depository::open(rt.alloc(), ListKeeper::new(rt.alloc()), list) {
+        Ok(node) => node,
+        Err(refused) => return Err(Fail::from(refused.fault)),
+    };
+    let mut elsewhere = order(2, MoveKind::Cover, 1, 7)?;
+    elsewhere.issue = later;
+    let orders = [
+        order(1, MoveKind::Cover, 2, 4)?,
+        elsewhere,
+        order(3, MoveKind::Delivery, 4, 1)?,
+        order(5, MoveKind::Cover, 9, 3)?,
+    ];
+    for order in &orders {
+        node.take_order(order)?;
+    }
+    let wanted = [
+        row(issue()?, Account::Cns, 6),
+        row(issue()?, account(1)?, 5),
+        row(issue()?, account(2)?, 6),
+        row(issue()?, account(4)?, 1),
+        row(later, Account::Cns, 7),
+    ];
+    assert_eq!(rt; node.balances(rt.alloc())?.as_slice(), wanted.as_slice());
+    Ok(())
+}
+
+#[test]
+fn the_last_plan_counts(rt: HostRuntime) -> Result<(), Fail> {
+    let mut node = depository(rt.alloc(), &[(1, 20)])?;
+    let cover = order(1, MoveKind::Cover, 1, 15)?;
+    assert_eq!(rt; node.plan(true), Ok(()));
+    assert_eq!(rt; node.plan(false), Ok(()));
+    assert!(rt; !node.is_down());
+    assert_eq!(rt; node.take_order(&cover), Err(DepFault::Device));
+    assert_eq!(rt;
+        node.restart(),
+        Ok(Restarted {
+            records: 0,
+            kept: false
+        })
+    );
+    assert_eq!(rt; node.take_order(&cover), Ok(Answer::Done(reply(1, 15)?)));
     Ok(())
 }
 

@@ -1,7 +1,8 @@
 -- What contracts see of a keeper of a journal (this project's own rules).
-use Rattle.std.specs.Prelude.{◌≡◌, ◌⊎◌, ℕ, ◌+◌, ◌-◌, ◌^◌, ◌<◌, ◌≤◌, Bool, true, false, List, [], ◌∷◌, ◌++◌, length, Option, Some, None, Result, Ok, Err, Vec, vec_items, map}
+use Rattle.std.specs.Prelude.{◌≡◌, ◌≢◌, ◌⊎◌, ℕ, ◌+◌, ◌-◌, ◌^◌, ◌<◌, ◌≤◌, Bool, true, false, List, [], ◌∷◌, ◌++◌, length, Option, Some, None, Result, Ok, Err, Vec, vec_items, map}
 use Rattle.cns_journal.specs.declared.keeper.KeepFault.{KeepFault}
 use Rattle.cns_journal.specs.declared.keeper.KeepFault.TheVariants.{Memory, Down, Device}
+use Rattle.cns_journal.specs.declared.keeper.NotPlanned.{NotPlanned}
 use Rattle.cns_journal.specs.declared.keeper.TheConstants.{MAX_RECORDS}
 
 -- what holds of each keeper: whether it is down, how often its device has failed, and how many records it counts
@@ -14,6 +15,33 @@ pub record Running : Type 0 where
 pub record Journal : Type 0 where
   pub kept : List (List ℕ)
   pub undecided : Option (List ℕ)
+
+-- what is known beforehand of the next commit that reaches the device: nothing; that it succeeds; or that it fails, and whether
+-- its record then stands at the reopening
+pub data Forecast : Type 0 where
+  Unforeseen : Forecast
+  Succeeds : Forecast
+  Fails : Bool → Forecast
+
+-- what is known beforehand of a keeper: how its next commit ends, and whether the undecided record stands at the reopening
+pub record Foresight : Type 0 where
+  pub next : Forecast
+  pub stands : Option Bool
+
+-- a commit may succeed, and a reopening may fail at the device
+abbrev pub MaySucceed : Forecast → Type 0
+MaySucceed Unforeseen = Unit {0}
+MaySucceed Succeeds = Unit {0}
+MaySucceed (Fails stands) = ⊥
+
+-- a commit failed at the device: where that was foreseen, so is whether its record stands, and the commit after it succeeds
+abbrev pub FailsTo : Forecast → Foresight → Type 0
+FailsTo Unforeseen new = new ≡ record { next = Unforeseen; stands = None }
+FailsTo Succeeds new = ⊥
+FailsTo (Fails stands) new = new ≡ record { next = Succeeds; stands = Some stands }
+
+abbrev pub HasFailed : Foresight → Foresight → Type 0
+HasFailed old new = FailsTo old.next new
 
 -- a count of failures is larger than before, or was at its end, 2^64 - 1, and stays there
 abbrev pub HasRisen : ℕ → ℕ → Type 0
@@ -53,3 +81,29 @@ IsReopened journal given = (given ≡ journal.kept) ⊎ ((payload : List ℕ) ×
 abbrev pub ReopenKeeps : Result (List (List ℕ)) KeepFault → Journal → Journal → Type 0
 ReopenKeeps (Ok given) old new = IsReopened old given × (new ≡ record { kept = given; undecided = None })
 ReopenKeeps (Err _) old new = new ≡ old
+
+-- what a commit leaves of what is known beforehand, by its answer
+abbrev pub CommitForeseen : Result (Unit {0}) KeepFault → Foresight → Foresight → Type 0
+CommitForeseen (Ok _) old new = MaySucceed old.next × (new ≡ old)
+CommitForeseen (Err Memory) old new = new ≡ old
+CommitForeseen (Err Down) old new = new ≡ old
+CommitForeseen (Err Device) old new = HasFailed old new
+
+-- what a reopening leaves of what is known beforehand, by its answer: it fails at the device only where nothing is known
+abbrev pub ReopenForeseen : Result (List (List ℕ)) KeepFault → Foresight → Foresight → Type 0
+ReopenForeseen (Ok given) old new = new ≡ record old { stands = None }
+ReopenForeseen (Err Memory) old new = new ≡ old
+ReopenForeseen (Err Down) old new = ⊥
+ReopenForeseen (Err Device) old new = (old.next ≡ Unforeseen) × (new ≡ old)
+
+-- a reopening gave the undecided record where that was foreseen, and did not where the contrary was
+abbrev pub StandsAsForeseen : Option Bool → Result (List (List ℕ)) KeepFault → Journal → Type 0
+StandsAsForeseen None result journal = Unit {0}
+StandsAsForeseen (Some stands) (Err fault) journal = Unit {0}
+StandsAsForeseen (Some true) (Ok given) journal = length given ≡ length journal.kept + 1
+StandsAsForeseen (Some false) (Ok given) journal = given ≡ journal.kept
+
+-- what a plan leaves of what is known beforehand, by its answer: it is refused exactly where nothing is known
+abbrev pub PlanLeaves : Bool → Result (Unit {0}) NotPlanned → Foresight → Foresight → Type 0
+PlanLeaves stands (Ok _) old new = (old.next ≢ Unforeseen) × (new ≡ record old { next = Fails stands })
+PlanLeaves stands (Err _) old new = (old.next ≡ Unforeseen) × (new ≡ old)

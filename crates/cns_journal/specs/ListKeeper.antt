@@ -1,7 +1,7 @@
 -- What contracts see of a keeper in memory, and what exactly its calls leave (this project's own rules).
 use Rattle.std.specs.Prelude.{◌≡◌, ℕ, ◌+◌, ◌-◌, ◌^◌, min, Bool, true, List, [], ◌∷◌, ◌++◌, length, Option, Some, None, Result, Ok, Err, if◌then◌else◌, is_some, option_map}
 use Rattle.cns_journal.specs.declared.keeper.KeepFault.{KeepFault}
-use Rattle.cns_journal.specs.Keeper.{Running, Journal}
+use Rattle.cns_journal.specs.Keeper.{Running, Journal, Foresight, Forecast, Succeeds, Fails}
 use Rattle.cns_journal.specs.declared.keeper.KeepFault.TheVariants.{Memory, Down, Device}
 
 -- a record whose commit failed, and whether it stands at the reopening
@@ -27,6 +27,18 @@ running_of keeper = record { down = is_some keeper.undecided; failures = keeper.
 -- what every keeper shows of this one's journal
 abbrev pub journal_of : ListState → Journal
 journal_of keeper = record { kept = keeper.kept; undecided = option_map payload_of keeper.undecided }
+
+-- the next commit fails as planned, and succeeds without a plan
+abbrev pub forecast_of : Option Bool → Forecast
+forecast_of None = Succeeds
+forecast_of (Some stands) = Fails stands
+
+abbrev pub stands_of : Failed → Bool
+stands_of failed = failed.stands
+
+-- all that this keeper does is known beforehand
+abbrev pub foresight_of : ListState → Foresight
+foresight_of keeper = record { next = forecast_of keeper.plan; stands = option_map stands_of keeper.undecided }
 
 -- what a commit leaves, by its answer: it fails exactly as planned, where it is not down and has memory
 abbrev pub ListCommit : List ℕ → Result (Unit {0}) KeepFault → ListState → ListState → Type 0

@@ -1,7 +1,7 @@
 //! What every keeper of a journal promises.
 
 ghost use Rattle.std.specs.Prelude.{◌≡◌, ◌≤◌, Bool, true, false, None, length};
-ghost use Rattle.cns_journal.specs.Keeper.{Running, Journal, CommitLeaves, CommitKeeps, ReopenLeaves, ReopenKeeps, given_by};
+ghost use Rattle.cns_journal.specs.Keeper.{Running, Journal, Foresight, CommitLeaves, CommitKeeps, CommitForeseen, ReopenLeaves, ReopenKeeps, ReopenForeseen, StandsAsForeseen, PlanLeaves, given_by};
 
 use std::alloc::{AllocError, AllocFailed};
 use thiserror::Error;
@@ -69,6 +69,10 @@ pub trait Keeper {
     /// Whether a reopening gives what was acknowledged.
     ghost honest: { Self → Bool };
 
+    /// What is known beforehand of the next commit, and of the undecided record at the reopening. Of a
+    /// real device that is nothing.
+    ghost foresight: { Self → Foresight };
+
     /// Adds a record, and answers `Ok` once it is acknowledged.
     ///
     /// Answers `Down` only where the keeper is down, and there nothing but `Down` or `Memory`. After
@@ -78,7 +82,8 @@ pub trait Keeper {
         ensures honest { honest self.new ≡ honest self.old }
         ensures leaves { CommitLeaves result (run self.old) (run self.new) }
         ensures keeps { honest self.old ≡ true
-            → CommitKeeps payload.now result (journal self.old) (journal self.new) };
+            → CommitKeeps payload.now result (journal self.old) (journal self.new) }
+        ensures foreseen { CommitForeseen result (foresight self.old) (foresight self.new) };
 
     /// Reads the journal again, and gives its records: those that were acknowledged, then at most the
     /// undecided one. They are acknowledged from then on, and the keeper is up.
@@ -89,7 +94,10 @@ pub trait Keeper {
         ensures honest { honest self.new ≡ honest self.old }
         ensures leaves { ReopenLeaves (given_by result) (run self.old) (run self.new) }
         ensures keeps { honest self.old ≡ true
-            → ReopenKeeps (given_by result) (journal self.old) (journal self.new) };
+            → ReopenKeeps (given_by result) (journal self.old) (journal self.new) }
+        ensures foreseen { ReopenForeseen (given_by result) (foresight self.old) (foresight self.new) }
+        ensures stands { honest self.old ≡ true
+            → StandsAsForeseen (foresight self.old).stands (given_by result) (journal self.old) };
 
     /// Whether the keeper is down. While it is up, no record is undecided.
     fn is_down(&self) -> bool
@@ -104,10 +112,11 @@ pub trait Keeper {
 
     /// Makes the next commit fail at the device. Its record stands at the reopening, or does not.
     ///
-    /// Answers `NotPlanned` where the keeper plans no failures. Whatever it answers, nothing that a
-    /// keeper promises has changed.
+    /// Answers `NotPlanned` exactly where nothing is known beforehand of the keeper. Whatever it
+    /// answers, nothing but what is known of the next commit has changed.
     fn plan(&mut self, stands: bool) -> Result<(), NotPlanned>
         ensures honest { honest self.new ≡ honest self.old }
         ensures leaves { run self.new ≡ run self.old }
-        ensures keeps { honest self.old ≡ true → journal self.new ≡ journal self.old };
+        ensures keeps { honest self.old ≡ true → journal self.new ≡ journal self.old }
+        ensures foreseen { PlanLeaves stands result (foresight self.old) (foresight self.new) };
 }

@@ -2,7 +2,7 @@
 
 ghost use Rattle.std.specs.Prelude.{◌≡◌, ◌≤◌, ℕ, List, [], map, vec_items, length, Some, None, true, IfOk, IsOk};
 ghost use Rattle.cns_journal.specs.Keeper.{CommitLeaves, CommitKeeps, ReopenLeaves, ReopenKeeps, given_by};
-ghost use Rattle.cns_journal.specs.ListKeeper.{running_of, journal_of, ListCommit, ListReopen};
+ghost use Rattle.cns_journal.specs.ListKeeper.{running_of, journal_of, foresight_of, ListCommit, ListReopen};
 
 use crate::keeper::{KeepFault, Keeper, MAX_PAYLOAD, NotPlanned};
 use std::alloc::{AllocError, Global};
@@ -83,6 +83,8 @@ impl Keeper for ListKeeper {
     ghost journal = { journal_of };
 
     ghost honest = { λ _. true };
+
+    ghost foresight = { foresight_of };
 
     /// Fails where a failure is planned, which ends the plan; with `Down` or `Memory` the plan stays.
     fn commit(&mut self, payload: &[u8]) -> Result<(), KeepFault>

@@ -268,6 +268,7 @@ impl NetBook {
     ) -> Result<(), AllocError>
         ensures same { self.new.history ≡ self.old.history }
         ensures room { OnOk result (0 < self.new.room) }
+        ensures lawful { IsBook self.new.history }
     {
         self.entries.reserve(1)
     }

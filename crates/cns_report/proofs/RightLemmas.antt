@@ -3,7 +3,7 @@ use Rattle.std.proofs.Common.{◌≡◌, ◌-◌, ℕ, zero, suc, [], ◌∷◌,
 use Rattle.std.specs.Prelude.{negsuc, replicate}
 use Rattle.std.specs.List.{repeat}
 use Rattle.std.proofs.lemmas.List.{append-nil}
-use Rattle.std.specs.Fmt.{decimal, format_spec, padded_integral, signed_decimal, styled_signed_decimal, char_count}
+use Rattle.std.specs.Fmt.{decimal, format_spec, padded_integral, signed_decimal, styled_decimal, styled_signed_decimal, char_count}
 use Rattle.std.proofs.lemmas.Bool.{le-ltb}
 use Rattle.cns_report.specs.Right.{right_20}
 
@@ -23,3 +23,10 @@ styled_right_20 (pos n) =
 styled_right_20 (negsuc n) =
     let room : 20 - length (decimal (suc n)) - 1 - 0 ≡ 20 - suc (length (decimal (suc n))) = omega arith in
     simp (room, same, repeat-one, append-nil, append_assoc) refl
+
+pub styled_shares_right_20 : (n : ℕ) → styled_decimal (format_spec 32 3 0 20 18446744073709551615) n ≡ right_20 (decimal n)
+unfolding padded_integral char_count lib.Utf8.encode
+styled_shares_right_20 n =
+    let positive = le-ltb n 0 (omega arith) in
+    let room : 20 - length (decimal n) - 0 - 0 ≡ 20 - length (decimal n) = omega arith in
+    simp (room, same, repeat-one, append-nil) refl

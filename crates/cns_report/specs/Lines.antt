@@ -1,5 +1,5 @@
 -- The outcome lines (this project's own format). Each ends with LF.
-use Rattle.std.specs.Prelude.{ℕ, List, [], ◌∷◌, ◌++◌, codes}
+use Rattle.std.specs.Prelude.{ℕ, Bool, true, false, List, [], ◌∷◌, ◌++◌, codes}
 use Rattle.std.specs.Fmt.{decimal}
 use Rattle.cns_ids.specs.Cusip.{cusip_text}
 use Rattle.cns_ids.specs.Cycle.{kind_text}
@@ -11,7 +11,8 @@ use Rattle.cns_movements.specs.declared.order.Order.{Order}
 use Rattle.cns_trades.specs.declared.fault.RowFault.{RowFault}
 use Rattle.cns_trades.specs.declared.list.Verdict.{Verdict}
 use Rattle.cns_trades.specs.declared.list.Verdict.TheVariants as verdicts
-use Rattle.cns_report.specs.Refusals.{subject_text, refusal_text, opening_refusal_text}
+use Rattle.cns_report.specs.Refusals.{subject_text, refusal_text, node_text, opening_refusal_text}
+use Rattle.cns_report.specs.declared.refusal.NodeName.{NodeName}
 use Rattle.cns_report.specs.declared.refusal.OpeningRefusal.{OpeningRefusal}
 use Rattle.cns_report.specs.declared.refusal.Subject.{Subject}
 use Rattle.cns_report.specs.declared.refusal.Refusal.{Refusal}
@@ -95,3 +96,20 @@ confirm_done_line number moved = codes "confirm " ++ decimal number ++ codes " m
 -- confirm N moved Q again
 unfoldable pub confirm_again_line : ℕ → ℕ → List ℕ
 confirm_again_line number moved = codes "confirm " ++ decimal number ++ codes " moved " ++ decimal moved ++ codes " again" ++ line_end
+
+-- trade ID refused NAME
+unfoldable pub trade_refused_line : List ℕ → Refusal → List ℕ
+trade_refused_line id refusal = codes "trade " ++ id ++ codes " refused " ++ refusal_text refusal ++ line_end
+
+-- fail ok
+unfoldable pub fail_line : List ℕ
+fail_line = codes "fail ok" ++ line_end
+
+-- whether one record more came back
+abbrev pub kept_text : Bool → List ℕ
+kept_text true = codes "yes"
+kept_text false = codes "no"
+
+-- restart NODE records N kept yes, or .. no
+unfoldable pub restart_line : NodeName → ℕ → Bool → List ℕ
+restart_line node records kept = codes "restart " ++ node_text node ++ codes " records " ++ decimal records ++ codes " kept " ++ kept_text kept ++ line_end

@@ -4,22 +4,32 @@ use Rattle.cns_report.specs.declared.refusal.Subject.{Subject}
 use Rattle.cns_report.specs.declared.refusal.Subject.TheVariants as subject
 use Rattle.cns_report.specs.declared.refusal.OpeningRefusal.{OpeningRefusal}
 use Rattle.cns_report.specs.declared.refusal.OpeningRefusal.TheVariants as opening
+use Rattle.cns_report.specs.declared.refusal.NodeName.{NodeName}
+use Rattle.cns_report.specs.declared.refusal.NodeName.TheVariants as node
 use Rattle.cns_report.specs.declared.refusal.Refusal.{Refusal}
 use Rattle.cns_report.specs.declared.refusal.Refusal.TheVariants as refusal
 
 abbrev pub subject_text : Subject → List ℕ
+subject_text subject.Exempt = codes "exempt"
+subject_text subject.Priority = codes "priority"
 subject_text subject.Cycle = codes "cycle"
 subject_text subject.Send = codes "send"
 subject_text subject.Order = codes "order"
 subject_text subject.Reply = codes "reply"
 
 abbrev pub refusal_text : Refusal → List ℕ
+refusal_text refusal.Down = codes "Down"
+refusal_text refusal.Device = codes "Device"
 refusal_text refusal.CycleOrder = codes "CycleOrder"
 refusal_text refusal.NumbersSpent = codes "NumbersSpent"
 refusal_text refusal.UnknownMove = codes "UnknownMove"
 refusal_text refusal.NoPacket = codes "NoPacket"
 refusal_text refusal.Conflict = codes "Conflict"
 refusal_text refusal.TooMuch = codes "TooMuch"
+
+abbrev pub node_text : NodeName → List ℕ
+node_text node.Clear = codes "CLEAR"
+node_text node.Depot = codes "DEPOT"
 
 abbrev pub opening_refusal_text : OpeningRefusal → List ℕ
 opening_refusal_text opening.Double = codes "Double"

@@ -1,12 +1,16 @@
 -- The report (this project's own format).
 use Rattle.std.specs.Prelude.{ℕ, List, [], ◌∷◌, ◌++◌, codes, Option, Some, None}
-use Rattle.std.specs.Fmt.{signed_decimal}
+use Rattle.std.specs.Fmt.{decimal, signed_decimal}
 use Rattle.cns_ids.specs.Cusip.{cusip_text}
 use Rattle.cns_ids.specs.Cycle.{kind_text}
 use Rattle.cns_ids.specs.Day.{day_text}
 use Rattle.cns_ids.specs.Member.{member_text}
 use Rattle.cns_ids.specs.declared.cycle.CycleId.{CycleId}
 use Rattle.cns_netting.specs.declared.position.PositionRow.{PositionRow}
+use Rattle.cns_clearing.specs.declared.pools.PoolRow.{PoolRow}
+use Rattle.cns_depository.specs.declared.account.Account.{Account}
+use Rattle.cns_depository.specs.declared.account.Account.TheVariants.{Cns, Member}
+use Rattle.cns_depository.specs.declared.balances.BalanceRow.{BalanceRow}
 use Rattle.cns_report.specs.Lines.{line_end}
 use Rattle.cns_report.specs.Right.{right_20}
 
@@ -23,8 +27,29 @@ unfoldable pub position_lines : List PositionRow → List ℕ
 position_lines [] = []
 position_lines (row ∷ rows) = position_line row ++ position_lines rows
 
-unfoldable pub cycle_report_text : Option CycleId → List PositionRow → List ℕ
-cycle_report_text latest positions = report_head latest ++ position_lines positions
+-- POOL CUSIP free Q lent Q out Q
+unfoldable pub pool_line : PoolRow → List ℕ
+pool_line row = codes "POOL " ++ cusip_text row.issue ++ codes " free " ++ decimal row.free ++ codes " lent " ++ decimal row.lent ++ codes " out " ++ decimal row.out ++ line_end
+
+unfoldable pub pool_lines : List PoolRow → List ℕ
+pool_lines [] = []
+pool_lines (row ∷ rows) = pool_line row ++ pool_lines rows
+
+unfoldable pub cycle_report_text : Option CycleId → List PositionRow → List PoolRow → List ℕ
+cycle_report_text latest positions pools = report_head latest ++ position_lines positions ++ pool_lines pools
+
+-- an account's four digits
+abbrev pub account_text : Account → List ℕ
+account_text Cns = codes "0000"
+account_text (Member m) = member_text m
+
+-- BAL CUSIP ACCOUNT and the balance, right in 20 places
+unfoldable pub balance_line : BalanceRow → List ℕ
+balance_line row = codes "BAL " ++ cusip_text row.issue ++ 32 ∷ account_text row.account ++ 32 ∷ right_20 (decimal row.shares) ++ line_end
+
+unfoldable pub balance_lines : List BalanceRow → List ℕ
+balance_lines [] = []
+balance_lines (row ∷ rows) = balance_line row ++ balance_lines rows
 
 unfoldable pub report_end : List ℕ
 report_end = codes "END" ++ line_end

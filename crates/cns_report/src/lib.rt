@@ -4,6 +4,7 @@
 //! the text may have been added.
 #![tactic(auto)]
 
+mod account;
 mod fault;
 mod line;
 mod position;
@@ -12,11 +13,12 @@ mod report;
 
 pub use line::{
     write_again, write_bad_command, write_confirm_again, write_confirm_done, write_cycle,
-    write_exec, write_exempt, write_opening_refused, write_opening_row_fault, write_orders,
-    write_priority, write_refused, write_row_fault, write_send, write_trade,
+    write_exec, write_exempt, write_fail, write_opening_refused, write_opening_row_fault,
+    write_orders, write_priority, write_refused, write_restart, write_row_fault, write_send,
+    write_trade, write_trade_refused,
 };
-pub use refusal::{OpeningRefusal, Refusal, Subject};
-pub use report::{write_cycle_report, write_report_end};
+pub use refusal::{NodeName, OpeningRefusal, Refusal, Subject};
+pub use report::{write_balance_report, write_cycle_report, write_report_end};
 
 #[cfg(test)]
 mod tests;

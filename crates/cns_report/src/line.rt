@@ -1,8 +1,8 @@
 ghost use Rattle.std.specs.Prelude.{◌≡◌, ◌++◌, OnOk, string_bytes};
-ghost use Rattle.cns_report.specs.Lines.{trade_line, row_fault_line, bad_command_line, cycle_line, refused_line, exempt_line, priority_line, order_line, order_lines, opening_row_fault_line, row_refused_line, opening_refused_line, send_line, exec_line, again_line, confirm_done_line, confirm_again_line};
+ghost use Rattle.cns_report.specs.Lines.{trade_line, row_fault_line, bad_command_line, cycle_line, refused_line, exempt_line, priority_line, order_line, order_lines, opening_row_fault_line, row_refused_line, opening_refused_line, send_line, exec_line, again_line, confirm_done_line, confirm_again_line, trade_refused_line, fail_line, restart_line};
 
 use crate::fault::{RowFaultName, VerdictName};
-use crate::refusal::{OpeningRefusal, Refusal, Subject};
+use crate::refusal::{NodeName, OpeningRefusal, Refusal, Subject};
 use cns_ids::CycleId;
 use cns_movements::Order;
 use cns_trades::{RowFault, TradeId, Verdict};
@@ -170,4 +170,39 @@ pub fn write_confirm_again(out: &mut String, number: u64, moved: u64) -> Result<
     ensures { OnOk result (string_bytes out.new ≡ string_bytes out.old ++ confirm_again_line number moved) }
 {
     write!(out, "confirm {number} moved {moved} again\n")
+}
+
+/// The line of a trade that a node did not take: `trade ID refused NAME`.
+#[tactic(auto, unfolding(crate::specs::Lines::trade_refused_line))]
+pub fn write_trade_refused(
+    out: &mut String,
+    id: TradeId,
+    refusal: Refusal,
+) -> Result<(), AllocError>
+    ensures { OnOk result (string_bytes out.new ≡ string_bytes out.old ++ trade_refused_line id refusal) }
+{
+    write!(out, "trade {id} refused {refusal}\n")
+}
+
+/// The line of a planned failure: `fail ok`.
+#[tactic(auto, unfolding(crate::specs::Lines::fail_line))]
+pub fn write_fail(out: &mut String) -> Result<(), AllocError>
+    ensures { OnOk result (string_bytes out.new ≡ string_bytes out.old ++ fail_line) }
+{
+    out.push_str("fail ok\n")
+}
+
+/// The line of a restart: `restart NODE records N kept yes`, or `.. no`.
+#[tactic(auto, unfolding(crate::specs::Lines::restart_line))]
+pub fn write_restart(
+    out: &mut String,
+    node: NodeName,
+    records: u64,
+    kept: bool,
+) -> Result<(), AllocError>
+    ensures { OnOk result (string_bytes out.new ≡ string_bytes out.old ++ restart_line node records kept) }
+{
+    let kept = if kept { "yes" } else { "no" };
+    write!(out, "restart {node} records {records}")?;
+    write!(out, " kept {kept}\n")
 }

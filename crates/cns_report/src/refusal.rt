@@ -1,11 +1,13 @@
 ghost use Rattle.std.specs.Prelude.{Some};
-ghost use Rattle.cns_report.specs.Refusals.{subject_text, refusal_text, opening_refusal_text};
+ghost use Rattle.cns_report.specs.Refusals.{subject_text, refusal_text, node_text, opening_refusal_text};
 
 use std::fmt;
 
 /// The command that a line tells of, as its refusals name it.
 #[derive(Clone, Copy, PartialEq, Eq, Debug)]
 pub enum Subject {
+    Exempt,
+    Priority,
     Cycle,
     Send,
     Order,
@@ -17,6 +19,8 @@ impl fmt::Display for Subject {
 
     fn fmt<W: fmt::Write>(&self, f: &mut fmt::Formatter<W>) -> fmt::Result {
         f.write_str(match self {
+            Subject::Exempt => "exempt",
+            Subject::Priority => "priority",
             Subject::Cycle => "cycle",
             Subject::Send => "send",
             Subject::Order => "order",
@@ -28,6 +32,10 @@ impl fmt::Display for Subject {
 /// Why a command was refused, as its line names it.
 #[derive(Clone, Copy, PartialEq, Eq, Debug)]
 pub enum Refusal {
+    /// The node is down until it is restarted.
+    Down,
+    /// The device of the node's journal failed.
+    Device,
     /// The cycle is not later than the last one.
     CycleOrder,
     /// The orders are more than the numbers that are left.
@@ -47,12 +55,34 @@ impl fmt::Display for Refusal {
 
     fn fmt<W: fmt::Write>(&self, f: &mut fmt::Formatter<W>) -> fmt::Result {
         f.write_str(match self {
+            Refusal::Down => "Down",
+            Refusal::Device => "Device",
             Refusal::CycleOrder => "CycleOrder",
             Refusal::NumbersSpent => "NumbersSpent",
             Refusal::UnknownMove => "UnknownMove",
             Refusal::NoPacket => "NoPacket",
             Refusal::Conflict => "Conflict",
             Refusal::TooMuch => "TooMuch",
+        })
+    }
+}
+
+/// A node, as lines name it.
+#[derive(Clone, Copy, PartialEq, Eq, Debug)]
+pub enum NodeName {
+    /// The clearing node.
+    Clear,
+    /// The depository.
+    Depot,
+}
+
+impl fmt::Display for NodeName {
+    ghost output = { λ n. Some (node_text n) };
+
+    fn fmt<W: fmt::Write>(&self, f: &mut fmt::Formatter<W>) -> fmt::Result {
+        f.write_str(match self {
+            NodeName::Clear => "CLEAR",
+            NodeName::Depot => "DEPOT",
         })
     }
 }

@@ -1,7 +1,10 @@
 ghost use Rattle.std.specs.Prelude.{◌≡◌, ◌++◌, OnOk, string_bytes};
-ghost use Rattle.cns_report.specs.Report.{report_head, position_line, position_lines, cycle_report_text, report_end};
+ghost use Rattle.cns_report.specs.Report.{report_head, position_line, position_lines, pool_line, pool_lines, balance_line, balance_lines, cycle_report_text, report_end};
 
-use crate::position::RightIn20;
+use crate::account::AccountName;
+use crate::position::{RightIn20, SharesIn20};
+use cns_clearing::PoolRow;
+use cns_depository::BalanceRow;
 use cns_ids::CycleId;
 use cns_netting::PositionRow;
 use std::alloc::AllocError;
@@ -43,18 +46,69 @@ fn write_positions(out: &mut String, rows: &[PositionRow]) -> Result<(), AllocEr
     Ok(())
 }
 
-/// The book's part of the report: the latest recorded cycle, and the positions other than 0, which
-/// the caller hands in by issue, then member.
+// The line of a pool.
+#[tactic(auto, unfolding(crate::specs::Report::pool_line))]
+fn write_pool(out: &mut String, row: &PoolRow) -> Result<(), AllocError>
+    ensures { OnOk result (string_bytes out.new ≡ string_bytes out.old ++ pool_line row.now) }
+{
+    let issue = row.issue;
+    let free = row.free;
+    let lent = row.lent;
+    let shares_out = row.out;
+    write!(
+        out,
+        "POOL {issue} free {free} lent {lent} out {shares_out}\n"
+    )
+}
+
+// The lines of pools, one after another.
+#[tactic(auto, unfolding(crate::specs::Report::pool_lines))]
+fn write_pools(out: &mut String, rows: &[PoolRow]) -> Result<(), AllocError>
+    ensures { OnOk result (string_bytes out.new ≡ string_bytes out.old ++ pool_lines rows.now) }
+{
+    for row in rows {
+        write_pool(out, row)?;
+    }
+    Ok(())
+}
+
+// The line of a balance, right in 20 places.
+#[tactic(auto, unfolding(crate::specs::Report::balance_line))]
+fn write_balance(out: &mut String, row: &BalanceRow) -> Result<(), AllocError>
+    ensures { OnOk result (string_bytes out.new ≡ string_bytes out.old ++ balance_line row.now) }
+{
+    let issue = row.issue;
+    let account = AccountName(row.account);
+    let shares = SharesIn20(row.shares);
+    write!(out, "BAL {issue} {account} {shares}\n")
+}
+
+/// The depository's part of the report: the balances other than 0, which the caller hands in by
+/// issue, then account.
+#[tactic(auto, unfolding(crate::specs::Report::balance_lines))]
+pub fn write_balance_report(out: &mut String, rows: &[BalanceRow]) -> Result<(), AllocError>
+    ensures { OnOk result (string_bytes out.new ≡ string_bytes out.old ++ balance_lines rows.now) }
+{
+    for row in rows {
+        write_balance(out, row)?;
+    }
+    Ok(())
+}
+
+/// The book's part of the report: the latest recorded cycle; the positions other than 0, which the
+/// caller hands in by issue, then member; and the pools, which the caller hands in by issue.
 #[tactic(auto, unfolding(crate::specs::Report::cycle_report_text))]
 pub fn write_cycle_report(
     out: &mut String,
     latest: Option<CycleId>,
     positions: &[PositionRow],
+    pools: &[PoolRow],
 ) -> Result<(), AllocError>
-    ensures { OnOk result (string_bytes out.new ≡ string_bytes out.old ++ cycle_report_text latest positions.now) }
+    ensures { OnOk result (string_bytes out.new ≡ string_bytes out.old ++ cycle_report_text latest positions.now pools.now) }
 {
     write_head(out, latest)?;
-    write_positions(out, positions)
+    write_positions(out, positions)?;
+    write_pools(out, pools)
 }
 
 /// The report's last line: `END`.

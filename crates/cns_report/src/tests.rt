@@ -1,9 +1,12 @@
 use crate::{
-    OpeningRefusal, Refusal, Subject, write_again, write_bad_command, write_confirm_again,
-    write_confirm_done, write_cycle, write_cycle_report, write_exec, write_exempt,
-    write_opening_refused, write_opening_row_fault, write_orders, write_priority, write_refused,
-    write_report_end, write_row_fault, write_send, write_trade,
+    NodeName, OpeningRefusal, Refusal, Subject, write_again, write_bad_command,
+    write_balance_report, write_confirm_again, write_confirm_done, write_cycle, write_cycle_report,
+    write_exec, write_exempt, write_fail, write_opening_refused, write_opening_row_fault,
+    write_orders, write_priority, write_refused, write_report_end, write_restart, write_row_fault,
+    write_send, write_trade, write_trade_refused,
 };
+use cns_clearing::PoolRow;
+use cns_depository::{Account, BalanceRow};
 use cns_ids::{Cusip, CusipFault, CycleId, CycleKind, Day, MemberNo, ReadFault};
 use cns_movements::{Asked, MoveKind, MoveNo, Order};
 use cns_netting::PositionRow;
@@ -79,9 +82,15 @@ fn lines(rt: HostRuntime) -> Result<(), Fail> {
     write_opening_refused(&mut out, 7, OpeningRefusal::IssueSum)?;
     write_exempt(&mut out)?;
     write_priority(&mut out)?;
+    write_trade_refused(&mut out, id, Refusal::Down)?;
+    write_refused(&mut out, Subject::Exempt, Refusal::Device)?;
+    write_refused(&mut out, Subject::Priority, Refusal::Down)?;
+    write_fail(&mut out)?;
+    write_restart(&mut out, NodeName::Clear, 6, false)?;
+    write_restart(&mut out, NodeName::Depot, 1, true)?;
     write_orders(&mut out, &two_orders()?)?;
     let want =
-        "trade A1 accepted\ntrade A1 refused Same\ntrade A1 refused Conflict\ntrade A1 refused SameMember\ntrade A1 refused Full\nrow 5 fault Settle BadDate\nrow 6 fault Fields\nrow 7 fault Id\nrow 8 fault Buyer BadNumber\nrow 9 fault Seller OutOfRange\nrow 10 fault Cusip BadChar 6\nrow 11 fault Cusip CheckDigit 0\nrow 12 fault Cusip Length\nrow 13 fault Quantity OutOfRange\nline 1 bad command\ncycle 2025-03-04 NIGHT due 2\ncycle refused CycleOrder\ncycle refused NumbersSpent\nsend refused UnknownMove\norder refused NoPacket\norder refused Conflict\nreply refused TooMuch\nsend 1 packet 2\nexec 1 moved 20 packet 3\nagain 1 moved 20 packet 4\nconfirm 1 moved 20 done\nconfirm 1 moved 20 again\nopening row 4 fault Account OutOfRange\nopening row 5 fault Shares BadNumber\nopening row 6 fault Double\nopening row 7 fault IssueSum\nexempt ok\npriority ok\norder 1 COVER 0001 037833100 60\norder 1000000 DELIVERY 0042 037833100 1000000000000000000\n";
+        "trade A1 accepted\ntrade A1 refused Same\ntrade A1 refused Conflict\ntrade A1 refused SameMember\ntrade A1 refused Full\nrow 5 fault Settle BadDate\nrow 6 fault Fields\nrow 7 fault Id\nrow 8 fault Buyer BadNumber\nrow 9 fault Seller OutOfRange\nrow 10 fault Cusip BadChar 6\nrow 11 fault Cusip CheckDigit 0\nrow 12 fault Cusip Length\nrow 13 fault Quantity OutOfRange\nline 1 bad command\ncycle 2025-03-04 NIGHT due 2\ncycle refused CycleOrder\ncycle refused NumbersSpent\nsend refused UnknownMove\norder refused NoPacket\norder refused Conflict\nreply refused TooMuch\nsend 1 packet 2\nexec 1 moved 20 packet 3\nagain 1 moved 20 packet 4\nconfirm 1 moved 20 done\nconfirm 1 moved 20 again\nopening row 4 fault Account OutOfRange\nopening row 5 fault Shares BadNumber\nopening row 6 fault Double\nopening row 7 fault IssueSum\nexempt ok\npriority ok\ntrade A1 refused Down\nexempt refused Device\npriority refused Down\nfail ok\nrestart CLEAR records 6 kept no\nrestart DEPOT records 1 kept yes\norder 1 COVER 0001 037833100 60\norder 1000000 DELIVERY 0042 037833100 1000000000000000000\n";
     assert_eq!(rt; out.as_str(), want);
     Ok(())
 }
@@ -105,13 +114,32 @@ fn a_report(rt: HostRuntime) -> Result<(), Fail> {
         day: Day::read(b"2025-03-04")?,
         kind: CycleKind::Day,
     };
+    let pools = [PoolRow {
+        issue,
+        free: 20,
+        lent: 0,
+        out: 1_000_000_000_000_000_000,
+    }];
+    let balances = [
+        BalanceRow {
+            issue,
+            account: Account::Cns,
+            shares: 20,
+        },
+        BalanceRow {
+            issue,
+            account: Account::Member(MemberNo::read(b"42")?),
+            shares: 1_000_000_000_000_000_000,
+        },
+    ];
     let mut out = String::new(rt.alloc());
-    write_cycle_report(&mut out, None, &[])?;
+    write_cycle_report(&mut out, None, &[], &[])?;
     write_report_end(&mut out)?;
-    write_cycle_report(&mut out, Some(day), &rows)?;
+    write_cycle_report(&mut out, Some(day), &rows, &pools)?;
+    write_balance_report(&mut out, &balances)?;
     write_report_end(&mut out)?;
     let want =
-        "REPORT cycle none\nEND\nREPORT cycle 2025-03-04 DAY\nPOS 037833100 0001                  -60\nPOS 037833100 0002  1000000000000000000\nEND\n";
+        "REPORT cycle none\nEND\nREPORT cycle 2025-03-04 DAY\nPOS 037833100 0001                  -60\nPOS 037833100 0002  1000000000000000000\nPOOL 037833100 free 20 lent 0 out 1000000000000000000\nBAL 037833100 0000                   20\nBAL 037833100 0042  1000000000000000000\nEND\n";
     assert_eq!(rt; out.as_str(), want);
     Ok(())
 }

@@ -2,6 +2,11 @@ pub mod Reading
 pub mod Sections
 pub mod Words
 pub mod Script
+pub mod States
+pub mod Clear
+pub mod ClearTexts
+pub mod Depot
+pub mod Link
 pub mod Run
 pub mod Opened
 pub mod Text

@@ -9,6 +9,8 @@ use Rattle.cns_ids.specs.declared.day.BadDate.{BadDate}
 use Rattle.cns_ids.specs.declared.cycle.CycleKind.{CycleKind}
 use Rattle.cns_ids.specs.declared.cycle.CycleKind.TheVariants.{Night, Day}
 use Rattle.cns_trades.specs.Fields.{same_text}
+use Rattle.cns_report.specs.declared.refusal.NodeName.{NodeName}
+use Rattle.cns_report.specs.declared.refusal.NodeName.TheVariants as node
 use Rattle.cnsd.specs.Words.{words_of}
 use Rattle.cnsd.specs.declared.command.Command.{Command}
 use Rattle.cnsd.specs.declared.command.Command.TheVariants as command
@@ -54,15 +56,69 @@ priority_with member issue on = command.Bad
 abbrev pub priority_command : List ℕ → List ℕ → List ℕ → Command
 priority_command member issue switch = priority_with (number_in 1 9999 member) (read_cusip issue) (switch_of switch)
 
+-- a number of an order or of a packet, from 0 to 1,000,000,000
+abbrev pub number_of : List ℕ → Result ℕ ReadFault
+number_of text = number_in 0 1000000000 text
+
+abbrev pub send_with : Result ℕ ReadFault → Command
+send_with (Ok number) = command.Send number
+send_with (Err fault) = command.Bad
+
+abbrev pub order_with : Result ℕ ReadFault → Command
+order_with (Ok packet) = command.Order packet
+order_with (Err fault) = command.Bad
+
+abbrev pub reply_with : Result ℕ ReadFault → Command
+reply_with (Ok packet) = command.Reply packet
+reply_with (Err fault) = command.Bad
+
+abbrev pub node_of : List ℕ → Option NodeName
+node_of text =
+    if same_text text (codes "CLEAR") then Some node.Clear
+    else if same_text text (codes "DEPOT") then Some node.Depot
+    else None
+
+-- whether the record of a planned failure stands
+abbrev pub stands_of : List ℕ → Option Bool
+stands_of text =
+    if same_text text (codes "KEEP") then Some true
+    else if same_text text (codes "DROP") then Some false
+    else None
+
+abbrev pub fail_with : Option NodeName → Option Bool → Command
+fail_with (Some name) (Some stands) = command.Fail name stands
+fail_with name stands = command.Bad
+
+-- FAIL, a node, and KEEP or DROP
+abbrev pub fail_command : List ℕ → List ℕ → Command
+fail_command name stands = fail_with (node_of name) (stands_of stands)
+
+-- RESTART and a node
+abbrev pub restart_with : Option NodeName → Command
+restart_with (Some name) = command.Restart name
+restart_with None = command.Bad
+
 -- the commands of one word, of two, of three, and of four
 abbrev pub single : List ℕ → Command
-single word = if same_text word (codes "REPORT") then command.Report else command.Bad
+single word =
+    if same_text word (codes "REPORT") then command.Report
+    else if same_text word (codes "PUMP") then command.Pump
+    else command.Bad
 
 abbrev pub pair : List ℕ → List ℕ → Command
-pair word first = if same_text word (codes "TAKE") then take_command first else command.Bad
+pair word first =
+    if same_text word (codes "TAKE") then take_command first
+    else if same_text word (codes "SEND") then send_with (number_of first)
+    else if same_text word (codes "ORDER") then order_with (number_of first)
+    else if same_text word (codes "REPLY") then reply_with (number_of first)
+    else if same_text word (codes "RESTART") then restart_with (node_of first)
+    else command.Bad
 
 abbrev pub triple : List ℕ → List ℕ → List ℕ → Command
-triple word first second = if same_text word (codes "CYCLE") then cycle_command first second else command.Bad
+triple word first second =
+    if same_text word (codes "CYCLE") then cycle_command first second
+    else if same_text word (codes "FAIL") then fail_command first second
+    else command.Bad
 
 abbrev pub quadruple : List ℕ → List ℕ → List ℕ → List ℕ → Command
 quadruple word first second third =

@@ -15,7 +15,7 @@ use Rattle.cnsd.specs.declared.fault.BatchFault.TheVariants as fault
 
 -- what the rows of openings tell, and then what the script tells over the rows of trades
 abbrev pub text_under : List ℕ → Option (List OpeningRow) → Option (List Row) → Result (List ℕ) BatchFault
-text_under script (Some openings) (Some rows) = Ok ((told_openings 1 [] openings).1 ++ script_text rows script)
+text_under script (Some openings) (Some rows) = Ok ((told_openings 1 [] openings).1 ++ script_text (told_openings 1 [] openings).0 rows script)
 text_under script (Some openings) None = Err fault.Csv
 text_under script None rows = Err fault.Csv
 

@@ -34,11 +34,11 @@ fn tell(
     trades: &[Row],
     script: &[u8],
 ) -> Result<String, AllocError>
-    ensures { IfOk result (λ t. string_bytes t ≡ (told_openings 1 [] openings.now).1 ++ script_text trades.now script.now) }
+    ensures { IfOk result (λ t. string_bytes t ≡ (told_openings 1 [] openings.now).1 ++ script_text (told_openings 1 [] openings.now).0 trades.now script.now) }
 {
     let mut out = String::new(alloc);
-    take_openings(alloc, openings, &mut out)?;
-    run_script(alloc, trades, script, &mut out)?;
+    let openings = take_openings(alloc, openings, &mut out)?;
+    run_script(alloc, openings, trades, script, &mut out)?;
     Ok(out)
 }
 

@@ -1,9 +1,10 @@
 ghost use Rattle.std.specs.Prelude.{◌≡◌, ◌==◌, ◌<◌, option_map, length, IfSome};
 ghost use Rattle.std.specs.List.{position_from};
 ghost use Rattle.cnsd.specs.Words.{split_at_space};
-ghost use Rattle.cnsd.specs.Script.{command_of as command_of_line, cycle_command as cycle_command_of, single as single_of, pair as pair_of, triple as triple_of, quadruple as quadruple_of, take_command as take_command_of, exempt_command as exempt_command_of, priority_command as priority_command_of, switch_of};
+ghost use Rattle.cnsd.specs.Script.{command_of as command_of_line, cycle_command as cycle_command_of, single as single_of, pair as pair_of, triple as triple_of, quadruple as quadruple_of, take_command as take_command_of, exempt_command as exempt_command_of, priority_command as priority_command_of, switch_of, number_of, send_with, order_with, reply_with, node_of, stands_of, fail_command as fail_command_of, restart_with};
 
-use cns_ids::{Cusip, CycleId, CycleKind, Day, MemberNo, Shares, read_number};
+use cns_ids::{Cusip, CycleId, CycleKind, Day, MemberNo, ReadFault, Shares, read_number};
+use cns_report::NodeName;
 
 /// A line of the script.
 #[derive(Clone, Copy, PartialEq, Eq, Debug)]
@@ -28,6 +29,22 @@ pub enum Command {
         issue: Cusip,
         on: bool,
     },
+    /// `SEND n`: the order of this number is put on the link.
+    Send(u64),
+    /// `ORDER k`: this packet of the link of orders arrives at the depository.
+    Order(u64),
+    /// `REPLY k`: this packet of the link of replies arrives at the clearing corporation.
+    Reply(u64),
+    /// `FAIL node KEEP` or `DROP`: the next commit of the node fails, and its record then stands at
+    /// the restart or does not.
+    Fail {
+        node: NodeName,
+        stands: bool,
+    },
+    /// `RESTART node`.
+    Restart(NodeName),
+    /// `PUMP`: each unconfirmed order is sent, executed and confirmed.
+    Pump,
     /// `REPORT`.
     Report,
     /// A line that fits no form.
@@ -136,12 +153,97 @@ fn priority_command(member: &[u8], issue: &[u8], switch: &[u8]) -> Command
     }
 }
 
+// The number of an order or of a packet.
+fn read_place(text: &[u8]) -> Result<u64, ReadFault>
+    ensures { result ≡ number_of text.now }
+{
+    read_number(text, 0, 1_000_000_000)
+}
+
+// The command `SEND number`.
+fn send_command(number: &[u8]) -> Command
+    ensures { result ≡ send_with (number_of number.now) }
+{
+    match read_place(number) {
+        Ok(number) => Command::Send(number),
+        Err(_) => Command::Bad,
+    }
+}
+
+// The command `ORDER packet`.
+fn order_command(packet: &[u8]) -> Command
+    ensures { result ≡ order_with (number_of packet.now) }
+{
+    match read_place(packet) {
+        Ok(packet) => Command::Order(packet),
+        Err(_) => Command::Bad,
+    }
+}
+
+// The command `REPLY packet`.
+fn reply_command(packet: &[u8]) -> Command
+    ensures { result ≡ reply_with (number_of packet.now) }
+{
+    match read_place(packet) {
+        Ok(packet) => Command::Reply(packet),
+        Err(_) => Command::Bad,
+    }
+}
+
+// A node: `CLEAR` or `DEPOT`.
+fn read_node(text: &[u8]) -> Option<NodeName>
+    ensures { result ≡ node_of text.now }
+{
+    if text == b"CLEAR".as_slice() {
+        Some(NodeName::Clear)
+    } else if text == b"DEPOT".as_slice() {
+        Some(NodeName::Depot)
+    } else {
+        None
+    }
+}
+
+// Whether the record of a planned failure stands: `KEEP` or `DROP`.
+fn read_stands(text: &[u8]) -> Option<bool>
+    ensures { result ≡ stands_of text.now }
+{
+    if text == b"KEEP".as_slice() {
+        Some(true)
+    } else if text == b"DROP".as_slice() {
+        Some(false)
+    } else {
+        None
+    }
+}
+
+// The command `FAIL node stands`.
+fn fail_command(node: &[u8], stands: &[u8]) -> Command
+    ensures { result ≡ fail_command_of node.now stands.now }
+{
+    match (read_node(node), read_stands(stands)) {
+        (Some(node), Some(stands)) => Command::Fail { node, stands },
+        _ => Command::Bad,
+    }
+}
+
+// The command `RESTART node`.
+fn restart_command(node: &[u8]) -> Command
+    ensures { result ≡ restart_with (node_of node.now) }
+{
+    match read_node(node) {
+        Some(node) => Command::Restart(node),
+        None => Command::Bad,
+    }
+}
+
 // The command of one word.
 fn single(word: &[u8]) -> Command
     ensures { result ≡ single_of word.now }
 {
     if word == b"REPORT".as_slice() {
         Command::Report
+    } else if word == b"PUMP".as_slice() {
+        Command::Pump
     } else {
         Command::Bad
     }
@@ -153,6 +255,14 @@ fn pair(word: &[u8], first: &[u8]) -> Command
 {
     if word == b"TAKE".as_slice() {
         take_command(first)
+    } else if word == b"SEND".as_slice() {
+        send_command(first)
+    } else if word == b"ORDER".as_slice() {
+        order_command(first)
+    } else if word == b"REPLY".as_slice() {
+        reply_command(first)
+    } else if word == b"RESTART".as_slice() {
+        restart_command(first)
     } else {
         Command::Bad
     }
@@ -164,6 +274,8 @@ fn triple(word: &[u8], first: &[u8], second: &[u8]) -> Command
 {
     if word == b"CYCLE".as_slice() {
         cycle_command(first, second)
+    } else if word == b"FAIL".as_slice() {
+        fail_command(first, second)
     } else {
         Command::Bad
     }

@@ -4,12 +4,15 @@
 
 mod arguments;
 mod batch;
+mod clear_side;
 mod command;
+mod depot_side;
 mod fault;
 mod input;
+mod line;
+mod nodes;
 mod opening;
 mod output;
-mod runner;
 mod script;
 mod sections;
 mod steps;

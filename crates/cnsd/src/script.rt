@@ -1,21 +1,24 @@
 ghost use Rattle.std.specs.Prelude.{◌≡◌, ◌++◌, OnOk, string_bytes};
 ghost use Rattle.cnsd.specs.Run.{script_text};
 
-use crate::runner::{Runner, run_line};
+use crate::line::run_line;
+use crate::nodes::Nodes;
 use crate::sections::{line_size, line_text};
+use cns_depository::Openings;
 use cns_trades::Row;
 use std::alloc::{AllocError, Global};
 
-/// Runs a script over rows of trades, and adds what it tells.
+/// Runs a script over openings and rows of trades, and adds what it tells.
 pub(crate) fn run_script(
     alloc: Global,
+    openings: Openings,
     rows: &[Row],
     script: &[u8],
     out: &mut String,
 ) -> Result<(), AllocError>
-    ensures { OnOk result (string_bytes out.new ≡ string_bytes out.old ++ script_text rows.now script.now) }
+    ensures { OnOk result (string_bytes out.new ≡ string_bytes out.old ++ script_text openings rows.now script.now) }
 {
-    let mut runner = Runner::new(alloc);
+    let mut nodes = Nodes::new(alloc, openings)?;
     let mut left = rows;
     let mut number = 1;
     let mut at = 0;
@@ -23,8 +26,9 @@ pub(crate) fn run_script(
         let (_, rest) = script.split_at(at);
         let size = line_size(rest);
         let (line, _) = rest.split_at(size);
-        let taken = run_line(&mut runner, left, number, line_text(line), out)?;
-        let (_, more) = left.split_at(taken);
+        let ran = run_line(nodes, left, number, line_text(line), out)?;
+        nodes = ran.nodes;
+        let (_, more) = left.split_at(ran.taken);
         left = more;
         number += 1;
         at += size;

@@ -12,10 +12,10 @@ loop-at-preserved c =
     let within = rw rest at c.line_size-size.ensures.within in
     let some = c.line_size-size.ensures.some pos in
     let line = rw c.split_at-in-loop-at.ensures.front at c.line_text.ensures in
-    let state = rw (← c.split_at-in-loop-at-2.ensures.back) at c.in_ok-taken.ensures.after in (
+    let state = rw (← c.split_at-in-loop-at-2.ensures.back) at c.in_ok-ran.ensures.after in (
       omega (arith, within, len, lt),
       omega (arith, some, inv.1),
-      run_step c.loop-at.number _ _ c.args.script.now _ _ _ _ _ _ c.loop-at.at _ rest pos c.line_size-size.ensures.size line state refl c.in_ok-taken.ensures.text inv.2,
+      run_step c.loop-at.number _ _ c.args.script.now _ _ _ _ _ _ c.loop-at.at _ rest pos c.line_size-size.ensures.size line state refl c.in_ok-ran.ensures.text inv.2,
     )
 
 pub returns : goal.returns

@@ -19,7 +19,7 @@ invariant_of-self-2 g c =
     let items = c.self.inside.records.items in
     let none : record_of (reverse items) o.number ≡ None = sym (rw c.as_slice.ensures.value at c.in_default.ensures) in
     let is : c.movement-entry.result ≡ movement openings (reverse items) o = rw c.as_slice-2.ensures.value at c.movement-entry.ensures in
-    node_added c.movement-entry.result openings items _ _ _ _ _ _ _ _ _ _ _ c.self.invariant c.if-self.false
+    node_added c.movement-entry.result openings items _ _ _ _ _ _ _ _ _ _ _ _ _ c.self.invariant c.if-self.false
     (subst (IsExecutable openings (reverse items)) (sym is) (movement_executable openings (reverse items) o none))
     done.ranges (subst IsDepWritable (sym is) (movement_writable openings (reverse items) o))
-    done.list done.tried done.down done.run.0 done.honest done.journal
+    done.list done.tried done.down done.run.0 done.honest done.journal done.foreseen.1

@@ -1,0 +1,113 @@
+-- What the records of a clearing node make of its books.
+use Rattle.std.proofs.Common.{◌≡◌, ◌+◌, ◌≤◌, Bool, true, false, List, [], ◌∷◌, ◌++◌, length, reverse, Some, refl, sym, ◌∙◌, subst, arith}
+use Rattle.std.specs.Prelude.{◌+ℤ◌, pos, not, ◌==◌, ◌&&◌, nat_lt}
+use Rattle.std.proofs.lemmas.Bool.{eqb-true, ltb-false}
+use Rattle.std.proofs.lemmas.List.{reverse-append}
+use Rattle.std.proofs.lemmas.Option.{same_Some}
+use Rattle.cns_trades.proofs.ListLemmas.{new-few}
+use Rattle.cns_netting.specs.Book.{IsWithin, IsBook}
+use Rattle.cns_netting.specs.History.{accepted, position_of}
+use Rattle.cns_netting.proofs.BookLemmas.{book_accepted, book_empty, book_netted, book_settled}
+use Rattle.cns_movements.specs.Book.{Orders, IsOrderBook}
+use Rattle.cns_movements.specs.Confirm.{confirm_answer}
+use Rattle.cns_movements.specs.Order.{order_of}
+use Rattle.cns_movements.specs.declared.book.Confirm.TheVariants as answers
+use Rattle.cns_movements.specs.declared.order.Ask.{Ask}
+use Rattle.cns_movements.specs.declared.order.MoveKind.TheVariants.{Cover}
+use Rattle.cns_movements.specs.declared.order.Order.{Order}
+use Rattle.cns_movements.specs.declared.order.Reply.{Reply}
+use Rattle.cns_movements.proofs.BookLemmas.{with_asks_lawful, with_reply_lawful}
+use Rattle.cns_movements.proofs.ConfirmLemmas.{IsTaken, taken_from_done}
+use Rattle.cns_covers.specs.Bounds.{AreBounded}
+use Rattle.cns_covers.proofs.BoundLemmas.{bounded_accepted, bounded_confirmed, bounded_cycle, bounded_empty, bounded_within, confirmed_within, kind_of_found}
+use Rattle.cns_records.specs.Clear.{HasRanges, AreWritable}
+use Rattle.cns_records.specs.declared.clear_record.ClearRecord.{ClearRecord}
+use Rattle.cns_records.specs.declared.clear_record.ClearRecord.TheVariants.{Accept, Exempt, Priority, Cycle, Confirm}
+use Rattle.cns_clearing.specs.Books.{Books, Allows, AreSound, IsLawful, amount_of, are_spent, books_of, covers_on, with_record}
+
+-- a position stays within 10^18 of 0 where a first confirmation brings its shares
+pub settle_within : (b : Books) (r : Reply) (o : Order) → AreSound b → confirm_answer b.orders r ≡ answers.Done → order_of b.orders.orders r.number ≡ Some o
+    → IsWithin (position_of b.history o.member o.issue +ℤ amount_of o.kind r.moved)
+settle_within b r o sound done found =
+    let taken = taken_from_done b.orders r done in
+    let same : taken.order ≡ o = same_Some taken.order o (sym taken.found ∙ found) in
+    let kind : o.kind ≡ Cover = kind_of_found b.orders.orders r.number o sound.bounded.covers found in
+    rw kind (confirmed_within b.history b.orders r o sound.ordered sound.bounded found taken.first (rw (← same) taken.within) sound.netted)
+
+-- numbers that are not spent suffice
+numbers_suffice : (book : Orders) (asks : List Ask) → length book.orders ≤ 1000000 → are_spent book asks ≡ false → length book.orders + length asks ≤ 1000000
+numbers_suffice book asks few enough = by (length asks == 0) (nat_lt 1000000 (length book.orders + length asks)) refl refl enough
+  where
+    by : (none over : Bool) → (length asks == 0) ≡ none → nat_lt 1000000 (length book.orders + length asks) ≡ over → (not none && over) ≡ false
+        → length book.orders + length asks ≤ 1000000
+    by true over e l h = let nothing = eqb-true (length asks) 0 e in omega (arith, nothing, few)
+    by false true e l h = absurd (cc h)
+    by false false e l h = ltb-false 1000000 (length book.orders + length asks) l
+
+-- the bounds of books, and the order of their orders
+pub record AreOrderly (b : Books) : Type 0 where
+  pub bounded : AreBounded b.history b.orders
+  pub ordered : IsOrderBook b.orders
+
+orderly_confirmed : (b : Books) (r : Reply) → AreOrderly b → (taken : IsTaken b.orders r) → AreOrderly (with_record (Confirm r) b)
+orderly_confirmed b r orderly taken =
+    let o = taken.order in
+    let kind : o.kind ≡ Cover = kind_of_found b.orders.orders r.number o orderly.bounded.covers taken.found in
+    record {
+      bounded = rw (taken.found, kind) (bounded_confirmed b.history b.orders r o orderly.ordered orderly.bounded taken.found taken.first taken.within);
+      ordered = with_reply_lawful b.orders r o orderly.ordered taken.found taken.first taken.within;
+    }
+
+-- they stay so with one more record
+orderly_more : (r : ClearRecord) (b : Books) → AreOrderly b → Allows b r → AreOrderly (with_record r b)
+orderly_more (Accept t) b orderly allowed = record { bounded = bounded_accepted b.history b.orders t orderly.bounded; ordered = orderly.ordered }
+orderly_more (Exempt m i s) b orderly allowed = record { bounded = orderly.bounded; ordered = orderly.ordered }
+orderly_more (Priority m i is_on) b orderly allowed = record { bounded = orderly.bounded; ordered = orderly.ordered }
+orderly_more (Cycle id) b orderly allowed = record {
+  bounded = bounded_cycle b.history b.orders b.exemptions id.day orderly.ordered orderly.bounded;
+  ordered = with_asks_lawful b.orders (covers_on b id.day) orderly.ordered (numbers_suffice b.orders (covers_on b id.day) orderly.ordered.few allowed.1);
+}
+orderly_more (Confirm r) b orderly allowed = orderly_confirmed b r orderly (taken_from_done b.orders r allowed)
+
+-- the covers of lawful records keep the positions small, and their orders are numbered and confirmed once
+pub lawful_bounded : (c : List ClearRecord) → IsLawful c → AreOrderly (books_of c)
+unfolding books_of
+lawful_bounded [] lawful = record { bounded = bounded_empty; ordered = record { numbered = tt; few = omega arith; known = tt; once = tt } }
+lawful_bounded (r ∷ c) lawful = orderly_more r (books_of c) (lawful_bounded c lawful.1) lawful.0
+
+-- the history after the first confirmation of an order
+netted_confirmed : (b : Books) (r : Reply) → AreSound b → (taken : IsTaken b.orders r) → IsBook (with_record (Confirm r) b).history
+netted_confirmed b r sound taken =
+    let o = taken.order in
+    let kind : o.kind ≡ Cover = kind_of_found b.orders.orders r.number o sound.bounded.covers taken.found in
+    let before = bounded_within b.history b.orders o.member o.issue sound.netted sound.bounded in
+    let after = confirmed_within b.history b.orders r o sound.ordered sound.bounded taken.found taken.first taken.within sound.netted in
+    rw (taken.found, kind) (book_settled b.history o.member o.issue (pos r.moved) sound.netted before after)
+
+netted_more : (r : ClearRecord) (b : Books) → AreSound b → Allows b r → HasRanges r → IsBook (with_record r b).history
+netted_more (Accept t) b sound allowed ranges = book_accepted b.history t sound.netted (new-few (accepted b.history) t allowed) ranges.quantity.to
+netted_more (Exempt m i s) b sound allowed ranges = sound.netted
+netted_more (Priority m i is_on) b sound allowed ranges = sound.netted
+netted_more (Cycle id) b sound allowed ranges = book_netted b.history id.day sound.netted
+netted_more (Confirm r) b sound allowed ranges = netted_confirmed b r sound (taken_from_done b.orders r allowed)
+
+-- the books of lawful records are sound
+pub lawful_sound : (c : List ClearRecord) → IsLawful c → AreWritable c → AreSound (books_of c)
+unfolding books_of
+lawful_sound [] lawful fits =
+    let orderly = lawful_bounded [] lawful in
+    record { netted = book_empty; bounded = orderly.bounded; ordered = orderly.ordered }
+lawful_sound (r ∷ c) lawful fits =
+    let orderly = lawful_bounded (r ∷ c) lawful in
+    let netted = netted_more r (books_of c) (lawful_sound c lawful.1 fits.2) lawful.0 fits.0 in
+    record { netted = netted; bounded = orderly.bounded; ordered = orderly.ordered }
+
+-- records are writable in any order
+pub writable-append : (xs ys : List ClearRecord) → AreWritable xs → AreWritable ys → AreWritable (xs ++ ys)
+writable-append [] ys first then = then
+writable-append (x ∷ xs) ys first then = (first.0, first.1, writable-append xs ys first.2 then)
+
+pub writable-reverse : (xs : List ClearRecord) → AreWritable xs → AreWritable (reverse xs)
+writable-reverse [] fits = tt
+writable-reverse (x ∷ xs) fits =
+    subst AreWritable (sym (reverse-append (x ∷ []) xs)) (writable-append (reverse xs) (x ∷ []) (writable-reverse xs fits.2) (fits.0, fits.1, tt))

@@ -1,0 +1,4 @@
+pub mod BooksLemmas
+pub mod NodeLemmas
+pub mod ReplayLemmas
+pub mod PositionLemmas

@@ -1,0 +1,163 @@
+-- Due trades and positions are those of the books.
+use Rattle.std.proofs.Common.{◌≡◌, ◌≤◌, ◌+◌, ℕ, zero, suc, Bool, true, false, List, [], ◌∷◌, ◌++◌, length, Option, Some, None, refl, sym, ap, ◌∙◌, subst, arith}
+use Rattle.std.specs.Prelude.{◌&&◌, ◌==◌, ◌||◌, nat_le, ℤ, pos, neg_ℤ, ◌+ℤ◌, ◌-ℤ◌, ◌≤ℤ◌, if◌then◌else◌}
+use Rattle.std.specs.List.{list_any}
+use Rattle.std.proofs.lemmas.Int.{ints}
+use Rattle.std.proofs.lemmas.List.Sums.{sum_by-cons}
+use Rattle.cns_movements.specs.Book.{IsOrderBook}
+use Rattle.cns_trades.specs.declared.trade.Trade.{Trade}
+use Rattle.cns_netting.specs.History.{bought, credit_part, debit_part, due, due_since, is_reached, latest, position_of, settled_in, settled_out, sold}
+use Rattle.cns_netting.specs.declared.entry.NetEntry.{NetEntry}
+use Rattle.cns_netting.proofs.TallyLemmas.{is_reached-latest}
+use Rattle.cns_movements.specs.Order.{is_of, moved_of, moved_part, moved_sum, numbered, open_part, open_sum, same_kind}
+use Rattle.cns_movements.specs.declared.order.Ask.{Ask}
+use Rattle.cns_movements.specs.declared.order.MoveKind.{MoveKind}
+use Rattle.cns_movements.specs.declared.order.MoveKind.TheVariants.{Cover, Delivery}
+use Rattle.cns_movements.specs.declared.order.Order.{Order}
+use Rattle.cns_movements.specs.declared.order.Reply.{Reply}
+use Rattle.cns_movements.proofs.ConfirmLemmas.{IsTaken, taken_from_done}
+use Rattle.cns_movements.proofs.ReplyLemmas.{moved_of_above, moved_sum-append, moved_sum-with_reply}
+use Rattle.cns_covers.specs.Bounds.{AreCovers}
+use Rattle.cns_covers.proofs.BoundLemmas.{position_bounds}
+use Rattle.cns_records.specs.declared.clear_record.ClearRecord.{ClearRecord}
+use Rattle.cns_records.specs.declared.clear_record.ClearRecord.TheVariants.{Accept, Exempt, Priority, Cycle, Confirm}
+use Rattle.cns_clearing.specs.Books.{Books, Allows, IsLawful, amount_of, books_of, covers_on, history_of, settled_by, with_record}
+use Rattle.cns_clearing.specs.Position.{IsBetween, due_before, due_in, is_cycle_from, position_in}
+use Rattle.cns_clearing.proofs.BooksLemmas.{lawful_bounded}
+
+-- a settlement makes no trade due
+due_settled : (reached : Option ℕ) (o : Option Order) (moved : ℕ) (h : List NetEntry) → due_since reached (settled_by o moved h) ≡ due_since reached h
+due_settled reached None moved h = refl
+due_settled reached (Some o) moved h = refl
+
+-- the same dates are reached by nettings and by cycles
+abbrev ReachAlike : Option ℕ → List ClearRecord → Type 0
+ReachAlike reached later = (s : ℕ) → is_reached reached s ≡ list_any (is_cycle_from s) later
+
+due_alike : (reached : Option ℕ) (later c : List ClearRecord) → ReachAlike reached later → due_since reached (history_of c) ≡ due_before later c
+unfolding books_of
+due_alike reached later [] alike = refl
+due_alike reached later (Accept t ∷ c) alike =
+    let rest = due_alike reached (Accept t ∷ later) c (λ s. alike s) in
+    rw (alike t.settle, rest) refl
+due_alike reached later (Exempt m i s ∷ c) alike = due_alike reached (Exempt m i s ∷ later) c (λ s. alike s)
+due_alike reached later (Priority m i is_on ∷ c) alike = due_alike reached (Priority m i is_on ∷ later) c (λ s. alike s)
+due_alike reached later (Cycle id ∷ c) alike =
+    due_alike (latest reached id.day) (Cycle id ∷ later) c (λ s. is_reached-latest reached id.day s ∙ ap (λ b. nat_le s id.day || b) (alike s))
+due_alike reached later (Confirm r ∷ c) alike =
+    due_settled reached _ r.moved (history_of c) ∙ due_alike reached (Confirm r ∷ later) c (λ s. alike s)
+
+-- the due trades are those of the history
+pub due_in_is : (c : List ClearRecord) → due (history_of c) ≡ due_in c
+due_in_is c = due_alike None [] c (λ s. refl)
+
+-- new orders have moved nothing
+moved_sum_new : (n : ℕ) (asks : List Ask) (rs : List Reply) (kind : MoveKind) (m i : ℕ) → ((j : ℕ) → n ≤ j → moved_of rs j ≡ None) → moved_sum (numbered n asks) rs kind m i ≡ 0
+unfolding moved_sum
+moved_sum_new n [] rs kind m i none = refl
+moved_sum_new n (a ∷ asks) rs kind m i none =
+    let o : Order = record { number = n; kind = a.kind; member = a.member; issue = a.issue; asked = a.asked } in
+    let rest = moved_sum_new (suc n) asks rs kind m i (λ j le. none j (omega arith)) in
+    let part : moved_part rs o ≡ 0 = rw (none n (omega arith)) refl in
+    let here = nothing (is_of kind m i o) (moved_part rs o) part in
+    omega (arith, sum_by-cons (λ (o : Order). if is_of kind m i o then moved_part rs o else 0) o (numbered (suc n) asks), rest, here)
+  where
+    nothing : (b : Bool) (p : ℕ) → p ≡ 0 → (if b then p else 0) ≡ 0
+    nothing true p e = e
+    nothing false p e = refl
+
+-- what a confirmed movement brings its member, and takes from it
+no_credit : (moved : ℕ) → credit_part (neg_ℤ (pos moved)) ≡ 0
+no_credit zero = refl
+no_credit (suc n) = refl
+
+all_debit : (moved : ℕ) → debit_part (neg_ℤ (pos moved)) ≡ moved
+all_debit zero = refl
+all_debit (suc n) = refl
+
+nothing_either : (b : Bool) (p : ℕ) → p ≡ 0 → (if b then p else 0) ≡ 0
+nothing_either true p e = e
+nothing_either false p e = refl
+
+credit_moved : (kind : MoveKind) (here : Bool) (moved : ℕ) → (if here then credit_part (amount_of kind moved) else 0) ≡ (if same_kind Cover kind && here then moved else 0)
+credit_moved Cover here moved = refl
+credit_moved Delivery here moved = nothing_either here (credit_part (neg_ℤ (pos moved))) (no_credit moved)
+
+debit_moved : (kind : MoveKind) (here : Bool) (moved : ℕ) → (if here then debit_part (amount_of kind moved) else 0) ≡ (if same_kind Delivery kind && here then moved else 0)
+debit_moved Cover here moved = nothing_either here 0 refl
+debit_moved Delivery here moved = ap (λ n. if here then n else 0) (all_debit moved)
+
+-- the settlements are what confirmed orders moved
+record AreMoved (b : Books) (m i : ℕ) : Type 0 where
+  brought : settled_in b.history m i ≡ moved_sum b.orders.orders b.orders.replies Cover m i
+  took : settled_out b.history m i ≡ moved_sum b.orders.orders b.orders.replies Delivery m i
+
+moved_confirmed : (b : Books) (r : Reply) (m i : ℕ) → IsOrderBook b.orders → IsTaken b.orders r → AreMoved b m i → AreMoved (with_record (Confirm r) b) m i
+unfolding settled_in settled_out
+moved_confirmed b r m i ordered taken moved =
+    let o = taken.order in
+    let here = (o.member == m) && (o.issue == i) in
+    let by = moved_sum-with_reply b.orders.orders b.orders.replies r o in
+    let covers = by Cover m i ordered.numbered taken.found taken.first in
+    let deliveries = by Delivery m i ordered.numbered taken.found taken.first in
+    record {
+      brought = rw taken.found (omega (arith, covers, moved.brought, credit_moved o.kind here r.moved));
+      took = rw taken.found (omega (arith, deliveries, moved.took, debit_moved o.kind here r.moved));
+    }
+
+moved_cycle : (b : Books) (asks : List Ask) (kind : MoveKind) (m i : ℕ) → IsOrderBook b.orders
+    → moved_sum (b.orders.orders ++ numbered (length b.orders.orders + 1) asks) b.orders.replies kind m i ≡ moved_sum b.orders.orders b.orders.replies kind m i
+moved_cycle b asks kind m i ordered =
+    let os = b.orders.orders in
+    let rs = b.orders.replies in
+    let next : ℕ = length os + 1 in
+    let new = moved_sum_new next asks rs kind m i (λ j le. moved_of_above os rs j ordered.numbered ordered.known (omega arith)) in
+    omega (arith, moved_sum-append os (numbered next asks) rs kind m i, new)
+
+moved_more : (r : ClearRecord) (b : Books) (m i : ℕ) → IsOrderBook b.orders → Allows b r → AreMoved b m i → AreMoved (with_record r b) m i
+unfolding settled_in settled_out
+moved_more (Accept t) b m i ordered allowed moved = record { brought = moved.brought; took = moved.took }
+moved_more (Exempt member issue s) b m i ordered allowed moved = record { brought = moved.brought; took = moved.took }
+moved_more (Priority member issue is_on) b m i ordered allowed moved = record { brought = moved.brought; took = moved.took }
+moved_more (Cycle id) b m i ordered allowed moved = record {
+  brought = moved.brought ∙ sym (moved_cycle b (covers_on b id.day) Cover m i ordered);
+  took = moved.took ∙ sym (moved_cycle b (covers_on b id.day) Delivery m i ordered);
+}
+moved_more (Confirm r) b m i ordered allowed moved = moved_confirmed b r m i ordered (taken_from_done b.orders r allowed) moved
+
+lawful_moved : (c : List ClearRecord) (m i : ℕ) → IsLawful c → AreMoved (books_of c) m i
+unfolding books_of settled_in settled_out moved_sum
+lawful_moved [] m i lawful = record { brought = refl; took = refl }
+lawful_moved (r ∷ c) m i lawful = moved_more r (books_of c) m i (lawful_bounded c lawful.1).ordered lawful.0 (lawful_moved c m i lawful.1)
+
+-- the position of the books is that of the records
+pub position_in_is : (c : List ClearRecord) (m i : ℕ) → IsLawful c → position_of (history_of c) m i ≡ position_in c m i
+position_in_is c m i lawful =
+    let moved = lawful_moved c m i lawful in
+    rw (moved.brought, moved.took, due_in_is c) refl
+
+-- no delivery is open where all orders are covers
+no_deliveries : (os : List Order) (rs : List Reply) (m i : ℕ) → AreCovers os → open_sum os rs Delivery m i ≡ 0
+unfolding open_sum
+no_deliveries [] rs m i covers = refl
+no_deliveries (o ∷ os) rs m i covers =
+    let f : Order → ℕ = λ (x : Order). if is_of Delivery m i x then open_part rs x else 0 in
+    let here : f o ≡ 0 = rw covers.0 refl in
+    omega (arith, sum_by-cons f o os, no_deliveries os rs m i covers.1, here)
+
+less_nothing : (low : ℕ) (z : ℤ) (more : ℕ) → more ≡ 0 → neg_ℤ (pos low) ≤ℤ z → neg_ℤ (pos low) ≤ℤ (z -ℤ pos more)
+less_nothing low z more none le = omega (arith, ints, none, le)
+
+-- the bounds of a position
+pub position_between : (c : List ClearRecord) (m i : ℕ) → IsLawful c → IsBetween c m i (position_of (history_of c) m i)
+position_between c m i lawful =
+    let b = books_of c in
+    let bounded = (lawful_bounded c lawful).bounded in
+    let position : ℤ = position_of (history_of c) m i in
+    let more : ℕ = open_sum b.orders.orders b.orders.replies Cover m i in
+    let bounds = position_bounds b.history b.orders m i bounded in
+    let low : neg_ℤ (pos (sold (due_in c) m i)) ≤ℤ position = subst (λ (ts : List Trade). neg_ℤ (pos (sold ts m i)) ≤ℤ position) (due_in_is c) bounds.0 in
+    record {
+      low = less_nothing (sold (due_in c) m i) position _ (no_deliveries b.orders.orders b.orders.replies m i bounded.covers) low;
+      high = subst (λ (ts : List Trade). (position +ℤ pos more) ≤ℤ pos (bought ts m i)) (due_in_is c) bounds.1;
+    }

@@ -1,0 +1,8 @@
+use Rattle.std.proofs.Common.{◌∙◌, ap}
+use Rattle.cns_netting.specs.History.{due}
+use Rattle.cns_clearing.specs.Books.{Books}
+use Rattle.cns_clearing.proofs.PositionLemmas.{due_in_is}
+use Rattle.cns_clearing.proofs.clearing.Clearing.book.Goals as goal
+
+pub returns-clause-due : goal.returns-clause-due
+returns-clause-due g c = ap due c.book.ensures ∙ ap (λ (b : Books). due b.history) c.books.ensures.books ∙ due_in_is c.args.self.now.records

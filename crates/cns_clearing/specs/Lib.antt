@@ -1,0 +1,9 @@
+pub mod Pools
+pub mod Books
+pub mod Position
+pub mod Room
+pub mod Faults
+pub mod Node
+pub mod Commit
+pub mod Answers
+pub mod Replay

@@ -1,0 +1,67 @@
+-- The pool of an issue: the shares in account 0 that are free, lent and on their way to members, as sums over the orders of
+-- a book (this project's own rules).
+use Rattle.std.specs.Prelude.{ℕ, ◌-◌, ◌&&◌, ◌==◌, List, [], ◌∷◌, Option, Some, None, unwrap_or, sum_by, if◌then◌else◌}
+use Rattle.std.specs.List.{filter_map}
+use Rattle.std.specs.Ordering.{nat_cmp}
+use Rattle.std.specs.BTreeSet.{insert_key}
+use Rattle.cns_movements.specs.Order.{is_cover, is_delivery, moved_of, moved_part, open_part}
+use Rattle.cns_movements.specs.Book.{Orders}
+use Rattle.cns_movements.specs.declared.order.Order.{Order}
+use Rattle.cns_movements.specs.declared.order.Reply.{Reply}
+use Rattle.cns_clearing.specs.declared.pools.PoolRow.{PoolRow}
+
+-- what a delivery takes of the pool: what it moved, and what it asks for while it is not confirmed
+abbrev pub taken_part : List Reply → Order → ℕ
+taken_part replies o = unwrap_or (moved_of replies o.number) o.asked
+
+-- what an order counts among the covers, and among the deliveries, of an issue
+abbrev pub covered_by_order : List Reply → ℕ → Order → ℕ
+covered_by_order replies issue o = if is_cover o.kind && (o.issue == issue) then moved_part replies o else 0
+
+abbrev pub taken_by_order : List Reply → ℕ → Order → ℕ
+taken_by_order replies issue o = if is_delivery o.kind && (o.issue == issue) then taken_part replies o else 0
+
+abbrev pub out_by_order : List Reply → ℕ → Order → ℕ
+out_by_order replies issue o = if is_delivery o.kind && (o.issue == issue) then open_part replies o else 0
+
+-- the shares that confirmed covers brought in an issue
+unfoldable pub covered_of : Orders → ℕ → ℕ
+covered_of book issue = sum_by (covered_by_order book.replies issue) book.orders
+
+-- the shares that deliveries took, or still may take
+unfoldable pub taken_of : Orders → ℕ → ℕ
+taken_of book issue = sum_by (taken_by_order book.replies issue) book.orders
+
+-- the shares that unconfirmed deliveries ask for
+unfoldable pub out_of : Orders → ℕ → ℕ
+out_of book issue = sum_by (out_by_order book.replies issue) book.orders
+
+-- the shares that are lent: none
+abbrev pub lent_of : Orders → ℕ → ℕ
+lent_of book issue = 0
+
+-- the shares that covers brought, less those taken and those lent
+abbrev pub free_of : Orders → ℕ → ℕ
+free_of book issue = covered_of book issue - taken_of book issue - lent_of book issue
+
+-- the issues of some orders beside others, each once, in order
+unfoldable pub with_issues : List ℕ → List Order → List ℕ
+with_issues issues [] = issues
+with_issues issues (o ∷ orders) = with_issues (insert_key nat_cmp issues o.issue) orders
+
+-- the issues that some order names, each once, in order
+abbrev pub issues_of : List Order → List ℕ
+issues_of orders = with_issues [] orders
+
+-- the pool of an issue, where it has shares
+abbrev pub row_by : ℕ → ℕ → ℕ → ℕ → Option PoolRow
+row_by issue free lent out =
+    if (free == 0) && (lent == 0) && (out == 0) then None
+    else Some (record { issue = issue; free = free; lent = lent; out = out })
+
+unfoldable pub pool_row : Orders → ℕ → Option PoolRow
+pool_row book issue = row_by issue (free_of book issue) (lent_of book issue) (out_of book issue)
+
+-- the pools that have shares, by issue
+abbrev pub rows_of : Orders → List PoolRow
+rows_of book = filter_map (pool_row book) (issues_of book.orders)

@@ -1,0 +1,308 @@
+ghost use Rattle.std.specs.Prelude.{◌≡◌, ◌<◌, ◌≤◌, ◌∷◌, length, false, IfOk, OnOk};
+ghost use Rattle.cns_trades.specs.Verdicts.{verdict as verdict_on};
+ghost use Rattle.cns_netting.specs.History.{accepted, becoming_due, position_of};
+ghost use Rattle.cns_movements.specs.Book.{with_asks};
+ghost use Rattle.cns_movements.specs.Confirm.{confirm_answer};
+ghost use Rattle.cns_movements.specs.Order.{order_of};
+ghost use Rattle.cns_clearing.specs.Books.{AreSound, Allows, asks_of, due_by, with_record, no_books, covers_on, amount_of as amount_in, is_later as is_later_cycle, are_spent as are_numbers_spent};
+ghost use Rattle.cns_clearing.specs.Room.{HasRoom};
+
+use cns_covers::{Exemptions, Priorities, covers};
+use cns_ids::{Cusip, CycleId, MemberNo, Shares};
+use cns_movements::{Ask, Confirm, MoveKind, MoveNo, Order, OrderBook, Reply};
+use cns_netting::NetBook;
+use cns_records::ClearRecord;
+use cns_trades::{Trade, TradeList, Verdict};
+use std::alloc::{AllocError, Global};
+use std::marker::Model;
+
+const MAX_ORDERS: usize = MoveNo::MAX as usize;
+
+/// The books of a clearing node: what its records amount to.
+///
+/// Contracts see the books, and beside them for how many more entries there is room without taking
+/// memory.
+#[derive(Drop)]
+pub(crate) struct Books {
+    trades: TradeList,
+    book: NetBook,
+    orders: OrderBook,
+    exemptions: Exemptions,
+    priorities: Priorities,
+    latest: Option<CycleId>,
+}
+
+impl Model for Books {
+    ghost use Rattle.std.specs.Prelude.{◌≡◌};
+    ghost use Rattle.cns_netting.specs.History.{accepted};
+    ghost use Rattle.cns_clearing.specs.Books.{BooksRoom};
+
+    ghost Value = { BooksRoom };
+
+    ghost view = { λ b. record {
+      books = record {
+        history = b.book.history;
+        orders = b.orders.book;
+        exemptions = b.exemptions.settings;
+        priorities = b.priorities.settings;
+        latest = b.latest;
+      };
+      trade_room = b.trades.room;
+      entry_room = b.book.room;
+      order_room = b.orders.order_room;
+      reply_room = b.orders.reply_room;
+      exemption_room = b.exemptions.room;
+      priority_room = b.priorities.room;
+    } };
+
+    ghost invariant = { λ b. b.trades.trades ≡ accepted b.book.history };
+}
+
+impl Books {
+    /// The books of no records. They take no memory.
+    pub(crate) fn new(alloc: Global) -> Books
+        ensures { result.books ≡ no_books }
+    {
+        Books {
+            trades: TradeList::new(alloc),
+            book: NetBook::new(alloc),
+            orders: OrderBook::new(alloc),
+            exemptions: Exemptions::new(alloc),
+            priorities: Priorities::new(alloc),
+            latest: None,
+        }
+    }
+
+    /// What the accepted trades say of a trade.
+    pub(crate) fn verdict(&self, trade: &Trade) -> Verdict
+        ensures { result ≡ verdict_on (accepted self.now.books.history) trade.now }
+    {
+        self.trades.check(trade)
+    }
+
+    /// Whether a cycle is later than the latest one.
+    pub(crate) fn is_later(&self, id: &CycleId) -> bool
+        ensures { result ≡ is_later_cycle self.now.books.latest id.now }
+    {
+        match self.latest {
+            None => true,
+            Some(last) => id.is_after(last),
+        }
+    }
+
+    /// The covers that a cycle orders.
+    pub(crate) fn covers(&self, alloc: Global, id: &CycleId) -> Result<Vec<Ask>, AllocError>
+        requires { AreSound self.now.books }
+        ensures { IfOk result (λ asks. asks.items ≡ covers_on self.now.books id.now.day) }
+    {
+        covers(alloc, &self.book, id.day, &self.orders, &self.exemptions)
+    }
+
+    /// Whether covers are more than the numbers that are left.
+    pub(crate) fn are_spent(&self, asks: &[Ask]) -> bool
+        ensures { result ≡ are_numbers_spent self.now.books.orders asks.now }
+    {
+        !asks.is_empty() && asks.len() > MAX_ORDERS - self.orders.len()
+    }
+
+    /// The answer to a confirmation.
+    pub(crate) fn answer(&self, reply: &Reply) -> Confirm
+        ensures { result ≡ confirm_answer self.now.books.orders reply.now }
+    {
+        let Some(order) = self.orders.get(reply.number) else {
+            return Confirm::UnknownMove;
+        };
+        match self.orders.confirmed(reply.number) {
+            Some(moved) if moved == reply.moved => Confirm::Again,
+            Some(_) => Confirm::Conflict,
+            None if reply.moved.count() > order.asked.shares() => Confirm::TooMuch,
+            None => Confirm::Done,
+        }
+    }
+
+    /// The latest cycle.
+    pub(crate) fn latest(&self) -> Option<CycleId>
+        ensures { result ≡ self.now.books.latest }
+    {
+        self.latest
+    }
+
+    /// The accepted trades and the positions.
+    pub(crate) fn book(&self) -> &NetBook
+        ensures { result.now.history ≡ self.now.books.history }
+    {
+        &self.book
+    }
+
+    /// The orders and their confirmations.
+    pub(crate) fn orders(&self) -> &OrderBook
+        ensures { result.now.book ≡ self.now.books.orders }
+    {
+        &self.orders
+    }
+
+    /// Takes the memory that `add` of a record needs, which orders these covers.
+    pub(crate) fn room(&mut self, entry: &ClearRecord, asks: &[Ask]) -> Result<(), AllocError>
+        requires { Allows self.old.books entry.now }
+        ensures same { self.new.books ≡ self.old.books }
+        ensures room { OnOk result (HasRoom entry.now (length asks.now) self.new) }
+    {
+        match entry {
+            ClearRecord::Accept(trade) => {
+                self.trades.add_room(*trade)?;
+                self.book.accept_room(*trade)
+            }
+            ClearRecord::Exempt {
+                member,
+                issue,
+                shares,
+            } => self.exemptions.set_room(*member, *issue, *shares),
+            ClearRecord::Priority { member, issue, on } => {
+                self.priorities.set_room(*member, *issue, *on)
+            }
+            ClearRecord::Cycle(id) => {
+                self.book.net_room(id.day)?;
+                self.orders.issue_room(asks)
+            }
+            ClearRecord::Confirm(reply) => self.reply_room(reply),
+        }
+    }
+
+    // Takes the memory that a confirmation needs.
+    fn reply_room(&mut self, reply: &Reply) -> Result<(), AllocError>
+        requires { confirm_answer self.old.books.orders reply.now ≡ Confirm.Done }
+        ensures same { self.new.books ≡ self.old.books }
+        ensures room { OnOk result ((0 < self.new.entry_room) × (1 ≤ self.new.reply_room)) }
+    {
+        let Some(order) = self.orders.get(reply.number) else {
+            unreachable!()
+        };
+        self.orders.confirm_room(*reply)?;
+        self.book
+            .settle_room(order.member, order.issue, amount_of(&order, reply))
+    }
+
+    /// Adds a record, which orders these covers, and answers how many trades it makes due. It takes no
+    /// memory.
+    pub(crate) fn add(&mut self, entry: &ClearRecord, asks: &[Ask]) -> u64
+        requires room { HasRoom entry.now (length asks.now) self.old }
+        requires sound { AreSound self.old.books }
+        requires allowed { Allows self.old.books entry.now }
+        requires asks { asks.now ≡ asks_of self.old.books entry.now }
+        ensures books { self.new.books ≡ with_record entry.now self.old.books }
+        ensures due { result ≡ due_by self.old.books entry.now }
+    {
+        match entry {
+            ClearRecord::Accept(trade) => {
+                self.accept(trade);
+                0
+            }
+            ClearRecord::Exempt {
+                member,
+                issue,
+                shares,
+            } => {
+                self.exempt(*member, *issue, *shares);
+                0
+            }
+            ClearRecord::Priority { member, issue, on } => {
+                self.prioritize(*member, *issue, *on);
+                0
+            }
+            ClearRecord::Cycle(id) => self.cycle(id, asks),
+            ClearRecord::Confirm(reply) => {
+                self.confirm(reply);
+                0
+            }
+        }
+    }
+
+    fn accept(&mut self, trade: &Trade)
+        requires room { HasRoom (ClearRecord.Accept trade.now) 0 self.old }
+        requires allowed { Allows self.old.books (ClearRecord.Accept trade.now) }
+        ensures { self.new.books ≡ with_record (ClearRecord.Accept trade.now) self.old.books }
+    {
+        let Ok(()) = self.trades.add(*trade) else {
+            unreachable!()
+        };
+        let Ok(()) = self.book.accept(*trade) else {
+            unreachable!()
+        };
+    }
+
+    fn exempt(&mut self, member: MemberNo, issue: Cusip, shares: Shares)
+        requires room { 0 < self.old.exemption_room }
+        ensures { self.new.books ≡ with_record (ClearRecord.Exempt member issue shares) self.old.books }
+    {
+        let Ok(()) = self.exemptions.set(member, issue, shares) else {
+            unreachable!()
+        };
+    }
+
+    fn prioritize(&mut self, member: MemberNo, issue: Cusip, on: bool)
+        requires room { 0 < self.old.priority_room }
+        ensures { self.new.books ≡ with_record (ClearRecord.Priority member issue on) self.old.books }
+    {
+        let Ok(()) = self.priorities.set(member, issue, on) else {
+            unreachable!()
+        };
+    }
+
+    fn cycle(&mut self, id: &CycleId, asks: &[Ask]) -> u64
+        requires room { HasRoom (ClearRecord.Cycle id.now) (length asks.now) self.old }
+        requires allowed { Allows self.old.books (ClearRecord.Cycle id.now) }
+        requires asks { asks.now ≡ covers_on self.old.books id.now.day }
+        ensures books { self.new.books ≡ with_record (ClearRecord.Cycle id.now) self.old.books }
+        ensures due { result ≡ becoming_due self.old.books.history id.now.day }
+    {
+        issue_covers(&mut self.orders, asks);
+        let Ok(due) = self.book.net(id.day) else {
+            unreachable!()
+        };
+        self.latest = Some(*id);
+        due
+    }
+
+    fn confirm(&mut self, reply: &Reply)
+        requires room { HasRoom (ClearRecord.Confirm reply.now) 0 self.old }
+        requires sound { AreSound self.old.books }
+        requires allowed { Allows self.old.books (ClearRecord.Confirm reply.now) }
+        ensures { self.new.books ≡ with_record (ClearRecord.Confirm reply.now) self.old.books }
+    {
+        let Some(order) = self.orders.get(reply.number) else {
+            unreachable!()
+        };
+        let Ok(_) = self.orders.confirm(*reply) else {
+            unreachable!()
+        };
+        let amount = amount_of(&order, reply);
+        let Ok(()) = self.book.settle(order.member, order.issue, amount) else {
+            unreachable!()
+        };
+    }
+}
+
+// What the shares that an order moved bring its member.
+fn amount_of(order: &Order, reply: &Reply) -> i128
+    ensures { result ≡ amount_in order.now.kind reply.now.moved }
+{
+    let moved = i128::from(reply.moved.count());
+    match order.kind {
+        MoveKind::Cover => moved,
+        MoveKind::Delivery => -moved,
+    }
+}
+
+// Issues covers for which there are numbers and room.
+fn issue_covers(orders: &mut OrderBook, asks: &[Ask])
+    requires room { length asks.now ≤ orders.old.order_room }
+    requires numbers { are_numbers_spent orders.old.book asks.now ≡ false }
+    ensures { orders.new.book ≡ with_asks orders.old.book asks.now }
+{
+    if asks.is_empty() {
+        return;
+    }
+    let Ok(_) = orders.issue(asks) else {
+        unreachable!()
+    };
+}

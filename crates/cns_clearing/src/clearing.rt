@@ -1,0 +1,394 @@
+ghost use Rattle.std.specs.Prelude.{◌≡◌, ◌+◌, ◌==◌, false, [], length, Some, None, Err, IfOk, IfErr, if◌then◌else◌};
+ghost use Rattle.cns_records.specs.declared.clear_record.ClearRecord.TheVariants.{Exempt, Priority};
+ghost use Rattle.cns_netting.specs.History.{due};
+ghost use Rattle.cns_clearing.specs.Books.{AreSound, IsAllowed, IsLawful, are_spent, asks_of, books_of, history_of, latest_of, orders_of};
+ghost use Rattle.cns_clearing.specs.Position.{IsBetween, due_in, position_in};
+ghost use Rattle.cns_clearing.specs.Commit.{AddLeaves};
+ghost use Rattle.cns_clearing.specs.Pools.{free_of as free_in, lent_of as lent_in, out_of as out_in, rows_of};
+ghost use Rattle.cns_clearing.specs.Answers.{CycleLeaves, NodePlanned, OrderGives, ReplyLeaves, SettingLeaves, TradeLeaves};
+ghost use Rattle.cns_clearing.specs.Replay.{IsOpened, Reread, RestartLeaves};
+
+use crate::books::Books;
+use crate::commit::commit_record;
+use crate::fault::{
+    CommitFault, CycleFault, Cycled, OrderFault, ReplyFault, SettingFault, Taken, TradeFault,
+};
+use crate::pools::{PoolRows, free_of, lent_of, out_of, pool_rows};
+use crate::replay::{ReplayFault, Restarted, reread};
+use cns_ids::{Cusip, CycleId, MemberNo, Shares};
+use cns_journal::{Keeper, NotPlanned};
+use cns_movements::{Ask, Confirm as Confirmed, MoveNo, Order, OrderBook, Reply};
+use cns_netting::NetBook;
+use cns_records::ClearRecord;
+use cns_trades::{Trade, Verdict};
+use std::alloc::{AllocError, Global};
+use std::marker::Model;
+
+/// A refused opening: why, and the keeper as its reopening left it.
+#[derive(Drop)]
+pub struct Refused<K> {
+    /// The keeper, after its reopening.
+    pub keeper: K,
+    /// Why the node was not opened.
+    pub fault: ReplayFault,
+}
+
+/// The clearing node: its records, each of which its keeper acknowledged, and its books, which are
+/// what the records amount to.
+///
+/// Contracts see the records, the newest first; the record whose commit failed, until a restart
+/// decides it; whether the node is down; and of its keeper, how often the device has failed, whether
+/// it is honest, and what is known of it beforehand. (This project's own rules.)
+#[derive(Drop)]
+pub struct Clearing<K: Keeper> {
+    keeper: K,
+    // In the order in which they were acknowledged.
+    records: Vec<ClearRecord>,
+    books: Books,
+    tried: Option<ClearRecord>,
+    down: bool,
+    alloc: Global,
+}
+
+impl<K: Keeper> Model for Clearing<K> {
+    ghost use Rattle.std.specs.Prelude.{reverse};
+    ghost use Rattle.cns_clearing.specs.Node.{ClearNode, IsNode};
+
+    ghost Value = { ClearNode };
+
+    ghost view = { λ n. record {
+      records = reverse n.records.items;
+      tried = n.tried;
+      down = n.down;
+      failures = (K.run n.keeper).failures;
+      honest = K.honest n.keeper;
+      foresight = K.foresight n.keeper;
+    } };
+
+    ghost invariant = { λ n. IsNode n.books.books n.records.items n.tried n.down
+        (record {
+          honest = K.honest n.keeper;
+          run = K.run n.keeper;
+          journal = K.journal n.keeper;
+          foresight = K.foresight n.keeper;
+        }) };
+}
+
+impl<K: Keeper> Clearing<K> {
+    /// Reads the keeper's journal again, and opens a node that is up, with the records that it gives.
+    /// A refused opening hands the keeper back.
+    ///
+    /// Refuses `BadJournal` where a payload is no record, or of a record that may not stand after
+    /// those before it. (This project's own rule.)
+    pub fn open(alloc: Global, mut keeper: K) -> Result<Clearing<K>, Refused<K>>
+        ensures ok { IfOk result (IsOpened (record {
+          honest = K.honest keeper;
+          run = K.run keeper;
+          journal = K.journal keeper;
+          foresight = K.foresight keeper;
+        })) }
+        ensures err { IfErr result (λ refused. Reread (Err refused.fault)
+            (record { honest = K.honest keeper; run = K.run keeper; journal = K.journal keeper; foresight = K.foresight keeper })
+            (record { honest = K.honest refused.keeper; run = K.run refused.keeper; journal = K.journal refused.keeper; foresight = K.foresight refused.keeper })) }
+    {
+        let replayed = match reread(alloc, &mut keeper) {
+            Ok(replayed) => replayed,
+            Err(fault) => return Err(Refused { keeper, fault }),
+        };
+        Ok(Clearing {
+            keeper,
+            records: replayed.records,
+            books: replayed.books,
+            tried: None,
+            down: false,
+            alloc,
+        })
+    }
+
+    /// Whether the node is down: from a failure of the device, or a refused restart, until a restart
+    /// succeeds.
+    pub fn is_down(&self) -> bool
+        ensures { result ≡ self.now.down }
+    {
+        self.down
+    }
+
+    /// Accepts a trade.
+    ///
+    /// Refuses `Down`, then `Refused` with the verdict of the accepted trades where that is not
+    /// `New`. After `Device` the trade is not accepted, and the node is down until it is restarted.
+    /// (This project's own rule.)
+    pub fn take_trade(&mut self, trade: &Trade) -> Result<(), TradeFault>
+        ensures { TradeLeaves trade.now result self.old self.new }
+    {
+        if self.is_down() {
+            return Err(TradeFault::Down);
+        }
+        let verdict = self.books().verdict(trade);
+        if verdict != Verdict::New {
+            return Err(TradeFault::Refused(verdict));
+        }
+        self.add(&ClearRecord::Accept(*trade), &[])?;
+        Ok(())
+    }
+
+    /// Exempts shares of a member in an issue from covers, in place of those before; 0 ends the
+    /// exemption.
+    ///
+    /// Refuses `Down`. After `Device` nothing is exempted, and the node is down until it is
+    /// restarted. (This project's own rule.)
+    pub fn exempt(
+        &mut self,
+        member: MemberNo,
+        issue: Cusip,
+        shares: Shares,
+    ) -> Result<(), SettingFault>
+        ensures { SettingLeaves (Exempt member issue shares) result self.old self.new }
+    {
+        let entry = ClearRecord::Exempt {
+            member,
+            issue,
+            shares,
+        };
+        self.set(&entry)
+    }
+
+    /// Sets whether a member has priority in an issue, in place of what was set before.
+    ///
+    /// Refuses `Down`. After `Device` nothing is set, and the node is down until it is restarted.
+    /// (This project's own rule.)
+    pub fn priority(&mut self, member: MemberNo, issue: Cusip, on: bool) -> Result<(), SettingFault>
+        ensures { SettingLeaves (Priority member issue on) result self.old self.new }
+    {
+        let entry = ClearRecord::Priority { member, issue, on };
+        self.set(&entry)
+    }
+
+    /// Runs a cycle: makes the trades due that settle by its date, and orders covers of what is then
+    /// short. The orders stand under the next numbers in `orders`.
+    ///
+    /// Refuses `Down`, then `CycleOrder`, then `NumbersSpent`, which never comes where there is
+    /// nothing to cover. After `Device` the cycle was not run and nothing is ordered, and the node is
+    /// down until it is restarted. (This project's own rule.)
+    pub fn cycle(&mut self, id: CycleId) -> Result<Cycled, CycleFault>
+        ensures { CycleLeaves id result self.old self.new }
+    {
+        if self.is_down() {
+            return Err(CycleFault::Down);
+        }
+        let alloc = self.alloc;
+        let books = self.books();
+        if !books.is_later(&id) {
+            return Err(CycleFault::CycleOrder);
+        }
+        let Ok(asks) = books.covers(alloc, &id) else {
+            return Err(CycleFault::OutOfMemory);
+        };
+        if books.are_spent(asks.as_slice()) {
+            return Err(CycleFault::NumbersSpent);
+        }
+        let first = first_number(books, asks.as_slice());
+        let due = self.add(&ClearRecord::Cycle(id), asks.as_slice())?;
+        Ok(Cycled {
+            due,
+            first,
+            count: asks.len(),
+        })
+    }
+
+    /// The order of this number, where its record was acknowledged.
+    ///
+    /// Refuses `Down`, then `UnknownMove`.
+    pub fn order(&self, number: MoveNo) -> Result<Order, OrderFault>
+        ensures { OrderGives number result self.now }
+    {
+        if self.is_down() {
+            return Err(OrderFault::Down);
+        }
+        match self.books().orders().get(number) {
+            Some(order) => Ok(order),
+            None => Err(OrderFault::UnknownMove),
+        }
+    }
+
+    /// Takes the depository's reply to an order. The first one confirms the order, and what was moved
+    /// is settled: a cover brings its member the shares, a delivery takes them. The same reply again
+    /// changes nothing.
+    ///
+    /// Refuses `Down`, then `UnknownMove`, then `Conflict`, then `TooMuch`. After `Device` nothing is
+    /// confirmed, and the node is down until it is restarted. (This project's own rule.)
+    pub fn take_reply(&mut self, reply: &Reply) -> Result<Taken, ReplyFault>
+        ensures { ReplyLeaves reply.now result self.old self.new }
+    {
+        if self.is_down() {
+            return Err(ReplyFault::Down);
+        }
+        match self.books().answer(reply) {
+            Confirmed::Done => {}
+            Confirmed::Again => return Ok(Taken::Again),
+            Confirmed::UnknownMove => return Err(ReplyFault::UnknownMove),
+            Confirmed::Conflict => return Err(ReplyFault::Conflict),
+            Confirmed::TooMuch => return Err(ReplyFault::TooMuch),
+        }
+        self.add(&ClearRecord::Confirm(*reply), &[])?;
+        Ok(Taken::Done)
+    }
+
+    /// Reads the journal again, and puts the node up. A refused restart leaves it down, with its
+    /// records and the one whose commit failed.
+    ///
+    /// Refuses `BadJournal` where a payload is no record, or of a record that may not stand after
+    /// those before it. (This project's own rule.)
+    pub fn restart(&mut self) -> Result<Restarted, ReplayFault>
+        ensures { RestartLeaves result self.old self.new }
+    {
+        self.down = true;
+        let replayed = match reread(self.alloc, &mut self.keeper) {
+            Ok(replayed) => replayed,
+            Err(fault) => return Err(fault),
+        };
+        let kept = replayed.records.len() > self.records.len();
+        self.records = replayed.records;
+        self.books = replayed.books;
+        self.tried = None;
+        self.down = false;
+        Ok(Restarted {
+            records: self.records.len() as u64,
+            kept,
+        })
+    }
+
+    /// Makes the next commit of the keeper fail, where the keeper plans failures. Its record stands
+    /// at the restart, or does not.
+    pub fn plan(&mut self, stands: bool) -> Result<(), NotPlanned>
+        ensures { NodePlanned stands result self.old self.new }
+    {
+        self.keeper.plan(stands)
+    }
+}
+
+impl<K: Keeper> Clearing<K> {
+    /// The position of a member in an issue, in shares: above 0 it is to receive, below 0 to deliver.
+    /// It is what the member bought less what it sold in due trades, with what its confirmed covers
+    /// moved, and less what its confirmed deliveries moved. (This project's own rule.)
+    pub fn position(&self, member: MemberNo, issue: Cusip) -> i128
+        ensures value { result ≡ position_in self.now.records member issue }
+
+        // Once all that is ordered has moved, it is between what was sold and what was bought.
+        ensures bounds { IsBetween self.now.records member issue result }
+    {
+        self.books().book().position(member, issue)
+    }
+
+    /// The shares of an issue in account 0 that are free.
+    pub fn free(&self, issue: Cusip) -> u128
+        ensures { result ≡ free_in (orders_of self.now.records) issue }
+    {
+        free_of(self.books().orders(), issue)
+    }
+
+    /// The shares of an issue that are lent: 0, since none are lent yet.
+    pub fn lent(&self, issue: Cusip) -> u128
+        ensures { result ≡ lent_in (orders_of self.now.records) issue }
+    {
+        lent_of(self.books().orders(), issue)
+    }
+
+    /// The shares of an issue that unconfirmed deliveries ask for.
+    pub fn out(&self, issue: Cusip) -> u128
+        ensures { result ≡ out_in (orders_of self.now.records) issue }
+    {
+        out_of(self.books().orders(), issue)
+    }
+
+    /// The pools that have shares, by issue.
+    pub fn pools(&self, alloc: Global) -> Result<PoolRows, AllocError>
+        ensures { IfOk result (λ rows. rows ≡ rows_of (orders_of self.now.records)) }
+    {
+        pool_rows(alloc, self.books().orders())
+    }
+
+    /// The latest cycle.
+    pub fn latest(&self) -> Option<CycleId>
+        ensures { result ≡ latest_of self.now.records }
+    {
+        self.books().latest()
+    }
+
+    /// The accepted trades and the positions.
+    pub fn book(&self) -> &NetBook
+        ensures history { result.now.history ≡ history_of self.now.records }
+
+        // The due trades, as the book has them.
+        ensures due { due result.now.history ≡ due_in self.now.records }
+        ensures lawful { IsLawful self.now.records }
+    {
+        self.books().book()
+    }
+
+    /// The orders and their confirmations.
+    pub fn orders(&self) -> &OrderBook
+        ensures orders { result.now.book ≡ orders_of self.now.records }
+        ensures lawful { IsLawful self.now.records }
+    {
+        self.books().orders()
+    }
+}
+
+impl<K: Keeper> Clearing<K> {
+    // The books of the acknowledged records.
+    fn books(&self) -> &Books
+        ensures books { result.now.books ≡ books_of self.now.records }
+        ensures sound { AreSound result.now.books }
+        ensures lawful { IsLawful self.now.records }
+    {
+        &self.books
+    }
+
+    // Adds a record that may stand after the others and that orders these covers: commits it, and
+    // then adds it to the books. Answers how many trades it makes due.
+    fn add(&mut self, entry: &ClearRecord, asks: &[Ask]) -> Result<u64, CommitFault>
+        requires up { self.old.down ≡ false }
+        requires allowed { IsAllowed self.old.records entry.now }
+        requires asks { asks.now ≡ asks_of (books_of self.old.records) entry.now }
+        ensures { AddLeaves entry.now result self.old self.new }
+    {
+        if self.books.room(entry, asks).is_err() {
+            return Err(CommitFault::OutOfMemory);
+        }
+        commit_record(
+            self.alloc,
+            &mut self.keeper,
+            &mut self.records,
+            &mut self.tried,
+            &mut self.down,
+            entry,
+        )?;
+        Ok(self.books.add(entry, asks))
+    }
+
+    // Adds the record of a setting.
+    fn set(&mut self, entry: &ClearRecord) -> Result<(), SettingFault>
+        requires allowed { IsAllowed self.old.records entry.now }
+        requires asks { [] ≡ asks_of (books_of self.old.records) entry.now }
+        ensures { SettingLeaves entry.now result self.old self.new }
+    {
+        if self.is_down() {
+            return Err(SettingFault::Down);
+        }
+        self.add(entry, &[])?;
+        Ok(())
+    }
+}
+
+// The number of the first of these orders, where there is one.
+fn first_number(books: &Books, asks: &[Ask]) -> Option<MoveNo>
+    requires { are_spent books.now.books.orders asks.now ≡ false }
+    ensures { let next = length books.now.books.orders.orders + 1 in
+        result ≡ (if length asks.now == 0 then None else Some next) }
+{
+    if asks.is_empty() {
+        return None;
+    }
+    books.orders().next_number()
+}

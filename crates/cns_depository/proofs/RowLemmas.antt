@@ -1,0 +1,256 @@
+-- Each balance other than 0 has its row, and the rows ascend.
+use Rattle.std.proofs.Common.{◌≡◌, ℕ, Bool, true, false, List, [], ◌∷◌, Option, Some, None, eqb, refl, sym, ap, ◌∙◌, subst, arith, inl, inr}
+use Rattle.std.specs.Prelude.{◌≢◌, ◌⊎◌, ◌&&◌, fold, map, if◌then◌else◌}
+use Rattle.std.specs.Cmp.{IsTotalOrder}
+use Rattle.std.specs.List.{filter_map, cons_option, Contains, AllByRecursion}
+use Rattle.std.specs.List.Sorted.{IsStrictlySortedBy}
+use Rattle.std.specs.declared.cmp.Ordering.{Ordering}
+use Rattle.std.specs.declared.cmp.Ordering.TheVariants.{Less, Equal, Greater}
+use Rattle.std.specs.Ordering.{nat_cmp, ordering_then, match_ordering}
+use Rattle.std.specs.BTreeSet.{insert_key}
+use Rattle.std.proofs.lemmas.Bool.{eqb-true, cases_Bool, cond-true, cond-false}
+use Rattle.std.proofs.lemmas.Cmp.{ranked}
+use Rattle.std.proofs.lemmas.Option.{none-some, same_Some}
+use Rattle.std.proofs.lemmas.List.Elements.{Contains-append_left, Contains-append_right, Contains-push}
+use Rattle.std.proofs.lemmas.List.Sums.{sum_by-cons}
+use Rattle.cns_movements.specs.Order.{is_delivery}
+use Rattle.cns_movements.specs.declared.order.Order.{Order}
+use Rattle.cns_records.specs.declared.dep_record.DepRecord.{DepRecord}
+use Rattle.cns_trades.specs.declared.opening.Opening.{Opening}
+use Rattle.cns_depository.specs.declared.account.Account.{Account}
+use Rattle.cns_depository.specs.declared.account.Account.TheVariants.{Cns, Member}
+use Rattle.cns_depository.specs.declared.balances.Place.{Place}
+use Rattle.cns_depository.specs.declared.balances.BalanceRow.{BalanceRow}
+use Rattle.cns_depository.specs.Account.{enters}
+use Rattle.cns_depository.specs.Openings.{is_opening_of, member_opening, opening_shares}
+use Rattle.cns_depository.specs.Stock.{order_in, moved_by, part_in, moved_in, balance_of}
+use Rattle.cns_depository.specs.Balances.{account_cmp, place_cmp, place_at, with_opening, with_order, opened_places, places_of, balance_row, balance_rows, row_place, AreComplete, AreAscending}
+use Rattle.cns_depository.specs.contracts.balances.PlaceOrd.TheImpl.Laws.{total-law}
+use Rattle.cns_depository.proofs.BalanceLemmas.{and_left, and_right}
+use Rattle.cns_depository.proofs.PlaceLemmas.{place_order}
+
+-- places that compare equal are the same
+same_number : (x y : ℕ) → nat_cmp x y ≡ Equal → x ≡ y
+same_number x y e = ranked x y Equal (sym e)
+
+same_account : (a b : Account) → account_cmp a b ≡ Equal → a ≡ b
+same_account Cns Cns e = refl
+same_account Cns (Member m) e = absurd cc
+same_account (Member m) Cns e = absurd cc
+same_account (Member m) (Member k) e = ap Member (same_number m k e)
+
+both_equal : (x y : Ordering) → ordering_then x y ≡ Equal → (x ≡ Equal) × (y ≡ Equal)
+both_equal Less y e = absurd cc
+both_equal Equal y e = (refl, e)
+both_equal Greater y e = absurd cc
+
+same_place : (a b : Place) → place_cmp a b ≡ Equal → a ≡ b
+same_place a b e =
+    let both = both_equal (nat_cmp a.issue b.issue) (account_cmp a.account b.account) e in
+    ap (λ (i : ℕ). place_at i a.account) (same_number a.issue b.issue both.0) ∙ ap (λ (x : Account). place_at b.issue x) (same_account a.account b.account both.1)
+
+-- a place is one of these
+abbrev IsAmong : Place → List Place → Type 0
+IsAmong q [] = ⊥
+IsAmong q (x ∷ xs) = (x ≡ q) ⊎ IsAmong q xs
+
+insert_keeps : (ks : List Place) (k q : Place) → IsAmong q ks → IsAmong q (insert_key place_cmp ks k)
+insert_keeps [] k q in' = absurd in'
+insert_keeps (x ∷ xs) k q in' = by (place_cmp k x) in' (insert_keeps xs k q)
+  where
+    by : (r : Ordering) → IsAmong q (x ∷ xs) → (IsAmong q xs → IsAmong q (insert_key place_cmp xs k)) → IsAmong q (match_ordering r (k ∷ x ∷ xs) (x ∷ xs) (x ∷ insert_key place_cmp xs k))
+    by Less h rest = inr h
+    by Equal h rest = h
+    by Greater h rest = elim h [ inl e ↦ inl e | inr more ↦ inr (rest more) ]
+
+insert_has : (ks : List Place) (k : Place) → IsAmong k (insert_key place_cmp ks k)
+insert_has [] k = inl refl
+insert_has (x ∷ xs) k = by (place_cmp k x) refl (insert_has xs k)
+  where
+    by : (r : Ordering) → place_cmp k x ≡ r → IsAmong k (insert_key place_cmp xs k) → IsAmong k (match_ordering r (k ∷ x ∷ xs) (x ∷ xs) (x ∷ insert_key place_cmp xs k))
+    by Less e rest = inl refl
+    by Equal e rest = inl (sym (same_place k x e))
+    by Greater e rest = inr rest
+
+-- the places of openings
+opened_keeps : (os : List Opening) (ps : List Place) (q : Place) → IsAmong q ps → IsAmong q (fold with_opening ps os)
+opened_keeps [] ps q in' = in'
+opened_keeps (o ∷ os) ps q in' = opened_keeps os (with_opening ps o) q (insert_keeps ps (place_at o.issue (Member o.member)) q in')
+
+opened_has : (os : List Opening) (ps : List Place) (m i : ℕ) → member_opening os m i ≢ 0 → IsAmong (place_at i (Member m)) (fold with_opening ps os)
+unfolding member_opening
+opened_has [] ps m i held = absurd (held refl)
+opened_has (o ∷ os) ps m i held = by (is_opening_of m i o) refl (opened_has os (with_opening ps o) m i)
+  where
+    by : (b : Bool) → is_opening_of m i o ≡ b → (member_opening os m i ≢ 0 → IsAmong (place_at i (Member m)) (fold with_opening (with_opening ps o) os))
+        → IsAmong (place_at i (Member m)) (fold with_opening (with_opening ps o) os)
+    by true e rest =
+        let of : o.member ≡ m = eqb-true o.member m (and_left (eqb o.member m) (eqb o.issue i) e) in
+        let at : o.issue ≡ i = eqb-true o.issue i (and_right (eqb o.member m) (eqb o.issue i) e) in
+        let same : place_at o.issue (Member o.member) ≡ place_at i (Member m) = ap (λ (x : ℕ). place_at x (Member o.member)) at ∙ ap (λ (x : ℕ). place_at i (Member x)) of in
+        opened_keeps os (with_opening ps o) (place_at i (Member m)) (subst (λ (q : Place). IsAmong q (with_opening ps o)) same (insert_has ps (place_at o.issue (Member o.member))))
+    by false e rest =
+        let f : Opening → ℕ = λ (x : Opening). if is_opening_of m i x then x.shares else 0 in
+        let none : f o ≡ 0 = cond-false (is_opening_of m i o) o.shares 0 e in
+        rest (λ z. held (omega (arith, sum_by-cons f o os, none, z)))
+
+-- the places of records
+order_keeps : (ps : List Place) (o : Order) (q : Place) → IsAmong q ps → IsAmong q (with_order ps o)
+order_keeps ps o q in' =
+    insert_keeps (insert_key place_cmp ps (place_at o.issue Cns)) (place_at o.issue (Member o.member)) q (insert_keeps ps (place_at o.issue Cns) q in')
+
+order_has : (ps : List Place) (o : Order) (a : Account) → enters a o ≡ true → IsAmong (place_at o.issue a) (with_order ps o)
+order_has ps o Cns enters_it =
+    insert_keeps (insert_key place_cmp ps (place_at o.issue Cns)) (place_at o.issue (Member o.member)) (place_at o.issue Cns) (insert_has ps (place_at o.issue Cns))
+order_has ps o (Member m) enters_it =
+    let of : o.member ≡ m = eqb-true o.member m (and_right (is_delivery o.kind) (eqb o.member m) enters_it) in
+    subst (λ (x : ℕ). IsAmong (place_at o.issue (Member x)) (with_order ps o)) of (insert_has (insert_key place_cmp ps (place_at o.issue Cns)) (place_at o.issue (Member o.member)))
+
+opening_place : (openings : List Opening) (p : List DepRecord) (a : Account) (i : ℕ) → opening_shares openings a i ≢ 0 → IsAmong (place_at i a) (places_of openings p)
+unfolding places_of opened_places
+opening_place openings [] Cns i held = absurd (held refl)
+opening_place openings [] (Member m) i held = opened_has openings [] m i held
+opening_place openings (e ∷ p) a i held = order_keeps (places_of openings p) (order_in e) (place_at i a) (opening_place openings p a i held)
+
+moved_place : (openings : List Opening) (p : List DepRecord) (a : Account) (i : ℕ) → moved_in p a i ≢ 0 → IsAmong (place_at i a) (places_of openings p)
+unfolding places_of moved_in
+moved_place openings [] a i held = absurd (held refl)
+moved_place openings (e ∷ p) a i held = by (enters a (order_in e) && eqb (order_in e).issue i) refl (moved_place openings p a i)
+  where
+    by : (b : Bool) → (enters a (order_in e) && eqb (order_in e).issue i) ≡ b → (moved_in p a i ≢ 0 → IsAmong (place_at i a) (places_of openings p))
+        → IsAmong (place_at i a) (with_order (places_of openings p) (order_in e))
+    by true h rest =
+        let o = order_in e in
+        let at : o.issue ≡ i = eqb-true o.issue i (and_right (enters a o) (eqb o.issue i) h) in
+        subst (λ (x : ℕ). IsAmong (place_at x a) (with_order (places_of openings p) o)) at (order_has (places_of openings p) o a (and_left (enters a o) (eqb o.issue i) h))
+    by false h rest =
+        let none : part_in a i e ≡ 0 = cond-false (enters a (order_in e) && eqb (order_in e).issue i) (moved_by e) 0 h in
+        order_keeps (places_of openings p) (order_in e) (place_at i a) (rest (λ z. held (omega (arith, sum_by-cons (part_in a i) e p, none, z))))
+
+-- a balance other than 0 is of a place that is named
+held_place : (openings : List Opening) (p : List DepRecord) (a : Account) (i : ℕ) → balance_of openings p a i ≢ 0 → IsAmong (place_at i a) (places_of openings p)
+unfolding balance_of
+held_place openings p a i held =
+    elim (cases_Bool (eqb (opening_shares openings a i) 0)) [
+      | inl none ↦
+          let zero_of : opening_shares openings a i ≡ 0 = eqb-true (opening_shares openings a i) 0 none in
+          moved_place openings p a i (λ z. held (omega (arith, zero_of, z)))
+      | inr some ↦ opening_place openings p a i (λ z. absurd cc)
+    ]
+
+-- the row that a place gives is among the rows
+row_among : (f : Place → Option BalanceRow) (ks : List Place) (q : Place) (row : BalanceRow) → IsAmong q ks → f q ≡ Some row → Contains (filter_map f ks) row
+row_among f [] q row in' is = absurd in'
+row_among f (x ∷ xs) q row in' is =
+    elim in' [
+      | inl e ↦
+          subst (λ (r : Option BalanceRow). Contains (cons_option r (filter_map f xs)) row) (sym (ap f e ∙ is))
+          (Contains-append_left (row ∷ []) (filter_map f xs) row (Contains-push [] row))
+      | inr more ↦ by (f x) (row_among f xs q row more is)
+    ]
+  where
+    by : (r : Option BalanceRow) → Contains (filter_map f xs) row → Contains (cons_option r (filter_map f xs)) row
+    by None h = h
+    by (Some y) h = Contains-append_right (y ∷ []) (filter_map f xs) row h
+
+held_row : (openings : List Opening) (p : List DepRecord) (k : Place) → balance_of openings p k.account k.issue ≢ 0
+    → balance_row openings p k ≡ Some (record { issue = k.issue; account = k.account; shares = balance_of openings p k.account k.issue })
+unfolding balance_row
+held_row openings p k held =
+    elim (cases_Bool (eqb (balance_of openings p k.account k.issue) 0)) [
+      | inl none ↦ absurd (held (eqb-true (balance_of openings p k.account k.issue) 0 none))
+      | inr some ↦ cond-false (eqb (balance_of openings p k.account k.issue) 0) None (Some (record { issue = k.issue; account = k.account; shares = balance_of openings p k.account k.issue })) some
+    ]
+
+-- each balance other than 0 has its row
+pub rows_complete : (openings : List Opening) (p : List DepRecord) → AreComplete openings p (balance_rows openings p)
+rows_complete openings p a i held =
+    row_among (balance_row openings p) (places_of openings p) (place_at i a) (record { issue = i; account = a; shares = balance_of openings p a i }) (held_place openings p a i held)
+    (held_row openings p (place_at i a) held)
+
+-- the order of places is one
+place_total : IsTotalOrder place_cmp
+place_total = subst (λ (f : Place → Place → Ordering). IsTotalOrder f) place_order total-law
+
+-- what stands after a place stands after one before it
+all_after : (k x : Place) (xs : List Place) → place_cmp k x ≡ Less → AllByRecursion (λ y. place_cmp x y ≡ Less) xs → AllByRecursion (λ y. place_cmp k y ≡ Less) xs
+all_after k x [] below after = tt
+all_after k x (y ∷ ys) below after = (place_total.trans k x y below after.0, all_after k x ys below after.1)
+
+all_insert : (x k : Place) (xs : List Place) → place_cmp x k ≡ Less → AllByRecursion (λ y. place_cmp x y ≡ Less) xs → AllByRecursion (λ y. place_cmp x y ≡ Less) (insert_key place_cmp xs k)
+all_insert x k [] below after = (below, tt)
+all_insert x k (y ∷ ys) below after = by (place_cmp k y) after (all_insert x k ys below after.1)
+  where
+    by : (r : Ordering) → AllByRecursion (λ z. place_cmp x z ≡ Less) (y ∷ ys) → AllByRecursion (λ z. place_cmp x z ≡ Less) (insert_key place_cmp ys k)
+        → AllByRecursion (λ z. place_cmp x z ≡ Less) (match_ordering r (k ∷ y ∷ ys) (y ∷ ys) (y ∷ insert_key place_cmp ys k))
+    by Less all rest = (below, all)
+    by Equal all rest = all
+    by Greater all rest = (all.0, rest)
+
+above : (k x : Place) → place_cmp k x ≡ Greater → place_cmp x k ≡ Less
+above k x e = let back = place_total.antisymm x k in rw (back, e) refl
+
+sorted_insert : (xs : List Place) (k : Place) → IsStrictlySortedBy place_cmp xs → IsStrictlySortedBy place_cmp (insert_key place_cmp xs k)
+unfolding IsStrictlySortedBy
+sorted_insert [] k sorted = (tt, tt)
+sorted_insert (x ∷ xs) k sorted = by (place_cmp k x) refl (sorted_insert xs k sorted.1)
+  where
+    by : (r : Ordering) → place_cmp k x ≡ r → IsStrictlySortedBy place_cmp (insert_key place_cmp xs k)
+        → IsStrictlySortedBy place_cmp (match_ordering r (k ∷ x ∷ xs) (x ∷ xs) (x ∷ insert_key place_cmp xs k))
+    by Less e rest = ((e, all_after k x xs e sorted.0), sorted)
+    by Equal e rest = sorted
+    by Greater e rest = (all_insert x k xs (above k x e) sorted.0, rest)
+
+opened_sorted : (os : List Opening) (ps : List Place) → IsStrictlySortedBy place_cmp ps → IsStrictlySortedBy place_cmp (fold with_opening ps os)
+opened_sorted [] ps sorted = sorted
+opened_sorted (o ∷ os) ps sorted = opened_sorted os (with_opening ps o) (sorted_insert ps (place_at o.issue (Member o.member)) sorted)
+
+places_sorted : (openings : List Opening) (p : List DepRecord) → IsStrictlySortedBy place_cmp (places_of openings p)
+unfolding places_of opened_places IsStrictlySortedBy
+places_sorted openings [] = opened_sorted openings [] tt
+places_sorted openings (e ∷ p) =
+    let o = order_in e in
+    sorted_insert (insert_key place_cmp (places_of openings p) (place_at o.issue Cns)) (place_at o.issue (Member o.member))
+    (sorted_insert (places_of openings p) (place_at o.issue Cns) (places_sorted openings p))
+
+-- a place gives a row of its own
+abbrev GivesOwn : (Place → Option BalanceRow) → Type 0
+GivesOwn f = (k : Place) (row : BalanceRow) → f k ≡ Some row → row_place row ≡ k
+
+rows_after : (f : Place → Option BalanceRow) (x : Place) (ks : List Place) → GivesOwn f → AllByRecursion (λ y. place_cmp x y ≡ Less) ks
+    → AllByRecursion (λ y. place_cmp x y ≡ Less) (map row_place (filter_map f ks))
+rows_after f x [] own after = tt
+rows_after f x (k ∷ ks) own after = by (f k) refl (rows_after f x ks own after.1)
+  where
+    by : (r : Option BalanceRow) → f k ≡ r → AllByRecursion (λ y. place_cmp x y ≡ Less) (map row_place (filter_map f ks))
+        → AllByRecursion (λ y. place_cmp x y ≡ Less) (map row_place (cons_option r (filter_map f ks)))
+    by None e rest = rest
+    by (Some row) e rest = (subst (λ (y : Place). place_cmp x y ≡ Less) (sym (own k row e)) after.0, rest)
+
+rows_sorted : (f : Place → Option BalanceRow) (ks : List Place) → GivesOwn f → IsStrictlySortedBy place_cmp ks → IsStrictlySortedBy place_cmp (map row_place (filter_map f ks))
+unfolding IsStrictlySortedBy
+rows_sorted f [] own sorted = tt
+rows_sorted f (k ∷ ks) own sorted = by (f k) refl (rows_sorted f ks own sorted.1)
+  where
+    by : (r : Option BalanceRow) → f k ≡ r → IsStrictlySortedBy place_cmp (map row_place (filter_map f ks)) → IsStrictlySortedBy place_cmp (map row_place (cons_option r (filter_map f ks)))
+    by None e rest = rest
+    by (Some row) e rest =
+        (subst (λ (x : Place). AllByRecursion (λ y. place_cmp x y ≡ Less) (map row_place (filter_map f ks))) (sym (own k row e)) (rows_after f k ks own sorted.0), rest)
+
+own_row : (openings : List Opening) (p : List DepRecord) → GivesOwn (balance_row openings p)
+unfolding balance_row
+own_row openings p k row is =
+    let held = balance_of openings p k.account k.issue in
+    let its : BalanceRow = record { issue = k.issue; account = k.account; shares = held } in
+    elim (cases_Bool (eqb held 0)) [
+      | inl none ↦
+          let e : balance_row openings p k ≡ None = cond-true (eqb held 0) None (Some its) none in
+          absurd (none-some row (sym e ∙ is))
+      | inr some ↦
+          let e : balance_row openings p k ≡ Some its = cond-false (eqb held 0) None (Some its) some in
+          ap row_place (sym (same_Some its row (sym e ∙ is)))
+    ]
+
+-- the rows stand by issue, then account
+pub rows_ascend : (openings : List Opening) (p : List DepRecord) → AreAscending (balance_rows openings p)
+rows_ascend openings p = rows_sorted (balance_row openings p) (places_of openings p) (own_row openings p) (places_sorted openings p)

@@ -1,0 +1,25 @@
+use Rattle.std.proofs.Common.{reverse, sym, subst}
+use Rattle.std.specs.Prelude.{◌≡◌, List, IfOk}
+use Rattle.std.proofs.lemmas.Result.{IfOk-weaker}
+use Rattle.cns_depository.specs.Node.{DepNode}
+use Rattle.cns_depository.specs.declared.balances.BalanceRow.{BalanceRow}
+use Rattle.cns_depository.specs.Balances.{balance_rows, AreComplete, AreAscending}
+use Rattle.cns_depository.proofs.RowLemmas.{rows_complete, rows_ascend}
+use Rattle.cns_depository.proofs.depository.Depository.balances.Goals as goal
+
+pub returns-clause-complete : goal.returns-clause-complete
+returns-clause-complete g c =
+    let openings = c.self.inside.openings in
+    let p = reverse c.self.inside.records.items in
+    let made = rw c.as_slice.ensures.value at c.balance_rows.ensures in
+    subst (λ (v : DepNode). IfOk c.balance_rows.result (AreComplete v.openings v.records)) c.self.view_is
+    (IfOk-weaker c.balance_rows.result (λ (rows : List BalanceRow). rows ≡ balance_rows openings p) (AreComplete openings p)
+    (λ rows is. subst (AreComplete openings p) (sym is) (rows_complete openings p)) made)
+
+pub returns-clause-ascending : goal.returns-clause-ascending
+returns-clause-ascending g c =
+    let openings = c.self.inside.openings in
+    let p = reverse c.self.inside.records.items in
+    let made = rw c.as_slice.ensures.value at c.balance_rows.ensures in
+    IfOk-weaker c.balance_rows.result (λ (rows : List BalanceRow). rows ≡ balance_rows openings p) AreAscending
+    (λ rows is. subst AreAscending (sym is) (rows_ascend openings p)) made

@@ -1,0 +1,71 @@
+-- The balances of a depository, by issue, then account (this project's own rules).
+use Rattle.std.specs.Prelude.{◌≢◌, ℕ, ◌==◌, List, [], ◌∷◌, Option, Some, None, map, fold, if◌then◌else◌}
+use Rattle.std.specs.List.{filter_map, Contains}
+use Rattle.std.specs.List.Sorted.{IsStrictlySortedBy}
+use Rattle.std.specs.declared.cmp.Ordering.{Ordering}
+use Rattle.std.specs.declared.cmp.Ordering.TheVariants.{Less, Equal, Greater}
+use Rattle.std.specs.Ordering.{nat_cmp, ordering_then}
+use Rattle.std.specs.BTreeSet.{insert_key}
+use Rattle.cns_movements.specs.declared.order.Order.{Order}
+use Rattle.cns_records.specs.declared.dep_record.DepRecord.{DepRecord}
+use Rattle.cns_trades.specs.declared.opening.Opening.{Opening}
+use Rattle.cns_depository.specs.declared.account.Account.{Account}
+use Rattle.cns_depository.specs.declared.account.Account.TheVariants.{Cns, Member}
+use Rattle.cns_depository.specs.declared.balances.Place.{Place}
+use Rattle.cns_depository.specs.declared.balances.BalanceRow.{BalanceRow}
+use Rattle.cns_depository.specs.Stock.{order_in, balance_of}
+
+-- the order of accounts: the CNS account first, then the members by number
+abbrev pub account_cmp : Account → Account → Ordering
+account_cmp Cns Cns = Equal
+account_cmp Cns (Member m) = Less
+account_cmp (Member m) Cns = Greater
+account_cmp (Member m) (Member k) = nat_cmp m k
+
+-- the order of places: by issue, then account
+abbrev pub place_cmp : Place → Place → Ordering
+place_cmp a b = ordering_then (nat_cmp a.issue b.issue) (account_cmp a.account b.account)
+
+abbrev pub place_at : ℕ → Account → Place
+place_at issue account = record { issue = issue; account = account }
+
+-- places with the one that an opening names, each once, ascending
+abbrev pub with_opening : List Place → Opening → List Place
+with_opening ps o = insert_key place_cmp ps (place_at o.issue (Member o.member))
+
+-- places with those that an order names, each once, ascending
+abbrev pub with_order : List Place → Order → List Place
+with_order ps o = insert_key place_cmp (insert_key place_cmp ps (place_at o.issue Cns)) (place_at o.issue (Member o.member))
+
+-- the places that some opening names, each once, ascending
+unfoldable pub opened_places : List Opening → List Place
+opened_places openings = fold with_opening [] openings
+
+-- the places that some opening or order names, each once, ascending
+unfoldable pub places_of : List Opening → List DepRecord → List Place
+places_of openings [] = opened_places openings
+places_of openings (e ∷ p) = with_order (places_of openings p) (order_in e)
+
+-- the row of a place, where its balance is not 0
+unfoldable pub balance_row : List Opening → List DepRecord → Place → Option BalanceRow
+balance_row openings p k =
+    if balance_of openings p k.account k.issue == 0 then None
+    else Some (record { issue = k.issue; account = k.account; shares = balance_of openings p k.account k.issue })
+
+-- the balances other than 0
+abbrev pub balance_rows : List Opening → List DepRecord → List BalanceRow
+balance_rows openings p = filter_map (balance_row openings p) (places_of openings p)
+
+-- a row's place
+abbrev pub row_place : BalanceRow → Place
+row_place row = place_at row.issue row.account
+
+-- the rows stand by issue, then account, each place once
+abbrev pub AreAscending : List BalanceRow → Type 0
+AreAscending rows = IsStrictlySortedBy place_cmp (map row_place rows)
+
+-- each balance other than 0 has its row
+abbrev pub AreComplete : List Opening → List DepRecord → List BalanceRow → Type 0
+AreComplete openings p rows =
+    (account : Account) → (issue : ℕ) → balance_of openings p account issue ≢ 0
+    → Contains rows (record { issue = issue; account = account; shares = balance_of openings p account issue })

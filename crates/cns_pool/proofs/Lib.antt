@@ -1,0 +1,2 @@
+pub mod TileLemmas
+pub mod PoolLemmas

@@ -1,0 +1,24 @@
+use cns_ids::MemberNo;
+
+/// The shares that a member drew from a pool: those from `start` on, `asked` of them. (This project's
+/// own rule.)
+///
+/// It is the half-open interval from `start` to `start + asked`. Each ticket that a pool draws has at
+/// least one share.
+#[derive(Clone, Copy, PartialEq, Eq, Debug)]
+pub struct Ticket {
+    pub member: MemberNo,
+    /// The first of its shares, counted from 0 in the pool.
+    pub start: u64,
+    /// How many shares it has.
+    pub asked: u64,
+}
+
+/// The answer to a reserve.
+#[derive(Clone, Copy, PartialEq, Eq, Debug)]
+pub enum Reserved {
+    /// The member drew this ticket.
+    Ticket(Ticket),
+    /// The pool is sealed, so no ticket was drawn.
+    Sealed,
+}

@@ -1,0 +1,109 @@
+-- What the clearing node's answer to a cycle leaves of its state, and tells.
+use Rattle.std.proofs.Common.{◌≡◌, ℕ, ◌+◌, ◌-◌, true, false, List, ◌∷◌, ◌++◌, length, drop, Result, Ok, Err, refl, sym, ap, ◌∙◌, arith, length-append}
+use Rattle.std.specs.Prelude.{OnOk}
+use Rattle.std.proofs.Math.Seq.{drop-append_seam}
+use Rattle.cns_ids.specs.declared.cycle.CycleId.{CycleId}
+use Rattle.cns_movements.specs.Order.{numbered}
+use Rattle.cns_movements.specs.declared.order.Order.{Order}
+use Rattle.cns_movements.proofs.OrderLemmas.{length-numbered}
+use Rattle.cns_records.specs.declared.clear_record.ClearRecord.{ClearRecord}
+use Rattle.cns_records.specs.declared.clear_record.ClearRecord.TheVariants as entry
+use Rattle.cns_clearing.specs.Answers.{CycleLeaves, covers_in}
+use Rattle.cns_clearing.specs.Books.{are_spent, books_of, is_later, latest_of, orders_of}
+use Rattle.cns_clearing.specs.Node.{ClearNode, Added, Failed}
+use Rattle.cns_clearing.specs.declared.fault.Cycled.{Cycled}
+use Rattle.cns_clearing.specs.declared.fault.CycleFault.{CycleFault}
+use Rattle.cns_clearing.specs.declared.fault.CycleFault.TheVariants as cycle
+use Rattle.cns_report.specs.Lines.{cycle_line, order_lines, refused_line}
+use Rattle.cns_report.specs.declared.refusal.Subject.TheVariants as subject
+use Rattle.cns_report.specs.declared.refusal.Refusal.TheVariants as refusal
+use Rattle.cnsd.specs.Clear.{clear_commits, cycle_text, cycled}
+use Rattle.cnsd.specs.ClearTexts.{IsTold, cycle_answer_text}
+use Rattle.cnsd.specs.States.{ClearState, IsKnown, clear_added, clear_failed, clear_state, is_failure}
+use Rattle.cnsd.proofs.StateLemmas.{clear_when_added, clear_when_failed}
+
+-- a state and a text as wanted
+pub record IsAsWanted (wanted : ClearState × List ℕ) (new : ClearState) (out out' : List ℕ) : Type 0 where
+  pub state : new ≡ wanted.0
+  pub text : out' ≡ out ++ wanted.1
+
+as_wanted : (wanted : ClearState × List ℕ) (new : ClearState) (line out out' : List ℕ) → (new, line) ≡ wanted → out' ≡ out ++ line → IsAsWanted wanted new out out'
+as_wanted wanted new line out out' e t = record {
+  state = ap (λ (p : ClearState × List ℕ). p.0) e;
+  text = t ∙ ap (λ (p : ClearState × List ℕ). out ++ p.1) e;
+}
+
+-- a commit, by how it ended
+commits_done : (s s' : ClearState) (r : ClearRecord) (done failed : List ℕ) → is_failure s.foresight.next ≡ false → s' ≡ clear_added s r
+    → (s', done) ≡ clear_commits s r done failed
+commits_done s s' r done failed sound same = rw (same, sound) refl
+
+commits_failed : (s s' : ClearState) (r : ClearRecord) (done failed : List ℕ) → is_failure s.foresight.next ≡ true → s' ≡ clear_failed s r
+    → (s', failed) ≡ clear_commits s r done failed
+commits_failed s s' r done failed fails same = rw (same, fails) refl
+
+commit_done : (old new : ClearNode) (r : ClearRecord) (done failed : List ℕ) → Added r old new → (clear_state new, done) ≡ clear_commits (clear_state old) r done failed
+commit_done old new r done failed added =
+    let commit = clear_when_added r old new added in
+    commits_done (clear_state old) (clear_state new) r done failed commit.0 commit.1
+
+commit_failed : (old new : ClearNode) (r : ClearRecord) (done failed : List ℕ) → IsKnown old.honest old.tried old.foresight → Failed r old new
+    → (clear_state new, failed) ≡ clear_commits (clear_state old) r done failed
+commit_failed old new r done failed known fails =
+    let commit = clear_when_failed r old new known.foreseen fails in
+    commits_failed (clear_state old) (clear_state new) r done failed commit.0 commit.1
+
+-- the covers of a cycle are the last orders after it
+last_of : (before made : List Order) (n : ℕ) → n ≡ length made → drop (length (before ++ made) - n) (before ++ made) ≡ made
+last_of before made n is =
+    let size : length (before ++ made) - n ≡ length before = omega (arith, is, length-append before made) in
+    rw size (drop-append_seam before made)
+
+last_orders : (c new : List ClearRecord) (id : CycleId) (count : ℕ) → new ≡ entry.Cycle id ∷ c → count ≡ length (covers_in c id.day)
+    → drop (length (orders_of new).orders - count) (orders_of new).orders ≡ numbered (length (orders_of c).orders + 1) (covers_in c id.day)
+unfolding books_of
+last_orders c new id count added is =
+    rw added (last_of (orders_of c).orders (numbered (length (orders_of c).orders + 1) (covers_in c id.day)) count
+    (is ∙ sym (length-numbered (length (orders_of c).orders + 1) (covers_in c id.day))))
+
+-- a cycle by the state
+cycled_up : (s : ClearState) (id : CycleId) → s.down ≡ false → is_later (latest_of s.records) id ≡ true → are_spent (orders_of s.records) (covers_in s.records id.day) ≡ false
+    → clear_commits s (entry.Cycle id) (cycle_text s id (covers_in s.records id.day)) (refused_line subject.Cycle refusal.Device) ≡ cycled s id
+unfolding cycled
+cycled_up s id up later spent = rw (up, later, spent) refl
+
+cycled_down : (s : ClearState) (id : CycleId) → s.down ≡ true → (s, refused_line subject.Cycle refusal.Down) ≡ cycled s id
+unfolding cycled
+cycled_down s id down = rw down refl
+
+cycled_early : (s : ClearState) (id : CycleId) → s.down ≡ false → is_later (latest_of s.records) id ≡ false → (s, refused_line subject.Cycle refusal.CycleOrder) ≡ cycled s id
+unfolding cycled
+cycled_early s id up early = rw (up, early) refl
+
+cycled_spent : (s : ClearState) (id : CycleId) → s.down ≡ false → is_later (latest_of s.records) id ≡ true → are_spent (orders_of s.records) (covers_in s.records id.day) ≡ true
+    → (s, refused_line subject.Cycle refusal.NumbersSpent) ≡ cycled s id
+unfolding cycled
+cycled_spent s id up later spent = rw (up, later, spent) refl
+
+-- what a cycle leaves and tells
+pub cycle_told : (id : CycleId) (answer : Result Cycled CycleFault) (old new : ClearNode) (out out' : List ℕ) → IsKnown old.honest old.tried old.foresight
+    → CycleLeaves id answer old new → IsTold (cycle_answer_text id new.records answer) out out' → IsAsWanted (cycled (clear_state old) id) (clear_state new) out out'
+cycle_told id (Ok done) old new out out' known (allowed, made, added) told =
+    let lines : cycle_line id done.due ++ order_lines (drop (length (orders_of new.records).orders - done.count) (orders_of new.records).orders)
+    ≡ cycle_text (clear_state old) id (covers_in old.records id.day) =
+    rw (made.due, last_orders old.records new.records id done.count added.1 made.count) refl in
+    as_wanted _ _ _ out out' (commit_done old new (entry.Cycle id) _ _ added ∙ cycled_up (clear_state old) id added.0 allowed.0 allowed.1) (told ∙ ap (λ l. out ++ l) lines)
+cycle_told id (Err cycle.Down) old new out out' known (down, same) told =
+    as_wanted _ _ _ out out' (ap (λ (n : ClearNode). (clear_state n, refused_line subject.Cycle refusal.Down)) same ∙ cycled_down (clear_state old) id down) told
+cycle_told id (Err cycle.CycleOrder) old new out out' known (up, early, same) told =
+    as_wanted _ _ _ out out' (ap (λ (n : ClearNode). (clear_state n, refused_line subject.Cycle refusal.CycleOrder)) same ∙ cycled_early (clear_state old) id up early) told
+cycle_told id (Err cycle.NumbersSpent) old new out out' known (up, later, spent, same) told =
+    as_wanted _ _ _ out out' (ap (λ (n : ClearNode). (clear_state n, refused_line subject.Cycle refusal.NumbersSpent)) same ∙ cycled_spent (clear_state old) id up later spent) told
+cycle_told id (Err cycle.OutOfMemory) old new out out' known left told = absurd told
+cycle_told id (Err cycle.Device) old new out out' known (allowed, failed) told =
+    as_wanted _ _ _ out out' (commit_failed old new (entry.Cycle id) _ _ known failed ∙ cycled_up (clear_state old) id failed.0 allowed.0 allowed.1) told
+
+-- what follows from what holds where an answer is Ok holds there
+pub on_ok : {A E : Type 0} (r : Result A E) (P Q : Type 0) → (P → Q) → OnOk r P → OnOk r Q
+on_ok (Ok a) P Q f p = f p
+on_ok (Err e) P Q f p = tt
