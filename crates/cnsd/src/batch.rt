@@ -70,8 +70,8 @@ fn answer(alloc: Global, input: &[u8]) -> Result<String, BatchFault>
 
 /// Reads an input text to its end, and writes what its script tells of its trades.
 ///
-/// At `Read`, `TooLong`, `Sections` and `Csv` nothing was written; at `Memory` and `Write` a first
-/// part of the text. `steps` counts the read calls, at most 67,108,866.
+/// At `Write` a first part of the text was written, at every other fault nothing. `steps` counts the
+/// read calls, at most 67,108,866.
 pub fn run_batch<R: Read, W: Write, L: Ledger>(
     alloc: Global,
     reader: &mut R,

@@ -1,0 +1,4 @@
+pub mod PlanLemmas
+pub mod GrantLemmas
+pub mod StartLemmas
+pub mod TotalLemmas

@@ -1,0 +1,302 @@
+-- What holds of each plan.
+use Rattle.std.proofs.Common.{◌≡◌, ◌≤◌, ◌+◌, ◌-◌, ℕ, List, [], ◌∷◌, ◌++◌, Option, Some, None, Bool, true, false, cond, refl, arith, append_assoc, Less}
+use Rattle.std.specs.Prelude.{◌&&◌, ◌==◌, nat_lt, All, AllPairs, IfSome, count_by, sum_by, filter, ℤ, pos, negsuc, ◌-ℤ◌, if◌then◌else◌}
+use Rattle.std.specs.List.{filter_map, cons_option}
+use Rattle.std.proofs.lemmas.Bool.{and_from, and_parts, cond-false, cond-true, eqb-true, false_from_ne_true, ltb-true}
+use Rattle.std.proofs.lemmas.Cmp.{nat_cmp_total, on_total, then_total, tied_itself}
+use Rattle.std.proofs.lemmas.Int.{ints}
+use Rattle.std.proofs.lemmas.List.Elements.{All-append, All-cons, All-filter, All-head, All-nil, All-tail, All-weaker, filter_passes}
+use Rattle.std.proofs.lemmas.List.Kept.{AllPairs-cons}
+use Rattle.std.proofs.lemmas.List.Sums.{sum_by-append, sum_by-cons}
+use Rattle.std.specs.Cmp.{IsTotalOrder}
+use Rattle.cns_netting.specs.History.{credit, credit_part, debit, due, position_of, settled_in, sold}
+use Rattle.cns_netting.specs.Rows.{holding_cmp, holdings_of, open_row, rows_of}
+use Rattle.cns_netting.specs.Book.{IsBook}
+use Rattle.cns_netting.specs.declared.entry.NetEntry.{NetEntry}
+use Rattle.cns_netting.specs.declared.entry.NetEntry.TheVariants.{Accepted, Netted, Settled}
+use Rattle.cns_netting.specs.declared.position.Holding.{Holding}
+use Rattle.cns_netting.specs.declared.position.PositionRow.{PositionRow}
+use Rattle.cns_netting.proofs.BookLemmas.{bought-most}
+use Rattle.cns_movements.specs.Asked.{IsAsked}
+use Rattle.cns_movements.specs.Order.{open_sum}
+use Rattle.cns_movements.specs.declared.order.MoveKind.TheVariants.{Delivery}
+use Rattle.cns_movements.specs.Book.{Orders}
+use Rattle.cns_covers.specs.Bounds.{AreBounded}
+use Rattle.cns_covers.specs.Covers.{IsUnsettled}
+use Rattle.cns_covers.specs.declared.priorities.Prioritized.{Prioritized}
+use Rattle.cns_covers.proofs.BoundLemmas.{AreAscending, holdings-ascending}
+use Rattle.cns_allocate.specs.Group.{is_in, rank}
+use Rattle.cns_allocate.specs.Plan.{IsPlan, LongsFit, by_group, group_in, long_of, plan_of, planned_of, want_of, wanting}
+use Rattle.cns_allocate.specs.declared.group.Group.{Group}
+use Rattle.cns_allocate.specs.declared.group.Group.TheVariants.{Priority, WasLong, Other}
+use Rattle.cns_allocate.specs.declared.planned.Planned.{Planned}
+
+-- the size of a difference above 0
+pub credit_part-difference : (c d : ℕ) → credit_part (pos c -ℤ pos d) ≡ c - d
+credit_part-difference c d = by (pos c -ℤ pos d) refl
+  where
+    by : (z : ℤ) → (pos c -ℤ pos d) ≡ z → credit_part z ≡ c - d
+    by (pos n) e = omega (arith, ints, e)
+    by (negsuc n) e = omega (arith, ints, e)
+
+-- ---- longs that fit
+
+-- the longs of a book fit where settlements brought no member more than it sold
+pub covered_longs : (h : List NetEntry) → IsBook h → ((member issue : ℕ) → settled_in h member issue ≤ sold (due h) member issue) → LongsFit h
+covered_longs h book covered = record { within = λ m i. omega (arith, bought-most None h m i book.quantities, book.few, covered m i) }
+
+-- so they fit while the bounds of the covers hold
+pub bounded_longs : (h : List NetEntry) (orders : Orders) → IsBook h → AreBounded h orders → LongsFit h
+bounded_longs h orders book bounded = covered_longs h book (λ m i. omega (arith, bounded.covered m i))
+
+-- without settlements nothing is settled in
+settled_in-none : (h : List NetEntry) (member issue : ℕ) → IsUnsettled h → settled_in h member issue ≡ 0
+unfolding settled_in
+settled_in-none [] member issue h = refl
+settled_in-none (Accepted t ∷ h) member issue none = settled_in-none h member issue none
+settled_in-none (Netted d ∷ h) member issue none = settled_in-none h member issue none
+settled_in-none (Settled m i z ∷ h) member issue none = absurd none
+
+-- and they fit where there is no settlement
+pub unsettled_longs : (h : List NetEntry) → IsBook h → IsUnsettled h → LongsFit h
+unsettled_longs h book none = covered_longs h book (λ m i. omega (arith, settled_in-none h m i none))
+
+-- the row of a holding is long of at most 10^18 shares where all longs are
+open_row-fit : (h : List NetEntry) (k : Holding) → LongsFit h → IfSome (open_row h k) (λ (row : PositionRow). long_of row ≤ 1000000000000000000)
+unfolding open_row
+open_row-fit h k fit = by (credit h k.member k.issue == debit h k.member k.issue)
+  where
+    by : (b : Bool)
+        → IfSome (if b then None else Some (record { issue = k.issue; member = k.member; position = position_of h k.member k.issue }))
+        (λ (row : PositionRow). long_of row ≤ 1000000000000000000)
+    by true = tt
+    by false = rw (credit_part-difference (credit h k.member k.issue) (debit h k.member k.issue)) (fit.within k.member k.issue)
+
+-- ---- what each element gives
+
+All-cons_option : {X : Type 0} (P : X → Type 0) (o : Option X) (xs : List X) → IfSome o P → All P xs → All P (cons_option o xs)
+All-cons_option P None xs one rest = rest
+All-cons_option P (Some x) xs one rest = All-cons P x xs one rest
+
+pub All-filter_map : {X Y : Type 0} (f : X → Option Y) (P : X → Type 0) (Q : Y → Type 0) → ((x : X) → P x → IfSome (f x) Q) → (xs : List X) → All P xs → All Q (filter_map f xs)
+All-filter_map f P Q each [] all = All-nil Q
+All-filter_map f P Q each (x ∷ xs) all =
+    All-cons_option Q (f x) (filter_map f xs) (each x (All-head P x xs all)) (All-filter_map f P Q each xs (All-tail P x xs all))
+
+-- what holds of an element that is given where b is so
+pub IfSome-if : {X : Type 0} (P : X → Type 0) (b : Bool) (x : X) → (b ≡ true → P x) → IfSome (if b then Some x else None) P
+IfSome-if P true x h = h refl
+IfSome-if P false x h = tt
+
+rows_fit : (h : List NetEntry) (ks : List Holding) → LongsFit h → All (λ (row : PositionRow). long_of row ≤ 1000000000000000000) (filter_map (open_row h) ks)
+rows_fit h [] fit = All-nil _
+rows_fit h (k ∷ ks) fit = All-cons_option _ (open_row h k) (filter_map (open_row h) ks) (open_row-fit h k fit) (rows_fit h ks fit)
+
+pub rows_of-fit : (h : List NetEntry) → LongsFit h → All (λ (row : PositionRow). long_of row ≤ 1000000000000000000) (rows_of h)
+rows_of-fit h fit = rows_fit h (holdings_of h) fit
+
+-- what is planned of a position asks for a share, and for no more than the position has
+planned_of-asked : (issue : ℕ) (book : Orders) (settings : List Prioritized) (were_long : List ℕ) (row : PositionRow)
+    → long_of row ≤ 1000000000000000000 → IfSome (planned_of issue book settings were_long row) (λ (p : Planned). IsAsked p.asked)
+unfolding planned_of want_of
+planned_of-asked issue book settings were_long row fit =
+    let open_shares : ℕ = open_sum book.orders book.replies Delivery row.member row.issue in
+    let want : ℕ = long_of row - open_shares in
+    IfSome-if (λ (p : Planned). IsAsked p.asked) ((row.issue == issue) && nat_lt 0 want)
+    (record { member = row.member; asked = want; group = group_in issue settings were_long row.member })
+    (λ e. let some = ltb-true 0 want (and_parts (row.issue == issue) (nat_lt 0 want) e).1 in record { from = omega arith; to = omega arith })
+
+-- ---- each member at most once
+
+-- where f gives an element that passes only for one that passes, no more of what it gives pass
+count_by-filter_map : {X Y : Type 0} (f : X → Option Y) (q : X → Bool) (p : Y → Bool) → ((x : X) → IfSome (f x) (λ y. p y ≡ true → q x ≡ true))
+    → (xs : List X) → count_by p (filter_map f xs) ≤ count_by q xs
+count_by-filter_map f q p each [] = omega arith
+count_by-filter_map {Y = Y} f q p each (x ∷ xs) =
+    omega (arith, sum_by-cons (λ y. cond (q y) 1 0) x xs, by (f x) (each x), count_by-filter_map f q p each xs)
+  where
+    one : (a b : Bool) → (a ≡ true → b ≡ true) → cond a 1 0 ≤ cond b 1 0
+    one true true h = omega arith
+    one true false h = let no = h refl in cc no
+    one false true h = omega arith
+    one false false h = omega arith
+
+    by : (o : Option Y) → IfSome o (λ y. p y ≡ true → q x ≡ true) → count_by p (cons_option o (filter_map f xs)) ≤ cond (q x) 1 0 + count_by p (filter_map f xs)
+    by None h = omega arith
+    by (Some y) h = omega (arith, sum_by-cons (λ z. cond (p z) 1 0) y (filter_map f xs), one (p y) (q x) h)
+
+-- whether a holding, or a position, is of an issue and a member
+abbrev is_holding_of : ℕ → ℕ → Holding → Bool
+is_holding_of issue member k = (k.issue == issue) && (k.member == member)
+
+abbrev is_row_of : ℕ → ℕ → PositionRow → Bool
+is_row_of issue member row = (row.issue == issue) && (row.member == member)
+
+abbrev pub is_planned_as : ℕ → Planned → Bool
+is_planned_as member p = p.member == member
+
+-- a holding that stands after another one is not of its issue and member
+holding_order : IsTotalOrder holding_cmp
+holding_order = then_total (on_total (λ (k : Holding). k.issue) nat_cmp_total) (on_total (λ (k : Holding). k.member) nat_cmp_total)
+
+other_holding : (k x : Holding) → holding_cmp k x ≡ Less → is_holding_of k.issue k.member x ≡ false
+other_holding k x less =
+    false_from_ne_true _
+    (λ e.
+    let same = and_parts (x.issue == k.issue) (x.member == k.member) e in
+    let issues = eqb-true x.issue k.issue same.0 in
+    let members = eqb-true x.member k.member same.1 in
+    let itself = tied_itself holding_order k in
+    cc)
+
+no_other : (k : Holding) (ks : List Holding) → All (λ (q : Holding). holding_cmp k q ≡ Less) ks → count_by (is_holding_of k.issue k.member) ks ≡ 0
+no_other k [] apart = refl
+no_other k (x ∷ xs) apart =
+    let not_here = other_holding k x (All-head (λ (q : Holding). holding_cmp k q ≡ Less) x xs apart) in
+    let rest = no_other k xs (All-tail (λ (q : Holding). holding_cmp k q ≡ Less) x xs apart) in
+    let none : ◌≡◌ {A = ℕ} (cond (is_holding_of k.issue k.member x) 1 0) 0 = cond-false _ 1 0 not_here in
+    omega (arith, sum_by-cons (λ (q : Holding). cond (is_holding_of k.issue k.member q) 1 0) x xs, none, rest)
+
+holdings_once : (issue member : ℕ) (ks : List Holding) → AreAscending ks → count_by (is_holding_of issue member) ks ≤ 1
+holdings_once issue member [] up = omega arith
+holdings_once issue member (k ∷ ks) up = by (is_holding_of issue member k) refl (holdings_once issue member ks up.1)
+  where
+    by : (b : Bool) → is_holding_of issue member k ≡ b → count_by (is_holding_of issue member) ks ≤ 1 → count_by (is_holding_of issue member) (k ∷ ks) ≤ 1
+    by true e rest =
+        let same = and_parts (k.issue == issue) (k.member == member) e in
+        let issues = eqb-true k.issue issue same.0 in
+        let members = eqb-true k.member member same.1 in
+        let none : count_by (is_holding_of issue member) ks ≡ 0 = rw (← issues, ← members) (no_other k ks up.0) in
+        let one : ◌≡◌ {A = ℕ} (cond (is_holding_of issue member k) 1 0) 1 = cond-true _ 1 0 e in
+        omega (arith, sum_by-cons (λ (q : Holding). cond (is_holding_of issue member q) 1 0) k ks, one, none)
+    by false e rest =
+        let none : ◌≡◌ {A = ℕ} (cond (is_holding_of issue member k) 1 0) 0 = cond-false _ 1 0 e in
+        omega (arith, sum_by-cons (λ (q : Holding). cond (is_holding_of issue member q) 1 0) k ks, none, rest)
+
+-- the position of a holding is of its issue and member
+open_row-place : (h : List NetEntry) (issue member : ℕ) (k : Holding)
+    → IfSome (open_row h k) (λ (row : PositionRow). is_row_of issue member row ≡ true → is_holding_of issue member k ≡ true)
+unfolding open_row
+open_row-place h issue member k = by (credit h k.member k.issue == debit h k.member k.issue)
+  where
+    by : (b : Bool)
+        → IfSome (if b then None else Some (record { issue = k.issue; member = k.member; position = position_of h k.member k.issue }))
+        (λ (row : PositionRow). is_row_of issue member row ≡ true → is_holding_of issue member k ≡ true)
+    by true = tt
+    by false = λ e. e
+
+-- the member planned of a position is that of the position, which is of the issue
+planned_of-place : (issue : ℕ) (book : Orders) (settings : List Prioritized) (were_long : List ℕ) (member : ℕ) (row : PositionRow)
+    → IfSome (planned_of issue book settings were_long row) (λ (p : Planned). is_planned_as member p ≡ true → is_row_of issue member row ≡ true)
+unfolding planned_of
+planned_of-place issue book settings were_long member row =
+    let want : ℕ = want_of book row in
+    IfSome-if (λ (p : Planned). is_planned_as member p ≡ true → is_row_of issue member row ≡ true) ((row.issue == issue) && nat_lt 0 want)
+    (record { member = row.member; asked = want; group = group_in issue settings were_long row.member })
+    (λ e same. and_from (row.issue == issue) (row.member == member) (and_parts (row.issue == issue) (nat_lt 0 want) e).0 same)
+
+-- no member wants shares twice
+pub wanting-once : (issue : ℕ) (h : List NetEntry) (book : Orders) (settings : List Prioritized) (were_long : List ℕ) (member : ℕ)
+    → count_by (is_planned_as member) (wanting issue h book settings were_long) ≤ 1
+wanting-once issue h book settings were_long member =
+    omega (
+      arith,
+      count_by-filter_map (planned_of issue book settings were_long) (is_row_of issue member) (is_planned_as member)
+          (planned_of-place issue book settings were_long member) (rows_of h),
+      count_by-filter_map (open_row h) (is_holding_of issue member) (is_row_of issue member) (open_row-place h issue member) (holdings_of h),
+      holdings_once issue member (holdings_of h) (holdings-ascending h),
+    )
+
+-- ---- by group
+
+-- each element is in one of the groups
+sum_by-groups : (f : Planned → ℕ) (ps : List Planned)
+    → sum_by f (filter (is_in Priority) ps) + (sum_by f (filter (is_in WasLong) ps) + sum_by f (filter (is_in Other) ps)) ≡ sum_by f ps
+sum_by-groups f [] = refl
+sum_by-groups f (p ∷ ps) =
+    by p.group (filter (is_in Priority) ps) (filter (is_in WasLong) ps) (filter (is_in Other) ps) (sum_by-groups f ps)
+  where
+    by : (g : Group) (us bs cs : List Planned) → sum_by f us + (sum_by f bs + sum_by f cs) ≡ sum_by f ps
+        → sum_by f (cond (rank g == 0) (p ∷ us) us) + (sum_by f (cond (rank g == 1) (p ∷ bs) bs) + sum_by f (cond (rank g == 2) (p ∷ cs) cs)) ≡ sum_by f (p ∷ ps)
+    by Priority us bs cs e = omega (arith, sum_by-cons f p us, sum_by-cons f p ps)
+    by WasLong us bs cs e = omega (arith, sum_by-cons f p bs, sum_by-cons f p ps)
+    by Other us bs cs e = omega (arith, sum_by-cons f p cs, sum_by-cons f p ps)
+
+pub sum_by-by_group : (f : Planned → ℕ) (ps : List Planned) → sum_by f (by_group ps) ≡ sum_by f ps
+sum_by-by_group f ps =
+    omega (
+      arith,
+      sum_by-append f (filter (is_in Priority) ps) (filter (is_in WasLong) ps ++ filter (is_in Other) ps),
+      sum_by-append f (filter (is_in WasLong) ps) (filter (is_in Other) ps),
+      sum_by-groups f ps,
+    )
+
+All-by_group : (P : Planned → Type 0) (ps : List Planned) → All P ps → All P (by_group ps)
+All-by_group P ps all =
+    All-append P (filter (is_in Priority) ps) (filter (is_in WasLong) ps ++ filter (is_in Other) ps) (All-filter (is_in Priority) P ps all)
+    (All-append P (filter (is_in WasLong) ps) (filter (is_in Other) ps) (All-filter (is_in WasLong) P ps all) (All-filter (is_in Other) P ps all))
+
+-- two members in the order of their groups
+abbrev IsNoLater : Planned → Planned → Type 0
+IsNoLater p q = rank p.group ≤ rank q.group
+
+-- those of a group before others of that group or later ones
+groups-append : (r : ℕ) (ps qs : List Planned) → All (λ (p : Planned). rank p.group ≡ r) ps → All (λ (q : Planned). r ≤ rank q.group) qs → AllPairs IsNoLater qs
+    → AllPairs IsNoLater (ps ++ qs)
+groups-append r [] qs same later pairs = pairs
+groups-append r (p ∷ ps) qs same later pairs =
+    let here : rank p.group ≡ r = All-head (λ (q : Planned). rank q.group ≡ r) p ps same in
+    let rest = All-tail (λ (q : Planned). rank q.group ≡ r) p ps same in
+    AllPairs-cons IsNoLater p (ps ++ qs)
+    (All-append (IsNoLater p) ps qs
+    (All-weaker (λ (q : Planned). rank q.group ≡ r) (IsNoLater p) (λ q e. omega arith) ps rest)
+    (All-weaker (λ (q : Planned). r ≤ rank q.group) (IsNoLater p) (λ q le. omega arith) qs later))
+    (groups-append r ps qs rest later pairs)
+
+no_pairs : AllPairs IsNoLater []
+no_pairs = λ i j d less below. absurd (omega arith)
+
+one_group : (r : ℕ) (ps : List Planned) → All (λ (p : Planned). rank p.group ≡ r) ps → AllPairs IsNoLater ps
+one_group r [] same = no_pairs
+one_group r (p ∷ ps) same =
+    let here : rank p.group ≡ r = All-head (λ (q : Planned). rank q.group ≡ r) p ps same in
+    let rest = All-tail (λ (q : Planned). rank q.group ≡ r) p ps same in
+    AllPairs-cons IsNoLater p ps (All-weaker (λ (q : Planned). rank q.group ≡ r) (IsNoLater p) (λ q e. omega arith) ps rest) (one_group r ps rest)
+
+in_group : (g : Group) (ps : List Planned) → All (λ (p : Planned). rank p.group ≡ rank g) (filter (is_in g) ps)
+in_group g ps =
+    All-weaker (λ (p : Planned). is_in g p ≡ true) (λ (p : Planned). rank p.group ≡ rank g) (λ p e. eqb-true (rank p.group) (rank g) e) (filter (is_in g) ps)
+    (filter_passes (is_in g) ps)
+
+from_group : (r : ℕ) (g : Group) (ps : List Planned) → r ≤ rank g → All (λ (p : Planned). r ≤ rank p.group) (filter (is_in g) ps)
+from_group r g ps le =
+    All-weaker (λ (p : Planned). rank p.group ≡ rank g) (λ (p : Planned). r ≤ rank p.group) (λ p e. omega arith) (filter (is_in g) ps) (in_group g ps)
+
+groups-by_group : (ps : List Planned) → AllPairs IsNoLater (by_group ps)
+groups-by_group ps =
+    let firsts : List Planned = filter (is_in Priority) ps in
+    let seconds : List Planned = filter (is_in WasLong) ps in
+    let others : List Planned = filter (is_in Other) ps in
+    let later = All-append (λ (p : Planned). 0 ≤ rank p.group) seconds others (from_group 0 WasLong ps (omega arith)) (from_group 0 Other ps (omega arith)) in
+    groups-append 0 firsts (seconds ++ others) (in_group Priority ps) later
+    (groups-append 1 seconds others (in_group WasLong ps) (from_group 1 Other ps (omega arith)) (one_group 2 others (in_group Other ps)))
+
+-- the groups added to a list one after another
+pub groups_added : (ps none firsts more all : List Planned) → none ≡ [] → firsts ≡ none ++ filter (is_in Priority) ps → more ≡ firsts ++ filter (is_in WasLong) ps
+    → all ≡ more ++ filter (is_in Other) ps → all ≡ by_group ps
+groups_added ps none firsts more all is_none is_firsts is_more is_all =
+    rw (is_all, is_more, is_firsts, is_none, append_assoc (filter (is_in Priority) ps) (filter (is_in WasLong) ps) (filter (is_in Other) ps)) refl
+
+-- each plan is one
+pub IsPlan-plan_of : (issue : ℕ) (h : List NetEntry) (book : Orders) (settings : List Prioritized) (were_long : List ℕ) → LongsFit h
+    → IsPlan (plan_of issue h book settings were_long)
+IsPlan-plan_of issue h book settings were_long fit =
+    let planned : List Planned = wanting issue h book settings were_long in
+    record {
+      asked =
+          All-by_group (λ (p : Planned). IsAsked p.asked) planned
+          (All-filter_map (planned_of issue book settings were_long) (λ (row : PositionRow). long_of row ≤ 1000000000000000000) (λ (p : Planned). IsAsked p.asked)
+          (planned_of-asked issue book settings were_long) (rows_of h) (rows_of-fit h fit));
+      once = λ member. rw (sum_by-by_group (λ (p : Planned). cond (is_planned_as member p) 1 0) planned) (wanting-once issue h book settings were_long member);
+      groups = groups-by_group planned;
+    }

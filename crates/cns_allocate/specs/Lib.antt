@@ -1,0 +1,3 @@
+pub mod Group
+pub mod Plan
+pub mod Grants

@@ -1,0 +1,21 @@
+//! Allocation: which members are to receive shares of an issue, in which order, and how many each
+//! is granted.
+//!
+//! A plan has the members that are still to receive shares, by group, then member. They draw tickets
+//! from a pool in that order, and a ticket is granted the shares that were poured into its interval.
+#![tactic(auto)]
+
+mod grants;
+mod group;
+mod plan;
+mod planned;
+mod ticket_order;
+
+pub use grants::Grants;
+pub use group::Group;
+pub use plan::Plan;
+pub use planned::Planned;
+pub use ticket_order::by_start;
+
+#[cfg(test)]
+mod tests;
