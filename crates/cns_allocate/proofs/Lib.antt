@@ -2,3 +2,6 @@ pub mod PlanLemmas
 pub mod GrantLemmas
 pub mod StartLemmas
 pub mod TotalLemmas
+pub mod DeliveryLemmas
+pub mod TurnLemmas
+pub mod ServedLemmas

@@ -109,7 +109,7 @@ planned_of-asked issue book settings were_long row fit =
 -- ---- each member at most once
 
 -- where f gives an element that passes only for one that passes, no more of what it gives pass
-count_by-filter_map : {X Y : Type 0} (f : X → Option Y) (q : X → Bool) (p : Y → Bool) → ((x : X) → IfSome (f x) (λ y. p y ≡ true → q x ≡ true))
+pub count_by-filter_map : {X Y : Type 0} (f : X → Option Y) (q : X → Bool) (p : Y → Bool) → ((x : X) → IfSome (f x) (λ y. p y ≡ true → q x ≡ true))
     → (xs : List X) → count_by p (filter_map f xs) ≤ count_by q xs
 count_by-filter_map f q p each [] = omega arith
 count_by-filter_map {Y = Y} f q p each (x ∷ xs) =

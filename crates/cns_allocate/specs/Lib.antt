@@ -1,3 +1,5 @@
 pub mod Group
 pub mod Plan
 pub mod Grants
+pub mod Served
+pub mod Deliveries

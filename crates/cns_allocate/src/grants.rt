@@ -64,7 +64,7 @@ impl Grants {
 }
 
 // The shares of a ticket that lie below what was poured.
-fn grant(ticket: &Ticket, poured: u64) -> u64
+pub(crate) fn grant(ticket: &Ticket, poured: u64) -> u64
     ensures { result ≡ grant_of poured ticket.now }
 {
     ticket.asked.min(poured.saturating_sub(ticket.start))

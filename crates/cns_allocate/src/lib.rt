@@ -5,17 +5,23 @@
 //! from a pool in that order, and a ticket is granted the shares that were poured into its interval.
 #![tactic(auto)]
 
+mod delivery;
 mod grants;
 mod group;
 mod plan;
 mod planned;
+mod served;
 mod ticket_order;
+mod turns;
 
+pub use delivery::deliveries;
 pub use grants::Grants;
 pub use group::Group;
 pub use plan::Plan;
 pub use planned::Planned;
+pub use served::are_served;
 pub use ticket_order::by_start;
+pub use turns::{Turn, Turns};
 
 #[cfg(test)]
 mod tests;

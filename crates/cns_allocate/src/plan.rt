@@ -64,6 +64,14 @@ impl Plan {
         Ok(Plan { list })
     }
 
+    /// The same plan once more.
+    pub fn copy(&self, alloc: Global) -> Result<Plan, AllocError>
+        ensures { IfOk result (λ plan. plan ≡ self.now) }
+    {
+        let list = self.list.iter().copied().collect(alloc)?;
+        Ok(Plan { list })
+    }
+
     /// The members planned, in their order.
     pub fn as_slice(&self) -> &[Planned]
         ensures value { result.now ≡ self.now }

@@ -1,7 +1,7 @@
 ghost use Rattle.std.specs.Prelude.{◌≤◌, IfOk};
 ghost use Rattle.cns_allocate.specs.Plan.{LongsFit};
 
-use crate::{Grants, Group, Plan, Planned, by_start};
+use crate::{Grants, Group, Plan, Planned, Turn, Turns, are_served, by_start, deliveries};
 use cns_covers::Priorities;
 use cns_ids::{Cusip, Day, MemberNo, Quantity};
 use cns_movements::{Ask, Asked, MoveKind, OrderBook};
@@ -185,6 +185,73 @@ fn tickets_by_their_starts(rt: HostRuntime) -> Result<(), Fail> {
     assert_eq!(rt;
         tickets.as_slice(),
         [ticket(2, 0, 30)?, ticket(3, 30, 30)?, ticket(4, 60, 5)?].as_slice()
+    );
+    Ok(())
+}
+
+// Member 3 has priority, member 2 has not, and member 4 is not planned.
+#[test]
+fn a_later_group_waits_for_the_earlier_one(rt: HostRuntime) -> Result<(), Fail> {
+    let plan = plan_after(rt.alloc(), &[], &[])?;
+    let mut turns = Turns::of(rt.alloc(), plan.as_slice())?;
+    assert_eq!(rt; turns.len(), 2);
+    assert_eq!(rt; turns.turn(member(2)?), Turn::EarlierGroup);
+    assert_eq!(rt; turns.turn(member(4)?), Turn::NotLong);
+    assert_eq!(rt; turns.turn(member(3)?), Turn::Next { asked: 30 });
+    turns.serve(member(3)?);
+    assert_eq!(rt; turns.turn(member(3)?), Turn::NotLong);
+    assert_eq!(rt; turns.turn(member(2)?), Turn::Next { asked: 30 });
+    assert_eq!(rt;
+        turns.as_slice(),
+        [planned(2, 30, Group::Other)?].as_slice()
+    );
+    turns.serve(member(2)?);
+    assert!(rt; turns.is_empty());
+    Ok(())
+}
+
+#[test]
+fn tickets_that_a_lot_may_close_with(rt: HostRuntime) -> Result<(), Fail> {
+    let plan = plan_after(rt.alloc(), &[], &[])?;
+    let both = [ticket(3, 0, 30)?, ticket(2, 30, 30)?];
+    assert!(rt; are_served(rt.alloc(), plan.as_slice(), both.as_slice(), false)?);
+    let one = [ticket(3, 0, 30)?];
+    assert!(rt; are_served(rt.alloc(), plan.as_slice(), one.as_slice(), true)?);
+    Ok(())
+}
+
+// A later group first, a member without its ticket though nothing is sealed, a gap, and fewer shares
+// than were planned.
+#[test]
+fn tickets_that_no_lot_closes_with(rt: HostRuntime) -> Result<(), Fail> {
+    let plan = plan_after(rt.alloc(), &[], &[])?;
+    let later_first = [ticket(2, 0, 30)?, ticket(3, 30, 30)?];
+    assert!(rt; !are_served(rt.alloc(), plan.as_slice(), later_first.as_slice(), false)?);
+    let one = [ticket(3, 0, 30)?];
+    assert!(rt; !are_served(rt.alloc(), plan.as_slice(), one.as_slice(), false)?);
+    let gap = [ticket(3, 0, 30)?, ticket(2, 31, 30)?];
+    assert!(rt; !are_served(rt.alloc(), plan.as_slice(), gap.as_slice(), false)?);
+    let fewer = [ticket(3, 0, 29)?];
+    assert!(rt; !are_served(rt.alloc(), plan.as_slice(), fewer.as_slice(), true)?);
+    Ok(())
+}
+
+#[test]
+fn deliveries_are_of_the_grants(rt: HostRuntime) -> Result<(), Fail> {
+    let tickets = [ticket(2, 0, 30)?, ticket(3, 30, 30)?];
+    let asks = deliveries(rt.alloc(), low_issue()?, tickets.as_slice(), 40)?;
+    assert_eq!(rt;
+        asks.as_slice(),
+        [
+            ask(MoveKind::Delivery, low_issue()?, 2, 30)?,
+            ask(MoveKind::Delivery, low_issue()?, 3, 10)?
+        ]
+        .as_slice()
+    );
+    let asks = deliveries(rt.alloc(), low_issue()?, tickets.as_slice(), 30)?;
+    assert_eq!(rt;
+        asks.as_slice(),
+        [ask(MoveKind::Delivery, low_issue()?, 2, 30)?].as_slice()
     );
     Ok(())
 }

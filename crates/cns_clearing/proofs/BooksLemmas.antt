@@ -1,6 +1,6 @@
 -- What the records of a clearing node make of its books.
 use Rattle.std.proofs.Common.{◌≡◌, ◌+◌, ◌≤◌, Bool, true, false, List, [], ◌∷◌, ◌++◌, length, reverse, Some, refl, sym, ◌∙◌, subst, arith}
-use Rattle.std.specs.Prelude.{◌+ℤ◌, pos, not, ◌==◌, ◌&&◌, nat_lt}
+use Rattle.std.specs.Prelude.{◌+ℤ◌, not, ◌==◌, ◌&&◌, nat_lt}
 use Rattle.std.proofs.lemmas.Bool.{eqb-true, ltb-false}
 use Rattle.std.proofs.lemmas.List.{reverse-append}
 use Rattle.std.proofs.lemmas.Option.{same_Some}
@@ -13,17 +13,18 @@ use Rattle.cns_movements.specs.Confirm.{confirm_answer}
 use Rattle.cns_movements.specs.Order.{order_of}
 use Rattle.cns_movements.specs.declared.book.Confirm.TheVariants as answers
 use Rattle.cns_movements.specs.declared.order.Ask.{Ask}
-use Rattle.cns_movements.specs.declared.order.MoveKind.TheVariants.{Cover}
 use Rattle.cns_movements.specs.declared.order.Order.{Order}
 use Rattle.cns_movements.specs.declared.order.Reply.{Reply}
 use Rattle.cns_movements.proofs.BookLemmas.{with_asks_lawful, with_reply_lawful}
 use Rattle.cns_movements.proofs.ConfirmLemmas.{IsTaken, taken_from_done}
-use Rattle.cns_covers.specs.Bounds.{AreBounded}
-use Rattle.cns_covers.proofs.BoundLemmas.{bounded_accepted, bounded_confirmed, bounded_cycle, bounded_empty, bounded_within, confirmed_within, kind_of_found}
+use Rattle.cns_allocate.proofs.DeliveryLemmas.{deliveries_once, deliveries_within}
+use Rattle.cns_covers.specs.Bounds.{AreBounded, AreDeliverable, amount_of, want_in}
+use Rattle.cns_covers.proofs.BoundLemmas.{bounded_accepted, bounded_confirmed, bounded_cycle, bounded_delivered, bounded_empty, bounded_within, confirmed_within}
 use Rattle.cns_records.specs.Clear.{HasRanges, AreWritable}
+use Rattle.cns_records.specs.declared.allocation.Allocation.{Allocation}
 use Rattle.cns_records.specs.declared.clear_record.ClearRecord.{ClearRecord}
-use Rattle.cns_records.specs.declared.clear_record.ClearRecord.TheVariants.{Accept, Exempt, Priority, Cycle, Confirm}
-use Rattle.cns_clearing.specs.Books.{Books, Allows, AreSound, IsLawful, amount_of, are_spent, books_of, covers_on, with_record}
+use Rattle.cns_records.specs.declared.clear_record.ClearRecord.TheVariants.{Accept, Exempt, Priority, Cycle, Allocate, Confirm}
+use Rattle.cns_clearing.specs.Books.{Books, Allows, AreSound, IsAllocable, IsLawful, are_spent, books_of, covers_on, deliveries_in, tickets_of, with_record}
 
 -- a position stays within 10^18 of 0 where a first confirmation brings its shares
 pub settle_within : (b : Books) (r : Reply) (o : Order) → AreSound b → confirm_answer b.orders r ≡ answers.Done → order_of b.orders.orders r.number ≡ Some o
@@ -31,8 +32,7 @@ pub settle_within : (b : Books) (r : Reply) (o : Order) → AreSound b → confi
 settle_within b r o sound done found =
     let taken = taken_from_done b.orders r done in
     let same : taken.order ≡ o = same_Some taken.order o (sym taken.found ∙ found) in
-    let kind : o.kind ≡ Cover = kind_of_found b.orders.orders r.number o sound.bounded.covers found in
-    rw kind (confirmed_within b.history b.orders r o sound.ordered sound.bounded found taken.first (rw (← same) taken.within) sound.netted)
+    confirmed_within b.history b.orders r o sound.ordered sound.bounded found taken.first (rw (← same) taken.within) sound.netted
 
 -- numbers that are not spent suffice
 numbers_suffice : (book : Orders) (asks : List Ask) → length book.orders ≤ 1000000 → are_spent book asks ≡ false → length book.orders + length asks ≤ 1000000
@@ -52,11 +52,23 @@ pub record AreOrderly (b : Books) : Type 0 where
 orderly_confirmed : (b : Books) (r : Reply) → AreOrderly b → (taken : IsTaken b.orders r) → AreOrderly (with_record (Confirm r) b)
 orderly_confirmed b r orderly taken =
     let o = taken.order in
-    let kind : o.kind ≡ Cover = kind_of_found b.orders.orders r.number o orderly.bounded.covers taken.found in
     record {
-      bounded = rw (taken.found, kind) (bounded_confirmed b.history b.orders r o orderly.ordered orderly.bounded taken.found taken.first taken.within);
+      bounded = rw taken.found (bounded_confirmed b.history b.orders r o orderly.ordered orderly.bounded taken.found taken.first taken.within);
       ordered = with_reply_lawful b.orders r o orderly.ordered taken.found taken.first taken.within;
     }
+
+-- the deliveries of an allocation that may follow
+allocable_asks : (b : Books) (a : Allocation) → IsAllocable b a → AreDeliverable b.history b.orders a.issue (deliveries_in a)
+allocable_asks b a allocable = record {
+  each = deliveries_within a.issue a.poured (tickets_of a.drawn) (λ m. want_in b.history b.orders m a.issue) allocable.within;
+  once = deliveries_once a.issue a.poured (tickets_of a.drawn) allocable.once;
+}
+
+orderly_allocated : (b : Books) (a : Allocation) → AreOrderly b → IsAllocable b a → AreOrderly (with_record (Allocate a) b)
+orderly_allocated b a orderly allocable = record {
+  bounded = bounded_delivered b.history b.orders a.issue (deliveries_in a) orderly.ordered orderly.bounded (allocable_asks b a allocable);
+  ordered = with_asks_lawful b.orders (deliveries_in a) orderly.ordered (numbers_suffice b.orders (deliveries_in a) orderly.ordered.few allocable.numbers);
+}
 
 -- they stay so with one more record
 orderly_more : (r : ClearRecord) (b : Books) → AreOrderly b → Allows b r → AreOrderly (with_record r b)
@@ -67,9 +79,10 @@ orderly_more (Cycle id) b orderly allowed = record {
   bounded = bounded_cycle b.history b.orders b.exemptions id.day orderly.ordered orderly.bounded;
   ordered = with_asks_lawful b.orders (covers_on b id.day) orderly.ordered (numbers_suffice b.orders (covers_on b id.day) orderly.ordered.few allowed.1);
 }
+orderly_more (Allocate a) b orderly allowed = orderly_allocated b a orderly allowed
 orderly_more (Confirm r) b orderly allowed = orderly_confirmed b r orderly (taken_from_done b.orders r allowed)
 
--- the covers of lawful records keep the positions small, and their orders are numbered and confirmed once
+-- the orders of lawful records keep the positions small, and their orders are numbered and confirmed once
 pub lawful_bounded : (c : List ClearRecord) → IsLawful c → AreOrderly (books_of c)
 unfolding books_of
 lawful_bounded [] lawful = record { bounded = bounded_empty; ordered = record { numbered = tt; few = omega arith; known = tt; once = tt } }
@@ -79,16 +92,16 @@ lawful_bounded (r ∷ c) lawful = orderly_more r (books_of c) (lawful_bounded c 
 netted_confirmed : (b : Books) (r : Reply) → AreSound b → (taken : IsTaken b.orders r) → IsBook (with_record (Confirm r) b).history
 netted_confirmed b r sound taken =
     let o = taken.order in
-    let kind : o.kind ≡ Cover = kind_of_found b.orders.orders r.number o sound.bounded.covers taken.found in
     let before = bounded_within b.history b.orders o.member o.issue sound.netted sound.bounded in
     let after = confirmed_within b.history b.orders r o sound.ordered sound.bounded taken.found taken.first taken.within sound.netted in
-    rw (taken.found, kind) (book_settled b.history o.member o.issue (pos r.moved) sound.netted before after)
+    rw taken.found (book_settled b.history o.member o.issue (amount_of o.kind r.moved) sound.netted before after)
 
 netted_more : (r : ClearRecord) (b : Books) → AreSound b → Allows b r → HasRanges r → IsBook (with_record r b).history
 netted_more (Accept t) b sound allowed ranges = book_accepted b.history t sound.netted (new-few (accepted b.history) t allowed) ranges.quantity.to
 netted_more (Exempt m i s) b sound allowed ranges = sound.netted
 netted_more (Priority m i is_on) b sound allowed ranges = sound.netted
 netted_more (Cycle id) b sound allowed ranges = book_netted b.history id.day sound.netted
+netted_more (Allocate a) b sound allowed ranges = sound.netted
 netted_more (Confirm r) b sound allowed ranges = netted_confirmed b r sound (taken_from_done b.orders r allowed)
 
 -- the books of lawful records are sound

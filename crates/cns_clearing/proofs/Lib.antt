@@ -2,3 +2,10 @@ pub mod BooksLemmas
 pub mod NodeLemmas
 pub mod ReplayLemmas
 pub mod PositionLemmas
+pub mod ListLemmas
+pub mod ClosingLemmas
+pub mod LotLemmas
+pub mod TotalLemmas
+pub mod DrawnLemmas
+pub mod PouredLemmas
+pub mod LeavesLemmas

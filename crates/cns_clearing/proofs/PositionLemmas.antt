@@ -2,14 +2,13 @@
 use Rattle.std.proofs.Common.{◌≡◌, ◌≤◌, ◌+◌, ℕ, zero, suc, Bool, true, false, List, [], ◌∷◌, ◌++◌, length, Option, Some, None, refl, sym, ap, ◌∙◌, subst, arith}
 use Rattle.std.specs.Prelude.{◌&&◌, ◌==◌, ◌||◌, nat_le, ℤ, pos, neg_ℤ, ◌+ℤ◌, ◌-ℤ◌, ◌≤ℤ◌, if◌then◌else◌}
 use Rattle.std.specs.List.{list_any}
-use Rattle.std.proofs.lemmas.Int.{ints}
 use Rattle.std.proofs.lemmas.List.Sums.{sum_by-cons}
 use Rattle.cns_movements.specs.Book.{IsOrderBook}
 use Rattle.cns_trades.specs.declared.trade.Trade.{Trade}
 use Rattle.cns_netting.specs.History.{bought, credit_part, debit_part, due, due_since, is_reached, latest, position_of, settled_in, settled_out, sold}
 use Rattle.cns_netting.specs.declared.entry.NetEntry.{NetEntry}
 use Rattle.cns_netting.proofs.TallyLemmas.{is_reached-latest}
-use Rattle.cns_movements.specs.Order.{is_of, moved_of, moved_part, moved_sum, numbered, open_part, open_sum, same_kind}
+use Rattle.cns_movements.specs.Order.{is_of, moved_of, moved_part, moved_sum, numbered, open_sum, same_kind}
 use Rattle.cns_movements.specs.declared.order.Ask.{Ask}
 use Rattle.cns_movements.specs.declared.order.MoveKind.{MoveKind}
 use Rattle.cns_movements.specs.declared.order.MoveKind.TheVariants.{Cover, Delivery}
@@ -17,11 +16,11 @@ use Rattle.cns_movements.specs.declared.order.Order.{Order}
 use Rattle.cns_movements.specs.declared.order.Reply.{Reply}
 use Rattle.cns_movements.proofs.ConfirmLemmas.{IsTaken, taken_from_done}
 use Rattle.cns_movements.proofs.ReplyLemmas.{moved_of_above, moved_sum-append, moved_sum-with_reply}
-use Rattle.cns_covers.specs.Bounds.{AreCovers}
+use Rattle.cns_covers.specs.Bounds.{amount_of}
 use Rattle.cns_covers.proofs.BoundLemmas.{position_bounds}
 use Rattle.cns_records.specs.declared.clear_record.ClearRecord.{ClearRecord}
-use Rattle.cns_records.specs.declared.clear_record.ClearRecord.TheVariants.{Accept, Exempt, Priority, Cycle, Confirm}
-use Rattle.cns_clearing.specs.Books.{Books, Allows, IsLawful, amount_of, books_of, covers_on, history_of, settled_by, with_record}
+use Rattle.cns_records.specs.declared.clear_record.ClearRecord.TheVariants.{Accept, Exempt, Priority, Cycle, Allocate, Confirm}
+use Rattle.cns_clearing.specs.Books.{Books, Allows, IsLawful, books_of, covers_on, deliveries_in, history_of, settled_by, with_record}
 use Rattle.cns_clearing.specs.Position.{IsBetween, due_before, due_in, is_cycle_from, position_in}
 use Rattle.cns_clearing.proofs.BooksLemmas.{lawful_bounded}
 
@@ -44,6 +43,7 @@ due_alike reached later (Exempt m i s ∷ c) alike = due_alike reached (Exempt m
 due_alike reached later (Priority m i is_on ∷ c) alike = due_alike reached (Priority m i is_on ∷ later) c (λ s. alike s)
 due_alike reached later (Cycle id ∷ c) alike =
     due_alike (latest reached id.day) (Cycle id ∷ later) c (λ s. is_reached-latest reached id.day s ∙ ap (λ b. nat_le s id.day || b) (alike s))
+due_alike reached later (Allocate a ∷ c) alike = due_alike reached (Allocate a ∷ later) c (λ s. alike s)
 due_alike reached later (Confirm r ∷ c) alike =
     due_settled reached _ r.moved (history_of c) ∙ due_alike reached (Confirm r ∷ later) c (λ s. alike s)
 
@@ -88,9 +88,9 @@ debit_moved Cover here moved = nothing_either here 0 refl
 debit_moved Delivery here moved = ap (λ n. if here then n else 0) (all_debit moved)
 
 -- the settlements are what confirmed orders moved
-record AreMoved (b : Books) (m i : ℕ) : Type 0 where
-  brought : settled_in b.history m i ≡ moved_sum b.orders.orders b.orders.replies Cover m i
-  took : settled_out b.history m i ≡ moved_sum b.orders.orders b.orders.replies Delivery m i
+pub record AreMoved (b : Books) (m i : ℕ) : Type 0 where
+  pub brought : settled_in b.history m i ≡ moved_sum b.orders.orders b.orders.replies Cover m i
+  pub took : settled_out b.history m i ≡ moved_sum b.orders.orders b.orders.replies Delivery m i
 
 moved_confirmed : (b : Books) (r : Reply) (m i : ℕ) → IsOrderBook b.orders → IsTaken b.orders r → AreMoved b m i → AreMoved (with_record (Confirm r) b) m i
 unfolding settled_in settled_out
@@ -105,9 +105,9 @@ moved_confirmed b r m i ordered taken moved =
       took = rw taken.found (omega (arith, deliveries, moved.took, debit_moved o.kind here r.moved));
     }
 
-moved_cycle : (b : Books) (asks : List Ask) (kind : MoveKind) (m i : ℕ) → IsOrderBook b.orders
+moved_ordered : (b : Books) (asks : List Ask) (kind : MoveKind) (m i : ℕ) → IsOrderBook b.orders
     → moved_sum (b.orders.orders ++ numbered (length b.orders.orders + 1) asks) b.orders.replies kind m i ≡ moved_sum b.orders.orders b.orders.replies kind m i
-moved_cycle b asks kind m i ordered =
+moved_ordered b asks kind m i ordered =
     let os = b.orders.orders in
     let rs = b.orders.replies in
     let next : ℕ = length os + 1 in
@@ -120,12 +120,17 @@ moved_more (Accept t) b m i ordered allowed moved = record { brought = moved.bro
 moved_more (Exempt member issue s) b m i ordered allowed moved = record { brought = moved.brought; took = moved.took }
 moved_more (Priority member issue is_on) b m i ordered allowed moved = record { brought = moved.brought; took = moved.took }
 moved_more (Cycle id) b m i ordered allowed moved = record {
-  brought = moved.brought ∙ sym (moved_cycle b (covers_on b id.day) Cover m i ordered);
-  took = moved.took ∙ sym (moved_cycle b (covers_on b id.day) Delivery m i ordered);
+  brought = moved.brought ∙ sym (moved_ordered b (covers_on b id.day) Cover m i ordered);
+  took = moved.took ∙ sym (moved_ordered b (covers_on b id.day) Delivery m i ordered);
+}
+moved_more (Allocate a) b m i ordered allowed moved = record {
+  brought = moved.brought ∙ sym (moved_ordered b (deliveries_in a) Cover m i ordered);
+  took = moved.took ∙ sym (moved_ordered b (deliveries_in a) Delivery m i ordered);
 }
 moved_more (Confirm r) b m i ordered allowed moved = moved_confirmed b r m i ordered (taken_from_done b.orders r allowed) moved
 
-lawful_moved : (c : List ClearRecord) (m i : ℕ) → IsLawful c → AreMoved (books_of c) m i
+-- so it is of lawful records
+pub lawful_moved : (c : List ClearRecord) (m i : ℕ) → IsLawful c → AreMoved (books_of c) m i
 unfolding books_of settled_in settled_out moved_sum
 lawful_moved [] m i lawful = record { brought = refl; took = refl }
 lawful_moved (r ∷ c) m i lawful = moved_more r (books_of c) m i (lawful_bounded c lawful.1).ordered lawful.0 (lawful_moved c m i lawful.1)
@@ -136,18 +141,6 @@ position_in_is c m i lawful =
     let moved = lawful_moved c m i lawful in
     rw (moved.brought, moved.took, due_in_is c) refl
 
--- no delivery is open where all orders are covers
-no_deliveries : (os : List Order) (rs : List Reply) (m i : ℕ) → AreCovers os → open_sum os rs Delivery m i ≡ 0
-unfolding open_sum
-no_deliveries [] rs m i covers = refl
-no_deliveries (o ∷ os) rs m i covers =
-    let f : Order → ℕ = λ (x : Order). if is_of Delivery m i x then open_part rs x else 0 in
-    let here : f o ≡ 0 = rw covers.0 refl in
-    omega (arith, sum_by-cons f o os, no_deliveries os rs m i covers.1, here)
-
-less_nothing : (low : ℕ) (z : ℤ) (more : ℕ) → more ≡ 0 → neg_ℤ (pos low) ≤ℤ z → neg_ℤ (pos low) ≤ℤ (z -ℤ pos more)
-less_nothing low z more none le = omega (arith, ints, none, le)
-
 -- the bounds of a position
 pub position_between : (c : List ClearRecord) (m i : ℕ) → IsLawful c → IsBetween c m i (position_of (history_of c) m i)
 position_between c m i lawful =
@@ -155,9 +148,9 @@ position_between c m i lawful =
     let bounded = (lawful_bounded c lawful).bounded in
     let position : ℤ = position_of (history_of c) m i in
     let more : ℕ = open_sum b.orders.orders b.orders.replies Cover m i in
+    let less : ℕ = open_sum b.orders.orders b.orders.replies Delivery m i in
     let bounds = position_bounds b.history b.orders m i bounded in
-    let low : neg_ℤ (pos (sold (due_in c) m i)) ≤ℤ position = subst (λ (ts : List Trade). neg_ℤ (pos (sold ts m i)) ≤ℤ position) (due_in_is c) bounds.0 in
     record {
-      low = less_nothing (sold (due_in c) m i) position _ (no_deliveries b.orders.orders b.orders.replies m i bounded.covers) low;
+      low = subst (λ (ts : List Trade). neg_ℤ (pos (sold ts m i)) ≤ℤ (position -ℤ pos less)) (due_in_is c) bounds.0;
       high = subst (λ (ts : List Trade). (position +ℤ pos more) ≤ℤ pos (bought ts m i)) (due_in_is c) bounds.1;
     }

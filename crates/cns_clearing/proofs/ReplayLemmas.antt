@@ -12,6 +12,7 @@ use Rattle.cns_records.proofs.ClearLaws.{read-spelling, spelling_injective, spel
 use Rattle.cns_clearing.specs.Books.{Books, AreSound, IsAllowed, IsLawful, books_of, with_record}
 use Rattle.cns_clearing.specs.Node.{ClearNode, GivesBack, IsNode, IsTried, IsUndecided, KeeperState}
 use Rattle.cns_clearing.specs.Replay.{AreReplayed, IsReplayed, IsBadPayload, IsBadPlace, IsAdmitted, AdmitLeaves, ReplayGives, Reopened, Reread, Restarts, RestartLeaves}
+use Rattle.cns_clearing.specs.declared.lot.Lot.{Lot}
 use Rattle.cns_clearing.specs.declared.replay.ReplayFault.{ReplayFault}
 use Rattle.cns_clearing.specs.declared.replay.ReplayFault.TheVariants.{OutOfMemory, BadJournal, Device}
 use Rattle.cns_clearing.proofs.BooksLemmas.{lawful_sound, writable-reverse}
@@ -213,37 +214,37 @@ node_unread books items tried down k k' OutOfMemory n r =
     ]
 
 -- the value of a node with these parts
-abbrev shown : List ClearRecord → Option ClearRecord → Bool → ℕ → Bool → Foresight → ClearNode
-shown items tried down failures honest foresight =
-    record { records = reverse items; tried = tried; down = down; failures = failures; honest = honest; foresight = foresight }
+abbrev shown : List ClearRecord → Option ClearRecord → Bool → List Lot → ℕ → Bool → Foresight → ClearNode
+shown items tried down lots failures honest foresight =
+    record { records = reverse items; tried = tried; down = down; lots = lots; failures = failures; honest = honest; foresight = foresight }
 
-abbrev node_of : List ClearRecord → Option ClearRecord → Bool → KeeperState → ClearNode
-node_of items tried down k = shown items tried down k.run.failures k.honest k.foresight
+abbrev node_of : List ClearRecord → Option ClearRecord → Bool → List Lot → KeeperState → ClearNode
+node_of items tried down lots k = shown items tried down lots k.run.failures k.honest k.foresight
 
 -- a node whose keeper shows the same of itself
-same_shown : (items : List ClearRecord) (tried : Option ClearRecord) (down : Bool) (a b : ℕ) (h h' : Bool) (f f' : Foresight) → a ≡ b → h ≡ h' → f ≡ f'
-    → shown items tried down a h f ≡ shown items tried down b h' f'
-same_shown items tried down a b h h' f f' failed is foreseen =
-    ap (λ (n : ℕ). shown items tried down n h f) failed ∙ ap (λ (x : Bool). shown items tried down b x f) is
-    ∙ ap (λ (x : Foresight). shown items tried down b h' x) foreseen
+same_shown : (items : List ClearRecord) (tried : Option ClearRecord) (down : Bool) (lots : List Lot) (a b : ℕ) (h h' : Bool) (f f' : Foresight) → a ≡ b → h ≡ h' → f ≡ f'
+    → shown items tried down lots a h f ≡ shown items tried down lots b h' f'
+same_shown items tried down lots a b h h' f f' failed is foreseen =
+    ap (λ (n : ℕ). shown items tried down lots n h f) failed ∙ ap (λ (x : Bool). shown items tried down lots b x f) is
+    ∙ ap (λ (x : Foresight). shown items tried down lots b h' x) foreseen
 
 -- what a refused restart leaves
-restart_refused : (books : Books) (items : List ClearRecord) (tried : Option ClearRecord) (down : Bool) (k k' : KeeperState) (fault : ReplayFault)
-    → IsNode books items tried down k → Reread (Err fault) k k' → RestartLeaves (Err fault) (node_of items tried down k) (node_of items tried true k')
-restart_refused books items tried down k k' Device n r =
-    (same_shown items tried true _ _ _ _ _ _ refl r.honest r.foreseen.1, r.leaves.1, r.foreseen.0)
-restart_refused books items tried down k k' (BadJournal place) n r = (
-  same_shown items tried true _ _ _ _ _ _ (ap (λ (x : Running). x.failures) r.1.leaves.0) r.1.honest r.1.foreseen,
+restart_refused : (books : Books) (items : List ClearRecord) (tried : Option ClearRecord) (down : Bool) (lots : List Lot) (k k' : KeeperState) (fault : ReplayFault)
+    → IsNode books items tried down k → Reread (Err fault) k k' → RestartLeaves (Err fault) (node_of items tried down lots k) (node_of items tried true [] k')
+restart_refused books items tried down lots k k' Device n r =
+    (same_shown items tried true [] _ _ _ _ _ _ refl r.honest r.foreseen.1, r.leaves.1, r.foreseen.0)
+restart_refused books items tried down lots k k' (BadJournal place) n r = (
+  same_shown items tried true [] _ _ _ _ _ _ (ap (λ (x : Running). x.failures) r.1.leaves.0) r.1.honest r.1.foreseen,
   λ h. gives_back_good items tried r.0 place n.lawful n.fits n.tried_is (n.journal_down h r.0 (r.1.keeps h).0) r.2,
 )
-restart_refused books items tried down k k' OutOfMemory n r =
+restart_refused books items tried down lots k k' OutOfMemory n r =
     elim r [
       | inl none ↦ (
-        same_shown items tried true _ _ _ _ _ _ (ap (λ (x : Running). x.failures) none.leaves) none.honest refl,
+        same_shown items tried true [] _ _ _ _ _ _ (ap (λ (x : Running). x.failures) none.leaves) none.honest refl,
         ap (λ (f : Foresight). f.next) none.foreseen,
       )
       | inr some ↦ (
-        same_shown items tried true _ _ _ _ _ _ (ap (λ (x : Running). x.failures) some.1.leaves.0) some.1.honest refl,
+        same_shown items tried true [] _ _ _ _ _ _ (ap (λ (x : Running). x.failures) some.1.leaves.0) some.1.honest refl,
         ap (λ (f : Foresight). f.next) some.1.foreseen,
       )
     ]
@@ -258,20 +259,20 @@ tried_writable c None may = tt
 tried_writable c (Some r) may = (may.1, may.2)
 
 -- whether one more record came back
-restarts : (items items' : List ClearRecord) (tried : Option ClearRecord) (down : Bool) (k k' : KeeperState)
+restarts : (items items' : List ClearRecord) (tried : Option ClearRecord) (down : Bool) (lots : List Lot) (k k' : KeeperState)
     → AreWritable items → AreWritable items' → IsTriedWritable tried → GivesBack items tried (map spelling items')
-    → Restarts (ltb (length items) (length items')) (node_of items tried down k) (node_of items' None false k')
-restarts items items' tried down k k' fits fits' tries gives =
+    → Restarts (ltb (length items) (length items')) (node_of items tried down lots k) (node_of items' None false [] k')
+restarts items items' tried down lots k k' fits fits' tries gives =
     elim gives [
       | inl e ↦
           let is : items' ≡ items = spellings_injective items' items fits' fits e in
           let test : ltb (length items) (length items') ≡ false = le-ltb (length items) (length items') (let same : length items' ≡ length items = ap length is in omega arith) in
-          subst (λ (b : Bool). Restarts b (node_of items tried down k) (node_of items' None false k')) (sym test) (ap reverse is)
+          subst (λ (b : Bool). Restarts b (node_of items tried down lots k) (node_of items' None false [] k')) (sym test) (ap reverse is)
       | inr more ↦
           let may : IsTriedWritable (Some more.0) = subst IsTriedWritable more.1 tries in
           let is : items' ≡ items ++ more.0 ∷ [] = spellings_injective items' (items ++ more.0 ∷ []) fits' (writable_more items more.0 fits may.0 may.1) more.2 in
           let test : ltb (length items) (length items') ≡ true = lt-ltb (length items) (length items') (let same : length items' ≡ length (items ++ more.0 ∷ []) = ap length is in omega (arith, length-append items (more.0 ∷ []))) in
-          subst (λ (b : Bool). Restarts b (node_of items tried down k) (node_of items' None false k')) (sym test)
+          subst (λ (b : Bool). Restarts b (node_of items tried down lots k) (node_of items' None false [] k')) (sym test)
           (more.0, more.1, ap reverse is ∙ reverse_more items more.0)
     ]
 
@@ -292,33 +293,38 @@ foreseen_restart items items' tried stands seen j is undecided gave =
     as_foreseen items items' tried stands j undecided (subst (λ (s : Option Bool). StandsAsForeseen s (Ok (map spelling items')) j) is gave)
 
 -- what a restart leaves that succeeds
-restart_accepted : (books : Books) (items items' : List ClearRecord) (tried : Option ClearRecord) (down : Bool) (k k' : KeeperState) (a b n : ℕ)
+restart_accepted : (books : Books) (items items' : List ClearRecord) (tried : Option ClearRecord) (down : Bool) (lots : List Lot) (k k' : KeeperState) (a b n : ℕ)
     → IsNode books items tried down k → Reread (Ok items') k k' → a ≡ length items → b ≡ length items' → n ≡ length items'
-    → RestartLeaves (Ok (record { records = n; kept = ltb a b })) (node_of items tried down k) (node_of items' None false k')
-restart_accepted books items items' tried down k k' a b n node r a_is b_is n_is =
+    → RestartLeaves (Ok (record { records = n; kept = ltb a b })) (node_of items tried down lots k) (node_of items' None false [] k')
+restart_accepted books items items' tried down lots k k' a b n node r a_is b_is n_is =
     let size = length-reverse items' in
     let kept : ltb a b ≡ ltb (length items) (length items') = ap (λ (x : ℕ). ltb x b) a_is ∙ ap (λ (x : ℕ). ltb (length items) x) b_is in
     let seen : ltb (length items) (length items') ≡ ltb (length (reverse items)) (length (reverse items')) =
     ap (λ (x : ℕ). ltb x (length items')) (sym (length-reverse items)) ∙ ap (λ (x : ℕ). ltb (length (reverse items)) x) (sym size) in (
-      same_shown items' None false _ _ _ _ _ _ (ap (λ (x : Running). x.failures) r.0.leaves.0) r.0.honest r.0.foreseen,
+      same_shown items' None false [] _ _ _ _ _ _ (ap (λ (x : Running). x.failures) r.0.leaves.0) r.0.honest r.0.foreseen,
       n_is ∙ sym size,
       kept ∙ seen,
       r.1.lawful,
-      λ h. subst (λ (x : Bool). Restarts x (node_of items tried down k) (node_of items' None false k')) (sym kept)
-          (restarts items items' tried down k k' node.fits r.1.fits (tried_writable (reverse items) tried node.tried_is)
+      λ h. subst (λ (x : Bool). Restarts x (node_of items tried down lots k) (node_of items' None false [] k')) (sym kept)
+          (restarts items items' tried down lots k k' node.fits r.1.fits (tried_writable (reverse items) tried node.tried_is)
           (node.journal_down h (map spelling items') (r.0.keeps h).0)),
       λ h stands is. kept ∙ foreseen_restart items items' tried stands k.foresight.stands k.journal is (node.foreseen h stands is) (r.0.stands h),
     )
 
--- the same of the values that a caller sees
-pub restart_refused_at : (books : Books) (items : List ClearRecord) (tried : Option ClearRecord) (down : Bool) (k k' : KeeperState) (fault : ReplayFault) (old : ClearNode)
-    → IsNode books items tried down k → Reread (Err fault) k k' → node_of items tried down k ≡ old → RestartLeaves (Err fault) old (node_of items tried true k')
-restart_refused_at books items tried down k k' fault old n r seen =
-    subst (λ (v : ClearNode). RestartLeaves (Err fault) v (node_of items tried true k')) seen (restart_refused books items tried down k k' fault n r)
+-- the same of the values that a caller sees, with no lots left
+pub restart_refused_at : (books : Books) (items : List ClearRecord) (tried : Option ClearRecord) (down : Bool) (lots lots' : List Lot) (k k' : KeeperState) (fault : ReplayFault)
+    (old : ClearNode)
+    → IsNode books items tried down k → Reread (Err fault) k k' → node_of items tried down lots k ≡ old → lots' ≡ [] → RestartLeaves (Err fault) old (node_of items tried true lots' k')
+restart_refused_at books items tried down lots lots' k k' fault old n r seen none =
+    subst (λ (v : ClearNode). RestartLeaves (Err fault) v (node_of items tried true lots' k')) seen
+    (subst (λ (l : List Lot). RestartLeaves (Err fault) (node_of items tried down lots k) (node_of items tried true l k')) (sym none)
+    (restart_refused books items tried down lots k k' fault n r))
 
-pub restart_accepted_at : (books : Books) (items items' : List ClearRecord) (tried : Option ClearRecord) (down : Bool) (k k' : KeeperState) (a b n : ℕ) (old : ClearNode)
-    → IsNode books items tried down k → Reread (Ok items') k k' → a ≡ length items → b ≡ length items' → n ≡ length items' → node_of items tried down k ≡ old
-    → RestartLeaves (Ok (record { records = n; kept = ltb a b })) old (node_of items' None false k')
-restart_accepted_at books items items' tried down k k' a b n old node r a_is b_is n_is seen =
-    subst (λ (v : ClearNode). RestartLeaves (Ok (record { records = n; kept = ltb a b })) v (node_of items' None false k')) seen
-    (restart_accepted books items items' tried down k k' a b n node r a_is b_is n_is)
+pub restart_accepted_at : (books : Books) (items items' : List ClearRecord) (tried : Option ClearRecord) (down : Bool) (lots lots' : List Lot) (k k' : KeeperState) (a b n : ℕ)
+    (old : ClearNode)
+    → IsNode books items tried down k → Reread (Ok items') k k' → a ≡ length items → b ≡ length items' → n ≡ length items' → node_of items tried down lots k ≡ old → lots' ≡ []
+    → RestartLeaves (Ok (record { records = n; kept = ltb a b })) old (node_of items' None false lots' k')
+restart_accepted_at books items items' tried down lots lots' k k' a b n old node r a_is b_is n_is seen none =
+    subst (λ (v : ClearNode). RestartLeaves (Ok (record { records = n; kept = ltb a b })) v (node_of items' None false lots' k')) seen
+    (subst (λ (l : List Lot). RestartLeaves (Ok (record { records = n; kept = ltb a b })) (node_of items tried down lots k) (node_of items' None false l k')) (sym none)
+    (restart_accepted books items items' tried down lots k k' a b n node r a_is b_is n_is))

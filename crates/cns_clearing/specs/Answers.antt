@@ -1,6 +1,6 @@
 -- What each call of a clearing node answers, and what it leaves (this project's own rules). A refusal tells that those named
 -- before it did not apply; only `Device` leaves anything changed.
-use Rattle.std.specs.Prelude.{◌≡◌, ◌≢◌, ℕ, ◌+◌, ◌==◌, Bool, true, false, List, length, Some, None, Result, Ok, Err, if◌then◌else◌}
+use Rattle.std.specs.Prelude.{◌≡◌, ◌≢◌, ℕ, ◌+◌, ◌==◌, min, Bool, true, false, List, [], ◌∷◌, ◌++◌, length, map, Some, None, Result, Ok, Err, if◌then◌else◌}
 use Rattle.cns_ids.specs.declared.cycle.CycleId.{CycleId}
 use Rattle.cns_trades.specs.Verdicts.{verdict}
 use Rattle.cns_trades.specs.declared.list.Verdict.{Verdict}
@@ -16,10 +16,26 @@ use Rattle.cns_movements.specs.declared.order.Order.{Order}
 use Rattle.cns_movements.specs.declared.order.Reply.{Reply}
 use Rattle.cns_journal.specs.Keeper.{PlanLeaves}
 use Rattle.cns_journal.specs.declared.keeper.NotPlanned.{NotPlanned}
+use Rattle.cns_pool.specs.Pool.{asked_sum}
+use Rattle.cns_pool.specs.declared.ticket.Ticket.{Ticket}
+use Rattle.cns_allocate.specs.Served.{IsServed}
+use Rattle.cns_allocate.specs.declared.planned.Planned.{Planned}
+use Rattle.cns_records.specs.declared.allocation.Allocation.{Allocation}
+use Rattle.cns_records.specs.declared.drawn.Drawn.{Drawn}
 use Rattle.cns_records.specs.declared.clear_record.ClearRecord.{ClearRecord}
 use Rattle.cns_records.specs.declared.clear_record.ClearRecord.TheVariants as entry
-use Rattle.cns_clearing.specs.Books.{are_spent, books_of, covers_on, history_of, is_later, latest_of, orders_of, IsAllowed}
+use Rattle.cns_clearing.specs.Books.{are_spent, books_of, covers_on, deliveries_in, history_of, is_later, latest_of, orders_of, IsAllowed}
+use Rattle.cns_clearing.specs.Lots.{IsAllocation, avail_in, lots_poured, new_lot}
 use Rattle.cns_clearing.specs.Node.{ClearNode, Added, Failed}
+use Rattle.cns_clearing.specs.Pools.{free_of, lot_of}
+use Rattle.cns_clearing.specs.declared.lot.Lot.{Lot}
+use Rattle.cns_clearing.specs.declared.fault.Closed.{Closed}
+use Rattle.cns_clearing.specs.declared.fault.LotOpenFault.{LotOpenFault}
+use Rattle.cns_clearing.specs.declared.fault.LotOpenFault.TheVariants as opening
+use Rattle.cns_clearing.specs.declared.fault.LotPourFault.{LotPourFault}
+use Rattle.cns_clearing.specs.declared.fault.LotPourFault.TheVariants as pouring
+use Rattle.cns_clearing.specs.declared.fault.LotCloseFault.{LotCloseFault}
+use Rattle.cns_clearing.specs.declared.fault.LotCloseFault.TheVariants as closing
 use Rattle.cns_clearing.specs.declared.fault.TradeFault.{TradeFault}
 use Rattle.cns_clearing.specs.declared.fault.TradeFault.TheVariants as trade
 use Rattle.cns_clearing.specs.declared.fault.SettingFault.{SettingFault}
@@ -65,13 +81,87 @@ pub record IsCycled (c : List ClearRecord) (day : ℕ) (done : Cycled) : Type 0 
 
 -- what a cycle leaves, by its answer
 abbrev pub CycleLeaves : CycleId → Result Cycled CycleFault → ClearNode → ClearNode → Type 0
-CycleLeaves id (Ok done) old new = IsAllowed old.records (entry.Cycle id) × IsCycled old.records id.day done × Added (entry.Cycle id) old new
+CycleLeaves id (Ok done) old new =
+    IsAllowed old.records (entry.Cycle id) × (old.lots ≡ []) × IsCycled old.records id.day done × Added (entry.Cycle id) old new
 CycleLeaves id (Err cycle.Down) old new = (old.down ≡ true) × (new ≡ old)
 CycleLeaves id (Err cycle.CycleOrder) old new = (old.down ≡ false) × (is_later (latest_of old.records) id ≡ false) × (new ≡ old)
+CycleLeaves id (Err cycle.LotsOpen) old new = (old.down ≡ false) × (is_later (latest_of old.records) id ≡ true) × (old.lots ≢ []) × (new ≡ old)
 CycleLeaves id (Err cycle.NumbersSpent) old new =
-    (old.down ≡ false) × (is_later (latest_of old.records) id ≡ true) × (are_spent (orders_of old.records) (covers_in old.records id.day) ≡ true) × (new ≡ old)
-CycleLeaves id (Err cycle.OutOfMemory) old new = (old.down ≡ false) × (is_later (latest_of old.records) id ≡ true) × (new ≡ old)
-CycleLeaves id (Err cycle.Device) old new = IsAllowed old.records (entry.Cycle id) × Failed (entry.Cycle id) old new
+    (old.down ≡ false) × (is_later (latest_of old.records) id ≡ true) × (old.lots ≡ []) × (are_spent (orders_of old.records) (covers_in old.records id.day) ≡ true) × (new ≡ old)
+CycleLeaves id (Err cycle.OutOfMemory) old new = (old.down ≡ false) × (is_later (latest_of old.records) id ≡ true) × (old.lots ≡ []) × (new ≡ old)
+CycleLeaves id (Err cycle.Device) old new = IsAllowed old.records (entry.Cycle id) × (old.lots ≡ []) × Failed (entry.Cycle id) old new
+
+-- what the opening of a lot leaves, by its answer: the lot has all shares of the issue that are there, and its plan
+abbrev pub LotOpenLeaves : ℕ → Result (List Planned) LotOpenFault → ClearNode → ClearNode → Type 0
+LotOpenLeaves issue (Ok plan) old new =
+    (old.down ≡ false) × (lot_of old.lots issue ≡ None) × (plan ≡ (new_lot old.records issue).plan) × (new ≡ record old { lots = old.lots ++ new_lot old.records issue ∷ [] })
+LotOpenLeaves issue (Err opening.Down) old new = (old.down ≡ true) × (new ≡ old)
+LotOpenLeaves issue (Err opening.LotAlready) old new = (old.down ≡ false) × (lot_of old.lots issue ≢ None) × (new ≡ old)
+LotOpenLeaves issue (Err opening.OutOfMemory) old new = (old.down ≡ false) × (lot_of old.lots issue ≡ None) × (new ≡ old)
+
+-- shares poured into a lot are those that were free, and with those it had it has all that are there
+pub record IsPoured (node : ClearNode) (issue shares : ℕ) : Type 0 where
+  pub lot : Lot
+  pub found : lot_of node.lots issue ≡ Some lot
+  pub free : shares ≡ free_of (orders_of node.records) node.lots issue
+  pub all : lot.poured + shares ≡ avail_in node.records issue
+
+-- what a pour leaves, by its answer
+abbrev pub LotPourLeaves : ℕ → Result ℕ LotPourFault → ClearNode → ClearNode → Type 0
+LotPourLeaves issue (Ok shares) old new =
+    (old.down ≡ false) × IsPoured old issue shares × (new ≡ record old { lots = lots_poured old.records issue old.lots })
+LotPourLeaves issue (Err pouring.Down) old new = (old.down ≡ true) × (new ≡ old)
+LotPourLeaves issue (Err pouring.NoLot) old new = (old.down ≡ false) × (lot_of old.lots issue ≡ None) × (new ≡ old)
+
+-- the tickets of a pool as those of a record
+abbrev pub drawn_in_record : Ticket → Drawn
+drawn_in_record t = record { member = t.member; start = t.start; asked = t.asked }
+
+abbrev pub drawn_of : List Ticket → List Drawn
+drawn_of tickets = map drawn_in_record tickets
+
+-- the allocation that closes a lot with these tickets
+abbrev pub allocation_of : Lot → List Ticket → Bool → Allocation
+allocation_of lot tickets sealed =
+    record { issue = lot.issue; opened = lot.opened; upto = lot.upto; poured = lot.poured; sealed = sealed; drawn = drawn_of tickets }
+
+-- a lot may close with these tickets: they serve its plan, and the allocation is lawful at its place
+pub record MayClose (node : ClearNode) (issue : ℕ) (tickets : List Ticket) (sealed : Bool) (a : Allocation) : Type 0 where
+  pub lot : Lot
+  pub found : lot_of node.lots issue ≡ Some lot
+  pub served : IsServed lot.plan tickets sealed
+  pub closes : a ≡ allocation_of lot tickets sealed
+  pub lawful : IsAllocation node.records a
+
+-- what is answered for the allocation that closes the lot of an issue
+abbrev pub ClosingGives : ℕ → List Ticket → Bool → Result Allocation LotCloseFault → ClearNode → Type 0
+ClosingGives issue tickets sealed (Ok a) node = MayClose node issue tickets sealed a
+ClosingGives issue tickets sealed (Err closing.Down) node = ⊥
+ClosingGives issue tickets sealed (Err closing.NoLot) node = lot_of node.lots issue ≡ None
+ClosingGives issue tickets sealed (Err closing.BadTickets) node = (lot : Lot) × (lot_of node.lots issue ≡ Some lot) × (IsServed lot.plan tickets sealed → ⊥)
+ClosingGives issue tickets sealed (Err closing.NumbersSpent) node = ⊥
+ClosingGives issue tickets sealed (Err closing.OutOfMemory) node = lot_of node.lots issue ≢ None
+ClosingGives issue tickets sealed (Err closing.Device) node = ⊥
+
+-- how many shares a close granted, the number of its first order, and how many it ordered
+pub record IsClosed (c : List ClearRecord) (tickets : List Ticket) (a : Allocation) (done : Closed) : Type 0 where
+  pub granted : done.granted ≡ min a.poured (asked_sum tickets)
+  pub count : done.count ≡ length (deliveries_in a)
+  pub first : done.first ≡ (if done.count == 0 then None else Some (length (orders_of c).orders + 1))
+
+-- what the close of a lot leaves, by its answer
+abbrev pub LotCloseLeaves : ℕ → List Ticket → Bool → Result Closed LotCloseFault → ClearNode → ClearNode → Type 0
+LotCloseLeaves issue tickets sealed (Ok done) old new =
+    (a : Allocation) × MayClose old issue tickets sealed a × IsAllowed old.records (entry.Allocate a) × IsClosed old.records tickets a done × Added (entry.Allocate a) old new
+LotCloseLeaves issue tickets sealed (Err closing.Down) old new = (old.down ≡ true) × (new ≡ old)
+LotCloseLeaves issue tickets sealed (Err closing.NoLot) old new = (old.down ≡ false) × (lot_of old.lots issue ≡ None) × (new ≡ old)
+LotCloseLeaves issue tickets sealed (Err closing.BadTickets) old new =
+    (old.down ≡ false) × ((lot : Lot) × (lot_of old.lots issue ≡ Some lot) × (IsServed lot.plan tickets sealed → ⊥)) × (new ≡ old)
+LotCloseLeaves issue tickets sealed (Err closing.NumbersSpent) old new =
+    (old.down ≡ false) × ((a : Allocation) × MayClose old issue tickets sealed a × (are_spent (orders_of old.records) (deliveries_in a) ≡ true)) × (new ≡ old)
+LotCloseLeaves issue tickets sealed (Err closing.OutOfMemory) old new = (old.down ≡ false) × (lot_of old.lots issue ≢ None) × (new ≡ old)
+LotCloseLeaves issue tickets sealed (Err closing.Device) old new =
+    (a : Allocation) × MayClose old issue tickets sealed a × IsAllowed old.records (entry.Allocate a) × Failed (entry.Allocate a) old new
 
 -- what is answered for the number of an order
 abbrev pub OrderGives : ℕ → Result Order OrderFault → ClearNode → Type 0

@@ -1,6 +1,6 @@
 -- What the records of a clearing node amount to (this project's own rules). All lists of records stand newest first: what was
 -- recorded before a record is the rest of the list.
-use Rattle.std.specs.Prelude.{◌≡◌, ℕ, ◌+◌, ◌&&◌, ◌==◌, nat_lt, not, Bool, true, false, ℤ, pos, neg_ℤ, List, [], ◌∷◌, length, Option, Some, None}
+use Rattle.std.specs.Prelude.{◌≡◌, ℕ, ◌+◌, ◌&&◌, ◌==◌, nat_lt, not, Bool, true, false, All, List, [], ◌∷◌, count_by, length, map, ◌≤◌, Option, Some, None}
 use Rattle.cns_ids.specs.Cycle.{is_after}
 use Rattle.cns_ids.specs.declared.cycle.CycleId.{CycleId}
 use Rattle.cns_trades.specs.Verdicts.{verdict}
@@ -9,41 +9,58 @@ use Rattle.cns_netting.specs.Book.{IsBook}
 use Rattle.cns_netting.specs.History.{accepted, becoming_due}
 use Rattle.cns_netting.specs.declared.entry.NetEntry.{NetEntry}
 use Rattle.cns_netting.specs.declared.entry.NetEntry.TheVariants.{Accepted, Netted, Settled}
+use Rattle.cns_netting.specs.declared.position.PositionRow.{PositionRow}
+use Rattle.cns_netting.specs.Rows.{rows_of}
+use Rattle.cns_pool.specs.Pool.{intervals_of}
+use Rattle.cns_pool.specs.Tiles.{AreChained}
+use Rattle.cns_pool.specs.declared.ticket.Ticket.{Ticket}
 use Rattle.cns_movements.specs.Book.{Orders, IsOrderBook, with_asks, with_reply}
 use Rattle.cns_movements.specs.Confirm.{confirm_answer}
 use Rattle.cns_movements.specs.Order.{order_of}
 use Rattle.cns_movements.specs.declared.book.Confirm.TheVariants as answers
 use Rattle.cns_movements.specs.declared.order.Ask.{Ask}
-use Rattle.cns_movements.specs.declared.order.MoveKind.{MoveKind}
-use Rattle.cns_movements.specs.declared.order.MoveKind.TheVariants.{Cover, Delivery}
 use Rattle.cns_movements.specs.declared.order.Order.{Order}
 use Rattle.cns_movements.specs.declared.order.Reply.{Reply}
-use Rattle.cns_covers.specs.Bounds.{AreBounded}
+use Rattle.cns_covers.specs.Bounds.{AreBounded, amount_of, want_in}
 use Rattle.cns_covers.specs.Covers.{covers_of}
 use Rattle.cns_covers.specs.declared.exemptions.Exempted.{Exempted}
 use Rattle.cns_covers.specs.declared.priorities.Prioritized.{Prioritized}
+use Rattle.cns_allocate.specs.Deliveries.{deliveries_of}
+use Rattle.cns_records.specs.declared.allocation.Allocation.{Allocation}
 use Rattle.cns_records.specs.declared.clear_record.ClearRecord.{ClearRecord}
-use Rattle.cns_records.specs.declared.clear_record.ClearRecord.TheVariants.{Accept, Exempt, Priority, Cycle, Confirm}
+use Rattle.cns_records.specs.declared.clear_record.ClearRecord.TheVariants.{Accept, Exempt, Priority, Cycle, Allocate, Confirm}
+use Rattle.cns_records.specs.declared.drawn.Drawn.{Drawn}
+use Rattle.cns_clearing.specs.Pools.{avail_of}
+use Rattle.cns_clearing.specs.declared.effects.Effects.{Effects}
 
--- the history of netting, the orders and their confirmations, the settings, and the latest cycle
+-- the history of netting, the orders and their confirmations, the settings, the latest cycle, and the positions directly after
+-- that and directly after the cycle before it
 pub record Books : Type 0 where
   pub history : List NetEntry
   pub orders : Orders
   pub exemptions : List Exempted
   pub priorities : List Prioritized
   pub latest : Option CycleId
+  pub recent : List PositionRow
+  pub previous : List PositionRow
 
 abbrev pub no_books : Books
-no_books = record { history = []; orders = record { orders = []; replies = [] }; exemptions = []; priorities = []; latest = None }
+no_books = record { history = []; orders = record { orders = []; replies = [] }; exemptions = []; priorities = []; latest = None; recent = []; previous = [] }
 
 -- the covers that a cycle of this date orders: of the trades that are due from then on, and the orders and confirmations before
 abbrev pub covers_on : Books → ℕ → List Ask
 covers_on b day = covers_of (Netted day ∷ b.history) b.orders b.exemptions
 
--- the shares that a confirmed movement of a kind brings its member
-abbrev pub amount_of : MoveKind → ℕ → ℤ
-amount_of Cover moved = pos moved
-amount_of Delivery moved = neg_ℤ (pos moved)
+-- the tickets of a record as those of a pool
+abbrev pub ticket_of : Drawn → Ticket
+ticket_of d = record { member = d.member; start = d.start; asked = d.asked }
+
+abbrev pub tickets_of : List Drawn → List Ticket
+tickets_of drawn = map ticket_of drawn
+
+-- the deliveries that an allocation orders: what its tickets are granted of the shares poured
+abbrev pub deliveries_in : Allocation → List Ask
+deliveries_in a = deliveries_of a.issue a.poured (tickets_of a.drawn)
 
 -- the history once an order has moved these shares
 abbrev pub settled_by : Option Order → ℕ → List NetEntry → List NetEntry
@@ -55,7 +72,14 @@ abbrev pub with_record : ClearRecord → Books → Books
 with_record (Accept t) b = record b { history = Accepted t ∷ b.history }
 with_record (Exempt m i s) b = record b { exemptions = record { member = m; issue = i; shares = s } ∷ b.exemptions }
 with_record (Priority m i is_on) b = record b { priorities = record { member = m; issue = i; on = is_on } ∷ b.priorities }
-with_record (Cycle id) b = record b { history = Netted id.day ∷ b.history; orders = with_asks b.orders (covers_on b id.day); latest = Some id }
+with_record (Cycle id) b = record b {
+  history = Netted id.day ∷ b.history;
+  orders = with_asks b.orders (covers_on b id.day);
+  latest = Some id;
+  recent = rows_of (Netted id.day ∷ b.history);
+  previous = b.recent;
+}
+with_record (Allocate a) b = record b { orders = with_asks b.orders (deliveries_in a) }
 with_record (Confirm r) b = record b { history = settled_by (order_of b.orders.orders r.number) r.moved b.history; orders = with_reply b.orders r }
 
 -- the books of these records
@@ -80,9 +104,19 @@ abbrev pub is_later : Option CycleId → CycleId → Bool
 is_later None id = true
 is_later (Some last) id = is_after id last
 
--- whether covers are more than the numbers that are left; no covers never are
+-- whether orders are more than the numbers that are left; no orders never are
 abbrev pub are_spent : Orders → List Ask → Bool
 are_spent book asks = not (length asks == 0) && nat_lt 1000000 (length book.orders + length asks)
+
+-- an allocation may follow: its lot was opened not after its last pour; its tickets tile, each is of another member and asks for
+-- no more than that is long of, less its open deliveries; the shares poured are there, and there are numbers for its deliveries
+pub record IsAllocable (b : Books) (a : Allocation) : Type 0 where
+  pub order : a.opened ≤ a.upto
+  pub chained : AreChained 0 (intervals_of (tickets_of a.drawn))
+  pub once : (member : ℕ) → count_by (λ (t : Ticket). t.member == member) (tickets_of a.drawn) ≤ 1
+  pub within : All (λ (t : Ticket). t.asked ≤ want_in b.history b.orders t.member a.issue) (tickets_of a.drawn)
+  pub there : a.poured ≤ avail_of b.orders a.issue
+  pub numbers : are_spent b.orders (deliveries_in a) ≡ false
 
 -- a record may follow those of the books: a trade is new; a cycle is later than the latest one, and there are numbers for its
 -- covers; a confirmation is the first one of an order, and not above what that asked for
@@ -91,6 +125,7 @@ Allows b (Accept t) = verdict (accepted b.history) t ≡ verdicts.New
 Allows b (Exempt m i s) = Unit {0}
 Allows b (Priority m i is_on) = Unit {0}
 Allows b (Cycle id) = (is_later b.latest id ≡ true) × (are_spent b.orders (covers_on b id.day) ≡ false)
+Allows b (Allocate a) = IsAllocable b a
 Allows b (Confirm r) = confirm_answer b.orders r ≡ answers.Done
 
 -- a record may stand after these
@@ -102,13 +137,28 @@ abbrev pub IsLawful : List ClearRecord → Type 0
 IsLawful [] = Unit {0}
 IsLawful (r ∷ c) = IsAllowed c r × IsLawful c
 
--- the covers that a record orders
+-- the orders that a record makes
 abbrev pub asks_of : Books → ClearRecord → List Ask
 asks_of b (Accept t) = []
 asks_of b (Exempt m i s) = []
 asks_of b (Priority m i is_on) = []
 asks_of b (Cycle id) = covers_on b id.day
+asks_of b (Allocate a) = deliveries_in a
 asks_of b (Confirm r) = []
+
+-- the positions directly after a record, where it is a cycle
+abbrev pub rows_after : Books → ClearRecord → List PositionRow
+rows_after b (Accept t) = []
+rows_after b (Exempt m i s) = []
+rows_after b (Priority m i is_on) = []
+rows_after b (Cycle id) = rows_of (Netted id.day ∷ b.history)
+rows_after b (Allocate a) = []
+rows_after b (Confirm r) = []
+
+-- the orders and the positions that a record makes
+pub record AreEffects (b : Books) (r : ClearRecord) (effects : Effects) : Type 0 where
+  pub asks : effects.asks.items ≡ asks_of b r
+  pub rows : effects.rows.items ≡ rows_after b r
 
 -- how many trades a record makes due
 abbrev pub due_by : Books → ClearRecord → ℕ
@@ -116,9 +166,10 @@ due_by b (Accept t) = 0
 due_by b (Exempt m i s) = 0
 due_by b (Priority m i is_on) = 0
 due_by b (Cycle id) = becoming_due b.history id.day
+due_by b (Allocate a) = 0
 due_by b (Confirm r) = 0
 
--- books as those of records that each could stand where it does: positions are small, since nothing moves but covers
+-- books as those of records that each could stand where it does: their positions are small
 pub record AreSound (b : Books) : Type 0 where
   pub netted : IsBook b.history
   pub bounded : AreBounded b.history b.orders

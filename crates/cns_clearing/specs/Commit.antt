@@ -1,25 +1,11 @@
--- What the commit of a record leaves of each part of a clearing node.
-use Rattle.std.specs.Prelude.{◌≡◌, ℕ, Bool, true, false, List, [], ◌∷◌, ◌++◌, Option, Some, None, Result, Ok, Err}
+-- What the commit of a record leaves of the keeper, and of the node.
+use Rattle.std.specs.Prelude.{◌≡◌, ℕ, true, false, List, [], ◌∷◌, ◌++◌, Some, None, Result, Ok, Err}
 use Rattle.cns_journal.specs.Keeper.{Running, Journal, Foresight, MaySucceed, HasFailed, HasRisen}
 use Rattle.cns_records.specs.declared.clear_record.ClearRecord.{ClearRecord}
 use Rattle.cns_clearing.specs.Books.{books_of, due_by}
 use Rattle.cns_clearing.specs.Node.{ClearNode, Added, Failed}
 use Rattle.cns_clearing.specs.declared.fault.CommitFault.{CommitFault}
 use Rattle.cns_clearing.specs.declared.fault.CommitFault.TheVariants.{OutOfMemory, Device}
-
-abbrev pub CommittedList : ClearRecord → Result (Unit {0}) CommitFault → List ClearRecord → List ClearRecord → Type 0
-CommittedList r (Ok _) old new = new ≡ old ++ r ∷ []
-CommittedList r (Err _) old new = new ≡ old
-
-abbrev pub CommittedTried : ClearRecord → Result (Unit {0}) CommitFault → Option ClearRecord → Option ClearRecord → Type 0
-CommittedTried r (Ok _) old new = new ≡ old
-CommittedTried r (Err OutOfMemory) old new = new ≡ old
-CommittedTried r (Err Device) old new = new ≡ Some r
-
-abbrev pub CommittedDown : Result (Unit {0}) CommitFault → Bool → Bool → Type 0
-CommittedDown (Ok _) old new = new ≡ old
-CommittedDown (Err OutOfMemory) old new = new ≡ old
-CommittedDown (Err Device) old new = new ≡ true
 
 abbrev pub CommittedRun : Result (Unit {0}) CommitFault → Running → Running → Type 0
 CommittedRun (Ok _) old new = (new.down ≡ false) × (new.failures ≡ old.failures)

@@ -7,6 +7,8 @@ use Rattle.cns_clearing.specs.declared.fault.SettingFault.{SettingFault}
 use Rattle.cns_clearing.specs.declared.fault.SettingFault.TheVariants as setting
 use Rattle.cns_clearing.specs.declared.fault.CycleFault.{CycleFault}
 use Rattle.cns_clearing.specs.declared.fault.CycleFault.TheVariants as cycle
+use Rattle.cns_clearing.specs.declared.fault.LotCloseFault.{LotCloseFault}
+use Rattle.cns_clearing.specs.declared.fault.LotCloseFault.TheVariants as closing
 use Rattle.cns_clearing.specs.declared.fault.ReplyFault.{ReplyFault}
 use Rattle.cns_clearing.specs.declared.fault.ReplyFault.TheVariants as reply
 
@@ -25,3 +27,7 @@ cycle_fault Device = cycle.Device
 abbrev pub reply_fault : CommitFault → ReplyFault
 reply_fault OutOfMemory = reply.OutOfMemory
 reply_fault Device = reply.Device
+
+abbrev pub closing_fault : CommitFault → LotCloseFault
+closing_fault OutOfMemory = closing.OutOfMemory
+closing_fault Device = closing.Device

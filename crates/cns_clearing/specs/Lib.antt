@@ -1,7 +1,10 @@
 pub mod Pools
+pub mod OpenLots
 pub mod Books
 pub mod Position
 pub mod Room
+pub mod Lots
+pub mod Closing
 pub mod Faults
 pub mod Node
 pub mod Commit

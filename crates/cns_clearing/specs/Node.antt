@@ -4,13 +4,16 @@ use Rattle.cns_journal.specs.Keeper.{Running, Journal, Foresight, MaySucceed, Ha
 use Rattle.cns_records.specs.Clear.{spelling, HasRanges, IsWritable, AreWritable}
 use Rattle.cns_records.specs.declared.clear_record.ClearRecord.{ClearRecord}
 use Rattle.cns_clearing.specs.Books.{Books, books_of, IsAllowed, IsLawful}
+use Rattle.cns_clearing.specs.Lots.{lots_after}
+use Rattle.cns_clearing.specs.declared.lot.Lot.{Lot}
 
--- the records, the newest first; the record whose commit failed; whether the node is down; and of its keeper, how often the
--- device has failed, whether it is honest, and what is known beforehand
+-- the records, the newest first; the record whose commit failed; whether the node is down; its open lots; and of its keeper,
+-- how often the device has failed, whether it is honest, and what is known beforehand
 pub record ClearNode : Type 0 where
   pub records : List ClearRecord
   pub tried : Option ClearRecord
   pub down : Bool
+  pub lots : List Lot
   pub failures : ℕ
   pub honest : Bool
   pub foresight : Foresight
@@ -18,14 +21,15 @@ pub record ClearNode : Type 0 where
 -- a node whose record was acknowledged
 abbrev pub Added : ClearRecord → ClearNode → ClearNode → Type 0
 Added r old new =
-    (old.down ≡ false) × (new.records ≡ r ∷ old.records) × (new.tried ≡ old.tried) × (new.honest ≡ old.honest) × (new.down ≡ false)
-    × (new.failures ≡ old.failures) × (new.foresight ≡ old.foresight) × MaySucceed old.foresight.next
+    (old.down ≡ false) × (new.records ≡ r ∷ old.records) × (new.tried ≡ old.tried) × (new.lots ≡ lots_after r old.lots)
+    × (new.honest ≡ old.honest) × (new.down ≡ false) × (new.failures ≡ old.failures)
+    × (new.foresight ≡ old.foresight) × MaySucceed old.foresight.next
 
 -- a node whose commit failed at the device
 abbrev pub Failed : ClearRecord → ClearNode → ClearNode → Type 0
 Failed r old new =
-    (old.down ≡ false) × (new.records ≡ old.records) × (new.tried ≡ Some r) × (new.honest ≡ old.honest) × (new.down ≡ true)
-    × HasRisen old.failures new.failures × HasFailed old.foresight new.foresight
+    (old.down ≡ false) × (new.records ≡ old.records) × (new.tried ≡ Some r) × (new.lots ≡ old.lots)
+    × (new.honest ≡ old.honest) × (new.down ≡ true) × HasRisen old.failures new.failures × HasFailed old.foresight new.foresight
 
 -- what every keeper shows of itself
 pub record KeeperState : Type 0 where

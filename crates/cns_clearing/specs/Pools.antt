@@ -1,6 +1,6 @@
 -- The pool of an issue: the shares in account 0 that are free, lent and on their way to members, as sums over the orders of
--- a book (this project's own rules).
-use Rattle.std.specs.Prelude.{ℕ, ◌-◌, ◌&&◌, ◌==◌, List, [], ◌∷◌, Option, Some, None, unwrap_or, sum_by, if◌then◌else◌}
+-- a book, and what the open lots hold (this project's own rules).
+use Rattle.std.specs.Prelude.{ℕ, ◌-◌, ◌&&◌, ◌==◌, List, [], ◌∷◌, Option, Some, None, find, option_map, unwrap_or, sum_by, if◌then◌else◌}
 use Rattle.std.specs.List.{filter_map}
 use Rattle.std.specs.Ordering.{nat_cmp}
 use Rattle.std.specs.BTreeSet.{insert_key}
@@ -8,6 +8,7 @@ use Rattle.cns_movements.specs.Order.{is_cover, is_delivery, moved_of, moved_par
 use Rattle.cns_movements.specs.Book.{Orders}
 use Rattle.cns_movements.specs.declared.order.Order.{Order}
 use Rattle.cns_movements.specs.declared.order.Reply.{Reply}
+use Rattle.cns_clearing.specs.declared.lot.Lot.{Lot}
 use Rattle.cns_clearing.specs.declared.pools.PoolRow.{PoolRow}
 
 -- what a delivery takes of the pool: what it moved, and what it asks for while it is not confirmed
@@ -36,13 +37,21 @@ taken_of book issue = sum_by (taken_by_order book.replies issue) book.orders
 unfoldable pub out_of : Orders → ℕ → ℕ
 out_of book issue = sum_by (out_by_order book.replies issue) book.orders
 
--- the shares that are lent: none
-abbrev pub lent_of : Orders → ℕ → ℕ
-lent_of book issue = 0
+-- the shares that covers brought, less those that deliveries took or still may take
+abbrev pub avail_of : Orders → ℕ → ℕ
+avail_of book issue = covered_of book issue - taken_of book issue
 
--- the shares that covers brought, less those taken and those lent
-abbrev pub free_of : Orders → ℕ → ℕ
-free_of book issue = covered_of book issue - taken_of book issue - lent_of book issue
+-- the open lot of an issue, where there is one
+abbrev pub lot_of : List Lot → ℕ → Option Lot
+lot_of lots issue = find (λ (lot : Lot). lot.issue == issue) lots
+
+-- the shares that are lent: those poured into the open lot of the issue
+abbrev pub lent_of : List Lot → ℕ → ℕ
+lent_of lots issue = unwrap_or (option_map (λ (lot : Lot). lot.poured) (lot_of lots issue)) 0
+
+-- the shares that are free: those that are not lent
+abbrev pub free_of : Orders → List Lot → ℕ → ℕ
+free_of book lots issue = avail_of book issue - lent_of lots issue
 
 -- the issues of some orders beside others, each once, in order
 unfoldable pub with_issues : List ℕ → List Order → List ℕ
@@ -59,9 +68,9 @@ row_by issue free lent out =
     if (free == 0) && (lent == 0) && (out == 0) then None
     else Some (record { issue = issue; free = free; lent = lent; out = out })
 
-unfoldable pub pool_row : Orders → ℕ → Option PoolRow
-pool_row book issue = row_by issue (free_of book issue) (lent_of book issue) (out_of book issue)
+unfoldable pub pool_row : Orders → List Lot → ℕ → Option PoolRow
+pool_row book lots issue = row_by issue (free_of book lots issue) (lent_of lots issue) (out_of book issue)
 
 -- the pools that have shares, by issue
-abbrev pub rows_of : Orders → List PoolRow
-rows_of book = filter_map (pool_row book) (issues_of book.orders)
+abbrev pub rows_of : Orders → List Lot → List PoolRow
+rows_of book lots = filter_map (pool_row book lots) (issues_of book.orders)

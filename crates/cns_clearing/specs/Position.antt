@@ -6,7 +6,7 @@ use Rattle.cns_netting.specs.History.{bought, sold}
 use Rattle.cns_movements.specs.Order.{moved_sum, open_sum}
 use Rattle.cns_movements.specs.declared.order.MoveKind.TheVariants.{Cover, Delivery}
 use Rattle.cns_records.specs.declared.clear_record.ClearRecord.{ClearRecord}
-use Rattle.cns_records.specs.declared.clear_record.ClearRecord.TheVariants.{Accept, Exempt, Priority, Cycle, Confirm}
+use Rattle.cns_records.specs.declared.clear_record.ClearRecord.TheVariants.{Accept, Exempt, Priority, Cycle, Allocate, Confirm}
 use Rattle.cns_clearing.specs.Books.{orders_of, confirmed_of}
 
 -- whether a record is a cycle of this date or of a later one
@@ -15,6 +15,7 @@ is_cycle_from day (Accept t) = false
 is_cycle_from day (Exempt m i s) = false
 is_cycle_from day (Priority m i is_on) = false
 is_cycle_from day (Cycle id) = nat_le day id.day
+is_cycle_from day (Allocate a) = false
 is_cycle_from day (Confirm r) = false
 
 -- the due trades of records after which these others were recorded: the accepted ones after which a cycle of their settlement
@@ -26,6 +27,7 @@ due_before later (Accept t ∷ c) =
 due_before later (Exempt m i s ∷ c) = due_before (Exempt m i s ∷ later) c
 due_before later (Priority m i is_on ∷ c) = due_before (Priority m i is_on ∷ later) c
 due_before later (Cycle id ∷ c) = due_before (Cycle id ∷ later) c
+due_before later (Allocate a ∷ c) = due_before (Allocate a ∷ later) c
 due_before later (Confirm r ∷ c) = due_before (Confirm r ∷ later) c
 
 -- the due trades

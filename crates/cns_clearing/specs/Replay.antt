@@ -3,10 +3,12 @@ use Rattle.std.specs.Prelude.{◌≡◌, ◌⊎◌, ℕ, ◌+◌, nat_lt, Bool, 
 use Rattle.cns_journal.specs.Keeper.{Unforeseen, HasRisen, IsReopened, ReopenForeseen, ReopenKeeps, ReopenLeaves, StandsAsForeseen}
 use Rattle.cns_journal.specs.declared.keeper.KeepFault.{KeepFault}
 use Rattle.cns_journal.specs.declared.keeper.KeepFault.TheVariants as keep
-use Rattle.cns_movements.specs.declared.order.Ask.{Ask}
 use Rattle.cns_records.specs.Clear.{spelling, HasRanges, IsWritable, AreWritable}
+use Rattle.cns_records.specs.declared.allocation.Allocation.{Allocation}
 use Rattle.cns_records.specs.declared.clear_record.ClearRecord.{ClearRecord}
-use Rattle.cns_clearing.specs.Books.{Books, Allows, IsAllowed, IsLawful, asks_of, books_of}
+use Rattle.cns_records.specs.declared.clear_record.ClearRecord.TheVariants.{Allocate}
+use Rattle.cns_clearing.specs.Books.{Books, Allows, AreEffects, IsAllowed, IsLawful, books_of}
+use Rattle.cns_clearing.specs.declared.effects.Effects.{Effects}
 use Rattle.cns_clearing.specs.Node.{ClearNode, KeeperState}
 use Rattle.cns_clearing.specs.declared.replay.ReplayFault.{ReplayFault}
 use Rattle.cns_clearing.specs.declared.replay.ReplayFault.TheVariants.{OutOfMemory, BadJournal, Device}
@@ -37,10 +39,14 @@ pub record IsBadPlace (given : List (List ℕ)) (place : ℕ) : Type 0 where
   pub place_is : place ≡ length before + 1
   pub bad : IsBadPayload before payload
 
--- the covers that a record orders, where it may follow those of the books
-abbrev pub AdmittedBy : Books → ClearRecord → Option (List Ask) → Type 0
-AdmittedBy b r (Some asks) = Allows b r × (asks ≡ asks_of b r)
+-- what a record makes besides itself, where it may follow those of the books
+abbrev pub AdmittedBy : Books → ClearRecord → Option Effects → Type 0
+AdmittedBy b r (Some effects) = Allows b r × AreEffects b r effects
 AdmittedBy b r None = Allows b r → ⊥
+
+-- the same of an allocation
+abbrev pub AllocatedBy : Books → Allocation → Option Effects → Type 0
+AllocatedBy b a effects = AdmittedBy b (Allocate a) effects
 
 -- an answer's records as a list
 abbrev pub records_by : Result Replayed ReplayFault → Result (List ClearRecord) ReplayFault
@@ -89,20 +95,21 @@ abbrev pub Restarts : Bool → ClearNode → ClearNode → Type 0
 Restarts false old new = new.records ≡ old.records
 Restarts true old new = (r : ClearRecord) × (old.tried ≡ Some r) × (new.records ≡ r ∷ old.records)
 
--- what a restart leaves, by its answer: a refused one puts the node down, and of the rest changes only what the keeper shows.
+-- what a restart leaves, by its answer: it ends all lots; a refused one puts the node down, and of the rest changes only what the
+-- keeper shows.
 -- Where it was known whether the record that failed stands, it came back just so
 abbrev pub RestartLeaves : Result Restarted ReplayFault → ClearNode → ClearNode → Type 0
 RestartLeaves (Ok r) old new =
-    (new ≡ record old { records = new.records; tried = None; down = false; foresight = record old.foresight { stands = None } })
+    (new ≡ record old { records = new.records; tried = None; down = false; lots = []; foresight = record old.foresight { stands = None } })
     × (r.records ≡ length new.records) × (r.kept ≡ nat_lt (length old.records) (length new.records)) × IsLawful new.records
     × (old.honest ≡ true → Restarts r.kept old new)
     × (old.honest ≡ true → (stands : Bool) → old.foresight.stands ≡ Some stands → r.kept ≡ stands)
 RestartLeaves (Err OutOfMemory) old new =
-    (new ≡ record old { down = true; foresight = new.foresight }) × (new.foresight.next ≡ old.foresight.next)
+    (new ≡ record old { down = true; lots = []; foresight = new.foresight }) × (new.foresight.next ≡ old.foresight.next)
 RestartLeaves (Err (BadJournal place)) old new =
-    (new ≡ record old { down = true; foresight = record old.foresight { stands = None } }) × (old.honest ≡ true → ⊥)
+    (new ≡ record old { down = true; lots = []; foresight = record old.foresight { stands = None } }) × (old.honest ≡ true → ⊥)
 RestartLeaves (Err Device) old new =
-    (new ≡ record old { down = true; failures = new.failures }) × HasRisen old.failures new.failures × (old.foresight.next ≡ Unforeseen)
+    (new ≡ record old { down = true; lots = []; failures = new.failures }) × HasRisen old.failures new.failures × (old.foresight.next ≡ Unforeseen)
 
 -- what an opening gives: a node that is up, with the records that its keeper gave
 pub record IsOpened (keeper : KeeperState) (node : ClearNode) : Type 0 where
@@ -110,6 +117,7 @@ pub record IsOpened (keeper : KeeperState) (node : ClearNode) : Type 0 where
     records = node.records;
     tried = None;
     down = false;
+    lots = [];
     failures = keeper.run.failures;
     honest = keeper.honest;
     foresight = record keeper.foresight { stands = None };

@@ -4,17 +4,26 @@ ghost use Rattle.cns_netting.specs.History.{accepted, becoming_due, position_of}
 ghost use Rattle.cns_movements.specs.Book.{with_asks};
 ghost use Rattle.cns_movements.specs.Confirm.{confirm_answer};
 ghost use Rattle.cns_movements.specs.Order.{order_of};
-ghost use Rattle.cns_clearing.specs.Books.{AreSound, Allows, asks_of, due_by, with_record, no_books, covers_on, amount_of as amount_in, is_later as is_later_cycle, are_spent as are_numbers_spent};
+ghost use Rattle.cns_covers.specs.Bounds.{amount_of as amount_in, want_in};
+ghost use Rattle.cns_netting.specs.Rows.{rows_of};
+ghost use Rattle.cns_allocate.specs.Plan.{plan_of};
+ghost use Rattle.cns_clearing.specs.Books.{AreSound, AreEffects, Allows, asks_of, due_by, with_record, no_books, covers_on, deliveries_in, tickets_of, is_later as is_later_cycle, are_spent as are_numbers_spent};
+ghost use Rattle.cns_clearing.specs.Lots.{longs_among, long_member as long_member_of};
+ghost use Rattle.cns_clearing.specs.Pools.{avail_of as avail_in};
 ghost use Rattle.cns_clearing.specs.Room.{HasRoom};
 
+use crate::effects::Effects;
+use crate::pools::avail_of;
+use cns_allocate::Plan;
 use cns_covers::{Exemptions, Priorities, covers};
 use cns_ids::{Cusip, CycleId, MemberNo, Shares};
 use cns_movements::{Ask, Confirm, MoveKind, MoveNo, Order, OrderBook, Reply};
-use cns_netting::NetBook;
+use cns_netting::{NetBook, PositionRow};
 use cns_records::ClearRecord;
 use cns_trades::{Trade, TradeList, Verdict};
 use std::alloc::{AllocError, Global};
 use std::marker::Model;
+use std::mem;
 
 const MAX_ORDERS: usize = MoveNo::MAX as usize;
 
@@ -30,6 +39,9 @@ pub(crate) struct Books {
     exemptions: Exemptions,
     priorities: Priorities,
     latest: Option<CycleId>,
+    // The positions directly after the latest cycle, and directly after the cycle before it.
+    recent: Vec<PositionRow>,
+    previous: Vec<PositionRow>,
 }
 
 impl Model for Books {
@@ -46,6 +58,8 @@ impl Model for Books {
         exemptions = b.exemptions.settings;
         priorities = b.priorities.settings;
         latest = b.latest;
+        recent = b.recent.items;
+        previous = b.previous.items;
       };
       trade_room = b.trades.room;
       entry_room = b.book.room;
@@ -70,6 +84,8 @@ impl Books {
             exemptions: Exemptions::new(alloc),
             priorities: Priorities::new(alloc),
             latest: None,
+            recent: Vec::new(alloc),
+            previous: Vec::new(alloc),
         }
     }
 
@@ -98,7 +114,64 @@ impl Books {
         covers(alloc, &self.book, id.day, &self.orders, &self.exemptions)
     }
 
-    /// Whether covers are more than the numbers that are left.
+    /// What a cycle makes besides itself: the covers, and the positions directly after it.
+    pub(crate) fn cycle_effects(&self, alloc: Global, id: &CycleId) -> Result<Effects, AllocError>
+        requires { AreSound self.now.books }
+        ensures { IfOk result (AreEffects self.now.books (ClearRecord.Cycle id.now)) }
+    {
+        let asks = self.covers(alloc, id)?;
+        let rows = self.book.rows_at(id.day)?;
+        Ok(Effects { asks, rows })
+    }
+
+    /// The members that were long in an issue directly after the cycle before the latest.
+    fn were_long(&self, alloc: Global, issue: Cusip) -> Result<Vec<MemberNo>, AllocError>
+        ensures { IfOk result (λ members. members.items ≡ longs_among issue self.now.books.previous) }
+    {
+        self.previous
+            .iter()
+            .filter_map(|row| long_member(issue, row))
+            .collect(alloc)
+    }
+
+    /// The members that are to receive shares of an issue, in the order in which they are served.
+    pub(crate) fn plan(&self, alloc: Global, issue: Cusip) -> Result<Plan, AllocError>
+        requires { AreSound self.now.books }
+        ensures { let b = self.now.books in
+            IfOk result (λ plan. plan ≡ plan_of issue b.history b.orders b.priorities (longs_among issue b.previous)) }
+    {
+        let were_long = self.were_long(alloc, issue)?;
+        Plan::of(
+            alloc,
+            issue,
+            &self.book,
+            &self.orders,
+            &self.priorities,
+            were_long.as_slice(),
+        )
+    }
+
+    /// The shares of an issue that covers brought, less those that deliveries took or still may take.
+    pub(crate) fn avail(&self, issue: Cusip) -> u128
+        ensures { result ≡ avail_in self.now.books.orders issue }
+    {
+        avail_of(&self.orders, issue)
+    }
+
+    /// The shares that a member is long of in an issue, less those of its open deliveries.
+    pub(crate) fn want(&self, member: MemberNo, issue: Cusip) -> u128
+        ensures { result ≡ want_in self.now.books.history self.now.books.orders member issue }
+    {
+        let position = self.book.position(member, issue);
+        let long = if position > 0 {
+            position.unsigned_abs()
+        } else {
+            0
+        };
+        long.saturating_sub(self.orders.open_of(MoveKind::Delivery, member, issue))
+    }
+
+    /// Whether orders are more than the numbers that are left.
     pub(crate) fn are_spent(&self, asks: &[Ask]) -> bool
         ensures { result ≡ are_numbers_spent self.now.books.orders asks.now }
     {
@@ -141,7 +214,7 @@ impl Books {
         &self.orders
     }
 
-    /// Takes the memory that `add` of a record needs, which orders these covers.
+    /// Takes the memory that `add` of a record needs, which makes these orders.
     pub(crate) fn room(&mut self, entry: &ClearRecord, asks: &[Ask]) -> Result<(), AllocError>
         requires { Allows self.old.books entry.now }
         ensures same { self.new.books ≡ self.old.books }
@@ -164,6 +237,7 @@ impl Books {
                 self.book.net_room(id.day)?;
                 self.orders.issue_room(asks)
             }
+            ClearRecord::Allocate(_) => self.orders.issue_room(asks),
             ClearRecord::Confirm(reply) => self.reply_room(reply),
         }
     }
@@ -182,13 +256,13 @@ impl Books {
             .settle_room(order.member, order.issue, amount_of(&order, reply))
     }
 
-    /// Adds a record, which orders these covers, and answers how many trades it makes due. It takes no
-    /// memory.
-    pub(crate) fn add(&mut self, entry: &ClearRecord, asks: &[Ask]) -> u64
-        requires room { HasRoom entry.now (length asks.now) self.old }
+    /// Adds a record, which makes this besides itself, and answers how many trades it makes due. It
+    /// takes no memory.
+    pub(crate) fn add(&mut self, entry: &ClearRecord, effects: Effects) -> u64
+        requires room { HasRoom entry.now (length effects.asks.items) self.old }
         requires sound { AreSound self.old.books }
         requires allowed { Allows self.old.books entry.now }
-        requires asks { asks.now ≡ asks_of self.old.books entry.now }
+        requires effects { AreEffects self.old.books entry.now effects }
         ensures books { self.new.books ≡ with_record entry.now self.old.books }
         ensures due { result ≡ due_by self.old.books entry.now }
     {
@@ -209,7 +283,11 @@ impl Books {
                 self.prioritize(*member, *issue, *on);
                 0
             }
-            ClearRecord::Cycle(id) => self.cycle(id, asks),
+            ClearRecord::Cycle(id) => self.cycle(id, effects),
+            ClearRecord::Allocate(_) => {
+                issue_orders(&mut self.orders, effects.asks.as_slice());
+                0
+            }
             ClearRecord::Confirm(reply) => {
                 self.confirm(reply);
                 0
@@ -248,18 +326,19 @@ impl Books {
         };
     }
 
-    fn cycle(&mut self, id: &CycleId, asks: &[Ask]) -> u64
-        requires room { HasRoom (ClearRecord.Cycle id.now) (length asks.now) self.old }
+    fn cycle(&mut self, id: &CycleId, effects: Effects) -> u64
+        requires room { HasRoom (ClearRecord.Cycle id.now) (length effects.asks.items) self.old }
         requires allowed { Allows self.old.books (ClearRecord.Cycle id.now) }
-        requires asks { asks.now ≡ covers_on self.old.books id.now.day }
+        requires effects { AreEffects self.old.books (ClearRecord.Cycle id.now) effects }
         ensures books { self.new.books ≡ with_record (ClearRecord.Cycle id.now) self.old.books }
         ensures due { result ≡ becoming_due self.old.books.history id.now.day }
     {
-        issue_covers(&mut self.orders, asks);
+        issue_orders(&mut self.orders, effects.asks.as_slice());
         let Ok(due) = self.book.net(id.day) else {
             unreachable!()
         };
         self.latest = Some(*id);
+        self.previous = mem::replace(&mut self.recent, effects.rows);
         due
     }
 
@@ -293,8 +372,20 @@ fn amount_of(order: &Order, reply: &Reply) -> i128
     }
 }
 
-// Issues covers for which there are numbers and room.
-fn issue_covers(orders: &mut OrderBook, asks: &[Ask])
+// The member of a position, where it is long in the issue.
+#[tactic(auto, unfolding(crate::specs::Lots::long_member))]
+fn long_member(issue: Cusip, row: &PositionRow) -> Option<MemberNo>
+    ensures { result ≡ long_member_of issue row.now }
+{
+    if row.issue == issue && row.position > 0 {
+        Some(row.member)
+    } else {
+        None
+    }
+}
+
+// Issues orders for which there are numbers and room.
+fn issue_orders(orders: &mut OrderBook, asks: &[Ask])
     requires room { length asks.now ≤ orders.old.order_room }
     requires numbers { are_numbers_spent orders.old.book asks.now ≡ false }
     ensures { orders.new.book ≡ with_asks orders.old.book asks.now }

@@ -1,25 +1,33 @@
-ghost use Rattle.std.specs.Prelude.{◌≡◌, ◌+◌, ◌==◌, false, [], length, Some, None, Err, IfOk, IfErr, if◌then◌else◌};
+ghost use Rattle.std.specs.Prelude.{◌≡◌, ◌≤◌, ◌^◌, ◌+◌, ◌==◌, false, [], length, option_map, Some, None, Err, IfOk, IfErr, if◌then◌else◌};
 ghost use Rattle.cns_records.specs.declared.clear_record.ClearRecord.TheVariants.{Exempt, Priority};
+ghost use Rattle.cns_records.specs.Clear.{AreWritable};
 ghost use Rattle.cns_netting.specs.History.{due};
-ghost use Rattle.cns_clearing.specs.Books.{AreSound, IsAllowed, IsLawful, are_spent, asks_of, books_of, history_of, latest_of, orders_of};
+ghost use Rattle.cns_clearing.specs.Books.{AreEffects, AreSound, IsAllowed, IsLawful, are_spent, asks_of, books_of, history_of, latest_of, orders_of, rows_after};
+ghost use Rattle.cns_clearing.specs.Lots.{AreLots, DoesNotDisturb, avail_in, plan_in};
 ghost use Rattle.cns_clearing.specs.Position.{IsBetween, due_in, position_in};
 ghost use Rattle.cns_clearing.specs.Commit.{AddLeaves};
-ghost use Rattle.cns_clearing.specs.Pools.{free_of as free_in, lent_of as lent_in, out_of as out_in, rows_of};
-ghost use Rattle.cns_clearing.specs.Answers.{CycleLeaves, NodePlanned, OrderGives, ReplyLeaves, SettingLeaves, TradeLeaves};
+ghost use Rattle.cns_clearing.specs.Pools.{free_of as free_in, lent_of as lent_in, lot_of, out_of as out_in, rows_of};
+ghost use Rattle.cns_clearing.specs.Answers.{ClosingGives, CycleLeaves, LotCloseLeaves, LotOpenLeaves, LotPourLeaves, NodePlanned, OrderGives, ReplyLeaves, SettingLeaves, TradeLeaves};
 ghost use Rattle.cns_clearing.specs.Replay.{IsOpened, Reread, RestartLeaves};
 
 use crate::books::Books;
+use crate::closing::{allocation_of, asked_in_all};
 use crate::commit::commit_record;
+use crate::effects::Effects;
 use crate::fault::{
-    CommitFault, CycleFault, Cycled, OrderFault, ReplyFault, SettingFault, Taken, TradeFault,
+    Closed, CommitFault, CycleFault, Cycled, LotCloseFault, LotOpenFault, LotPourFault, OrderFault,
+    ReplyFault, SettingFault, Taken, TradeFault,
 };
+use crate::lot::{Lot, Lots};
 use crate::pools::{PoolRows, free_of, lent_of, out_of, pool_rows};
 use crate::replay::{ReplayFault, Restarted, reread};
+use cns_allocate::{Plan, are_served, deliveries};
 use cns_ids::{Cusip, CycleId, MemberNo, Shares};
 use cns_journal::{Keeper, NotPlanned};
 use cns_movements::{Ask, Confirm as Confirmed, MoveNo, Order, OrderBook, Reply};
 use cns_netting::NetBook;
-use cns_records::ClearRecord;
+use cns_pool::Ticket;
+use cns_records::{Allocation, ClearRecord};
 use cns_trades::{Trade, Verdict};
 use std::alloc::{AllocError, Global};
 use std::marker::Model;
@@ -33,11 +41,11 @@ pub struct Refused<K> {
     pub fault: ReplayFault,
 }
 
-/// The clearing node: its records, each of which its keeper acknowledged, and its books, which are
-/// what the records amount to.
+/// The clearing node: its records, each of which its keeper acknowledged, its books, which are what
+/// the records amount to, and its open lots, which no journal keeps.
 ///
 /// Contracts see the records, the newest first; the record whose commit failed, until a restart
-/// decides it; whether the node is down; and of its keeper, how often the device has failed, whether
+/// decides it; whether the node is down; the open lots; and of its keeper, how often the device has failed, whether
 /// it is honest, and what is known of it beforehand. (This project's own rules.)
 #[derive(Drop)]
 pub struct Clearing<K: Keeper> {
@@ -47,11 +55,13 @@ pub struct Clearing<K: Keeper> {
     books: Books,
     tried: Option<ClearRecord>,
     down: bool,
+    lots: Lots,
     alloc: Global,
 }
 
 impl<K: Keeper> Model for Clearing<K> {
     ghost use Rattle.std.specs.Prelude.{reverse};
+    ghost use Rattle.cns_clearing.specs.Lots.{AreLots};
     ghost use Rattle.cns_clearing.specs.Node.{ClearNode, IsNode};
 
     ghost Value = { ClearNode };
@@ -60,6 +70,7 @@ impl<K: Keeper> Model for Clearing<K> {
       records = reverse n.records.items;
       tried = n.tried;
       down = n.down;
+      lots = n.lots.lots;
       failures = (K.run n.keeper).failures;
       honest = K.honest n.keeper;
       foresight = K.foresight n.keeper;
@@ -71,7 +82,8 @@ impl<K: Keeper> Model for Clearing<K> {
           run = K.run n.keeper;
           journal = K.journal n.keeper;
           foresight = K.foresight n.keeper;
-        }) };
+        })
+        × AreLots (reverse n.records.items) n.lots.lots };
 }
 
 impl<K: Keeper> Clearing<K> {
@@ -101,6 +113,7 @@ impl<K: Keeper> Clearing<K> {
             books: replayed.books,
             tried: None,
             down: false,
+            lots: Lots::new(alloc),
             alloc,
         })
     }
@@ -128,7 +141,8 @@ impl<K: Keeper> Clearing<K> {
         if verdict != Verdict::New {
             return Err(TradeFault::Refused(verdict));
         }
-        self.add(&ClearRecord::Accept(*trade), &[])?;
+        let nothing = Effects::none(self.alloc);
+        self.add(ClearRecord::Accept(*trade), nothing)?;
         Ok(())
     }
 
@@ -150,7 +164,7 @@ impl<K: Keeper> Clearing<K> {
             issue,
             shares,
         };
-        self.set(&entry)
+        self.set(entry)
     }
 
     /// Sets whether a member has priority in an issue, in place of what was set before.
@@ -161,15 +175,15 @@ impl<K: Keeper> Clearing<K> {
         ensures { SettingLeaves (Priority member issue on) result self.old self.new }
     {
         let entry = ClearRecord::Priority { member, issue, on };
-        self.set(&entry)
+        self.set(entry)
     }
 
     /// Runs a cycle: makes the trades due that settle by its date, and orders covers of what is then
     /// short. The orders stand under the next numbers in `orders`.
     ///
-    /// Refuses `Down`, then `CycleOrder`, then `NumbersSpent`, which never comes where there is
-    /// nothing to cover. After `Device` the cycle was not run and nothing is ordered, and the node is
-    /// down until it is restarted. (This project's own rule.)
+    /// Refuses `Down`, then `CycleOrder`, then `LotsOpen`, then `NumbersSpent`, which never comes where
+    /// there is nothing to cover. After `Device` the cycle was not run and nothing is ordered, and the
+    /// node is down until it is restarted. (This project's own rule.)
     pub fn cycle(&mut self, id: CycleId) -> Result<Cycled, CycleFault>
         ensures { CycleLeaves id result self.old self.new }
     {
@@ -181,19 +195,119 @@ impl<K: Keeper> Clearing<K> {
         if !books.is_later(&id) {
             return Err(CycleFault::CycleOrder);
         }
-        let Ok(asks) = books.covers(alloc, &id) else {
+        if !self.lots().is_empty() {
+            return Err(CycleFault::LotsOpen);
+        }
+        let Ok(effects) = books.cycle_effects(alloc, &id) else {
             return Err(CycleFault::OutOfMemory);
         };
-        if books.are_spent(asks.as_slice()) {
+        let asks = effects.asks.as_slice();
+        if books.are_spent(asks) {
             return Err(CycleFault::NumbersSpent);
         }
+        let first = first_number(books, asks);
+        let count = asks.len();
+        let due = self.add(ClearRecord::Cycle(id), effects)?;
+        Ok(Cycled { due, first, count })
+    }
+
+    /// Opens a lot of an issue: all its free shares are poured into it, and its plan is fixed.
+    ///
+    /// Refuses `Down`, then `LotAlready`. It adds no record. (This project's own rule.)
+    pub fn lot_open(&mut self, issue: Cusip) -> Result<Plan, LotOpenFault>
+        ensures { LotOpenLeaves issue result self.old self.new }
+    {
+        if self.is_down() {
+            return Err(LotOpenFault::Down);
+        }
+        if self.lot(issue).is_some() {
+            return Err(LotOpenFault::LotAlready);
+        }
+        let alloc = self.alloc;
+        let Ok(plan) = self.books().plan(alloc, issue) else {
+            return Err(LotOpenFault::OutOfMemory);
+        };
+        let Ok(answer) = plan.copy(alloc) else {
+            return Err(LotOpenFault::OutOfMemory);
+        };
+        let records = self.record_count();
+        let poured = self.avail(issue);
+        if self.lots.room().is_err() {
+            return Err(LotOpenFault::OutOfMemory);
+        }
+        self.lots.open(Lot {
+            issue,
+            opened: records,
+            upto: records,
+            poured,
+            plan,
+        });
+        Ok(answer)
+    }
+
+    /// Pours the shares of an issue into its lot that have become free, and answers how many.
+    ///
+    /// Refuses `Down`, then `NoLot`. It adds no record and takes no memory. (This project's own rule.)
+    pub fn lot_pour(&mut self, issue: Cusip) -> Result<u64, LotPourFault>
+        ensures { LotPourLeaves issue result self.old self.new }
+    {
+        if self.is_down() {
+            return Err(LotPourFault::Down);
+        }
+        let Some(lot) = self.lot(issue) else {
+            return Err(LotPourFault::NoLot);
+        };
+        let before = lot.poured;
+        let records = self.record_count();
+        let poured = self.avail(issue);
+        self.lots.refill(issue, records, poured);
+        Ok(poured.count().saturating_sub(before.count()))
+    }
+
+    /// Closes the lot of an issue with the tickets that its members drew, in the order in which they
+    /// drew them: each is granted what was poured into its interval, and a delivery of that is
+    /// ordered, where it is not 0. The orders stand under the next numbers in `orders`. What was not
+    /// granted is free again.
+    ///
+    /// Refuses `Down`, then `NoLot`, then `BadTickets` where the tickets do not serve the lot's plan,
+    /// then `NumbersSpent`, which never comes where nothing is granted. After `Device` the lot is open
+    /// and nothing is ordered, and the node is down until it is restarted. (This project's own rule.)
+    pub fn lot_close(
+        &mut self,
+        issue: Cusip,
+        tickets: &[Ticket],
+        sealed: bool,
+    ) -> Result<Closed, LotCloseFault>
+        ensures { LotCloseLeaves issue tickets.now sealed result self.old self.new }
+    {
+        if self.is_down() {
+            return Err(LotCloseFault::Down);
+        }
+        let alloc = self.alloc;
+        let allocation = match self.closing(issue, tickets, sealed) {
+            Ok(allocation) => allocation,
+            Err(fault) => return Err(fault),
+        };
+        let poured = allocation.poured.count();
+        let Ok(asks) = deliveries(alloc, issue, tickets, poured) else {
+            return Err(LotCloseFault::OutOfMemory);
+        };
+        let books = self.books();
+        if books.are_spent(asks.as_slice()) {
+            return Err(LotCloseFault::NumbersSpent);
+        }
         let first = first_number(books, asks.as_slice());
-        let due = self.add(&ClearRecord::Cycle(id), asks.as_slice())?;
-        Ok(Cycled {
-            due,
-            first,
-            count: asks.len(),
-        })
+        let count = asks.len();
+        let granted = poured.min(asked_in_all(tickets));
+        let effects = Effects::of_asks(alloc, asks);
+        match self.add(ClearRecord::Allocate(allocation), effects) {
+            Ok(_) => Ok(Closed {
+                granted,
+                first,
+                count,
+            }),
+            Err(fault) => Err(LotCloseFault::from(fault)),
+        }
     }
 
     /// The order of this number, where its record was acknowledged.
@@ -230,12 +344,14 @@ impl<K: Keeper> Clearing<K> {
             Confirmed::Conflict => return Err(ReplyFault::Conflict),
             Confirmed::TooMuch => return Err(ReplyFault::TooMuch),
         }
-        self.add(&ClearRecord::Confirm(*reply), &[])?;
+        let nothing = Effects::none(self.alloc);
+        self.add(ClearRecord::Confirm(*reply), nothing)?;
         Ok(Taken::Done)
     }
 
-    /// Reads the journal again, and puts the node up. A refused restart leaves it down, with its
-    /// records and the one whose commit failed.
+    /// Reads the journal again, and puts the node up. All lots end, also where the restart is refused,
+    /// and their shares are free. A refused restart leaves the node down, with its records and the one
+    /// whose commit failed.
     ///
     /// Refuses `BadJournal` where a payload is no record, or of a record that may not stand after
     /// those before it. (This project's own rule.)
@@ -243,6 +359,7 @@ impl<K: Keeper> Clearing<K> {
         ensures { RestartLeaves result self.old self.new }
     {
         self.down = true;
+        self.lots.clear();
         let replayed = match reread(self.alloc, &mut self.keeper) {
             Ok(replayed) => replayed,
             Err(fault) => return Err(fault),
@@ -282,16 +399,19 @@ impl<K: Keeper> Clearing<K> {
 
     /// The shares of an issue in account 0 that are free.
     pub fn free(&self, issue: Cusip) -> u128
-        ensures { result ≡ free_in (orders_of self.now.records) issue }
+        ensures value { result ≡ free_in (orders_of self.now.records) self.now.lots issue }
+
+        // With those that are lent they are at most 10^18.
+        ensures small { result + lent_in self.now.lots issue ≤ 10 ^ 18 }
     {
-        free_of(self.books().orders(), issue)
+        free_of(self.books().orders(), self.lots(), issue)
     }
 
-    /// The shares of an issue that are lent: 0, since none are lent yet.
+    /// The shares of an issue that are lent: those that were poured into its open lot.
     pub fn lent(&self, issue: Cusip) -> u128
-        ensures { result ≡ lent_in (orders_of self.now.records) issue }
+        ensures { result ≡ lent_in self.now.lots issue }
     {
-        lent_of(self.books().orders(), issue)
+        lent_of(self.lots(), issue)
     }
 
     /// The shares of an issue that unconfirmed deliveries ask for.
@@ -303,9 +423,24 @@ impl<K: Keeper> Clearing<K> {
 
     /// The pools that have shares, by issue.
     pub fn pools(&self, alloc: Global) -> Result<PoolRows, AllocError>
-        ensures { IfOk result (λ rows. rows ≡ rows_of (orders_of self.now.records)) }
+        ensures { IfOk result (λ rows. rows ≡ rows_of (orders_of self.now.records) self.now.lots) }
     {
-        pool_rows(alloc, self.books().orders())
+        pool_rows(alloc, self.books().orders(), self.lots())
+    }
+
+    /// The plan that a lot of an issue would have if it were opened now: the members that are to
+    /// receive shares, and how many.
+    pub fn lot_plan(&self, issue: Cusip) -> Result<Plan, AllocError>
+        ensures { IfOk result (λ plan. plan ≡ plan_in self.now.records issue) }
+    {
+        self.books().plan(self.alloc, issue)
+    }
+
+    /// The open lot of an issue.
+    pub fn lot(&self, issue: Cusip) -> Option<&Lot>
+        ensures { option_map (λ lot. lot.now) result ≡ lot_of self.now.lots issue }
+    {
+        self.lots().get(issue)
     }
 
     /// The latest cycle.
@@ -341,42 +476,105 @@ impl<K: Keeper> Clearing<K> {
         ensures books { result.now.books ≡ books_of self.now.records }
         ensures sound { AreSound result.now.books }
         ensures lawful { IsLawful self.now.records }
+        ensures fits { AreWritable self.now.records }
     {
         &self.books
     }
 
-    // Adds a record that may stand after the others and that orders these covers: commits it, and
-    // then adds it to the books. Answers how many trades it makes due.
-    fn add(&mut self, entry: &ClearRecord, asks: &[Ask]) -> Result<u64, CommitFault>
-        requires up { self.old.down ≡ false }
-        requires allowed { IsAllowed self.old.records entry.now }
-        requires asks { asks.now ≡ asks_of (books_of self.old.records) entry.now }
-        ensures { AddLeaves entry.now result self.old self.new }
+    // The open lots.
+    fn lots(&self) -> &Lots
+        ensures lots { result.now.lots ≡ self.now.lots }
+        ensures lawful { AreLots self.now.records self.now.lots }
+        ensures records { IsLawful self.now.records × AreWritable self.now.records }
     {
-        if self.books.room(entry, asks).is_err() {
+        &self.lots
+    }
+
+    // How many records there are.
+    fn record_count(&self) -> u64
+        ensures { result ≡ length self.now.records }
+    {
+        self.records.len() as u64
+    }
+
+    // The shares of an issue that covers brought, less those that deliveries took or still may take.
+    fn avail(&self, issue: Cusip) -> Shares
+        ensures { result ≡ avail_in self.now.records issue }
+    {
+        let Some(shares) = Shares::new(self.books().avail(issue) as u64) else {
+            unreachable!()
+        };
+        shares
+    }
+
+    // The allocation that closes the lot of an issue with these tickets.
+    fn closing(
+        &self,
+        issue: Cusip,
+        tickets: &[Ticket],
+        sealed: bool,
+    ) -> Result<Allocation, LotCloseFault>
+        ensures { ClosingGives issue tickets.now sealed result self.now }
+    {
+        let alloc = self.alloc;
+        let lots = self.lots();
+        let Some(lot) = lots.get(issue) else {
+            return Err(LotCloseFault::NoLot);
+        };
+        match are_served(alloc, lot.plan.as_slice(), tickets, sealed) {
+            Ok(true) => {}
+            Ok(false) => return Err(LotCloseFault::BadTickets),
+            Err(_) => return Err(LotCloseFault::OutOfMemory),
+        }
+        let Ok(allocation) = allocation_of(alloc, lot, tickets, sealed) else {
+            return Err(LotCloseFault::OutOfMemory);
+        };
+        Ok(allocation)
+    }
+
+    // Adds a record that may stand after the others and makes this besides itself: commits it, and
+    // then adds it to the books. Answers how many trades it makes due.
+    fn add(&mut self, entry: ClearRecord, effects: Effects) -> Result<u64, CommitFault>
+        requires up { self.old.down ≡ false }
+        requires allowed { IsAllowed self.old.records entry }
+        requires quiet { DoesNotDisturb entry self.old.lots }
+        requires effects { AreEffects (books_of self.old.records) entry effects }
+        ensures { AddLeaves entry result self.old self.new }
+    {
+        if self.books.room(&entry, effects.asks.as_slice()).is_err() {
             return Err(CommitFault::OutOfMemory);
         }
-        commit_record(
-            self.alloc,
-            &mut self.keeper,
-            &mut self.records,
-            &mut self.tried,
-            &mut self.down,
-            entry,
-        )?;
-        Ok(self.books.add(entry, asks))
+        if self.records.reserve(1).is_err() {
+            return Err(CommitFault::OutOfMemory);
+        }
+        match commit_record(self.alloc, &mut self.keeper, &entry) {
+            Ok(()) => {}
+            Err(CommitFault::OutOfMemory) => return Err(CommitFault::OutOfMemory),
+            Err(CommitFault::Device) => {
+                self.tried = Some(entry);
+                self.down = true;
+                return Err(CommitFault::Device);
+            }
+        }
+        let due = self.books.add(&entry, effects);
+        self.lots.follow(&entry);
+        self.records.push_reserved(entry);
+        Ok(due)
     }
 
     // Adds the record of a setting.
-    fn set(&mut self, entry: &ClearRecord) -> Result<(), SettingFault>
-        requires allowed { IsAllowed self.old.records entry.now }
-        requires asks { [] ≡ asks_of (books_of self.old.records) entry.now }
-        ensures { SettingLeaves entry.now result self.old self.new }
+    fn set(&mut self, entry: ClearRecord) -> Result<(), SettingFault>
+        requires allowed { IsAllowed self.old.records entry }
+        requires quiet { DoesNotDisturb entry self.old.lots }
+        requires asks { [] ≡ asks_of (books_of self.old.records) entry }
+        requires rows { [] ≡ rows_after (books_of self.old.records) entry }
+        ensures { SettingLeaves entry result self.old self.new }
     {
         if self.is_down() {
             return Err(SettingFault::Down);
         }
-        self.add(entry, &[])?;
+        let nothing = Effects::none(self.alloc);
+        self.add(entry, nothing)?;
         Ok(())
     }
 }

@@ -54,7 +54,70 @@ pub enum CycleFault {
     /// The cycle is not later than the latest one.
     #[error("the cycle is not later than the latest one")]
     CycleOrder,
+    /// A lot is open.
+    #[error("a lot is open")]
+    LotsOpen,
     /// The covers are more than the movement numbers that are left.
+    #[error("movement numbers are spent")]
+    NumbersSpent,
+    /// There is no memory. Nothing has changed.
+    #[error("out of memory")]
+    OutOfMemory,
+    /// The device of the journal failed. The node is down until it is restarted.
+    #[error("the journal's device failed")]
+    Device,
+}
+
+/// Why the clearing node opens no lot.
+#[derive(Clone, Copy, PartialEq, Eq, Debug, Error)]
+pub enum LotOpenFault {
+    /// The node is down until it is restarted.
+    #[error("the clearing node is down")]
+    Down,
+    /// A lot of the issue is open.
+    #[error("a lot of the issue is open")]
+    LotAlready,
+    /// There is no memory. Nothing has changed.
+    #[error("out of memory")]
+    OutOfMemory,
+}
+
+/// Why the clearing node pours nothing into a lot.
+#[derive(Clone, Copy, PartialEq, Eq, Debug, Error)]
+pub enum LotPourFault {
+    /// The node is down until it is restarted.
+    #[error("the clearing node is down")]
+    Down,
+    /// No lot of the issue is open.
+    #[error("no lot of the issue is open")]
+    NoLot,
+}
+
+/// A lot that was closed.
+#[derive(Clone, Copy, PartialEq, Eq, Debug)]
+pub struct Closed {
+    /// How many shares its tickets were granted in all.
+    pub granted: u64,
+    /// The number of the first delivery that was ordered, where there was one. The others have the
+    /// numbers after it in turn.
+    pub first: Option<MoveNo>,
+    /// How many deliveries were ordered.
+    pub count: usize,
+}
+
+/// Why the clearing node closes no lot.
+#[derive(Clone, Copy, PartialEq, Eq, Debug, Error)]
+pub enum LotCloseFault {
+    /// The node is down until it is restarted.
+    #[error("the clearing node is down")]
+    Down,
+    /// No lot of the issue is open.
+    #[error("no lot of the issue is open")]
+    NoLot,
+    /// The tickets do not serve the lot's plan.
+    #[error("the tickets do not serve the plan of the lot")]
+    BadTickets,
+    /// The deliveries are more than the movement numbers that are left.
     #[error("movement numbers are spent")]
     NumbersSpent,
     /// There is no memory. Nothing has changed.
@@ -153,6 +216,20 @@ impl From<CommitFault> for CycleFault {
         match fault {
             CommitFault::OutOfMemory => CycleFault::OutOfMemory,
             CommitFault::Device => CycleFault::Device,
+        }
+    }
+}
+
+impl From<CommitFault> for LotCloseFault {
+    ghost use Rattle.std.specs.Prelude.{◌≡◌};
+    ghost use Rattle.cns_clearing.specs.Faults.{closing_fault};
+
+    ghost from_gives = { λ fault given. given ≡ closing_fault fault };
+
+    fn from(fault: CommitFault) -> LotCloseFault {
+        match fault {
+            CommitFault::OutOfMemory => LotCloseFault::OutOfMemory,
+            CommitFault::Device => LotCloseFault::Device,
         }
     }
 }

@@ -5,16 +5,24 @@
 //! once it is acknowledged. What the node shows follows from the acknowledged records alone.
 #![tactic(auto)]
 
+mod admission;
 mod books;
 mod clearing;
+mod closing;
 mod commit;
+mod effects;
 mod fault;
+mod lot;
 mod pools;
 mod replay;
 
 pub use clearing::{Clearing, Refused};
-pub use fault::{CycleFault, Cycled, OrderFault, ReplyFault, SettingFault, Taken, TradeFault};
-pub use pools::{PoolRow, PoolRows, pool_rows};
+pub use fault::{
+    Closed, CycleFault, Cycled, LotCloseFault, LotOpenFault, LotPourFault, OrderFault, ReplyFault,
+    SettingFault, Taken, TradeFault,
+};
+pub use lot::Lot;
+pub use pools::{PoolRow, PoolRows};
 pub use replay::{ReplayFault, Restarted};
 
 #[cfg(test)]

@@ -1,7 +1,8 @@
 ghost use Rattle.std.specs.Prelude.{◌≡◌, ◌*◌, ◌^◌, ◌≤◌, length, IfOk};
 ghost use Rattle.std.specs.List.{filter_map};
-ghost use Rattle.cns_clearing.specs.Pools.{covered_by_order, taken_by_order, out_by_order, covered_of as covered_in, taken_of as taken_in, out_of as out_in, lent_of as lent_in, free_of as free_in, issues_of, pool_row as pool_row_of, rows_of};
+ghost use Rattle.cns_clearing.specs.Pools.{covered_by_order, taken_by_order, out_by_order, covered_of as covered_in, taken_of as taken_in, out_of as out_in, avail_of as avail_in, lent_of as lent_in, free_of as free_in, issues_of, pool_row as pool_row_of, rows_of};
 
+use crate::lot::Lots;
 use cns_ids::Cusip;
 use cns_movements::{MoveKind, Order, OrderBook};
 use std::alloc::{AllocError, Global};
@@ -15,7 +16,7 @@ pub struct PoolRow {
     /// The shares that confirmed covers brought, less those that deliveries took or may still take,
     /// and less those that are lent.
     pub free: u128,
-    /// The shares that are lent: 0, since none are lent yet.
+    /// The shares that are lent: those that were poured into the open lot of the issue.
     pub lent: u128,
     /// The shares that unconfirmed deliveries ask for.
     pub out: u128,
@@ -126,20 +127,28 @@ pub(crate) fn out_of(orders: &OrderBook, issue: Cusip) -> u128
     total
 }
 
-// The shares that are lent in an issue: none.
-pub(crate) fn lent_of(_orders: &OrderBook, _issue: Cusip) -> u128
-    ensures { result ≡ lent_in _orders.now.book _issue }
+// The shares that covers brought in an issue, less those that deliveries took or still may take.
+pub(crate) fn avail_of(orders: &OrderBook, issue: Cusip) -> u128
+    ensures { result ≡ avail_in orders.now.book issue }
 {
-    0
+    covered(orders, issue).saturating_sub(taken(orders, issue))
+}
+
+// The shares that are lent in an issue.
+pub(crate) fn lent_of(lots: &Lots, issue: Cusip) -> u128
+    ensures { result ≡ lent_in lots.now.lots issue }
+{
+    match lots.get(issue) {
+        Some(lot) => u128::from(lot.poured.count()),
+        None => 0,
+    }
 }
 
 // The shares that are free in an issue.
-pub(crate) fn free_of(orders: &OrderBook, issue: Cusip) -> u128
-    ensures { result ≡ free_in orders.now.book issue }
+pub(crate) fn free_of(orders: &OrderBook, lots: &Lots, issue: Cusip) -> u128
+    ensures { result ≡ free_in orders.now.book lots.now.lots issue }
 {
-    covered(orders, issue)
-        .saturating_sub(taken(orders, issue))
-        .saturating_sub(lent_of(orders, issue))
+    avail_of(orders, issue).saturating_sub(lent_of(lots, issue))
 }
 
 // The issues that some order names, each once, in order.
@@ -164,11 +173,11 @@ fn issues_in_order(alloc: Global, orders: &[Order]) -> Result<Vec<Cusip>, AllocE
 
 // The pool of an issue, where it has shares.
 #[tactic(auto, unfolding(crate::specs::Pools::pool_row))]
-fn pool_row(orders: &OrderBook, issue: Cusip) -> Option<PoolRow>
-    ensures { result ≡ pool_row_of orders.now.book issue }
+fn pool_row(orders: &OrderBook, lots: &Lots, issue: Cusip) -> Option<PoolRow>
+    ensures { result ≡ pool_row_of orders.now.book lots.now.lots issue }
 {
-    let free = free_of(orders, issue);
-    let lent = lent_of(orders, issue);
+    let free = free_of(orders, lots, issue);
+    let lent = lent_of(lots, issue);
     let out = out_of(orders, issue);
     if free == 0 && lent == 0 && out == 0 {
         return None;
@@ -181,13 +190,16 @@ fn pool_row(orders: &OrderBook, issue: Cusip) -> Option<PoolRow>
     })
 }
 
-/// The pools of an order book that have shares, free, lent or out, by issue. (This project's own
-/// rule.)
-pub fn pool_rows(alloc: Global, orders: &OrderBook) -> Result<PoolRows, AllocError>
-    ensures { IfOk result (λ rows. rows ≡ rows_of orders.now.book) }
+// The pools that have shares, free, lent or out, by issue. (This project's own rule.)
+pub(crate) fn pool_rows(
+    alloc: Global,
+    orders: &OrderBook,
+    lots: &Lots,
+) -> Result<PoolRows, AllocError>
+    ensures { IfOk result (λ rows. rows ≡ rows_of orders.now.book lots.now.lots) }
 {
     let issues = issues_in_order(alloc, orders.orders())?;
-    let rows = rows_of_issues(alloc, orders, issues.as_slice())?;
+    let rows = rows_of_issues(alloc, orders, lots, issues.as_slice())?;
     Ok(PoolRows { rows })
 }
 
@@ -195,12 +207,14 @@ pub fn pool_rows(alloc: Global, orders: &OrderBook) -> Result<PoolRows, AllocErr
 fn rows_of_issues(
     alloc: Global,
     orders: &OrderBook,
+    lots: &Lots,
     issues: &[Cusip],
 ) -> Result<Vec<PoolRow>, AllocError>
-    ensures { IfOk result (λ v. v.items ≡ filter_map (pool_row_of orders.now.book) issues.now) }
+    ensures { IfOk result (λ v. v.items
+        ≡ filter_map (pool_row_of orders.now.book lots.now.lots) issues.now) }
 {
     issues
         .iter()
-        .filter_map(|issue| pool_row(orders, *issue))
+        .filter_map(|issue| pool_row(orders, lots, *issue))
         .collect(alloc)
 }

@@ -1,11 +1,13 @@
 ghost use Rattle.std.specs.Prelude.{◌≡◌, map, vec_items, reverse, option_map, IfOk, OnOk};
-ghost use Rattle.cns_clearing.specs.Books.{AreSound, books_of};
+ghost use Rattle.cns_clearing.specs.Books.{AreSound, books_of, deliveries_in, IsAllocable};
 ghost use Rattle.cns_clearing.specs.Replay.{AdmitLeaves, AdmittedBy, IsReplayed, ReplayGives, Reread, records_by};
 
+use crate::admission::may_allocate;
 use crate::books::Books;
+use crate::effects::Effects;
 use cns_journal::{KeepFault, Keeper};
-use cns_movements::{Ask, Confirm};
-use cns_records::ClearRecord;
+use cns_movements::Confirm;
+use cns_records::{ClearRecord, RecordFault};
 use cns_trades::Verdict;
 use std::alloc::{AllocError, Global};
 use thiserror::Error;
@@ -41,14 +43,14 @@ pub(crate) struct Replayed {
     pub(crate) books: Books,
 }
 
-// The covers that a record orders, where it may follow those of the books.
+// What a record makes besides itself, where it may follow those of the books.
 fn admitted(
     alloc: Global,
     books: &Books,
     entry: &ClearRecord,
-) -> Result<Option<Vec<Ask>>, AllocError>
+) -> Result<Option<Effects>, AllocError>
     requires { AreSound books.now.books }
-    ensures { IfOk result (λ asks. AdmittedBy books.now.books entry.now (option_map vec_items asks)) }
+    ensures { IfOk result (AdmittedBy books.now.books entry.now) }
 {
     let may = match entry {
         ClearRecord::Accept(trade) => books.verdict(trade) == Verdict::New,
@@ -57,16 +59,21 @@ fn admitted(
             if !books.is_later(id) {
                 return Ok(None);
             }
-            let asks = books.covers(alloc, id)?;
-            return Ok(if books.are_spent(asks.as_slice()) {
+            let effects = books.cycle_effects(alloc, id)?;
+            return Ok(if books.are_spent(effects.asks.as_slice()) {
                 None
             } else {
-                Some(asks)
+                Some(effects)
             });
         }
+        ClearRecord::Allocate(allocation) => return may_allocate(alloc, books, allocation),
         ClearRecord::Confirm(reply) => books.answer(reply) == Confirm::Done,
     };
-    Ok(if may { Some(Vec::new(alloc)) } else { None })
+    Ok(if may {
+        Some(Effects::none(alloc))
+    } else {
+        None
+    })
 }
 
 // Adds the record that a payload is, where it may stand after these.
@@ -76,22 +83,25 @@ fn admit(alloc: Global, replayed: &mut Replayed, payload: &[u8]) -> Result<(), R
     ensures books { OnOk result (replayed.new.books.books ≡ books_of (reverse replayed.new.records.items)) }
 {
     let place = replayed.records.len() as u64 + 1;
-    let Ok(entry) = ClearRecord::read(payload) else {
-        return Err(ReplayFault::BadJournal { place });
+    let entry = match ClearRecord::read(alloc, payload) {
+        Ok(entry) => entry,
+        Err(RecordFault::BadRecord) => return Err(ReplayFault::BadJournal { place }),
+        Err(RecordFault::OutOfMemory) => return Err(ReplayFault::OutOfMemory),
     };
     let Ok(admitted) = admitted(alloc, &replayed.books, &entry) else {
         return Err(ReplayFault::OutOfMemory);
     };
-    let Some(asks) = admitted else {
+    let Some(effects) = admitted else {
         return Err(ReplayFault::BadJournal { place });
     };
     if replayed.records.reserve(1).is_err() {
         return Err(ReplayFault::OutOfMemory);
     }
-    if replayed.books.room(&entry, asks.as_slice()).is_err() {
+    let asks = effects.asks.as_slice();
+    if replayed.books.room(&entry, asks).is_err() {
         return Err(ReplayFault::OutOfMemory);
     }
-    replayed.books.add(&entry, asks.as_slice());
+    replayed.books.add(&entry, effects);
     replayed.records.push_reserved(entry);
     Ok(())
 }

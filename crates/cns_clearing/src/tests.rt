@@ -1,11 +1,15 @@
+use crate::lot::Lots;
+use crate::pools::pool_rows;
 use crate::{
-    Clearing, CycleFault, Cycled, OrderFault, PoolRow, ReplayFault, ReplyFault, Restarted,
-    SettingFault, Taken, TradeFault, pool_rows,
+    Clearing, Closed, CycleFault, Cycled, LotCloseFault, LotOpenFault, LotPourFault, OrderFault,
+    PoolRow, ReplayFault, ReplyFault, Restarted, SettingFault, Taken, TradeFault,
 };
+use cns_allocate::{Group, Planned};
 use cns_ids::{Cusip, CycleId, CycleKind, Day, MemberNo, Quantity, Shares};
 use cns_journal::{Keeper, ListKeeper};
 use cns_movements::{Ask, Asked, Confirm, MoveKind, MoveNo, Order, OrderBook, Reply};
-use cns_records::ClearRecord;
+use cns_pool::Ticket;
+use cns_records::{Allocation, ClearRecord, Drawn, DrawnList};
 use cns_trades::{Trade, TradeId, Verdict};
 use std::alloc::Global;
 use std::process::Abort;
@@ -243,7 +247,8 @@ fn pools_of_an_order_book(rt: HostRuntime) -> Result<(), Fail> {
     let low = issue()?;
     let high = Cusip::read(b"594918104")?;
     let mut book = OrderBook::new(alloc);
-    assert_eq!(rt; pool_rows(alloc, &book)?.as_slice().len(), 0);
+    let lots = Lots::new(alloc);
+    assert_eq!(rt; pool_rows(alloc, &book, &lots)?.as_slice().len(), 0);
     // The kind, the member, the issue, the shares that are asked for, and those that were moved.
     let cases = [
         (MoveKind::Cover, 1, high, 100, Some(90)),
@@ -269,7 +274,7 @@ fn pools_of_an_order_book(rt: HostRuntime) -> Result<(), Fail> {
             assert_eq!(rt; answer, Confirm::Done);
         }
     }
-    let rows = pool_rows(alloc, &book)?;
+    let rows = pool_rows(alloc, &book, &lots)?;
     let wanted = [PoolRow {
         issue: low,
         free: 12,
@@ -403,23 +408,36 @@ fn bad_place(alloc: Global, keeper: ListKeeper) -> Result<u64, Fail> {
     }
 }
 
+fn accept() -> Result<ClearRecord, Fail> {
+    Ok(ClearRecord::Accept(trade(b"T1", 60)?))
+}
+
+fn run() -> Result<ClearRecord, Fail> {
+    Ok(ClearRecord::Cycle(night()?))
+}
+
+fn confirm(moved: u64) -> Result<ClearRecord, Fail> {
+    Ok(ClearRecord::Confirm(reply(1, moved)?))
+}
+
+fn assert_bad(
+    rt: &impl Abort,
+    alloc: Global,
+    records: &[ClearRecord],
+    place: u64,
+) -> Result<(), Fail> {
+    let keeper = keeper_of(alloc, records)?;
+    assert_eq!(rt; bad_place(alloc, keeper)?, place);
+    Ok(())
+}
+
 #[test]
 fn journals_that_are_bad(rt: HostRuntime) -> Result<(), Fail> {
-    let accept = ClearRecord::Accept(trade(b"T1", 60)?);
-    let run = ClearRecord::Cycle(night()?);
-    let small = ClearRecord::Confirm(reply(1, 20)?);
-    let large = ClearRecord::Confirm(reply(1, 61)?);
-    let cases: [(&[ClearRecord], u64); 4] = [
-        (&[small], 1),
-        (&[accept, accept], 2),
-        (&[accept, run, run], 3),
-        (&[accept, run, large], 3),
-    ];
-    for (records, place) in cases {
-        let keeper = keeper_of(rt.alloc(), records)?;
-        assert_eq!(rt; bad_place(rt.alloc(), keeper)?, place);
-    }
-    Ok(())
+    let alloc = rt.alloc();
+    assert_bad(&rt, alloc, &[confirm(20)?], 1)?;
+    assert_bad(&rt, alloc, &[accept()?, accept()?], 2)?;
+    assert_bad(&rt, alloc, &[accept()?, run()?, run()?], 3)?;
+    assert_bad(&rt, alloc, &[accept()?, run()?, confirm(61)?], 3)
 }
 
 #[test]
@@ -442,13 +460,7 @@ fn keeper_of_each(alloc: Global) -> Result<ListKeeper, Fail> {
         issue: issue()?,
         on: true,
     };
-    let records = [
-        ClearRecord::Accept(trade(b"T1", 60)?),
-        exempt,
-        priority,
-        ClearRecord::Cycle(night()?),
-        ClearRecord::Confirm(reply(1, 20)?),
-    ];
+    let records = [accept()?, exempt, priority, run()?, confirm(20)?];
     keeper_of(alloc, &records)
 }
 
@@ -459,6 +471,367 @@ fn a_journal_that_opens(rt: HostRuntime) -> Result<(), Fail> {
     assert_first_order(&rt, &node)?;
     assert_trades(&rt, &mut node)?;
     assert_restart(&rt, &mut node, 6, false)
+}
+
+// A trade of 30 shares that member 1 sells.
+fn sold(id: &[u8], day: &[u8], to: u16) -> Result<Trade, Fail> {
+    let mut sold = trade(id, 30)?;
+    sold.settle = Day::read(day)?;
+    sold.buyer = member(to)?;
+    Ok(sold)
+}
+
+fn ticket(of: u16, start: u64, asked: u64) -> Result<Ticket, Fail> {
+    Ok(Ticket {
+        member: member(of)?,
+        start,
+        asked,
+    })
+}
+
+fn planned(of: u16, group: Group) -> Result<Planned, Fail> {
+    Ok(Planned {
+        member: member(of)?,
+        asked: 30,
+        group,
+    })
+}
+
+// Member 2 is long of 30 shares after the first cycle, and member 3 of as many after the second.
+fn group(node: &mut Clearing<ListKeeper>) -> Result<(), Fail> {
+    node.take_trade(&sold(b"D1", b"2025-03-04", 2)?)?;
+    node.take_trade(&sold(b"D2", b"2025-03-05", 3)?)?;
+    node.cycle(cycle(b"2025-03-04", CycleKind::Night)?)?;
+    node.cycle(cycle(b"2025-03-05", CycleKind::Night)?)?;
+    Ok(())
+}
+
+// The covers bring 40 shares.
+fn cover(node: &mut Clearing<ListKeeper>) -> Result<(), Fail> {
+    node.take_reply(&reply(1, 30)?)?;
+    node.take_reply(&reply(2, 10)?)?;
+    Ok(())
+}
+
+// A node where members 2 and 3 are long, before the covers bring shares.
+fn grouped(alloc: Global) -> Result<Clearing<ListKeeper>, Fail> {
+    let mut node = opened(alloc, ListKeeper::new(alloc))?;
+    group(&mut node)?;
+    Ok(node)
+}
+
+// The same after that.
+fn covered(alloc: Global) -> Result<Clearing<ListKeeper>, Fail> {
+    let mut node = grouped(alloc)?;
+    cover(&mut node)?;
+    Ok(node)
+}
+
+// The same with a lot of the issue.
+fn lent(alloc: Global) -> Result<Clearing<ListKeeper>, Fail> {
+    let mut node = covered(alloc)?;
+    node.lot_open(issue()?)?;
+    Ok(node)
+}
+
+// The shares of the issue that are free, lent and out.
+fn assert_shares(
+    rt: &impl Abort,
+    node: &Clearing<ListKeeper>,
+    free: u128,
+    lent: u128,
+    out: u128,
+) -> Result<(), Fail> {
+    assert_eq!(rt; node.free(issue()?), free);
+    assert_eq!(rt; node.lent(issue()?), lent);
+    assert_eq!(rt; node.out(issue()?), out);
+    Ok(())
+}
+
+fn assert_opens(rt: &impl Abort, node: &mut Clearing<ListKeeper>) -> Result<(), Fail> {
+    let plan = node.lot_open(issue()?)?;
+    let wanted = [planned(2, Group::WasLong)?, planned(3, Group::Other)?];
+    assert_eq!(rt; plan.as_slice(), &wanted[..]);
+    assert_shares(rt, node, 0, 40, 0)
+}
+
+fn assert_holds(rt: &impl Abort, node: &mut Clearing<ListKeeper>) -> Result<(), Fail> {
+    assert_eq!(rt;
+        node.lot_open(issue()?).err(),
+        Some(LotOpenFault::LotAlready)
+    );
+    let next = cycle(b"2025-03-05", CycleKind::Day)?;
+    assert_eq!(rt; node.cycle(next), Err(CycleFault::LotsOpen));
+    let latest = cycle(b"2025-03-05", CycleKind::Night)?;
+    assert_eq!(rt; node.cycle(latest), Err(CycleFault::CycleOrder));
+    assert_shares(rt, node, 0, 40, 0)
+}
+
+#[test]
+fn a_lot_that_opens(rt: HostRuntime) -> Result<(), Fail> {
+    let mut node = covered(rt.alloc())?;
+    assert_shares(&rt, &node, 40, 0, 0)?;
+    assert_opens(&rt, &mut node)?;
+    assert_holds(&rt, &mut node)
+}
+
+// What a node shows of the lot and its pool.
+fn assert_lot(rt: &impl Abort, alloc: Global, node: &Clearing<ListKeeper>) -> Result<(), Fail> {
+    let lot = node.lot(issue()?).ok_or("a lot")?;
+    assert_eq!(rt; (lot.opened, lot.upto, lot.poured), (6, 6, shares(40)?));
+    let wanted = [PoolRow {
+        issue: issue()?,
+        free: 0,
+        lent: 40,
+        out: 0,
+    }];
+    assert_eq!(rt; node.pools(alloc)?.as_slice(), &wanted[..]);
+    Ok(())
+}
+
+#[test]
+fn a_lot_that_is_open(rt: HostRuntime) -> Result<(), Fail> {
+    let node = lent(rt.alloc())?;
+    assert_lot(&rt, rt.alloc(), &node)
+}
+
+fn assert_bad_tickets(
+    rt: &impl Abort,
+    node: &mut Clearing<ListKeeper>,
+    tickets: &[Ticket],
+) -> Result<(), Fail> {
+    let answer = node.lot_close(issue()?, tickets, false);
+    assert_eq!(rt; answer, Err(LotCloseFault::BadTickets));
+    assert_shares(rt, node, 0, 40, 0)
+}
+
+#[test]
+fn tickets_that_do_not_serve(rt: HostRuntime) -> Result<(), Fail> {
+    let mut node = lent(rt.alloc())?;
+    let first = ticket(2, 0, 30)?;
+    let cases: [&[Ticket]; 3] = [
+        &[ticket(3, 0, 30)?, ticket(2, 30, 30)?],
+        &[first],
+        &[first, ticket(3, 31, 30)?],
+    ];
+    for tickets in cases {
+        assert_bad_tickets(&rt, &mut node, tickets)?;
+    }
+    Ok(())
+}
+
+fn assert_closes(
+    rt: &impl Abort,
+    node: &mut Clearing<ListKeeper>,
+    tickets: &[Ticket],
+    sealed: bool,
+    granted: u64,
+) -> Result<(), Fail> {
+    let done = Closed {
+        granted,
+        first: Some(number(3)?),
+        count: tickets.len(),
+    };
+    assert_eq!(rt; node.lot_close(issue()?, tickets, sealed), Ok(done));
+    assert_eq!(rt; node.lot(issue()?).is_some(), false);
+    Ok(())
+}
+
+// The orders of a lot that served both members.
+fn assert_deliveries(rt: &impl Abort, node: &Clearing<ListKeeper>) -> Result<(), Fail> {
+    assert_eq!(rt;
+        node.order(number(3)?),
+        Ok(order(3, MoveKind::Delivery, 2, 30)?)
+    );
+    assert_eq!(rt;
+        node.order(number(4)?),
+        Ok(order(4, MoveKind::Delivery, 3, 10)?)
+    );
+    assert_eq!(rt; node.order(number(5)?), Err(OrderFault::UnknownMove));
+    assert_shares(rt, node, 0, 0, 40)
+}
+
+#[test]
+fn a_lot_that_serves_all(rt: HostRuntime) -> Result<(), Fail> {
+    let mut node = lent(rt.alloc())?;
+    let tickets = [ticket(2, 0, 30)?, ticket(3, 30, 30)?];
+    assert_closes(&rt, &mut node, &tickets, false, 40)?;
+    assert_deliveries(&rt, &node)
+}
+
+#[test]
+fn a_lot_that_was_sealed(rt: HostRuntime) -> Result<(), Fail> {
+    let mut node = lent(rt.alloc())?;
+    assert_closes(&rt, &mut node, &[ticket(2, 0, 30)?], true, 30)?;
+    assert_shares(&rt, &node, 10, 0, 30)
+}
+
+fn assert_pours(rt: &impl Abort, node: &mut Clearing<ListKeeper>) -> Result<(), Fail> {
+    assert_shares(rt, node, 40, 0, 0)?;
+    assert_eq!(rt; node.lot_pour(issue()?), Ok(40));
+    assert_shares(rt, node, 0, 40, 0)?;
+    assert_eq!(rt; node.lot_pour(issue()?), Ok(0));
+    assert_shares(rt, node, 0, 40, 0)
+}
+
+#[test]
+fn a_lot_that_is_poured_into(rt: HostRuntime) -> Result<(), Fail> {
+    let mut node = grouped(rt.alloc())?;
+    node.lot_open(issue()?)?;
+    assert_shares(&rt, &node, 0, 0, 0)?;
+    cover(&mut node)?;
+    assert_pours(&rt, &mut node)
+}
+
+fn assert_no_lot(rt: &impl Abort, node: &mut Clearing<ListKeeper>) -> Result<(), Fail> {
+    assert_eq!(rt; node.lot_pour(issue()?), Err(LotPourFault::NoLot));
+    let answer = node.lot_close(issue()?, &[ticket(2, 0, 30)?], true);
+    assert_eq!(rt; answer, Err(LotCloseFault::NoLot));
+    Ok(())
+}
+
+#[test]
+fn a_node_without_a_lot(rt: HostRuntime) -> Result<(), Fail> {
+    let mut node = covered(rt.alloc())?;
+    assert_no_lot(&rt, &mut node)?;
+    assert_shares(&rt, &node, 40, 0, 0)
+}
+
+fn assert_lots_down(rt: &impl Abort, node: &mut Clearing<ListKeeper>) -> Result<(), Fail> {
+    assert_eq!(rt; node.lot_open(issue()?).err(), Some(LotOpenFault::Down));
+    assert_eq!(rt; node.lot_pour(issue()?), Err(LotPourFault::Down));
+    assert_eq!(rt;
+        node.lot_close(issue()?, &[], true),
+        Err(LotCloseFault::Down)
+    );
+    Ok(())
+}
+
+#[test]
+fn lots_of_a_node_that_is_down(rt: HostRuntime) -> Result<(), Fail> {
+    let mut node = failed(&rt, rt.alloc(), false)?;
+    assert_lots_down(&rt, &mut node)
+}
+
+// A close that the device fails leaves the lot open, until a restart ends it.
+fn assert_failed_close(
+    rt: &impl Abort,
+    node: &mut Clearing<ListKeeper>,
+    stands: bool,
+) -> Result<(), Fail> {
+    let tickets = [ticket(2, 0, 30)?, ticket(3, 30, 30)?];
+    node.plan(stands)?;
+    assert_eq!(rt;
+        node.lot_close(issue()?, &tickets, false),
+        Err(LotCloseFault::Device)
+    );
+    assert_shares(rt, node, 0, 40, 0)?;
+    assert_restart(rt, node, 6 + u64::from(stands), stands)
+}
+
+#[test]
+fn a_failed_close_stands(rt: HostRuntime) -> Result<(), Fail> {
+    let mut node = lent(rt.alloc())?;
+    assert_failed_close(&rt, &mut node, true)?;
+    assert_deliveries(&rt, &node)?;
+    assert_no_lot(&rt, &mut node)
+}
+
+#[test]
+fn a_failed_close_does_not_stand(rt: HostRuntime) -> Result<(), Fail> {
+    let mut node = lent(rt.alloc())?;
+    assert_failed_close(&rt, &mut node, false)?;
+    assert_eq!(rt; node.order(number(3)?), Err(OrderFault::UnknownMove));
+    assert_shares(&rt, &node, 40, 0, 0)
+}
+
+#[test]
+fn a_restart_ends_the_lot(rt: HostRuntime) -> Result<(), Fail> {
+    let mut node = lent(rt.alloc())?;
+    assert_restart(&rt, &mut node, 6, false)?;
+    assert_shares(&rt, &node, 40, 0, 0)?;
+    assert_no_lot(&rt, &mut node)
+}
+
+fn drawn(of: u16, start: u64, asked: u64) -> Result<Drawn, Fail> {
+    Ok(Drawn {
+        member: member(of)?,
+        start: shares(start)?,
+        asked: Asked::new(asked).ok_or("shares that are asked for")?,
+    })
+}
+
+// The record of a lot that was opened after so many records, and last poured into after 6.
+fn allocation(
+    alloc: Global,
+    opened: u64,
+    poured: u64,
+    tickets: &[Drawn],
+) -> Result<ClearRecord, Fail> {
+    let tickets = Vec::from_slice(alloc, tickets)?;
+    Ok(ClearRecord::Allocate(Allocation {
+        issue: issue()?,
+        opened,
+        upto: 6,
+        poured: shares(poured)?,
+        sealed: false,
+        drawn: DrawnList::from_vec(tickets).ok_or("a list of tickets")?,
+    }))
+}
+
+// A keeper with the six records of a node whose covers brought 40 shares, and this one.
+fn keeper_of_groups(alloc: Global, last: ClearRecord) -> Result<ListKeeper, Fail> {
+    let records = [
+        ClearRecord::Accept(sold(b"D1", b"2025-03-04", 2)?),
+        ClearRecord::Accept(sold(b"D2", b"2025-03-05", 3)?),
+        ClearRecord::Cycle(cycle(b"2025-03-04", CycleKind::Night)?),
+        ClearRecord::Cycle(cycle(b"2025-03-05", CycleKind::Night)?),
+        ClearRecord::Confirm(reply(1, 30)?),
+        ClearRecord::Confirm(reply(2, 10)?),
+        last,
+    ];
+    keeper_of(alloc, &records)
+}
+
+#[test]
+fn an_allocation_that_opens(rt: HostRuntime) -> Result<(), Fail> {
+    let alloc = rt.alloc();
+    let tickets = [drawn(2, 0, 30)?, drawn(3, 30, 30)?];
+    let last = allocation(alloc, 6, 40, &tickets)?;
+    let node = opened(alloc, keeper_of_groups(alloc, last)?)?;
+    assert_deliveries(&rt, &node)
+}
+
+fn assert_bad_allocation(
+    rt: &impl Abort,
+    alloc: Global,
+    last: ClearRecord,
+) -> Result<(), Fail> {
+    let keeper = keeper_of_groups(alloc, last)?;
+    assert_eq!(rt; bad_place(alloc, keeper)?, 7);
+    Ok(())
+}
+
+#[test]
+fn allocations_that_are_bad(rt: HostRuntime) -> Result<(), Fail> {
+    let alloc = rt.alloc();
+    let first = drawn(2, 0, 30)?;
+    // How many records stood before the lot was opened, the shares that were poured, and the tickets:
+    // two that leave a gap, two of a member, one of too much, one of a member that is not long, and
+    // then two where the pour is too much, or the lot was opened too late.
+    let cases: [(u64, u64, &[Drawn]); 6] = [
+        (6, 40, &[first, drawn(3, 31, 30)?]),
+        (6, 40, &[drawn(2, 0, 10)?, drawn(2, 10, 10)?]),
+        (6, 40, &[drawn(2, 0, 31)?]),
+        (6, 40, &[first, drawn(1, 30, 1)?]),
+        (6, 41, &[first]),
+        (7, 40, &[first]),
+    ];
+    for (opened, poured, tickets) in cases {
+        let last = allocation(alloc, opened, poured, tickets)?;
+        assert_bad_allocation(&rt, alloc, last)?;
+    }
+    Ok(())
 }
 
 #[test]
@@ -494,6 +867,7 @@ fn texts_of_cycles(rt: HostRuntime) -> Result<(), Fail> {
     let cases = [
         (CycleFault::Down, "the clearing node is down"),
         (CycleFault::CycleOrder, early),
+        (CycleFault::LotsOpen, "a lot is open"),
         (CycleFault::NumbersSpent, "movement numbers are spent"),
         (CycleFault::OutOfMemory, "out of memory"),
         (CycleFault::Device, "the journal's device failed"),
@@ -544,6 +918,48 @@ fn texts_of_replays(rt: HostRuntime) -> Result<(), Fail> {
             "record 2 of the journal is bad",
         ),
         (ReplayFault::Device, "the journal's device failed"),
+    ];
+    for (fault, words) in cases {
+        assert_eq!(rt; fault.to_string(rt.alloc())?.as_str(), words);
+    }
+    Ok(())
+}
+
+#[test]
+fn texts_of_openings(rt: HostRuntime) -> Result<(), Fail> {
+    let cases = [
+        (LotOpenFault::Down, "the clearing node is down"),
+        (LotOpenFault::LotAlready, "a lot of the issue is open"),
+        (LotOpenFault::OutOfMemory, "out of memory"),
+    ];
+    for (fault, words) in cases {
+        assert_eq!(rt; fault.to_string(rt.alloc())?.as_str(), words);
+    }
+    Ok(())
+}
+
+#[test]
+fn texts_of_pours(rt: HostRuntime) -> Result<(), Fail> {
+    let cases = [
+        (LotPourFault::Down, "the clearing node is down"),
+        (LotPourFault::NoLot, "no lot of the issue is open"),
+    ];
+    for (fault, words) in cases {
+        assert_eq!(rt; fault.to_string(rt.alloc())?.as_str(), words);
+    }
+    Ok(())
+}
+
+#[test]
+fn texts_of_closes(rt: HostRuntime) -> Result<(), Fail> {
+    let bad = "the tickets do not serve the plan of the lot";
+    let cases = [
+        (LotCloseFault::Down, "the clearing node is down"),
+        (LotCloseFault::NoLot, "no lot of the issue is open"),
+        (LotCloseFault::BadTickets, bad),
+        (LotCloseFault::NumbersSpent, "movement numbers are spent"),
+        (LotCloseFault::OutOfMemory, "out of memory"),
+        (LotCloseFault::Device, "the journal's device failed"),
     ];
     for (fault, words) in cases {
         assert_eq!(rt; fault.to_string(rt.alloc())?.as_str(), words);

@@ -1,68 +1,83 @@
--- The bounds hold as a history and its covers grow, and what follows from them.
-use Rattle.std.proofs.Common.{◌≡◌, ◌≤◌, ◌+◌, ℕ, suc, List, [], ◌∷◌, ◌++◌, length, Option, Some, None, Bool, true, false, refl, sym, ◌∙◌, ap, arith, inl, inr, Ordering, Less, Equal, Greater}
-use Rattle.std.specs.Prelude.{◌&&◌, ◌==◌, All, pos, neg_ℤ, ◌-ℤ◌, ◌+ℤ◌, ◌≤ℤ◌, sum_by, if◌then◌else◌}
+-- The bounds hold as a history and its movements grow, and what follows from them.
+use Rattle.std.proofs.Common.{◌≡◌, ◌≤◌, ◌+◌, ◌*◌, ℕ, zero, suc, List, [], ◌∷◌, ◌++◌, length, Option, Some, None, Bool, true, false, cond, refl, ◌∙◌, ap, arith, Ordering, Less, Equal, Greater}
+use Rattle.std.specs.Prelude.{◌&&◌, ◌==◌, All, count_by, ℤ, pos, negsuc, neg_ℤ, ◌-ℤ◌, ◌+ℤ◌, ◌≤ℤ◌, sum_by, if◌then◌else◌}
 use Rattle.std.specs.List.{filter_map, cons_option}
 use Rattle.std.specs.Cmp.{IsTotalOrder}
 use Rattle.std.specs.Ordering.{match_ordering, ordering_reverse}
 use Rattle.std.specs.BTreeSet.{insert_key}
-use Rattle.std.proofs.lemmas.Bool.{and_from, and_parts, cases_eq, eq-eqb, eqb-true, false_from_ne_true}
-use Rattle.std.proofs.lemmas.Option.{none-some, same_Some}
+use Rattle.std.proofs.lemmas.Bool.{and_from, and_parts, eq-eqb, eqb-true, false_from_ne_true}
 use Rattle.std.proofs.lemmas.Cmp.{nat_cmp_total, on_total, then_total, tied_itself}
 use Rattle.std.proofs.lemmas.Int.{ints}
 use Rattle.std.proofs.lemmas.List.Elements.{All-cons, All-head, All-nil, All-tail, All-weaker}
 use Rattle.std.proofs.lemmas.List.Sums.{sum_by-cons}
 use Rattle.std.proofs.lemmas.Map.Views.{All-insert_key}
 use Rattle.cns_trades.specs.declared.trade.Trade.{Trade}
-use Rattle.cns_netting.specs.History.{bought, credit, debit, due, due_since, is_reached, latest, position_of, settled_in, settled_out, sold}
+use Rattle.cns_netting.specs.History.{bought, credit, credit_part, debit, debit_part, due, due_since, is_reached, latest, position_of, settled_in, settled_out, sold}
 use Rattle.cns_netting.specs.Rows.{holding_cmp, holdings_of}
 use Rattle.cns_netting.specs.Book.{IsBook, IsWithin}
 use Rattle.cns_netting.specs.declared.entry.NetEntry.{NetEntry}
 use Rattle.cns_netting.specs.declared.entry.NetEntry.TheVariants.{Accepted, Netted, Settled}
 use Rattle.cns_netting.specs.declared.position.Holding.{Holding}
 use Rattle.cns_netting.proofs.BookLemmas.{book_netted, bought-most, sold-most}
-use Rattle.cns_netting.proofs.TallyLemmas.{Reaches, reaches_latest, sold-due}
-use Rattle.cns_movements.specs.Order.{is_cover, is_of, moved_of, numbered, open_sum, order_of}
+use Rattle.cns_netting.proofs.TallyLemmas.{Reaches, bought-due, reaches_latest, sold-due}
+use Rattle.cns_movements.specs.Order.{is_of, moved_of, numbered, open_sum, order_of, same_kind}
 use Rattle.cns_movements.specs.Book.{IsOrderBook, Orders, with_asks, with_reply}
 use Rattle.cns_movements.specs.declared.order.Ask.{Ask}
-use Rattle.cns_movements.specs.declared.order.MoveKind.TheVariants.{Cover}
+use Rattle.cns_movements.specs.declared.order.MoveKind.{MoveKind}
+use Rattle.cns_movements.specs.declared.order.MoveKind.TheVariants.{Cover, Delivery}
 use Rattle.cns_movements.specs.declared.order.Order.{Order}
 use Rattle.cns_movements.specs.declared.order.Reply.{Reply}
-use Rattle.cns_movements.proofs.OrderLemmas.{order_of_other, order_of_same}
 use Rattle.cns_movements.proofs.ReplyLemmas.{moved_of_above, open_sum-append, open_sum-with_reply, open_sum_new}
-use Rattle.cns_covers.specs.Bounds.{AreBounded, AreCovers}
+use Rattle.cns_covers.specs.Bounds.{AreBounded, AreDeliverable, amount_of, want_in}
 use Rattle.cns_covers.specs.Covers.{ShortsFit, ask_for, cover_ask, cover_of, covers_of}
 use Rattle.cns_covers.specs.declared.exemptions.Exempted.{Exempted}
 
 -- with no entry and no order there is nothing to bound
 pub bounded_empty : AreBounded [] (record { orders = []; replies = [] })
-unfolding settled_in settled_out open_sum sold
-bounded_empty = record { covered = λ m i. omega arith; untaken = λ m i. refl; covers = tt }
+unfolding settled_in settled_out open_sum bought sold
+bounded_empty = record { covered = λ m i. omega arith; delivered = λ m i. omega arith }
 
 -- a trade that is accepted is not yet due
 pub bounded_accepted : (h : List NetEntry) (book : Orders) (t : Trade) → AreBounded h book → AreBounded (Accepted t ∷ h) book
 unfolding settled_in settled_out
-bounded_accepted h book t bounded = record { covered = λ m i. bounded.covered m i; untaken = λ m i. bounded.untaken m i; covers = bounded.covers }
+bounded_accepted h book t bounded = record { covered = λ m i. bounded.covered m i; delivered = λ m i. bounded.delivered m i }
+
+-- shares that count where x holds count no less where y holds, if x implies y
+share_grows : (x y : Bool) (q : ℕ) → (x ≡ true → y ≡ true) → (if x then q else 0) ≤ (if y then q else 0)
+share_grows true true q f = omega arith
+share_grows true false q f = let no = f refl in cc no
+share_grows false true q f = omega arith
+share_grows false false q f = omega arith
 
 sold_grows : (a b : Option ℕ) → Reaches a b → (h : List NetEntry) (m i : ℕ) → sold (due_since a h) m i ≤ sold (due_since b h) m i
 unfolding Reaches
 sold_grows a b more [] m i = omega arith
 sold_grows a b more (Accepted t ∷ h) m i =
     let share = if (t.seller == m) && (t.issue == i) then t.quantity else 0 in
-    let part = by (is_reached a t.settle) (is_reached b t.settle) share (more t.settle) in
+    let part = share_grows (is_reached a t.settle) (is_reached b t.settle) share (more t.settle) in
     omega (arith, part, sold-due (is_reached a t.settle) t (due_since a h) m i, sold-due (is_reached b t.settle) t (due_since b h) m i, sold_grows a b more h m i)
-  where
-    by : (x y : Bool) (q : ℕ) → (x ≡ true → y ≡ true) → (if x then q else 0) ≤ (if y then q else 0)
-    by true true q f = omega arith
-    by true false q f = let no = f refl in cc no
-    by false true q f = omega arith
-    by false false q f = omega arith
 sold_grows a b more (Netted d ∷ h) m i = sold_grows (latest a d) (latest b d) (reaches_latest a b d more) h m i
 sold_grows a b more (Settled k j z ∷ h) m i = sold_grows a b more h m i
+
+bought_grows : (a b : Option ℕ) → Reaches a b → (h : List NetEntry) (m i : ℕ) → bought (due_since a h) m i ≤ bought (due_since b h) m i
+unfolding Reaches
+bought_grows a b more [] m i = omega arith
+bought_grows a b more (Accepted t ∷ h) m i =
+    let share = if (t.buyer == m) && (t.issue == i) then t.quantity else 0 in
+    let part = share_grows (is_reached a t.settle) (is_reached b t.settle) share (more t.settle) in
+    omega (arith, part, bought-due (is_reached a t.settle) t (due_since a h) m i, bought-due (is_reached b t.settle) t (due_since b h) m i, bought_grows a b more h m i)
+bought_grows a b more (Netted d ∷ h) m i = bought_grows (latest a d) (latest b d) (reaches_latest a b d more) h m i
+bought_grows a b more (Settled k j z ∷ h) m i = bought_grows a b more h m i
 
 -- a netting makes no trade undue, so no member has sold less
 pub sold-grows : (h : List NetEntry) (day m i : ℕ) → sold (due h) m i ≤ sold (due (Netted day ∷ h)) m i
 unfolding Reaches
 sold-grows h day m i = sold_grows None (Some day) (λ settle e. cc e) h m i
+
+-- nor has one bought less
+pub bought-grows : (h : List NetEntry) (day m i : ℕ) → bought (due h) m i ≤ bought (due (Netted day ∷ h)) m i
+unfolding Reaches
+bought-grows h day m i = bought_grows None (Some day) (λ settle e. cc e) h m i
 
 -- holdings are compared by issue and then by member
 holding_order : IsTotalOrder holding_cmp
@@ -97,21 +112,54 @@ holdings-ascending (Accepted t ∷ h) = insert_key-ascending _ _ (insert_key-asc
 holdings-ascending (Netted d ∷ h) = holdings-ascending h
 holdings-ascending (Settled m i z ∷ h) = insert_key-ascending _ _ (holdings-ascending h)
 
--- the shares that the covers of a member and issue ask for
-asked_by : ℕ → ℕ → List Ask → ℕ
-asked_by m i [] = 0
-asked_by m i (a ∷ asks) = (if is_cover a.kind && ((a.member == m) && (a.issue == i)) then a.asked else 0) + asked_by m i asks
+-- the shares that the asks of a kind, a member and an issue ask for
+asked_by : MoveKind → ℕ → ℕ → List Ask → ℕ
+asked_by kind m i [] = 0
+asked_by kind m i (a ∷ asks) = (if same_kind kind a.kind && ((a.member == m) && (a.issue == i)) then a.asked else 0) + asked_by kind m i asks
 
-asked_by-numbered : (m i n : ℕ) (asks : List Ask) → sum_by (λ (o : Order). if is_of Cover m i o then o.asked else 0) (numbered n asks) ≡ asked_by m i asks
+asked_by-numbered : (kind : MoveKind) (m i n : ℕ) (asks : List Ask)
+    → sum_by (λ (o : Order). if is_of kind m i o then o.asked else 0) (numbered n asks) ≡ asked_by kind m i asks
 unfolding asked_by
-asked_by-numbered m i n [] = refl
-asked_by-numbered m i n (a ∷ asks) =
+asked_by-numbered kind m i n [] = refl
+asked_by-numbered kind m i n (a ∷ asks) =
     let o : Order = record { number = n; kind = a.kind; member = a.member; issue = a.issue; asked = a.asked } in
-    omega (arith, sum_by-cons (λ (o : Order). if is_of Cover m i o then o.asked else 0) o (numbered (suc n) asks), asked_by-numbered m i (suc n) asks)
+    omega (arith, sum_by-cons (λ (o : Order). if is_of kind m i o then o.asked else 0) o (numbered (suc n) asks), asked_by-numbered kind m i (suc n) asks)
+
+-- a book with more asks has open what it had open before and all that they ask for
+open_sum_asked : (book : Orders) (asks : List Ask) (kind : MoveKind) (m i : ℕ) → IsOrderBook book
+    → open_sum (book.orders ++ numbered (length book.orders + 1) asks) book.replies kind m i ≡ open_sum book.orders book.replies kind m i + asked_by kind m i asks
+open_sum_asked book asks kind m i lawful =
+    let os = book.orders in
+    let rs = book.replies in
+    let next : ℕ = length os + 1 in
+    omega (
+      arith,
+      open_sum-append os (numbered next asks) rs kind m i,
+      open_sum_new next asks rs kind m i (λ j le. moved_of_above os rs j lawful.numbered lawful.known (omega arith)),
+      asked_by-numbered kind m i next asks,
+    )
+
+-- asks of one kind ask for nothing of another
+asked_by-other_kind : (kind other : MoveKind) (m i : ℕ) (asks : List Ask) → same_kind kind other ≡ false → All (λ (a : Ask). a.kind ≡ other) asks → asked_by kind m i asks ≡ 0
+unfolding asked_by
+asked_by-other_kind kind other m i [] differ all = refl
+asked_by-other_kind kind other m i (a ∷ asks) differ all =
+    let rest = asked_by-other_kind kind other m i asks differ (All-tail (λ (b : Ask). b.kind ≡ other) a asks all) in
+    rw (All-head (λ (b : Ask). b.kind ≡ other) a asks all, differ) (omega (arith, rest))
+
+-- new deliveries change no open covers
+pub deliveries_leave_covers : (book : Orders) (asks : List Ask) (m i : ℕ) → IsOrderBook book → All (λ (a : Ask). a.kind ≡ Delivery) asks
+    → open_sum (with_asks book asks).orders book.replies Cover m i ≡ open_sum book.orders book.replies Cover m i
+deliveries_leave_covers book asks m i lawful all = omega (arith, open_sum_asked book asks Cover m i lawful, asked_by-other_kind Cover Delivery m i asks refl all)
+
+-- and new covers no open deliveries
+pub covers_leave_deliveries : (book : Orders) (asks : List Ask) (m i : ℕ) → IsOrderBook book → All (λ (a : Ask). a.kind ≡ Cover) asks
+    → open_sum (with_asks book asks).orders book.replies Delivery m i ≡ open_sum book.orders book.replies Delivery m i
+covers_leave_deliveries book asks m i lawful all = omega (arith, open_sum_asked book asks Delivery m i lawful, asked_by-other_kind Delivery Cover m i asks refl all)
 
 -- one holding more asks for its cover, in its own place
 asked_by-ask_for : (m i member issue c : ℕ) (rest : List Ask)
-    → asked_by m i (cons_option (ask_for member issue c) rest) ≡ (if (member == m) && (issue == i) then c else 0) + asked_by m i rest
+    → asked_by Cover m i (cons_option (ask_for member issue c) rest) ≡ (if (member == m) && (issue == i) then c else 0) + asked_by Cover m i rest
 unfolding asked_by
 asked_by-ask_for m i member issue c rest = by (c == 0) refl
   where
@@ -120,9 +168,9 @@ asked_by-ask_for m i member issue c rest = by (c == 0) refl
     nothing false n e = omega arith
 
     by : (none : Bool) → (c == 0) ≡ none
-        → asked_by m i (cons_option (if none then None else Some (record { kind = Cover; member = member; issue = issue; asked = c })) rest)
-        ≡ (if (member == m) && (issue == i) then c else 0) + asked_by m i rest
-    by true e = nothing ((member == m) && (issue == i)) (asked_by m i rest) (eqb-true c 0 e)
+        → asked_by Cover m i (cons_option (if none then None else Some (record { kind = Cover; member = member; issue = issue; asked = c })) rest)
+        ≡ (if (member == m) && (issue == i) then c else 0) + asked_by Cover m i rest
+    by true e = nothing ((member == m) && (issue == i)) (asked_by Cover m i rest) (eqb-true c 0 e)
     by false e = refl
 
 -- a holding that stands after another one is not of its member and issue
@@ -138,7 +186,7 @@ other_place k x less =
 
 -- the covers of holdings of other places
 asked_by-others : (h : List NetEntry) (book : Orders) (settings : List Exempted) (k : Holding) (ks : List Holding)
-    → All (λ (q : Holding). holding_cmp k q ≡ Less) ks → asked_by k.member k.issue (filter_map (cover_ask h book settings) ks) ≡ 0
+    → All (λ (q : Holding). holding_cmp k q ≡ Less) ks → asked_by Cover k.member k.issue (filter_map (cover_ask h book settings) ks) ≡ 0
 unfolding asked_by cover_ask
 asked_by-others h book settings k [] apart = refl
 asked_by-others h book settings k (x ∷ xs) apart =
@@ -154,13 +202,13 @@ at_most false n = omega arith
 
 -- the covers of a list of holdings, each there once
 asked_by-covers : (h : List NetEntry) (book : Orders) (settings : List Exempted) (ks : List Holding) (m i : ℕ) → AreAscending ks
-    → asked_by m i (filter_map (cover_ask h book settings) ks) ≤ cover_of h book settings m i
+    → asked_by Cover m i (filter_map (cover_ask h book settings) ks) ≤ cover_of h book settings m i
 unfolding asked_by cover_ask
 asked_by-covers h book settings [] m i up = omega arith
 asked_by-covers h book settings (k ∷ ks) m i up = by ((k.member == m) && (k.issue == i)) refl (asked_by-covers h book settings ks m i up.1)
   where
-    by : (b : Bool) → ((k.member == m) && (k.issue == i)) ≡ b → asked_by m i (filter_map (cover_ask h book settings) ks) ≤ cover_of h book settings m i
-        → asked_by m i (filter_map (cover_ask h book settings) (k ∷ ks)) ≤ cover_of h book settings m i
+    by : (b : Bool) → ((k.member == m) && (k.issue == i)) ≡ b → asked_by Cover m i (filter_map (cover_ask h book settings) ks) ≤ cover_of h book settings m i
+        → asked_by Cover m i (filter_map (cover_ask h book settings) (k ∷ ks)) ≤ cover_of h book settings m i
     by true e rest =
         let same = and_parts (k.member == m) (k.issue == i) e in
         let members = eqb-true k.member m same.0 in
@@ -177,88 +225,169 @@ asked_by-covers h book settings (k ∷ ks) m i up = by ((k.member == m) && (k.is
 pub covers-sum : (h : List NetEntry) (book : Orders) (settings : List Exempted) (m i n : ℕ)
     → sum_by (λ (o : Order). if is_of Cover m i o then o.asked else 0) (numbered n (covers_of h book settings)) ≤ cover_of h book settings m i
 covers-sum h book settings m i n =
-    rw (asked_by-numbered m i n (covers_of h book settings)) (asked_by-covers h book settings (holdings_of h) m i (holdings-ascending h))
-
-AreCovers-append : (os more : List Order) → AreCovers os → AreCovers more → AreCovers (os ++ more)
-AreCovers-append [] more h g = g
-AreCovers-append (o ∷ os) more h g = (h.0, AreCovers-append os more h.1 g)
+    rw (asked_by-numbered Cover m i n (covers_of h book settings)) (asked_by-covers h book settings (holdings_of h) m i (holdings-ascending h))
 
 -- what a cycle orders are covers
-covers_are_covers : (h : List NetEntry) (book : Orders) (settings : List Exempted) (n : ℕ) (ks : List Holding)
-    → AreCovers (numbered n (filter_map (cover_ask h book settings) ks))
+pub covers_are_covers : (h : List NetEntry) (book : Orders) (settings : List Exempted) → All (λ (a : Ask). a.kind ≡ Cover) (covers_of h book settings)
 unfolding cover_ask
-covers_are_covers h book settings n [] = tt
-covers_are_covers h book settings n (k ∷ ks) =
-    by (cover_of h book settings k.member k.issue == 0) (covers_are_covers h book settings n ks) (covers_are_covers h book settings (suc n) ks)
+covers_are_covers h book settings = of_holdings (holdings_of h)
   where
-    by : (none : Bool) → AreCovers (numbered n (filter_map (cover_ask h book settings) ks)) → AreCovers (numbered (suc n) (filter_map (cover_ask h book settings) ks))
-        → AreCovers (numbered n (cons_option
-        (if none then None else Some (record { kind = Cover; member = k.member; issue = k.issue; asked = cover_of h book settings k.member k.issue }))
-        (filter_map (cover_ask h book settings) ks)))
-    by true same next = same
-    by false same next = (refl, next)
+    more : (k : Holding) (asks : List Ask) (c : ℕ) (none : Bool) → All (λ (a : Ask). a.kind ≡ Cover) asks
+        → All (λ (a : Ask). a.kind ≡ Cover) (cons_option (if none then None else Some (record { kind = Cover; member = k.member; issue = k.issue; asked = c })) asks)
+    more k asks c true all = all
+    more k asks c false all = All-cons (λ (a : Ask). a.kind ≡ Cover) (record { kind = Cover; member = k.member; issue = k.issue; asked = c }) asks refl all
 
--- after a cycle the bounds hold
+    of_holdings : (ks : List Holding) → All (λ (a : Ask). a.kind ≡ Cover) (filter_map (cover_ask h book settings) ks)
+    of_holdings [] = All-nil _
+    of_holdings (k ∷ ks) =
+        let c : ℕ = cover_of h book settings k.member k.issue in
+        more k (filter_map (cover_ask h book settings) ks) c (c == 0) (of_holdings ks)
+
+-- after a cycle the bounds hold: its cover is at most what the member sold less what covers brought and still may bring, since
+-- deliveries took no more of its position than it bought
 pub bounded_cycle : (h : List NetEntry) (book : Orders) (settings : List Exempted) (day : ℕ) → IsOrderBook book → AreBounded h book
     → AreBounded (Netted day ∷ h) (with_asks book (covers_of (Netted day ∷ h) book settings))
 unfolding settled_in settled_out
 bounded_cycle h book settings day lawful bounded =
-    let os = book.orders in
-    let rs = book.replies in
-    let next : ℕ = length os + 1 in
+    let next : ℕ = length book.orders + 1 in
     let asks : List Ask = covers_of (Netted day ∷ h) book settings in
     record {
       covered = λ m i.
           omega (
             arith,
-            open_sum-append os (numbered next asks) rs Cover m i,
-            open_sum_new next asks rs Cover m i (λ j le. moved_of_above os rs j lawful.numbered lawful.known (omega arith)),
+            open_sum_asked book asks Cover m i lawful,
+            asked_by-numbered Cover m i next asks,
             covers-sum (Netted day ∷ h) book settings m i next,
             bounded.covered m i,
-            bounded.untaken m i,
+            bounded.delivered m i,
             sold-grows h day m i,
+            bought-grows h day m i,
           );
-      untaken = λ m i. bounded.untaken m i;
-      covers = AreCovers-append os (numbered next asks) bounded.covers (covers_are_covers (Netted day ∷ h) book settings next (holdings_of (Netted day ∷ h)));
+      delivered = λ m i.
+          omega (
+            arith,
+            covers_leave_deliveries book asks m i lawful (covers_are_covers (Netted day ∷ h) book settings),
+            bounded.delivered m i,
+            bought-grows h day m i,
+          );
     }
 
--- an order that is found is a cover
-pub kind_of_found : (os : List Order) (n : ℕ) (o : Order) → AreCovers os → order_of os n ≡ Some o → o.kind ≡ Cover
-kind_of_found [] n o covers found = absurd (none-some o found)
-kind_of_found (x ∷ xs) n o covers found =
-    elim (cases_eq x.number n) [
-      | inl e ↦ ap (λ (y : Order). y.kind) (sym (same_Some x o (sym (order_of_same x xs n e) ∙ found))) ∙ covers.0
-      | inr ne ↦ kind_of_found xs n o covers.1 (sym (order_of_other x xs n ne) ∙ found)
-    ]
+-- ---- deliveries
 
--- a confirmation of an order takes it out of the open shares of its member and issue
-open_sum_confirmed : (book : Orders) (r : Reply) (o : Order) (m i : ℕ) → IsOrderBook book → AreCovers book.orders
-    → order_of book.orders r.number ≡ Some o → moved_of book.replies r.number ≡ None
-    → open_sum book.orders (r ∷ book.replies) Cover m i + (if (o.member == m) && (o.issue == i) then o.asked else 0) ≡ open_sum book.orders book.replies Cover m i
-open_sum_confirmed book r o m i lawful covers found first =
-    let all = open_sum-with_reply book.orders book.replies r o Cover m i lawful.numbered found first in
-    rw (kind_of_found book.orders r.number o covers found) at all
+shared_factor : (a b q : ℕ) → (a + b) * q ≡ a * q + b * q
+shared_factor a b q = omega arith
+
+at_most_once : (n q : ℕ) → n ≤ 1 → n * q ≤ q
+at_most_once zero q le = omega arith
+at_most_once (suc zero) q le = omega arith
+at_most_once (suc (suc n)) q le = absurd (omega arith)
+
+-- deliveries ask for a member at most what it wants, times the number of those that are to it
+asked_by-counted : (h : List NetEntry) (book : Orders) (issue : ℕ) (asks : List Ask) (m i : ℕ)
+    → All (λ (a : Ask). (a.kind ≡ Delivery) × (a.issue ≡ issue) × (a.asked ≤ want_in h book a.member issue)) asks
+    → asked_by Delivery m i asks ≤ count_by (λ (a : Ask). a.member == m) asks * want_in h book m i
+unfolding asked_by
+asked_by-counted h book issue [] m i all = omega arith
+asked_by-counted h book issue (a ∷ asks) m i all =
+    let want : ℕ = want_in h book m i in
+    let count : count_by (λ (b : Ask). b.member == m) (a ∷ asks) ≡ cond (a.member == m) 1 0 + count_by (λ (b : Ask). b.member == m) asks =
+    sum_by-cons (λ (b : Ask). cond (b.member == m) 1 0) a asks in
+    let here = All-head (λ (b : Ask). (b.kind ≡ Delivery) × (b.issue ≡ issue) × (b.asked ≤ want_in h book b.member issue)) a asks all in
+    let rest = All-tail (λ (b : Ask). (b.kind ≡ Delivery) × (b.issue ≡ issue) × (b.asked ≤ want_in h book b.member issue)) a asks all in
+    omega (
+      arith,
+      one (same_kind Delivery a.kind) (a.member == m) (a.issue == i) want (λ members issues. most here.1 here.2 (eqb-true a.member m members) (eqb-true a.issue i issues)),
+      ap (λ (n : ℕ). n * want) count,
+      shared_factor (cond (a.member == m) 1 0) (count_by (λ (b : Ask). b.member == m) asks) want,
+      asked_by-counted h book issue asks m i rest,
+    )
+  where
+    one : (kind member its : Bool) (want : ℕ) → (member ≡ true → its ≡ true → a.asked ≤ want)
+        → (if kind && (member && its) then a.asked else 0) ≤ cond member 1 0 * want
+    one true true true want le = let most = le refl refl in omega arith
+    one true true false want le = omega arith
+    one true false its want le = omega arith
+    one false true its want le = omega arith
+    one false false its want le = omega arith
+
+    most : a.issue ≡ issue → a.asked ≤ want_in h book a.member issue → a.member ≡ m → a.issue ≡ i → a.asked ≤ want_in h book m i
+    most of_issue le members issues = rw (← members, ← issues, of_issue) le
+
+-- deliveries of an issue ask for a member's shares in no issue above what it wants there
+asked_by-deliverable : (h : List NetEntry) (book : Orders) (issue : ℕ) (asks : List Ask) (m i : ℕ) → AreDeliverable h book issue asks
+    → asked_by Delivery m i asks ≤ want_in h book m i
+asked_by-deliverable h book issue asks m i deliverable =
+    let times : ℕ = count_by (λ (a : Ask). a.member == m) asks in
+    let counted = asked_by-counted h book issue asks m i deliverable.each in
+    let alone : times * want_in h book m i ≤ want_in h book m i = at_most_once times (want_in h book m i) (deliverable.once m) in
+    omega (arith, counted, alone)
+
+-- after deliveries are ordered the bounds hold: one is at most what the member bought less what deliveries took of its position
+-- and still may take, since covers brought no more than it sold
+pub bounded_delivered : (h : List NetEntry) (book : Orders) (issue : ℕ) (asks : List Ask) → IsOrderBook book → AreBounded h book → AreDeliverable h book issue asks
+    → AreBounded h (with_asks book asks)
+bounded_delivered h book issue asks lawful bounded deliverable =
+    let kinds =
+    All-weaker (λ (a : Ask). (a.kind ≡ Delivery) × (a.issue ≡ issue) × (a.asked ≤ want_in h book a.member issue)) (λ (a : Ask). a.kind ≡ Delivery)
+    (λ a its. its.0) asks deliverable.each in
+    record {
+      covered = λ m i. omega (arith, deliveries_leave_covers book asks m i lawful kinds, bounded.covered m i);
+      delivered = λ m i.
+          omega (
+            arith,
+            open_sum_asked book asks Delivery m i lawful,
+            asked_by-deliverable h book issue asks m i deliverable,
+            bounded.covered m i,
+            bounded.delivered m i,
+          );
+    }
+
+-- ---- confirmations
+
+-- a confirmed delivery brings its member's position nothing, and takes from it what it moved
+no_credit : (moved : ℕ) → credit_part (neg_ℤ (pos moved)) ≡ 0
+no_credit zero = refl
+no_credit (suc n) = refl
+
+all_debit : (moved : ℕ) → debit_part (neg_ℤ (pos moved)) ≡ moved
+all_debit zero = refl
+all_debit (suc n) = refl
+
+nothing_either : (b : Bool) (p : ℕ) → p ≡ 0 → (if b then p else 0) ≡ 0
+nothing_either true p e = e
+nothing_either false p e = refl
+
+-- so what a confirmed order brings is that of a cover, and what it takes that of a delivery
+credit_moved : (kind : MoveKind) (here : Bool) (moved : ℕ) → (if here then credit_part (amount_of kind moved) else 0) ≡ (if same_kind Cover kind && here then moved else 0)
+credit_moved Cover here moved = refl
+credit_moved Delivery here moved = nothing_either here (credit_part (neg_ℤ (pos moved))) (no_credit moved)
+
+debit_moved : (kind : MoveKind) (here : Bool) (moved : ℕ) → (if here then debit_part (amount_of kind moved) else 0) ≡ (if same_kind Delivery kind && here then moved else 0)
+debit_moved Cover here moved = nothing_either here 0 refl
+debit_moved Delivery here moved = ap (λ n. if here then n else 0) (all_debit moved)
 
 -- after a first confirmation of an order and the settlement of what it moved the bounds hold
 pub bounded_confirmed : (h : List NetEntry) (book : Orders) (r : Reply) (o : Order) → IsOrderBook book → AreBounded h book
     → order_of book.orders r.number ≡ Some o → moved_of book.replies r.number ≡ None → r.moved ≤ o.asked
-    → AreBounded (Settled o.member o.issue (pos r.moved) ∷ h) (with_reply book r)
+    → AreBounded (Settled o.member o.issue (amount_of o.kind r.moved) ∷ h) (with_reply book r)
 unfolding settled_in settled_out
 bounded_confirmed h book r o lawful bounded found first within = record {
   covered = λ m i.
-      by ((o.member == m) && (o.issue == i)) (settled_in h m i) (open_sum book.orders (r ∷ book.replies) Cover m i) (open_sum book.orders book.replies Cover m i) (sold (due h) m i)
-      (open_sum_confirmed book r o m i lawful bounded.covers found first) (bounded.covered m i);
-  untaken = λ m i. nothing ((o.member == m) && (o.issue == i)) (settled_out h m i) (bounded.untaken m i);
-  covers = bounded.covers;
+      by (is_of Cover m i o) (settled_in h m i) (open_sum book.orders (r ∷ book.replies) Cover m i) (open_sum book.orders book.replies Cover m i) (sold (due h) m i)
+      (if (o.member == m) && (o.issue == i) then credit_part (amount_of o.kind r.moved) else 0)
+      (credit_moved o.kind ((o.member == m) && (o.issue == i)) r.moved)
+      (open_sum-with_reply book.orders book.replies r o Cover m i lawful.numbered found first) (bounded.covered m i);
+  delivered = λ m i.
+      by (is_of Delivery m i o) (settled_out h m i) (open_sum book.orders (r ∷ book.replies) Delivery m i) (open_sum book.orders book.replies Delivery m i) (bought (due h) m i)
+      (if (o.member == m) && (o.issue == i) then debit_part (amount_of o.kind r.moved) else 0)
+      (debit_moved o.kind ((o.member == m) && (o.issue == i)) r.moved)
+      (open_sum-with_reply book.orders book.replies r o Delivery m i lawful.numbered found first) (bounded.delivered m i);
 }
   where
-    by : (b : Bool) (come left before most : ℕ) → left + (if b then o.asked else 0) ≡ before → come + before ≤ most → ((if b then r.moved else 0) + come) + left ≤ most
-    by true come left before most e le = omega arith
-    by false come left before most e le = omega arith
-
-    nothing : (b : Bool) (gone : ℕ) → gone ≡ 0 → (if b then 0 else 0) + gone ≡ 0
-    nothing true gone e = omega arith
-    nothing false gone e = omega arith
+    by : (b : Bool) (come left before most more : ℕ) → more ≡ (if b then r.moved else 0) → left + (if b then o.asked else 0) ≡ before → come + before ≤ most
+        → (more + come) + left ≤ most
+    by true come left before most more is e le = omega arith
+    by false come left before most more is e le = omega arith
 
 -- the shares sold in due trades of a book
 sold_most : (h : List NetEntry) (m i : ℕ) → IsBook h → sold (due h) m i ≤ 1000000000000000000
@@ -267,47 +396,62 @@ sold_most h m i book = omega (arith, sold-most None h m i book.quantities, book.
 bought_most : (h : List NetEntry) (m i : ℕ) → IsBook h → bought (due h) m i ≤ 1000000000000000000
 bought_most h m i book = omega (arith, bought-most None h m i book.quantities, book.few)
 
--- where nothing is taken away, no member is short of more than it sold
+-- settlements brought no member more than it sold in due trades
+pub settled_most : (h : List NetEntry) (book : Orders) → AreBounded h book → (m i : ℕ) → settled_in h m i ≤ sold (due h) m i
+settled_most h book bounded m i = omega (arith, bounded.covered m i)
+
+-- deliveries take no more than was bought, so no member is short of more than it sold
 pub bounded_shorts : (h : List NetEntry) (book : Orders) → IsBook h → AreBounded h book → ShortsFit h
-bounded_shorts h book fits bounded = record { within = λ m i. omega (arith, sold_most h m i fits, bounded.untaken m i) }
+bounded_shorts h book fits bounded = record { within = λ m i. omega (arith, sold_most h m i fits, bounded.delivered m i) }
 
 pub bounded_shorts_netted : (h : List NetEntry) (book : Orders) (day : ℕ) → IsBook h → AreBounded h book → ShortsFit (Netted day ∷ h)
-unfolding settled_out
+unfolding settled_in settled_out
 bounded_shorts_netted h book day fits bounded =
-    record { within = λ m i. omega (arith, sold_most (Netted day ∷ h) m i (book_netted h day fits), bounded.untaken m i) }
+    record { within = λ m i. omega (arith, sold_most (Netted day ∷ h) m i (book_netted h day fits), bounded.delivered m i, bought-grows h day m i) }
 
 -- a position by its two sides
 within_sides : (c d : ℕ) → d ≤ c + 1000000000000000000 → c ≤ d + 1000000000000000000 → IsWithin (pos c -ℤ pos d)
 within_sides c d low high = record { low = omega (arith, ints); high = omega (arith, ints) }
 
-within_moved : (c d n : ℕ) → d ≤ c + 1000000000000000000 → c + n ≤ d + 1000000000000000000 → IsWithin ((pos c -ℤ pos d) +ℤ pos n)
-within_moved c d n low high = record { low = omega (arith, ints); high = omega (arith, ints) }
-
 -- each position is within 10^18 of 0
 pub bounded_within : (h : List NetEntry) (book : Orders) (m i : ℕ) → IsBook h → AreBounded h book → IsWithin (position_of h m i)
 bounded_within h book m i fits bounded =
     within_sides (credit h m i) (debit h m i)
-    (omega (arith, sold_most h m i fits, bounded.untaken m i))
+    (omega (arith, sold_most h m i fits, bounded.delivered m i))
     (omega (arith, bought_most h m i fits, bounded.covered m i))
 
--- and stays so where a first confirmation brings what its order asked for or less
+-- a position with an amount added, by its two sides
+moved_sides : (c d : ℕ) (z : ℤ) → IsWithin (pos (credit_part z + c) -ℤ pos (debit_part z + d)) → IsWithin ((pos c -ℤ pos d) +ℤ z)
+moved_sides c d (pos n) w = record { low = omega (arith, ints, w.low); high = omega (arith, ints, w.high) }
+moved_sides c d (negsuc n) w = record { low = omega (arith, ints, w.low); high = omega (arith, ints, w.high) }
+
+-- and stays so where a first confirmation moves what its order asked for or less
 pub confirmed_within : (h : List NetEntry) (book : Orders) (r : Reply) (o : Order) → IsOrderBook book → AreBounded h book
     → order_of book.orders r.number ≡ Some o → moved_of book.replies r.number ≡ None → r.moved ≤ o.asked → IsBook h
-    → IsWithin (position_of h o.member o.issue +ℤ pos r.moved)
+    → IsWithin (position_of h o.member o.issue +ℤ amount_of o.kind r.moved)
+unfolding settled_in settled_out
 confirmed_within h book r o lawful bounded found first within fits =
-    let same = and_from (o.member == o.member) (o.issue == o.issue) (eq-eqb o.member o.member refl) (eq-eqb o.issue o.issue refl) in
-    let taken = rw same at (open_sum_confirmed book r o o.member o.issue lawful bounded.covers found first) in
-    within_moved (credit h o.member o.issue) (debit h o.member o.issue) r.moved
-    (omega (arith, sold_most h o.member o.issue fits, bounded.untaken o.member o.issue))
-    (omega (arith, bought_most h o.member o.issue fits, bounded.covered o.member o.issue, taken, within))
+    let z : ℤ = amount_of o.kind r.moved in
+    let m : ℕ = o.member in
+    let i : ℕ = o.issue in
+    let same = and_from (m == m) (i == i) (eq-eqb m m refl) (eq-eqb i i refl) in
+    let after = bounded_confirmed h book r o lawful bounded found first within in
+    let come = rw same at (after.covered m i) in
+    let gone = rw same at (after.delivered m i) in
+    moved_sides (credit h m i) (debit h m i) z
+    (within_sides (credit_part z + credit h m i) (debit_part z + debit h m i)
+    (omega (arith, sold_most h m i fits, gone))
+    (omega (arith, bought_most h m i fits, come)))
 
--- a member is never to deliver more than it sold in due trades, nor to receive more than it bought, also once all open covers are filled
+-- a member is never to deliver more than it sold in due trades, also once all open deliveries are filled, nor to receive more than
+-- it bought, also once all open covers are filled
 pub position_bounds : (h : List NetEntry) (book : Orders) (m i : ℕ) → AreBounded h book
-    → (neg_ℤ (pos (sold (due h) m i)) ≤ℤ position_of h m i)
+    → (neg_ℤ (pos (sold (due h) m i)) ≤ℤ (position_of h m i -ℤ pos (open_sum book.orders book.replies Delivery m i)))
     × ((position_of h m i +ℤ pos (open_sum book.orders book.replies Cover m i)) ≤ℤ pos (bought (due h) m i))
 position_bounds h book m i bounded =
-    by (bought (due h) m i) (settled_in h m i) (sold (due h) m i) (settled_out h m i) (open_sum book.orders book.replies Cover m i) (bounded.covered m i) (bounded.untaken m i)
+    by (bought (due h) m i) (settled_in h m i) (sold (due h) m i) (settled_out h m i)
+    (open_sum book.orders book.replies Cover m i) (open_sum book.orders book.replies Delivery m i) (bounded.covered m i) (bounded.delivered m i)
   where
-    by : (b come s gone more : ℕ) → come + more ≤ s → gone ≡ 0
-        → (neg_ℤ (pos s) ≤ℤ (pos (b + come) -ℤ pos (s + gone))) × (((pos (b + come) -ℤ pos (s + gone)) +ℤ pos more) ≤ℤ pos b)
-    by b come s gone more le e = (omega (arith, ints), omega (arith, ints))
+    by : (b come s gone more less : ℕ) → come + more ≤ s → gone + less ≤ b
+        → (neg_ℤ (pos s) ≤ℤ ((pos (b + come) -ℤ pos (s + gone)) -ℤ pos less)) × (((pos (b + come) -ℤ pos (s + gone)) +ℤ pos more) ≤ℤ pos b)
+    by b come s gone more less covered delivered = (omega (arith, ints), omega (arith, ints))

@@ -1,2 +1,3 @@
 pub mod CoverLemmas
 pub mod BoundLemmas
+pub mod TotalLemmas

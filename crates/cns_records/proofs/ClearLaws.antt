@@ -1,9 +1,9 @@
 -- The two laws of the clearing node's records: what is read is spelled so, and what is spelled so is read.
 -- With them: no two records are spelled alike.
-use Rattle.std.proofs.Common.{◌≡◌, ◌≢◌, ℕ, suc, ◌≤◌, true, false, List, [], ◌∷◌, ◌++◌, length, map, Result, Ok, Err, refl, sym, ap, subst, ◌∙◌, inl, inr, arith, lit≤}
-use Rattle.std.specs.Prelude.{IfOk, ◌==◌, not}
+use Rattle.std.proofs.Common.{◌≡◌, ◌≢◌, ℕ, suc, ◌^◌, ◌≤◌, Bool, true, false, List, [], ◌∷◌, ◌++◌, length, map, Result, Ok, Err, refl, sym, ap, subst, ◌∙◌, inl, inr, arith, lit≤}
+use Rattle.std.specs.Prelude.{IfOk, ◌==◌, ◌&&◌, nat_le, not}
 use Rattle.std.specs.Int.{w16, w64, to_be_bytes}
-use Rattle.std.proofs.lemmas.Bool.{eqb-true, eqb-false, ne_eqb, not-true}
+use Rattle.std.proofs.lemmas.Bool.{eqb-true, eqb-false, ne_eqb, not-true, leb-true, le-leb}
 use Rattle.cns_ids.specs.Cusip.{cusip_text}
 use Rattle.cns_trades.specs.TradeId.{IsId}
 use Rattle.cns_ids.specs.declared.cycle.CycleKind.TheVariants.{Night, Day}
@@ -11,19 +11,32 @@ use Rattle.std.proofs.lemmas.Bool.Decides.{nat_tests}
 use Rattle.std.proofs.lemmas.List.{length-append}
 use Rattle.cns_trades.specs.declared.trade.Trade.{Trade}
 use Rattle.cns_ids.specs.declared.cycle.CycleId.{CycleId}
-use Rattle.cns_records.specs.declared.bad_record.BadRecord.{BadRecord}
 use Rattle.cns_records.specs.declared.clear_record.ClearRecord.{ClearRecord}
-use Rattle.cns_records.specs.declared.clear_record.ClearRecord.TheVariants.{Accept, Exempt, Priority, Cycle, Confirm}
+use Rattle.cns_records.specs.declared.clear_record.ClearRecord.TheVariants.{Accept, Exempt, Priority, Cycle, Allocate, Confirm}
+use Rattle.cns_records.specs.declared.fault.RecordFault.{RecordFault}
+use Rattle.cns_records.specs.declared.allocation.Allocation.{Allocation}
 use Rattle.cns_records.specs.Fields.{bad, whole, id_bytes, day_bytes, flag_bytes, cycle_kind_bytes}
-use Rattle.cns_records.specs.Clear.{spelling, IsTradeInRange, HasRanges, IsWritable, AreWritable, accepted, accept_of, exempt_of, priority_of, cycle_of, confirm_of, of_kind, read_clear_of}
-use Rattle.cns_records.proofs.FieldLemmas.{IsBytes, bind_ok, chosen, tested_ok, whole_ok, done, ok_is, step, chain, last, again_last}
+use Rattle.cns_records.specs.Clear.{spelling, IsTradeInRange, IsAllocationInRange, HasRanges, IsWritable, AreWritable, accepted, accept_of, exempt_of, priority_of, cycle_of, allocated, allocate_of, confirm_of, of_kind, read_clear_of, ReadsAs}
+use Rattle.cns_records.specs.Drawn.{by_start, drawn_bytes}
+use Rattle.cns_records.proofs.FieldLemmas.{IsBytes, bind_ok, chosen, tested_ok, whole_ok, done, ok_is, step, chain, last, again_last, number_field, wide64}
 use Rattle.cns_records.proofs.FieldLaws.{id_field, day_field, member_field, issue_field, quantity_field, shares_field, flag_field, cycle_kind_field, move_no_field}
+use Rattle.cns_records.proofs.DrawnLaws.{both, drawn_field, tickets_length, by_start-sound, by_start-complete}
 
 id_short : (id : List ℕ) → IsId id → length id ≤ 16
 id_short id is = grind (arith, nat_tests)
 
 cycle_short : (id : CycleId) → length (1 ∷ 4 ∷ (day_bytes id.day ++ cycle_kind_bytes id.kind)) ≤ 1048576
 cycle_short id = elim id.kind as (λ kind. length (1 ∷ 4 ∷ (day_bytes id.day ++ cycle_kind_bytes kind)) ≤ 1048576) [ Night ↦ lit≤ tt | Day ↦ lit≤ tt ]
+
+flag_length : (on : Bool) → length (flag_bytes on) ≡ 1
+flag_length false = refl
+flag_length true = refl
+
+allocate_short : (a : Allocation) → length a.drawn ≤ 9999 → length (spelling (Allocate a)) ≤ 1048576
+unfolding spelling
+allocate_short a few =
+    let rest = drawn_bytes a.drawn in
+    omega (arith, length-append (flag_bytes a.sealed) rest, flag_length a.sealed, tickets_length a.drawn)
 
 -- the bytes spell this record, with its ranges
 abbrev Spells : ℕ → List ℕ → ClearRecord → Type 0
@@ -85,6 +98,28 @@ cycle_takes bytes r fits e =
     let parts = chain (day_bytes day.value) day.parts (last (cycle_kind_bytes kind.value) kind.parts d.0) in
     subst (Spells 4 bytes) d.1 (front 4 parts, day.fits, tt)
 
+allocate_takes : (bytes : List ℕ) (r : ClearRecord) → IsBytes bytes → allocate_of bytes ≡ Ok r → Spells 5 bytes r
+unfolding allocate_of spelling
+allocate_takes bytes r fits e =
+    let issue = step issue_field bytes _ r fits e in
+    let opened = step (number_field w64 (2 ^ 64) wide64) issue.rest _ r issue.rest_fits issue.then in
+    let upto = step (number_field w64 (2 ^ 64) wide64) opened.rest _ r opened.rest_fits opened.then in
+    let poured = step shares_field upto.rest _ r upto.rest_fits upto.then in
+    let sealed = step flag_field poured.rest _ r poured.rest_fits poured.then in
+    let drawn = step drawn_field sealed.rest _ r sealed.rest_fits sealed.then in
+    let allocation : Allocation = record { issue = issue.value; opened = opened.value; upto = upto.value; poured = poured.value; sealed = sealed.value; drawn = drawn.value } in
+    let w = bind_ok (whole drawn.rest allocation) allocated r drawn.then in
+    let d = whole_ok drawn.rest allocation w.0 w.1 in
+    let t = tested_ok (nat_le w.0.opened w.0.upto && by_start w.0.drawn) (Allocate w.0) r w.2 in
+    let b = both _ _ t.0 in
+    let parts = chain (cusip_text issue.value) issue.parts (chain (to_be_bytes w64 opened.value) opened.parts (chain (to_be_bytes w64 upto.value) upto.parts
+    (chain (to_be_bytes w64 poured.value) poured.parts (chain (flag_bytes sealed.value) sealed.parts (last (drawn_bytes drawn.value) drawn.parts d.0))))) in
+    let ranges : IsAllocationInRange allocation = record { issue = issue.fits; opened = opened.fits; upto = upto.fits; poured = poured.fits; drawn = drawn.fits } in
+    let spelled : (spelling (Allocate w.0) ≡ 1 ∷ 5 ∷ bytes) × IsAllocationInRange w.0 =
+    subst (λ (a : Allocation). (spelling (Allocate a) ≡ 1 ∷ 5 ∷ bytes) × IsAllocationInRange a) d.1 (front 5 parts, ranges) in
+    let writable : IsWritable (Allocate w.0) = (leb-true _ _ b.0, by_start-sound w.0.drawn b.1) in
+    subst (Spells 5 bytes) t.1 (spelled.0, spelled.1, writable)
+
 confirm_takes : (bytes : List ℕ) (r : ClearRecord) → IsBytes bytes → confirm_of bytes ≡ Ok r → Spells 6 bytes r
 unfolding confirm_of spelling
 confirm_takes bytes r fits e =
@@ -107,9 +142,12 @@ of_kind_takes k bytes r fits e1 = elim (chosen (k == 1) _ _ _ e1) [
       | inl f ↦ kind_is k 3 f.0 bytes r (priority_takes bytes r fits f.1)
       | inr e4 ↦ elim (chosen (k == 4) _ _ _ e4.1) [
         | inl f ↦ kind_is k 4 f.0 bytes r (cycle_takes bytes r fits f.1)
-        | inr e6 ↦ elim (chosen (k == 6) _ _ _ e6.1) [
-          | inl f ↦ kind_is k 6 f.0 bytes r (confirm_takes bytes r fits f.1)
-          | inr f ↦ absurd (bad_is_not_ok r f.1)
+        | inr e5 ↦ elim (chosen (k == 5) _ _ _ e5.1) [
+          | inl f ↦ kind_is k 5 f.0 bytes r (allocate_takes bytes r fits f.1)
+          | inr e6 ↦ elim (chosen (k == 6) _ _ _ e6.1) [
+            | inl f ↦ kind_is k 6 f.0 bytes r (confirm_takes bytes r fits f.1)
+            | inr f ↦ absurd (bad_is_not_ok r f.1)
+          ]
         ]
       ]
     ]
@@ -131,7 +169,7 @@ read_takes (v ∷ k ∷ bytes) r fits e =
 
 -- A record with its ranges is read again, where it is writable.
 pub read-spelling : (r : ClearRecord) → HasRanges r → IsWritable r → read_clear_of (spelling r) ≡ Ok r
-unfolding read_clear_of spelling accept_of exempt_of priority_of cycle_of confirm_of
+unfolding read_clear_of spelling accept_of exempt_of priority_of cycle_of allocate_of confirm_of
 read-spelling (Accept t) fits differ =
     let quantity = to_be_bytes w64 t.quantity in
     let issue = cusip_text t.issue ++ quantity in
@@ -153,12 +191,29 @@ read-spelling (Priority m i on) fits u =
     rw (member_field.again m (cusip_text i ++ flag_bytes on) fits.0, issue_field.again i (flag_bytes on) fits.1, again_last flag_field on tt) refl
 read-spelling (Cycle id) fits u =
     rw (day_field.again id.day (cycle_kind_bytes id.kind) fits, again_last cycle_kind_field id.kind tt) refl
+read-spelling (Allocate a) fits writable =
+    let wide = number_field w64 (2 ^ 64) wide64 in
+    let drawn = drawn_bytes a.drawn in
+    let sealed = flag_bytes a.sealed ++ drawn in
+    let poured = to_be_bytes w64 a.poured ++ sealed in
+    let upto = to_be_bytes w64 a.upto ++ poured in
+    let opened = to_be_bytes w64 a.opened ++ upto in
+    rw (
+      issue_field.again a.issue opened fits.issue,
+      wide.again a.opened upto fits.opened,
+      wide.again a.upto poured fits.upto,
+      shares_field.again a.poured sealed fits.poured,
+      flag_field.again a.sealed drawn tt,
+      again_last drawn_field a.drawn fits.drawn,
+      le-leb a.opened a.upto writable.0,
+      by_start-complete a.drawn writable.1,
+    ) refl
 read-spelling (Confirm r) fits u =
     rw (move_no_field.again r.number (to_be_bytes w64 r.moved) fits.0, again_last shares_field r.moved fits.1) refl
 
 -- what read answers
-pub is_spelled : (bytes : List ℕ) (r : Result ClearRecord BadRecord) → IsBytes bytes → r ≡ read_clear_of bytes → IfOk r (λ v. (spelling v ≡ bytes) × IsWritable v)
-is_spelled bytes (Ok v) fits e = let t = read_takes bytes v fits (sym e) in (t.0, t.2)
+pub is_spelled : (bytes : List ℕ) (r : Result ClearRecord RecordFault) → IsBytes bytes → ReadsAs bytes r → IfOk r (λ v. (spelling v ≡ bytes) × IsWritable v)
+is_spelled bytes (Ok v) fits e = let t = read_takes bytes v fits e in (t.0, t.2)
 is_spelled bytes (Err f) fits e = tt
 
 -- how long a payload can be
@@ -173,6 +228,7 @@ spelling_short (Exempt m i s) fits = lit≤ tt
 spelling_short (Priority m i false) fits = lit≤ tt
 spelling_short (Priority m i true) fits = lit≤ tt
 spelling_short (Cycle id) fits = cycle_short id
+spelling_short (Allocate a) fits = allocate_short a fits.drawn.few
 spelling_short (Confirm r) fits = lit≤ tt
 
 -- No two records are spelled alike.

@@ -1,4 +1,5 @@
 pub mod FieldLemmas
 pub mod FieldLaws
+pub mod DrawnLaws
 pub mod ClearLaws
 pub mod DepLaws

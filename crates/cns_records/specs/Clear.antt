@@ -1,5 +1,5 @@
 -- The records of the clearing node and the payload of each (this project's own format).
-use Rattle.std.specs.Prelude.{◌≢◌, ℕ, ◌==◌, not, List, [], ◌∷◌, ◌++◌, Result, if◌then◌else◌}
+use Rattle.std.specs.Prelude.{◌≡◌, ◌≢◌, ℕ, ◌^◌, ◌<◌, ◌≤◌, nat_le, ◌==◌, not, ◌&&◌, List, [], ◌∷◌, ◌++◌, take, Result, Ok, Err, if◌then◌else◌}
 use Rattle.std.specs.Int.{w16, w64, to_be_bytes}
 use Rattle.cns_ids.specs.Cusip.{IsCusip, cusip_text}
 use Rattle.cns_ids.specs.Day.{IsDayNumber}
@@ -8,10 +8,14 @@ use Rattle.cns_ids.specs.Shares.{IsShares, IsQuantity}
 use Rattle.cns_movements.specs.Number.{IsMoveNo}
 use Rattle.cns_trades.specs.TradeId.{IsId}
 use Rattle.cns_trades.specs.declared.trade.Trade.{Trade}
-use Rattle.cns_records.specs.Fields.{bad, ◌>>=◌, tested, whole, id_bytes, id_at, day_bytes, day_at, member_at, issue_at, quantity_at, shares_at, flag_bytes, flag_at, cycle_kind_bytes, cycle_kind_at, move_no_at}
+use Rattle.cns_records.specs.Fields.{bad, ◌>>=◌, number_at, tested, whole, id_bytes, id_at, day_bytes, day_at, member_at, issue_at, quantity_at, shares_at, flag_bytes, flag_at, cycle_kind_bytes, cycle_kind_at, move_no_at}
+use Rattle.cns_records.specs.Drawn.{AreDrawn, IsByStart, by_start, drawn_bytes, drawn_at}
+use Rattle.cns_records.specs.declared.allocation.Allocation.{Allocation}
 use Rattle.cns_records.specs.declared.bad_record.BadRecord.{BadRecord}
 use Rattle.cns_records.specs.declared.clear_record.ClearRecord.{ClearRecord}
-use Rattle.cns_records.specs.declared.clear_record.ClearRecord.TheVariants.{Accept, Exempt, Priority, Cycle, Confirm}
+use Rattle.cns_records.specs.declared.clear_record.ClearRecord.TheVariants.{Accept, Exempt, Priority, Cycle, Allocate, Confirm}
+use Rattle.cns_records.specs.declared.fault.RecordFault.{RecordFault}
+use Rattle.cns_records.specs.declared.fault.RecordFault.TheVariants as fault
 
 -- the one payload of a record: the version 1, the kind, and the fields
 unfoldable pub spelling : ClearRecord → List ℕ
@@ -20,6 +24,8 @@ spelling (Accept t) =
 spelling (Exempt member issue shares) = 1 ∷ 2 ∷ (to_be_bytes w16 member ++ (cusip_text issue ++ to_be_bytes w64 shares))
 spelling (Priority member issue on) = 1 ∷ 3 ∷ (to_be_bytes w16 member ++ (cusip_text issue ++ flag_bytes on))
 spelling (Cycle id) = 1 ∷ 4 ∷ (day_bytes id.day ++ cycle_kind_bytes id.kind)
+spelling (Allocate a) =
+    1 ∷ 5 ∷ (cusip_text a.issue ++ (to_be_bytes w64 a.opened ++ (to_be_bytes w64 a.upto ++ (to_be_bytes w64 a.poured ++ (flag_bytes a.sealed ++ drawn_bytes a.drawn)))))
 spelling (Confirm r) = 1 ∷ 6 ∷ (to_be_bytes w64 r.number ++ to_be_bytes w64 r.moved)
 
 -- what the types of a trade's fields promise
@@ -31,20 +37,31 @@ pub record IsTradeInRange (t : Trade) : Type 0 where
   pub issue : IsCusip t.issue
   pub quantity : IsQuantity t.quantity
 
+-- what the types of an allocation's fields promise
+pub record IsAllocationInRange (a : Allocation) : Type 0 where
+  pub issue : IsCusip a.issue
+  pub opened : a.opened < 2 ^ 64
+  pub upto : a.upto < 2 ^ 64
+  pub poured : IsShares a.poured
+  pub drawn : AreDrawn a.drawn
+
 -- what the types of a record's fields promise
 abbrev pub HasRanges : ClearRecord → Type 0
 HasRanges (Accept t) = IsTradeInRange t
 HasRanges (Exempt member issue shares) = IsMember member × IsCusip issue × IsShares shares
 HasRanges (Priority member issue on) = IsMember member × IsCusip issue
 HasRanges (Cycle id) = IsDayNumber id.day
+HasRanges (Allocate a) = IsAllocationInRange a
 HasRanges (Confirm r) = IsMoveNo r.number × IsShares r.moved
 
--- the records that are read again: of a trade, buyer and seller differ
+-- the records that are read again: of a trade, buyer and seller differ; an allocation's lot was opened not after its
+-- last pour, and its tickets stand by start
 abbrev pub IsWritable : ClearRecord → Type 0
 IsWritable (Accept t) = t.buyer ≢ t.seller
 IsWritable (Exempt member issue shares) = Unit {0}
 IsWritable (Priority member issue on) = Unit {0}
 IsWritable (Cycle id) = Unit {0}
+IsWritable (Allocate a) = (a.opened ≤ a.upto) × IsByStart a.drawn
 IsWritable (Confirm r) = Unit {0}
 
 -- the same of each record of a list
@@ -87,6 +104,21 @@ cycle_of bytes = do
   kind ← cycle_kind_at day.1
   whole kind.1 (Cycle (record { day = day.0; kind = kind.0 }))
 
+-- a lot is opened not after its last pour, and its tickets stand by start
+abbrev pub allocated : Allocation → Result ClearRecord BadRecord
+allocated a = tested (nat_le a.opened a.upto && by_start a.drawn) (Allocate a)
+
+unfoldable pub allocate_of : List ℕ → Result ClearRecord BadRecord
+allocate_of bytes = do
+  issue ← issue_at bytes
+  opened ← number_at w64 issue.1
+  upto ← number_at w64 opened.1
+  poured ← shares_at upto.1
+  sealed ← flag_at poured.1
+  drawn ← drawn_at sealed.1
+  allocation ← whole drawn.1 (record { issue = issue.0; opened = opened.0; upto = upto.0; poured = poured.0; sealed = sealed.0; drawn = drawn.0 })
+  allocated allocation
+
 unfoldable pub confirm_of : List ℕ → Result ClearRecord BadRecord
 confirm_of bytes = do
   number ← move_no_at bytes
@@ -100,6 +132,7 @@ of_kind kind fields =
     else if kind == 2 then exempt_of fields
     else if kind == 3 then priority_of fields
     else if kind == 4 then cycle_of fields
+    else if kind == 5 then allocate_of fields
     else if kind == 6 then confirm_of fields
     else bad
 
@@ -107,3 +140,15 @@ of_kind kind fields =
 unfoldable pub read_clear_of : List ℕ → Result ClearRecord BadRecord
 read_clear_of (version ∷ kind ∷ fields) = if version == 1 then of_kind kind fields else bad
 read_clear_of _ = bad
+
+-- what a reader that takes memory returned is what reading gives; where memory was short nothing is claimed
+abbrev pub AnswersIfRoom : Result ClearRecord RecordFault → Result ClearRecord BadRecord → Type 0
+AnswersIfRoom (Ok entry) read = read ≡ Ok entry
+AnswersIfRoom (Err fault.BadRecord) read = read ≡ bad
+AnswersIfRoom (Err fault.OutOfMemory) read = Unit {0}
+
+-- what reading a payload answers: its record, or that it is none; memory may be short for an allocation only
+abbrev pub ReadsAs : List ℕ → Result ClearRecord RecordFault → Type 0
+ReadsAs payload (Ok entry) = read_clear_of payload ≡ Ok entry
+ReadsAs payload (Err fault.BadRecord) = read_clear_of payload ≡ bad
+ReadsAs payload (Err fault.OutOfMemory) = take 2 payload ≡ 1 ∷ 5 ∷ []

@@ -1,3 +1,4 @@
 pub mod Fields
+pub mod Drawn
 pub mod Clear
 pub mod Dep

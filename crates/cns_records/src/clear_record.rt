@@ -1,8 +1,11 @@
 ghost use Rattle.std.specs.Prelude.{◌≡◌, ◌≤◌, length, IfOk};
-ghost use Rattle.cns_records.specs.Clear.{spelling, HasRanges, IsWritable, accept_of, exempt_of, priority_of, cycle_of, confirm_of, read_clear_of};
+ghost use Rattle.cns_records.specs.Clear.{spelling, HasRanges, IsWritable, accept_of, exempt_of, priority_of, cycle_of, allocate_of, confirm_of, read_clear_of, AnswersIfRoom, ReadsAs};
 
+use crate::allocation::Allocation;
 use crate::bad_record::BadRecord;
-use crate::fields::{DAY_CYCLE, Fields, NIGHT_CYCLE, VERSION, day_bytes, joined};
+use crate::drawn::are_by_start;
+use crate::fault::RecordFault;
+use crate::fields::{DAY_CYCLE, Fields, NIGHT_CYCLE, VERSION, day_bytes, joined, tickets_bytes};
 use cns_ids::{Cusip, CycleId, CycleKind, MemberNo, Shares};
 use cns_movements::Reply;
 use cns_trades::Trade;
@@ -17,10 +20,12 @@ const PRIORITY: u8 = 3;
 
 const CYCLE: u8 = 4;
 
+const ALLOCATE: u8 = 5;
+
 const CONFIRM: u8 = 6;
 
 /// A record of the clearing node: what one accepted call added to its book.
-#[derive(Clone, Copy, PartialEq, Eq, Debug)]
+#[derive(PartialEq, Eq, Debug, Drop)]
 pub enum ClearRecord {
     /// A trade was accepted.
     Accept(Trade),
@@ -38,6 +43,8 @@ pub enum ClearRecord {
     },
     /// A cycle was run.
     Cycle(CycleId),
+    /// A lot was closed, and its shares were allocated.
+    Allocate(Allocation),
     /// The depository confirmed an order.
     Confirm(Reply),
 }
@@ -48,10 +55,13 @@ impl ClearRecord {
     /// After version and kind stand: of `Accept` the id's length (1), the id, the settlement date
     /// (4), the buyer (2), the seller (2), the CUSIP (9) and the quantity (8); of `Exempt` the member
     /// (2), the CUSIP (9) and the shares (8); of `Priority` the member (2), the CUSIP (9) and 1 for on
-    /// or 0 (1); of `Cycle` the date (4) and 0 for night or 1 for day (1); of `Confirm` the number (8)
-    /// and the shares moved (8). (This project's own format.)
+    /// or 0 (1); of `Cycle` the date (4) and 0 for night or 1 for day (1); of `Allocate` the CUSIP (9),
+    /// `opened` (8), `upto` (8), the shares poured (8), 1 for sealed or 0 (1), how many tickets there
+    /// are (4), and of each the member (2), the start (8) and the shares asked for (8); of `Confirm`
+    /// the number (8) and the shares moved (8). (This project's own format.)
     ///
-    /// A trade whose buyer is its seller has a payload too, but `read` refuses it.
+    /// A trade whose buyer is its seller has a payload too, and so has an allocation whose lot was
+    /// opened after its last pour or whose tickets do not stand by start, but `read` refuses them.
     pub fn write(&self, alloc: Global) -> Result<Vec<u8>, AllocError>
         ensures spelled { IfOk result (λ v. v.items ≡ spelling self.now) }
         ensures size { IfOk result (λ v. length v.items ≤ 1048576) }
@@ -65,16 +75,18 @@ impl ClearRecord {
 
     /// Reads a payload.
     ///
-    /// Refuses all that is not the payload of a record whose fields are in their ranges and whose
-    /// buyer and seller differ.
-    pub fn read(payload: &[u8]) -> Result<ClearRecord, BadRecord>
-        ensures exact { result ≡ read_clear_of payload.now }
+    /// Refuses all that is not the payload of a record whose fields are in their ranges, whose buyer
+    /// and seller differ, whose lot was opened not after its last pour, and whose tickets stand by
+    /// start. Takes memory for the tickets of an allocation only, and only where all their bytes are
+    /// there.
+    pub fn read(alloc: Global, payload: &[u8]) -> Result<ClearRecord, RecordFault>
+        ensures exact { ReadsAs payload.now result }
 
         // What is read is spelled by just these bytes.
         ensures spelled { IfOk result (λ entry. (spelling entry ≡ payload.now) × IsWritable entry) }
         ensures ranges { IfOk result HasRanges }
     {
-        record_of(payload)
+        record_of(alloc, payload)
     }
 }
 
@@ -152,6 +164,34 @@ fn write_cycle(alloc: Global, id: &CycleId) -> Result<Vec<u8>, AllocError>
 }
 
 #[tactic(auto, unfolding(crate::specs::Clear::spelling))]
+fn write_allocate(alloc: Global, allocation: &Allocation) -> Result<Vec<u8>, AllocError>
+    ensures spelled { IfOk result (λ v. v.items ≡ spelling (ClearRecord.Allocate allocation.now)) }
+    ensures ranges { HasRanges (ClearRecord.Allocate allocation.now) }
+{
+    let issue = allocation.issue.to_bytes();
+    let opened = allocation.opened.to_be_bytes();
+    let upto = allocation.upto.to_be_bytes();
+    let poured = allocation.poured.count().to_be_bytes();
+    let sealed = u8::from(allocation.sealed);
+    let tickets = allocation.drawn.as_slice();
+    let count = (tickets.len() as u32).to_be_bytes();
+    let drawn = tickets_bytes(alloc, tickets)?;
+    joined(
+        alloc,
+        &[
+            &[VERSION, ALLOCATE],
+            &issue,
+            &opened,
+            &upto,
+            &poured,
+            &[sealed],
+            &count,
+            &drawn,
+        ],
+    )
+}
+
+#[tactic(auto, unfolding(crate::specs::Clear::spelling))]
 fn write_confirm(alloc: Global, reply: &Reply) -> Result<Vec<u8>, AllocError>
     ensures spelled { IfOk result (λ v. v.items ≡ spelling (ClearRecord.Confirm reply.now)) }
     ensures ranges { HasRanges (ClearRecord.Confirm reply.now) }
@@ -226,6 +266,29 @@ fn read_cycle(mut fields: Fields) -> Result<ClearRecord, BadRecord>
     Ok(ClearRecord::Cycle(CycleId { day, kind }))
 }
 
+#[tactic(auto, unfolding(crate::specs::Clear::allocate_of))]
+fn read_allocate(alloc: Global, mut fields: Fields) -> Result<ClearRecord, RecordFault>
+    ensures { AnswersIfRoom result (allocate_of fields.entry) }
+{
+    let issue = fields.take_issue()?;
+    let opened = fields.take_u64()?;
+    let upto = fields.take_u64()?;
+    let poured = fields.take_shares()?;
+    let sealed = fields.take_flag()?;
+    let drawn = fields.take_drawn(alloc)?;
+    if !fields.is_at_end() || opened > upto || !are_by_start(drawn.as_slice()) {
+        return Err(RecordFault::BadRecord);
+    }
+    Ok(ClearRecord::Allocate(Allocation {
+        issue,
+        opened,
+        upto,
+        poured,
+        sealed,
+        drawn,
+    }))
+}
+
 #[tactic(auto, unfolding(crate::specs::Clear::confirm_of))]
 fn read_confirm(mut fields: Fields) -> Result<ClearRecord, BadRecord>
     ensures { result ≡ confirm_of fields.entry }
@@ -239,20 +302,21 @@ fn read_confirm(mut fields: Fields) -> Result<ClearRecord, BadRecord>
 }
 
 #[tactic(auto, unfolding(crate::specs::Clear::read_clear_of))]
-fn record_of(payload: &[u8]) -> Result<ClearRecord, BadRecord>
-    ensures { result ≡ read_clear_of payload.now }
+fn record_of(alloc: Global, payload: &[u8]) -> Result<ClearRecord, RecordFault>
+    ensures { ReadsAs payload.now result }
 {
     let [VERSION, kind, fields @ ..] = payload else {
-        return Err(BadRecord);
+        return Err(RecordFault::BadRecord);
     };
     let fields = Fields::new(fields);
     match *kind {
-        ACCEPT => read_accept(fields),
-        EXEMPT => read_exempt(fields),
-        PRIORITY => read_priority(fields),
-        CYCLE => read_cycle(fields),
-        CONFIRM => read_confirm(fields),
-        _ => Err(BadRecord),
+        ACCEPT => Ok(read_accept(fields)?),
+        EXEMPT => Ok(read_exempt(fields)?),
+        PRIORITY => Ok(read_priority(fields)?),
+        CYCLE => Ok(read_cycle(fields)?),
+        ALLOCATE => read_allocate(alloc, fields),
+        CONFIRM => Ok(read_confirm(fields)?),
+        _ => Err(RecordFault::BadRecord),
     }
 }
 
@@ -269,6 +333,7 @@ fn payload_of(alloc: Global, entry: &ClearRecord) -> Result<Vec<u8>, AllocError>
         } => write_exempt(alloc, *member, *issue, *shares),
         ClearRecord::Priority { member, issue, on } => write_priority(alloc, *member, *issue, *on),
         ClearRecord::Cycle(id) => write_cycle(alloc, id),
+        ClearRecord::Allocate(allocation) => write_allocate(alloc, allocation),
         ClearRecord::Confirm(reply) => write_confirm(alloc, reply),
     }
 }

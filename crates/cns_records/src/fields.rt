@@ -1,11 +1,14 @@
 //! The fields of a payload: how each is taken from its front, and the parts that are put together.
-ghost use Rattle.std.specs.Prelude.{◌≡◌, ◌==◌, IfOk, length};
-ghost use Rattle.std.specs.Int.{w16, w64};
+ghost use Rattle.std.specs.Prelude.{◌≡◌, ◌≤◌, ◌==◌, ◌++◌, IfOk, OnOk, length};
+ghost use Rattle.std.specs.Int.{w16, w32, w64};
 ghost use Rattle.std.specs.List.{flat_map};
 ghost use Rattle.cns_ids.specs.Day.{IsDayNumber};
 ghost use Rattle.cns_records.specs.Fields.{day_bytes as day_bytes_of, Gives, byte_at, number_at, text_at, GivesText, member_at, quantity_at, shares_at, move_no_at, asked_at, id_at, day_at, issue_at, flag_at, cycle_kind_at, move_kind_at};
+ghost use Rattle.cns_records.specs.Drawn.{ticket_bytes, ticket_at, tickets_at, drawn_at, GivesIfRoom, GivesTickets};
 
 use crate::bad_record::BadRecord;
+use crate::drawn::{Drawn, DrawnList, MAX_DRAWN};
+use crate::fault::RecordFault;
 use cns_ids::{Cusip, CycleKind, Day, MemberNo, Quantity, Shares};
 use cns_movements::{Asked, MoveKind, MoveNo};
 use cns_trades::TradeId;
@@ -28,6 +31,9 @@ pub const DELIVERY_ORDER: u8 = 2;
 // The characters of a CUSIP.
 const CUSIP_LEN: usize = 9;
 
+// The bytes of a ticket.
+const TICKET_LEN: usize = 18;
+
 /// A date: the year in 2 bytes, the month and the day in 1 each.
 pub fn day_bytes(day: Day) -> [u8; 4]
     ensures bytes { result ≡ day_bytes_of day }
@@ -47,6 +53,27 @@ pub fn joined(alloc: Global, parts: &[&[u8]]) -> Result<Vec<u8>, AllocError>
         payload.extend_from_slice(part)?;
     }
     Ok(payload)
+}
+
+// Adds a ticket's bytes: its member (2), its start (8) and how many shares it has (8).
+fn add_ticket(bytes: &mut Vec<u8>, ticket: &Drawn) -> Result<(), AllocError>
+    ensures { OnOk result (bytes.new.items ≡ bytes.old.items ++ ticket_bytes ticket.now) }
+{
+    bytes.extend_from_slice(&ticket.member.number().to_be_bytes())?;
+    bytes.extend_from_slice(&ticket.start.count().to_be_bytes())?;
+    bytes.extend_from_slice(&ticket.asked.shares().to_be_bytes())?;
+    Ok(())
+}
+
+/// The bytes of tickets, one after the other.
+pub fn tickets_bytes(alloc: Global, tickets: &[Drawn]) -> Result<Vec<u8>, AllocError>
+    ensures { IfOk result (λ v. v.items ≡ flat_map ticket_bytes tickets.now) }
+{
+    let mut bytes = Vec::new(alloc);
+    for ticket in tickets {
+        add_ticket(&mut bytes, ticket)?;
+    }
+    Ok(bytes)
 }
 
 /// The bytes of a payload that are not read yet. Each call takes one field from their front.
@@ -103,7 +130,19 @@ impl<'a> Fields<'a> {
     }
 
     #[tactic(auto, unfolding(crate::specs::Fields::number_at))]
-    fn take_u64(&mut self) -> Result<u64, BadRecord>
+    fn take_u32(&mut self) -> Result<u32, BadRecord>
+        ensures { Gives result self.new (number_at w32 self.old) }
+    {
+        let Some((front, rest)) = self.bytes.split_first_chunk::<4>() else {
+            return Err(BadRecord);
+        };
+        self.bytes = rest;
+        Ok(u32::from_be_bytes(*front))
+    }
+
+    /// A number: 8 bytes.
+    #[tactic(auto, unfolding(crate::specs::Fields::number_at))]
+    pub fn take_u64(&mut self) -> Result<u64, BadRecord>
         ensures { Gives result self.new (number_at w64 self.old) }
     {
         let Some((front, rest)) = self.bytes.split_first_chunk::<8>() else {
@@ -238,5 +277,49 @@ impl<'a> Fields<'a> {
             DELIVERY_ORDER => Ok(MoveKind::Delivery),
             _ => Err(BadRecord),
         }
+    }
+
+    // A ticket: its member (2), its start (8) and how many shares it has (8).
+    #[tactic(auto, unfolding(crate::specs::Drawn::ticket_at))]
+    fn take_ticket(&mut self) -> Result<Drawn, BadRecord>
+        ensures { Gives result self.new (ticket_at self.old) }
+    {
+        let member = self.take_member()?;
+        let start = self.take_shares()?;
+        let asked = self.take_asked()?;
+        Ok(Drawn {
+            member,
+            start,
+            asked,
+        })
+    }
+
+    // So many tickets. Takes memory only where all their bytes are there.
+    fn take_tickets(&mut self, alloc: Global, count: usize) -> Result<Vec<Drawn>, RecordFault>
+        requires { count ≤ 9999 }
+        ensures { GivesTickets result self.new (tickets_at count self.old) }
+    {
+        if self.bytes.len() < count * TICKET_LEN {
+            return Err(RecordFault::BadRecord);
+        }
+        let mut tickets = Vec::with_capacity(alloc, count)?;
+        for _ in 0..count {
+            let ticket = self.take_ticket()?;
+            tickets.push_reserved(ticket);
+        }
+        Ok(tickets)
+    }
+
+    /// Tickets: how many they are in 4 bytes, at most 9,999, and each in 18.
+    #[tactic(auto, unfolding(crate::specs::Drawn::drawn_at))]
+    pub fn take_drawn(&mut self, alloc: Global) -> Result<DrawnList, RecordFault>
+        ensures { GivesIfRoom result self.new (drawn_at self.old) }
+    {
+        let count = self.take_u32()? as usize;
+        if count > MAX_DRAWN {
+            return Err(RecordFault::BadRecord);
+        }
+        let tickets = self.take_tickets(alloc, count)?;
+        DrawnList::from_vec(tickets).ok_or(RecordFault::BadRecord)
     }
 }

@@ -8,6 +8,7 @@ use Rattle.cns_ids.specs.Day.{day_text}
 use Rattle.cns_ids.specs.declared.cycle.CycleId.{CycleId}
 use Rattle.cns_movements.specs.Order.{kind_text as move_kind_text}
 use Rattle.cns_movements.specs.declared.order.Order.{Order}
+use Rattle.cns_pool.specs.declared.ticket.Ticket.{Ticket}
 use Rattle.cns_trades.specs.declared.fault.RowFault.{RowFault}
 use Rattle.cns_trades.specs.declared.list.Verdict.{Verdict}
 use Rattle.cns_trades.specs.declared.list.Verdict.TheVariants as verdicts
@@ -113,3 +114,44 @@ kept_text false = codes "no"
 -- restart NODE records N kept yes, or .. no
 unfoldable pub restart_line : NodeName → ℕ → Bool → List ℕ
 restart_line node records kept = codes "restart " ++ node_text node ++ codes " records " ++ decimal records ++ codes " kept " ++ kept_text kept ++ line_end
+
+-- lot N poured Q longs N
+unfoldable pub lot_line : ℕ → ℕ → ℕ → List ℕ
+lot_line number poured longs = codes "lot " ++ decimal number ++ codes " poured " ++ decimal poured ++ codes " longs " ++ decimal longs ++ line_end
+
+-- pour Q
+unfoldable pub pour_line : ℕ → List ℕ
+pour_line shares = codes "pour " ++ decimal shares ++ line_end
+
+-- ticket MEMBER start Q asked Q
+unfoldable pub ticket_line : Ticket → List ℕ
+ticket_line t = codes "ticket " ++ member_text t.member ++ codes " start " ++ decimal t.start ++ codes " asked " ++ decimal t.asked ++ line_end
+
+-- whether a lot is sealed
+abbrev pub sealed_text : Bool → List ℕ
+sealed_text true = codes "yes"
+sealed_text false = codes "no"
+
+-- the end of a look's line: sealed yes, or .. no
+unfoldable pub sealed_end : Bool → List ℕ
+sealed_end is_sealed = codes " sealed " ++ sealed_text is_sealed ++ line_end
+
+-- asked Q, and that
+unfoldable pub asked_end : ℕ → Bool → List ℕ
+asked_end asked is_sealed = codes " asked " ++ decimal asked ++ sealed_end is_sealed
+
+-- poured Q, and that
+unfoldable pub poured_end : ℕ → ℕ → Bool → List ℕ
+poured_end poured asked is_sealed = codes "poured " ++ decimal poured ++ asked_end asked is_sealed
+
+-- look poured Q asked Q sealed yes, or .. no
+unfoldable pub look_line : ℕ → ℕ → Bool → List ℕ
+look_line poured asked is_sealed = codes "look " ++ poured_end poured asked is_sealed
+
+-- seal ok
+unfoldable pub seal_line : List ℕ
+seal_line = codes "seal ok" ++ line_end
+
+-- close granted Q
+unfoldable pub close_line : ℕ → List ℕ
+close_line granted = codes "close granted " ++ decimal granted ++ line_end

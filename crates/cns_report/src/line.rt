@@ -1,10 +1,11 @@
 ghost use Rattle.std.specs.Prelude.{◌≡◌, ◌++◌, OnOk, string_bytes};
-ghost use Rattle.cns_report.specs.Lines.{trade_line, row_fault_line, bad_command_line, cycle_line, refused_line, exempt_line, priority_line, order_line, order_lines, opening_row_fault_line, row_refused_line, opening_refused_line, send_line, exec_line, again_line, confirm_done_line, confirm_again_line, trade_refused_line, fail_line, restart_line};
+ghost use Rattle.cns_report.specs.Lines.{trade_line, row_fault_line, bad_command_line, cycle_line, refused_line, exempt_line, priority_line, order_line, order_lines, opening_row_fault_line, row_refused_line, opening_refused_line, send_line, exec_line, again_line, confirm_done_line, confirm_again_line, trade_refused_line, fail_line, restart_line, lot_line, pour_line, ticket_line, sealed_end, asked_end, poured_end, look_line, seal_line, close_line};
 
 use crate::fault::{RowFaultName, VerdictName};
 use crate::refusal::{NodeName, OpeningRefusal, Refusal, Subject};
 use cns_ids::CycleId;
 use cns_movements::Order;
+use cns_pool::Ticket;
 use cns_trades::{RowFault, TradeId, Verdict};
 use std::alloc::AllocError;
 
@@ -205,4 +206,86 @@ pub fn write_restart(
     let kept = if kept { "yes" } else { "no" };
     write!(out, "restart {node} records {records}")?;
     write!(out, " kept {kept}\n")
+}
+
+/// The line of a lot that was opened: `lot N poured Q longs N`.
+#[tactic(auto, unfolding(crate::specs::Lines::lot_line))]
+pub fn write_lot(out: &mut String, number: u64, poured: u64, longs: usize) -> Result<(), AllocError>
+    ensures { OnOk result (string_bytes out.new ≡ string_bytes out.old ++ lot_line number poured longs) }
+{
+    write!(out, "lot {number} poured {poured} longs {longs}\n")
+}
+
+/// The line of shares that were poured into a lot: `pour Q`.
+#[tactic(auto, unfolding(crate::specs::Lines::pour_line))]
+pub fn write_pour(out: &mut String, shares: u64) -> Result<(), AllocError>
+    ensures { OnOk result (string_bytes out.new ≡ string_bytes out.old ++ pour_line shares) }
+{
+    write!(out, "pour {shares}\n")
+}
+
+/// The line of a ticket that was drawn: `ticket MEMBER start Q asked Q`.
+#[tactic(auto, unfolding(crate::specs::Lines::ticket_line))]
+pub fn write_ticket(out: &mut String, ticket: &Ticket) -> Result<(), AllocError>
+    ensures { OnOk result (string_bytes out.new ≡ string_bytes out.old ++ ticket_line ticket.now) }
+{
+    let member = ticket.member;
+    let start = ticket.start;
+    let asked = ticket.asked;
+    write!(out, "ticket {member} start {start} asked {asked}\n")
+}
+
+// The end of a look's line, from the seal on.
+#[tactic(auto, unfolding(crate::specs::Lines::sealed_end))]
+fn write_sealed(out: &mut String, sealed: bool) -> Result<(), AllocError>
+    ensures { OnOk result (string_bytes out.new ≡ string_bytes out.old ++ sealed_end sealed) }
+{
+    if sealed {
+        out.push_str(" sealed yes\n")
+    } else {
+        out.push_str(" sealed no\n")
+    }
+}
+
+// The same, from the shares that were asked on.
+#[tactic(auto, unfolding(crate::specs::Lines::asked_end))]
+fn write_asked(out: &mut String, asked: u64, sealed: bool) -> Result<(), AllocError>
+    ensures { OnOk result (string_bytes out.new ≡ string_bytes out.old ++ asked_end asked sealed) }
+{
+    write!(out, " asked {asked}")?;
+    write_sealed(out, sealed)
+}
+
+// The same, from the shares that were poured on.
+#[tactic(auto, unfolding(crate::specs::Lines::poured_end))]
+fn write_poured(out: &mut String, poured: u64, asked: u64, sealed: bool) -> Result<(), AllocError>
+    ensures { OnOk result (string_bytes out.new ≡ string_bytes out.old ++ poured_end poured asked sealed) }
+{
+    write!(out, "poured {poured}")?;
+    write_asked(out, asked, sealed)
+}
+
+/// The line of what a look at a lot showed: `look poured Q asked Q sealed yes`, or `.. no`.
+#[tactic(auto, unfolding(crate::specs::Lines::look_line))]
+pub fn write_look(out: &mut String, poured: u64, asked: u64, sealed: bool) -> Result<(), AllocError>
+    ensures { OnOk result (string_bytes out.new ≡ string_bytes out.old ++ look_line poured asked sealed) }
+{
+    write!(out, "look ")?;
+    write_poured(out, poured, asked, sealed)
+}
+
+/// The line of a lot that was sealed: `seal ok`.
+#[tactic(auto, unfolding(crate::specs::Lines::seal_line))]
+pub fn write_seal(out: &mut String) -> Result<(), AllocError>
+    ensures { OnOk result (string_bytes out.new ≡ string_bytes out.old ++ seal_line) }
+{
+    out.push_str("seal ok\n")
+}
+
+/// The line of a lot that was closed: `close granted Q`.
+#[tactic(auto, unfolding(crate::specs::Lines::close_line))]
+pub fn write_close(out: &mut String, granted: u64) -> Result<(), AllocError>
+    ensures { OnOk result (string_bytes out.new ≡ string_bytes out.old ++ close_line granted) }
+{
+    write!(out, "close granted {granted}\n")
 }

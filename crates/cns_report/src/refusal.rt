@@ -12,6 +12,12 @@ pub enum Subject {
     Send,
     Order,
     Reply,
+    Lot,
+    Pour,
+    Reserve,
+    Look,
+    Seal,
+    Close,
 }
 
 impl fmt::Display for Subject {
@@ -25,6 +31,12 @@ impl fmt::Display for Subject {
             Subject::Send => "send",
             Subject::Order => "order",
             Subject::Reply => "reply",
+            Subject::Lot => "lot",
+            Subject::Pour => "pour",
+            Subject::Reserve => "reserve",
+            Subject::Look => "look",
+            Subject::Seal => "seal",
+            Subject::Close => "close",
         })
     }
 }
@@ -48,6 +60,26 @@ pub enum Refusal {
     Conflict,
     /// The shares are more than the order asked for.
     TooMuch,
+    /// A lot is open, so no cycle runs.
+    LotsOpen,
+    /// A lot of the issue is open.
+    LotAlready,
+    /// So many lots were opened that no number is left.
+    LotsSpent,
+    /// No lot was ever given this number.
+    NoLot,
+    /// The lot has ended.
+    StaleLot,
+    /// The lot is being served by another command.
+    LotBusy,
+    /// The member is not in the lot's plan, or has a ticket.
+    NotLong,
+    /// A member of an earlier group has no ticket yet.
+    EarlierGroup,
+    /// The lot is sealed.
+    Sealed,
+    /// A planned member has no ticket, and the lot is not sealed.
+    Unserved,
 }
 
 impl fmt::Display for Refusal {
@@ -63,6 +95,16 @@ impl fmt::Display for Refusal {
             Refusal::NoPacket => "NoPacket",
             Refusal::Conflict => "Conflict",
             Refusal::TooMuch => "TooMuch",
+            Refusal::LotsOpen => "LotsOpen",
+            Refusal::LotAlready => "LotAlready",
+            Refusal::LotsSpent => "LotsSpent",
+            Refusal::NoLot => "NoLot",
+            Refusal::StaleLot => "StaleLot",
+            Refusal::LotBusy => "LotBusy",
+            Refusal::NotLong => "NotLong",
+            Refusal::EarlierGroup => "EarlierGroup",
+            Refusal::Sealed => "Sealed",
+            Refusal::Unserved => "Unserved",
         })
     }
 }

@@ -1,15 +1,17 @@
 use crate::{
     NodeName, OpeningRefusal, Refusal, Subject, write_again, write_bad_command,
     write_balance_report, write_confirm_again, write_confirm_done, write_cycle, write_cycle_report,
-    write_exec, write_exempt, write_fail, write_opening_refused, write_opening_row_fault,
-    write_orders, write_priority, write_refused, write_report_end, write_restart, write_row_fault,
-    write_send, write_trade, write_trade_refused,
+    write_exec, write_exempt, write_fail, write_look, write_lot, write_opening_refused,
+    write_opening_row_fault, write_orders, write_pour, write_priority, write_refused,
+    write_report_end, write_restart, write_row_fault, write_seal, write_send, write_ticket,
+    write_trade, write_trade_refused,
 };
 use cns_clearing::PoolRow;
 use cns_depository::{Account, BalanceRow};
 use cns_ids::{Cusip, CusipFault, CycleId, CycleKind, Day, MemberNo, ReadFault};
 use cns_movements::{Asked, MoveKind, MoveNo, Order};
 use cns_netting::PositionRow;
+use cns_pool::Ticket;
 use cns_trades::{RowFault, TradeId, Verdict};
 use std::test::Fail;
 
@@ -140,6 +142,47 @@ fn a_report(rt: HostRuntime) -> Result<(), Fail> {
     write_report_end(&mut out)?;
     let want =
         "REPORT cycle none\nEND\nREPORT cycle 2025-03-04 DAY\nPOS 037833100 0001                  -60\nPOS 037833100 0002  1000000000000000000\nPOOL 037833100 free 20 lent 0 out 1000000000000000000\nBAL 037833100 0000                   20\nBAL 037833100 0042  1000000000000000000\nEND\n";
+    assert_eq!(rt; out.as_str(), want);
+    Ok(())
+}
+
+#[test]
+fn lot_lines(rt: HostRuntime) -> Result<(), Fail> {
+    let ticket = Ticket {
+        member: MemberNo::read(b"3")?,
+        start: 30,
+        asked: 10,
+    };
+    let mut out = String::new(rt.alloc());
+    write_lot(&mut out, 1, 40, 2)?;
+    write_pour(&mut out, 0)?;
+    write_ticket(&mut out, &ticket)?;
+    write_look(&mut out, 40, 0, false)?;
+    write_look(&mut out, 40, 30, true)?;
+    write_seal(&mut out)?;
+    write_close(&mut out, 30)?;
+    let want =
+        "lot 1 poured 40 longs 2\npour 0\nticket 0003 start 30 asked 10\nlook poured 40 asked 0 sealed no\nlook poured 40 asked 30 sealed yes\nseal ok\nclose granted 30\n";
+    assert_eq!(rt; out.as_str(), want);
+    Ok(())
+}
+
+#[test]
+fn lot_refusals(rt: HostRuntime) -> Result<(), Fail> {
+    let mut out = String::new(rt.alloc());
+    write_refused(&mut out, Subject::Cycle, Refusal::LotsOpen)?;
+    write_refused(&mut out, Subject::Lot, Refusal::LotAlready)?;
+    write_refused(&mut out, Subject::Lot, Refusal::LotsSpent)?;
+    write_refused(&mut out, Subject::Pour, Refusal::NoLot)?;
+    write_refused(&mut out, Subject::Look, Refusal::StaleLot)?;
+    write_refused(&mut out, Subject::Reserve, Refusal::NotLong)?;
+    write_refused(&mut out, Subject::Reserve, Refusal::EarlierGroup)?;
+    write_refused(&mut out, Subject::Reserve, Refusal::Sealed)?;
+    write_refused(&mut out, Subject::Seal, Refusal::StaleLot)?;
+    write_refused(&mut out, Subject::Close, Refusal::LotBusy)?;
+    write_refused(&mut out, Subject::Close, Refusal::Unserved)?;
+    let want =
+        "cycle refused LotsOpen\nlot refused LotAlready\nlot refused LotsSpent\npour refused NoLot\nlook refused StaleLot\nreserve refused NotLong\nreserve refused EarlierGroup\nreserve refused Sealed\nseal refused StaleLot\nclose refused LotBusy\nclose refused Unserved\n";
     assert_eq!(rt; out.as_str(), want);
     Ok(())
 }

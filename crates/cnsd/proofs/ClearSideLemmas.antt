@@ -1,5 +1,5 @@
 -- What the clearing node's answer to a cycle leaves of its state, and tells.
-use Rattle.std.proofs.Common.{◌≡◌, ℕ, ◌+◌, ◌-◌, true, false, List, ◌∷◌, ◌++◌, length, drop, Result, Ok, Err, refl, sym, ap, ◌∙◌, arith, length-append}
+use Rattle.std.proofs.Common.{◌≡◌, ℕ, ◌+◌, ◌-◌, ◌≢◌, true, false, List, [], ◌∷◌, ◌++◌, length, drop, Result, Ok, Err, refl, sym, ap, ◌∙◌, arith, length-append}
 use Rattle.std.specs.Prelude.{OnOk}
 use Rattle.std.proofs.Math.Seq.{drop-append_seam}
 use Rattle.cns_ids.specs.declared.cycle.CycleId.{CycleId}
@@ -11,6 +11,7 @@ use Rattle.cns_records.specs.declared.clear_record.ClearRecord.TheVariants as en
 use Rattle.cns_clearing.specs.Answers.{CycleLeaves, covers_in}
 use Rattle.cns_clearing.specs.Books.{are_spent, books_of, is_later, latest_of, orders_of}
 use Rattle.cns_clearing.specs.Node.{ClearNode, Added, Failed}
+use Rattle.cns_clearing.specs.declared.lot.Lot.{Lot}
 use Rattle.cns_clearing.specs.declared.fault.Cycled.{Cycled}
 use Rattle.cns_clearing.specs.declared.fault.CycleFault.{CycleFault}
 use Rattle.cns_clearing.specs.declared.fault.CycleFault.TheVariants as cycle
@@ -67,10 +68,10 @@ last_orders c new id count added is =
     (is ∙ sym (length-numbered (length (orders_of c).orders + 1) (covers_in c id.day))))
 
 -- a cycle by the state
-cycled_up : (s : ClearState) (id : CycleId) → s.down ≡ false → is_later (latest_of s.records) id ≡ true → are_spent (orders_of s.records) (covers_in s.records id.day) ≡ false
+cycled_up : (s : ClearState) (id : CycleId) → s.down ≡ false → is_later (latest_of s.records) id ≡ true → s.lots ≡ [] → are_spent (orders_of s.records) (covers_in s.records id.day) ≡ false
     → clear_commits s (entry.Cycle id) (cycle_text s id (covers_in s.records id.day)) (refused_line subject.Cycle refusal.Device) ≡ cycled s id
 unfolding cycled
-cycled_up s id up later spent = rw (up, later, spent) refl
+cycled_up s id up later none spent = rw (up, later, none, spent) refl
 
 cycled_down : (s : ClearState) (id : CycleId) → s.down ≡ true → (s, refused_line subject.Cycle refusal.Down) ≡ cycled s id
 unfolding cycled
@@ -80,28 +81,39 @@ cycled_early : (s : ClearState) (id : CycleId) → s.down ≡ false → is_later
 unfolding cycled
 cycled_early s id up early = rw (up, early) refl
 
-cycled_spent : (s : ClearState) (id : CycleId) → s.down ≡ false → is_later (latest_of s.records) id ≡ true → are_spent (orders_of s.records) (covers_in s.records id.day) ≡ true
+cycled_spent : (s : ClearState) (id : CycleId) → s.down ≡ false → is_later (latest_of s.records) id ≡ true → s.lots ≡ [] → are_spent (orders_of s.records) (covers_in s.records id.day) ≡ true
     → (s, refused_line subject.Cycle refusal.NumbersSpent) ≡ cycled s id
 unfolding cycled
-cycled_spent s id up later spent = rw (up, later, spent) refl
+cycled_spent s id up later none spent = rw (up, later, none, spent) refl
+
+cycled_beside_lots : (s : ClearState) (id : CycleId) → s.down ≡ false → is_later (latest_of s.records) id ≡ true → s.lots ≢ []
+    → (s, refused_line subject.Cycle refusal.LotsOpen) ≡ cycled s id
+unfolding cycled
+cycled_beside_lots s id up later some = by s.lots refl
+  where
+    by : (lots : List Lot) → s.lots ≡ lots → (s, refused_line subject.Cycle refusal.LotsOpen) ≡ cycled s id
+    by [] e = absurd (some e)
+    by (lot ∷ lots) e = rw (up, later, e) refl
 
 -- what a cycle leaves and tells
 pub cycle_told : (id : CycleId) (answer : Result Cycled CycleFault) (old new : ClearNode) (out out' : List ℕ) → IsKnown old.honest old.tried old.foresight
     → CycleLeaves id answer old new → IsTold (cycle_answer_text id new.records answer) out out' → IsAsWanted (cycled (clear_state old) id) (clear_state new) out out'
-cycle_told id (Ok done) old new out out' known (allowed, made, added) told =
+cycle_told id (Ok done) old new out out' known (allowed, none, made, added) told =
     let lines : cycle_line id done.due ++ order_lines (drop (length (orders_of new.records).orders - done.count) (orders_of new.records).orders)
     ≡ cycle_text (clear_state old) id (covers_in old.records id.day) =
     rw (made.due, last_orders old.records new.records id done.count added.1 made.count) refl in
-    as_wanted _ _ _ out out' (commit_done old new (entry.Cycle id) _ _ added ∙ cycled_up (clear_state old) id added.0 allowed.0 allowed.1) (told ∙ ap (λ l. out ++ l) lines)
+    as_wanted _ _ _ out out' (commit_done old new (entry.Cycle id) _ _ added ∙ cycled_up (clear_state old) id added.0 allowed.0 none allowed.1) (told ∙ ap (λ l. out ++ l) lines)
 cycle_told id (Err cycle.Down) old new out out' known (down, same) told =
     as_wanted _ _ _ out out' (ap (λ (n : ClearNode). (clear_state n, refused_line subject.Cycle refusal.Down)) same ∙ cycled_down (clear_state old) id down) told
 cycle_told id (Err cycle.CycleOrder) old new out out' known (up, early, same) told =
     as_wanted _ _ _ out out' (ap (λ (n : ClearNode). (clear_state n, refused_line subject.Cycle refusal.CycleOrder)) same ∙ cycled_early (clear_state old) id up early) told
-cycle_told id (Err cycle.NumbersSpent) old new out out' known (up, later, spent, same) told =
-    as_wanted _ _ _ out out' (ap (λ (n : ClearNode). (clear_state n, refused_line subject.Cycle refusal.NumbersSpent)) same ∙ cycled_spent (clear_state old) id up later spent) told
+cycle_told id (Err cycle.LotsOpen) old new out out' known (up, later, some, same) told =
+    as_wanted _ _ _ out out' (ap (λ (n : ClearNode). (clear_state n, refused_line subject.Cycle refusal.LotsOpen)) same ∙ cycled_beside_lots (clear_state old) id up later some) told
+cycle_told id (Err cycle.NumbersSpent) old new out out' known (up, later, none, spent, same) told =
+    as_wanted _ _ _ out out' (ap (λ (n : ClearNode). (clear_state n, refused_line subject.Cycle refusal.NumbersSpent)) same ∙ cycled_spent (clear_state old) id up later none spent) told
 cycle_told id (Err cycle.OutOfMemory) old new out out' known left told = absurd told
-cycle_told id (Err cycle.Device) old new out out' known (allowed, failed) told =
-    as_wanted _ _ _ out out' (commit_failed old new (entry.Cycle id) _ _ known failed ∙ cycled_up (clear_state old) id failed.0 allowed.0 allowed.1) told
+cycle_told id (Err cycle.Device) old new out out' known (allowed, none, failed) told =
+    as_wanted _ _ _ out out' (commit_failed old new (entry.Cycle id) _ _ known failed ∙ cycled_up (clear_state old) id failed.0 allowed.0 none allowed.1) told
 
 -- what follows from what holds where an answer is Ok holds there
 pub on_ok : {A E : Type 0} (r : Result A E) (P Q : Type 0) → (P → Q) → OnOk r P → OnOk r Q

@@ -38,7 +38,7 @@ depot_opened openings run journal foresight node opened empty =
 
 pub clear_first : (keeper : KeeperState) (node : ClearNode) → clear.IsOpened keeper node → keeper.honest ≡ true
     → keeper.journal ≡ record { kept = []; undecided = None } → keeper.foresight ≡ sure
-    → clear_state node ≡ record { records = []; tried = None; down = false; foresight = sure }
+    → clear_state node ≡ record { records = []; tried = None; down = false; lots = []; foresight = sure }
 clear_first keeper node opened honest empty known =
     ap clear_state opened.value ∙ rw (clear_opened keeper node opened honest empty, known) refl
 

@@ -53,13 +53,13 @@ known_failed honest honest' tried tried' f f' known h fails =
 -- the clearing node after an acknowledged record, and after one whose commit failed
 pub clear_when_added : (r : ClearRecord) (old new : clear.ClearNode) → clear.Added r old new
     → (is_failure old.foresight.next ≡ false) × (clear_state new ≡ clear_added (clear_state old) r)
-clear_when_added r old new (up, records, tried, honest, still, failures, foresight, may) =
-    (no_failure old.foresight.next may, rw (records, tried, still, up, foresight) refl)
+clear_when_added r old new (up, records, tried, lots, honest, still, failures, foresight, may) =
+    (no_failure old.foresight.next may, rw (records, tried, lots, still, up, foresight) refl)
 
 pub clear_when_failed : (r : ClearRecord) (old new : clear.ClearNode) → old.foresight.next ≢ Unforeseen → clear.Failed r old new
     → (is_failure old.foresight.next ≡ true) × (clear_state new ≡ clear_failed (clear_state old) r)
-clear_when_failed r old new foreseen (up, records, tried, honest, down, risen, failed) =
-    (a_failure old.foresight.next new.foresight foreseen failed, rw (records, tried, down, failure_to old.foresight.next new.foresight foreseen failed) refl)
+clear_when_failed r old new foreseen (up, records, tried, lots, honest, down, risen, failed) =
+    (a_failure old.foresight.next new.foresight foreseen failed, rw (records, tried, lots, down, failure_to old.foresight.next new.foresight foreseen failed) refl)
 
 -- the depository likewise
 pub depot_when_added : (e : DepRecord) (old new : depot.DepNode) → depot.Added e old new

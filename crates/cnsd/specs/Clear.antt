@@ -18,6 +18,7 @@ use Rattle.cns_records.specs.declared.clear_record.ClearRecord.{ClearRecord}
 use Rattle.cns_records.specs.declared.clear_record.ClearRecord.TheVariants as entry
 use Rattle.cns_clearing.specs.Answers.{verdict_in, covers_in, answer_in}
 use Rattle.cns_clearing.specs.Books.{are_spent, history_of, is_later, latest_of, orders_of}
+use Rattle.cns_clearing.specs.declared.lot.Lot.{Lot}
 use Rattle.cns_clearing.specs.declared.fault.OrderFault.{OrderFault}
 use Rattle.cns_clearing.specs.declared.fault.OrderFault.TheVariants as order
 use Rattle.cns_report.specs.Lines.{trade_line, trade_refused_line, row_fault_line, cycle_line, refused_line, exempt_line, priority_line, order_lines, confirm_done_line, confirm_again_line}
@@ -71,10 +72,15 @@ cycled_with s cycle asks =
     if are_spent (orders_of s.records) asks then (s, refused_line subject.Cycle refusal.NumbersSpent)
     else clear_commits s (entry.Cycle cycle) (cycle_text s cycle asks) (refused_line subject.Cycle refusal.Device)
 
--- a cycle is recorded where it is later than the last one and there are numbers for its covers
+-- no cycle is recorded while a lot is open
+abbrev pub cycled_beside : List Lot → ClearState → CycleId → ClearState × List ℕ
+cycled_beside [] s cycle = cycled_with s cycle (covers_in s.records cycle.day)
+cycled_beside (lot ∷ lots) s cycle = (s, refused_line subject.Cycle refusal.LotsOpen)
+
+-- a cycle is recorded where it is later than the last one, no lot is open, and there are numbers for its covers
 abbrev pub cycled_up : ClearState → CycleId → ClearState × List ℕ
 cycled_up s cycle =
-    if is_later (latest_of s.records) cycle then cycled_with s cycle (covers_in s.records cycle.day)
+    if is_later (latest_of s.records) cycle then cycled_beside s.lots s cycle
     else (s, refused_line subject.Cycle refusal.CycleOrder)
 
 unfoldable pub cycled : ClearState → CycleId → ClearState × List ℕ

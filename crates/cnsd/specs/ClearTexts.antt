@@ -55,6 +55,7 @@ cycle_answer_text id c (Ok done) =
     Some (cycle_line id done.due ++ order_lines (drop (length (orders_of c).orders - done.count) (orders_of c).orders))
 cycle_answer_text id c (Err cycle.Down) = Some (refused_line subject.Cycle refusal.Down)
 cycle_answer_text id c (Err cycle.CycleOrder) = Some (refused_line subject.Cycle refusal.CycleOrder)
+cycle_answer_text id c (Err cycle.LotsOpen) = Some (refused_line subject.Cycle refusal.LotsOpen)
 cycle_answer_text id c (Err cycle.NumbersSpent) = Some (refused_line subject.Cycle refusal.NumbersSpent)
 cycle_answer_text id c (Err cycle.OutOfMemory) = None
 cycle_answer_text id c (Err cycle.Device) = Some (refused_line subject.Cycle refusal.Device)

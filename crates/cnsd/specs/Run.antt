@@ -17,7 +17,7 @@ use Rattle.cnsd.specs.declared.command.Command.TheVariants as command
 
 abbrev pub report_text : World → List ℕ
 report_text w =
-    cycle_report_text (latest_of w.clear.records) (rows_of (history_of w.clear.records)) (pools_of (orders_of w.clear.records))
+    cycle_report_text (latest_of w.clear.records) (rows_of (history_of w.clear.records)) (pools_of (orders_of w.clear.records) w.clear.lots)
     ++ balance_lines (balance_rows w.depot.openings w.depot.records) ++ report_end
 
 -- both nodes, and the rows that are not taken
@@ -40,6 +40,14 @@ ran_command n w (command.Priority member issue on) = with_clear w (prioritized w
 ran_command n w (command.Send number) = with_told w (sent w number)
 ran_command n w (command.Order packet) = with_told w (order_arrives w packet)
 ran_command n w (command.Reply packet) = reply_arrives w packet
+ran_command n w (command.Lot issue) = (w, bad_command_line n)
+ran_command n w (command.Pour lot) = (w, bad_command_line n)
+ran_command n w (command.Reserve lot member) = (w, bad_command_line n)
+ran_command n w (command.Look lot) = (w, bad_command_line n)
+ran_command n w (command.Seal lot) = (w, bad_command_line n)
+ran_command n w (command.Close lot) = (w, bad_command_line n)
+ran_command n w (command.Allocate issue) = (w, bad_command_line n)
+ran_command n w (command.Beside issue lines) = (w, bad_command_line n)
 ran_command n w (command.Fail name stands) = (failing w name stands, fail_line)
 ran_command n w (command.Restart name) = (w, [])
 ran_command n w command.Pump = pumped w

@@ -56,7 +56,7 @@ priority_with member issue on = command.Bad
 abbrev pub priority_command : List ℕ → List ℕ → List ℕ → Command
 priority_command member issue switch = priority_with (number_in 1 9999 member) (read_cusip issue) (switch_of switch)
 
--- a number of an order or of a packet, from 0 to 1,000,000,000
+-- a number of an order, of a packet or of a lot, from 0 to 1,000,000,000
 abbrev pub number_of : List ℕ → Result ℕ ReadFault
 number_of text = number_in 0 1000000000 text
 
@@ -71,6 +71,52 @@ order_with (Err fault) = command.Bad
 abbrev pub reply_with : Result ℕ ReadFault → Command
 reply_with (Ok packet) = command.Reply packet
 reply_with (Err fault) = command.Bad
+
+-- LOT and an issue
+abbrev pub lot_with : Result ℕ CusipFault → Command
+lot_with (Ok issue) = command.Lot issue
+lot_with (Err fault) = command.Bad
+
+-- POUR and a lot
+abbrev pub pour_with : Result ℕ ReadFault → Command
+pour_with (Ok lot) = command.Pour lot
+pour_with (Err fault) = command.Bad
+
+abbrev pub reserve_with : Result ℕ ReadFault → Result ℕ ReadFault → Command
+reserve_with (Ok lot) (Ok member) = command.Reserve lot member
+reserve_with lot member = command.Bad
+
+-- RESERVE, a lot and a member
+abbrev pub reserve_command : List ℕ → List ℕ → Command
+reserve_command lot member = reserve_with (number_of lot) (number_in 1 9999 member)
+
+-- LOOK and a lot
+abbrev pub look_with : Result ℕ ReadFault → Command
+look_with (Ok lot) = command.Look lot
+look_with (Err fault) = command.Bad
+
+-- SEAL and a lot
+abbrev pub seal_with : Result ℕ ReadFault → Command
+seal_with (Ok lot) = command.Seal lot
+seal_with (Err fault) = command.Bad
+
+-- CLOSE and a lot
+abbrev pub close_with : Result ℕ ReadFault → Command
+close_with (Ok lot) = command.Close lot
+close_with (Err fault) = command.Bad
+
+-- ALLOCATE and an issue
+abbrev pub allocate_with : Result ℕ CusipFault → Command
+allocate_with (Ok issue) = command.Allocate issue
+allocate_with (Err fault) = command.Bad
+
+abbrev pub beside_with : Result ℕ CusipFault → Result ℕ ReadFault → Command
+beside_with (Ok issue) (Ok lines) = command.Beside issue lines
+beside_with issue lines = command.Bad
+
+-- BESIDE, an issue, and a number of lines from 0 to 1,000
+abbrev pub beside_command : List ℕ → List ℕ → Command
+beside_command issue lines = beside_with (read_cusip issue) (number_in 0 1000 lines)
 
 abbrev pub node_of : List ℕ → Option NodeName
 node_of text =
@@ -105,6 +151,17 @@ single word =
     else if same_text word (codes "PUMP") then command.Pump
     else command.Bad
 
+-- those of lots that have two words
+abbrev pub lot_pair : List ℕ → List ℕ → Command
+lot_pair word first =
+    if same_text word (codes "LOT") then lot_with (read_cusip first)
+    else if same_text word (codes "POUR") then pour_with (number_of first)
+    else if same_text word (codes "LOOK") then look_with (number_of first)
+    else if same_text word (codes "SEAL") then seal_with (number_of first)
+    else if same_text word (codes "CLOSE") then close_with (number_of first)
+    else if same_text word (codes "ALLOCATE") then allocate_with (read_cusip first)
+    else command.Bad
+
 abbrev pub pair : List ℕ → List ℕ → Command
 pair word first =
     if same_text word (codes "TAKE") then take_command first
@@ -112,12 +169,14 @@ pair word first =
     else if same_text word (codes "ORDER") then order_with (number_of first)
     else if same_text word (codes "REPLY") then reply_with (number_of first)
     else if same_text word (codes "RESTART") then restart_with (node_of first)
-    else command.Bad
+    else lot_pair word first
 
 abbrev pub triple : List ℕ → List ℕ → List ℕ → Command
 triple word first second =
     if same_text word (codes "CYCLE") then cycle_command first second
     else if same_text word (codes "FAIL") then fail_command first second
+    else if same_text word (codes "RESERVE") then reserve_command first second
+    else if same_text word (codes "BESIDE") then beside_command first second
     else command.Bad
 
 abbrev pub quadruple : List ℕ → List ℕ → List ℕ → List ℕ → Command

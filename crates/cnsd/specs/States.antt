@@ -1,22 +1,25 @@
 -- What the text of a script reads of the two nodes, and what a commit, a planned failure and a restart leave of it.
-use Rattle.std.specs.Prelude.{◌≡◌, ◌≢◌, Bool, true, false, List, ◌∷◌, Option, Some, None}
+use Rattle.std.specs.Prelude.{◌≡◌, ◌≢◌, Bool, true, false, List, [], ◌∷◌, Option, Some, None}
 use Rattle.cns_journal.specs.Keeper.{Foresight, Forecast, Unforeseen, Succeeds, Fails}
 use Rattle.cns_records.specs.declared.clear_record.ClearRecord.{ClearRecord}
 use Rattle.cns_records.specs.declared.dep_record.DepRecord.{DepRecord}
 use Rattle.cns_trades.specs.declared.opening.Opening.{Opening}
+use Rattle.cns_clearing.specs.Lots.{lots_after}
 use Rattle.cns_clearing.specs.Node.{ClearNode}
+use Rattle.cns_clearing.specs.declared.lot.Lot.{Lot}
 use Rattle.cns_depository.specs.Node.{DepNode}
 
--- the clearing node: its records, the newest first, the record whose commit failed, whether the node is down, and what is known
--- beforehand of its keeper
+-- the clearing node: its records, the newest first, the record whose commit failed, whether the node is down, its open lots, and
+-- what is known beforehand of its keeper
 pub record ClearState : Type 0 where
   pub records : List ClearRecord
   pub tried : Option ClearRecord
   pub down : Bool
+  pub lots : List Lot
   pub foresight : Foresight
 
 abbrev pub clear_state : ClearNode → ClearState
-clear_state n = record { records = n.records; tried = n.tried; down = n.down; foresight = n.foresight }
+clear_state n = record { records = n.records; tried = n.tried; down = n.down; lots = n.lots; foresight = n.foresight }
 
 -- the depository: its openings, and the same
 pub record DepotState : Type 0 where
@@ -49,7 +52,7 @@ after_failure (Fails stands) = record { next = Succeeds; stands = Some stands }
 
 -- a record is committed: it is added, or it is undecided and the node is down
 abbrev pub clear_added : ClearState → ClearRecord → ClearState
-clear_added s r = record s { records = r ∷ s.records }
+clear_added s r = record s { records = r ∷ s.records; lots = lots_after r s.lots }
 
 abbrev pub clear_failed : ClearState → ClearRecord → ClearState
 clear_failed s r = record s { tried = Some r; down = true; foresight = after_failure s.foresight.next }
@@ -73,8 +76,13 @@ is_returned (Some r) None = false
 is_returned (Some r) (Some stands) = stands
 
 abbrev pub clear_restarted : ClearState → ClearState
-clear_restarted s =
-    record { records = returned s.tried s.foresight.stands s.records; tried = None; down = false; foresight = record s.foresight { stands = None } }
+clear_restarted s = record {
+  records = returned s.tried s.foresight.stands s.records;
+  tried = None;
+  down = false;
+  lots = [];
+  foresight = record s.foresight { stands = None };
+}
 
 abbrev pub depot_restarted : DepotState → DepotState
 depot_restarted s =

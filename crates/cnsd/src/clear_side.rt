@@ -29,8 +29,8 @@ use std::marker::Model;
 
 /// The clearing node over a keeper in memory, of which all is known beforehand.
 ///
-/// Contracts see its records, the one whose commit failed, whether it is down, and what is known
-/// beforehand.
+/// Contracts see its records, the one whose commit failed, whether it is down, its open lots, and what
+/// is known beforehand.
 #[derive(Drop)]
 pub(crate) struct ClearSide {
     node: Clearing<ListKeeper>,
@@ -50,7 +50,7 @@ impl Model for ClearSide {
 impl ClearSide {
     /// A node without records.
     pub(crate) fn new(alloc: Global) -> Result<ClearSide, AllocError>
-        ensures { IfOk result (λ side. side ≡ record { records = []; tried = None; down = false; foresight = sure }) }
+        ensures { IfOk result (λ side. side ≡ record { records = []; tried = None; down = false; lots = []; foresight = sure }) }
     {
         let Ok(node) = Clearing::open(alloc, ListKeeper::new(alloc)) else {
             return Err(AllocError);
@@ -176,7 +176,7 @@ impl ClearSide {
     /// Tells the latest cycle, the positions and the pools.
     pub(crate) fn report(&self, out: &mut String) -> Result<(), AllocError>
         ensures { OnOk result (string_bytes out.new ≡ string_bytes out.old
-            ++ cycle_report_text (latest_of self.now.records) (rows_of (history_of self.now.records)) (pools_of (orders_of self.now.records))) }
+            ++ cycle_report_text (latest_of self.now.records) (rows_of (history_of self.now.records)) (pools_of (orders_of self.now.records) self.now.lots)) }
     {
         let positions = self.node.book().rows()?;
         let pools = self.node.pools(self.alloc)?;
@@ -259,6 +259,7 @@ fn tell_cycle(
         }
         Err(CycleFault::Down) => write_refused(out, Subject::Cycle, Refusal::Down),
         Err(CycleFault::CycleOrder) => write_refused(out, Subject::Cycle, Refusal::CycleOrder),
+        Err(CycleFault::LotsOpen) => write_refused(out, Subject::Cycle, Refusal::LotsOpen),
         Err(CycleFault::NumbersSpent) => write_refused(out, Subject::Cycle, Refusal::NumbersSpent),
         Err(CycleFault::Device) => write_refused(out, Subject::Cycle, Refusal::Device),
         Err(CycleFault::OutOfMemory) => Err(AllocError),

@@ -1,7 +1,8 @@
 ghost use Rattle.std.specs.Prelude.{◌≡◌, ◌==◌, ◌<◌, option_map, length, IfSome};
 ghost use Rattle.std.specs.List.{position_from};
+ghost use Rattle.cns_ids.specs.Cusip.{read_cusip};
 ghost use Rattle.cnsd.specs.Words.{split_at_space};
-ghost use Rattle.cnsd.specs.Script.{command_of as command_of_line, cycle_command as cycle_command_of, single as single_of, pair as pair_of, triple as triple_of, quadruple as quadruple_of, take_command as take_command_of, exempt_command as exempt_command_of, priority_command as priority_command_of, switch_of, number_of, send_with, order_with, reply_with, node_of, stands_of, fail_command as fail_command_of, restart_with};
+ghost use Rattle.cnsd.specs.Script.{command_of as command_of_line, cycle_command as cycle_command_of, single as single_of, pair as pair_of, triple as triple_of, quadruple as quadruple_of, take_command as take_command_of, exempt_command as exempt_command_of, priority_command as priority_command_of, switch_of, number_of, send_with, order_with, reply_with, lot_with, pour_with, reserve_command as reserve_command_of, look_with, seal_with, close_with, allocate_with, beside_command as beside_command_of, lot_pair as lot_pair_of, node_of, stands_of, fail_command as fail_command_of, restart_with};
 
 use cns_ids::{Cusip, CycleId, CycleKind, Day, MemberNo, ReadFault, Shares, read_number};
 use cns_report::NodeName;
@@ -35,6 +36,28 @@ pub enum Command {
     Order(u64),
     /// `REPLY k`: this packet of the link of replies arrives at the clearing corporation.
     Reply(u64),
+    /// `LOT cusip`: a lot of the issue is opened.
+    Lot(Cusip),
+    /// `POUR lot`: the free shares of its issue are poured into the lot.
+    Pour(u64),
+    /// `RESERVE lot member`: a ticket of the lot for the member.
+    Reserve {
+        lot: u64,
+        member: MemberNo,
+    },
+    /// `LOOK lot`: what stands of the lot is told.
+    Look(u64),
+    /// `SEAL lot`: the lot gives no more tickets.
+    Seal(u64),
+    /// `CLOSE lot`: the shares of the lot are allocated to its tickets.
+    Close(u64),
+    /// `ALLOCATE cusip`: a lot of the issue is opened, served and closed.
+    Allocate(Cusip),
+    /// `BESIDE cusip k`: the same, with this many of the next lines run once the lot is open.
+    Beside {
+        issue: Cusip,
+        lines: u64,
+    },
     /// `FAIL node KEEP` or `DROP`: the next commit of the node fails, and its record then stands at
     /// the restart or does not.
     Fail {
@@ -153,7 +176,7 @@ fn priority_command(member: &[u8], issue: &[u8], switch: &[u8]) -> Command
     }
 }
 
-// The number of an order or of a packet.
+// The number of an order, of a packet or of a lot.
 fn read_place(text: &[u8]) -> Result<u64, ReadFault>
     ensures { result ≡ number_of text.now }
 {
@@ -187,6 +210,86 @@ fn reply_command(packet: &[u8]) -> Command
     match read_place(packet) {
         Ok(packet) => Command::Reply(packet),
         Err(_) => Command::Bad,
+    }
+}
+
+// The command `LOT cusip`.
+fn lot_command(issue: &[u8]) -> Command
+    ensures { result ≡ lot_with (read_cusip issue.now) }
+{
+    match Cusip::read(issue) {
+        Ok(issue) => Command::Lot(issue),
+        Err(_) => Command::Bad,
+    }
+}
+
+// The command `POUR lot`.
+fn pour_command(lot: &[u8]) -> Command
+    ensures { result ≡ pour_with (number_of lot.now) }
+{
+    match read_place(lot) {
+        Ok(lot) => Command::Pour(lot),
+        Err(_) => Command::Bad,
+    }
+}
+
+// The command `RESERVE lot member`.
+fn reserve_command(lot: &[u8], member: &[u8]) -> Command
+    ensures { result ≡ reserve_command_of lot.now member.now }
+{
+    match (read_place(lot), MemberNo::read(member)) {
+        (Ok(lot), Ok(member)) => Command::Reserve { lot, member },
+        _ => Command::Bad,
+    }
+}
+
+// The command `LOOK lot`.
+fn look_command(lot: &[u8]) -> Command
+    ensures { result ≡ look_with (number_of lot.now) }
+{
+    match read_place(lot) {
+        Ok(lot) => Command::Look(lot),
+        Err(_) => Command::Bad,
+    }
+}
+
+// The command `SEAL lot`.
+fn seal_command(lot: &[u8]) -> Command
+    ensures { result ≡ seal_with (number_of lot.now) }
+{
+    match read_place(lot) {
+        Ok(lot) => Command::Seal(lot),
+        Err(_) => Command::Bad,
+    }
+}
+
+// The command `CLOSE lot`.
+fn close_command(lot: &[u8]) -> Command
+    ensures { result ≡ close_with (number_of lot.now) }
+{
+    match read_place(lot) {
+        Ok(lot) => Command::Close(lot),
+        Err(_) => Command::Bad,
+    }
+}
+
+// The command `ALLOCATE cusip`.
+fn allocate_command(issue: &[u8]) -> Command
+    ensures { result ≡ allocate_with (read_cusip issue.now) }
+{
+    match Cusip::read(issue) {
+        Ok(issue) => Command::Allocate(issue),
+        Err(_) => Command::Bad,
+    }
+}
+
+// The command `BESIDE cusip lines`.
+fn beside_command(issue: &[u8], lines: &[u8]) -> Command
+    ensures { result ≡ beside_command_of issue.now lines.now }
+{
+    match (Cusip::read(issue), read_number(lines, 0, 1000)) {
+        (Ok(issue), Ok(lines)) => Command::Beside { issue, lines },
+        _ => Command::Bad,
     }
 }
 
@@ -249,6 +352,27 @@ fn single(word: &[u8]) -> Command
     }
 }
 
+// The command of lots of two words.
+fn lot_pair(word: &[u8], first: &[u8]) -> Command
+    ensures { result ≡ lot_pair_of word.now first.now }
+{
+    if word == b"LOT".as_slice() {
+        lot_command(first)
+    } else if word == b"POUR".as_slice() {
+        pour_command(first)
+    } else if word == b"LOOK".as_slice() {
+        look_command(first)
+    } else if word == b"SEAL".as_slice() {
+        seal_command(first)
+    } else if word == b"CLOSE".as_slice() {
+        close_command(first)
+    } else if word == b"ALLOCATE".as_slice() {
+        allocate_command(first)
+    } else {
+        Command::Bad
+    }
+}
+
 // The command of two words.
 fn pair(word: &[u8], first: &[u8]) -> Command
     ensures { result ≡ pair_of word.now first.now }
@@ -264,7 +388,7 @@ fn pair(word: &[u8], first: &[u8]) -> Command
     } else if word == b"RESTART".as_slice() {
         restart_command(first)
     } else {
-        Command::Bad
+        lot_pair(word, first)
     }
 }
 
@@ -276,6 +400,10 @@ fn triple(word: &[u8], first: &[u8], second: &[u8]) -> Command
         cycle_command(first, second)
     } else if word == b"FAIL".as_slice() {
         fail_command(first, second)
+    } else if word == b"RESERVE".as_slice() {
+        reserve_command(first, second)
+    } else if word == b"BESIDE".as_slice() {
+        beside_command(first, second)
     } else {
         Command::Bad
     }

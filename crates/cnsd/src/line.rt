@@ -77,7 +77,15 @@ fn run_command(
             write_fail(out)
         }
         Command::Report => nodes.report(out),
-        Command::Bad => write_bad_command(out, number),
+        Command::Lot(_)
+        | Command::Pour(_)
+        | Command::Reserve { .. }
+        | Command::Look(_)
+        | Command::Seal(_)
+        | Command::Close(_)
+        | Command::Allocate(_)
+        | Command::Beside { .. }
+        | Command::Bad => write_bad_command(out, number),
         Command::TakeAll | Command::Take(_) | Command::Restart(_) => unreachable!(),
     }
 }

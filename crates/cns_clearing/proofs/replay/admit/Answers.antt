@@ -1,18 +1,19 @@
-use Rattle.std.proofs.Common.{◌∙◌, ◌++◌, ◌∷◌, [], ap, sym, arith}
+use Rattle.std.proofs.Common.{◌∙◌, ◌++◌, ◌∷◌, [], Err, ap, subst, arith}
+use Rattle.cns_records.specs.Clear.{ReadsAs}
 use Rattle.cns_clearing.proofs.ReplayLemmas.{books_more, forbidden_bad, replayed_sound, unread_bad}
 use Rattle.cns_clearing.proofs.replay.admit.Goals as goal
 
-pub returns-in_default-clause-list : goal.returns-in_default-clause-list
-returns-in_default-clause-list c =
-    (omega (arith, c.len.ensures), unread_bad c.args.replayed.now.records.items c.args.payload.now _ (sym c.in_default.ensures.exact))
+pub returns-in-Err-BadRecord-clause-list : goal.returns-in-Err-BadRecord-clause-list
+returns-in-Err-BadRecord-clause-list c =
+    (omega (arith, c.len.ensures), unread_bad c.args.replayed.now.records.items c.args.payload.now _ (subst (λ f. ReadsAs c.args.payload.now (Err f)) c.in-Err-BadRecord.field-0-is c.in-Err-BadRecord.ensures.exact))
 
 pub admitted-requires : goal.admitted-requires
 admitted-requires c = replayed_sound _ _ c.requires
 
-pub returns-in_default-admitted-2-clause-list : goal.returns-in_default-admitted-2-clause-list
-returns-in_default-admitted-2-clause-list c =
-    let forbidden = rw (c.in_default-admitted-2.is, c.requires.books_are) at c.in-Ok-admitted.ensures in
-    (omega (arith, c.len.ensures), forbidden_bad c.args.replayed.now.records.items c.args.payload.now c.in-Ok.entry (sym c.in-Ok.ensures.exact) forbidden)
+pub returns-in_default-admitted-clause-list : goal.returns-in_default-admitted-clause-list
+returns-in_default-admitted-clause-list c =
+    let forbidden = rw (c.in_default-admitted.is, c.requires.books_are) at c.in-Ok-admitted.ensures in
+    (omega (arith, c.len.ensures), forbidden_bad c.args.replayed.now.records.items c.args.payload.now c.in-Ok.entry c.in-Ok.ensures.exact forbidden)
 
 pub add-requires-clause-sound : goal.add-requires-clause-sound
 add-requires-clause-sound c = rw c.room.ensures.same (replayed_sound _ _ c.requires)

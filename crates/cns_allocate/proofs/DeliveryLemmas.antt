@@ -1,0 +1,96 @@
+-- What the deliveries of tickets are of, one by one and together.
+use Rattle.std.proofs.Common.{◌≡◌, ◌≤◌, ◌+◌, ℕ, min, List, [], ◌∷◌, length, Bool, true, false, None, Some, refl, arith, ◌∙◌}
+use Rattle.std.specs.Prelude.{◌==◌, All, IfSome, count_by, sum_by, if◌then◌else◌}
+use Rattle.std.specs.List.{cons_option}
+use Rattle.std.proofs.lemmas.Bool.{eqb-true}
+use Rattle.std.proofs.lemmas.List.Sums.{sum_by-cons}
+use Rattle.cns_pool.specs.declared.ticket.Ticket.{Ticket}
+use Rattle.cns_pool.specs.Tiles.{AreChained, Tiles}
+use Rattle.cns_pool.specs.Pool.{asked_sum, intervals_of}
+use Rattle.cns_pool.proofs.TileLemmas.{AreChained-Tiles}
+use Rattle.cns_movements.specs.declared.order.Ask.{Ask}
+use Rattle.cns_movements.specs.declared.order.MoveKind.TheVariants.{Delivery}
+use Rattle.cns_allocate.specs.Deliveries.{deliveries_of, delivery_ask}
+use Rattle.cns_allocate.specs.Grants.{grant_of}
+use Rattle.cns_allocate.proofs.GrantLemmas.{sum_by-grant_of}
+use Rattle.cns_allocate.proofs.PlanLemmas.{All-filter_map, count_by-filter_map}
+
+-- the delivery of a ticket that is granted a share
+abbrev granted_ask : ℕ → ℕ → Ticket → Ask
+granted_ask issue poured t = record { kind = Delivery; member = t.member; issue = issue; asked = grant_of poured t }
+
+-- a ticket's delivery is of its grant
+delivery_ask-sum : (issue poured : ℕ) (t : Ticket) (asks : List Ask)
+    → sum_by (λ (a : Ask). a.asked) (cons_option (delivery_ask issue poured t) asks) ≡ grant_of poured t + sum_by (λ (a : Ask). a.asked) asks
+unfolding delivery_ask
+delivery_ask-sum issue poured t asks = by (grant_of poured t == 0) refl
+  where
+    by : (b : Bool) → (grant_of poured t == 0) ≡ b
+        → sum_by (λ (a : Ask). a.asked) (cons_option (if b then None else Some (granted_ask issue poured t)) asks) ≡ grant_of poured t + sum_by (λ (a : Ask). a.asked) asks
+    by true e = let none = eqb-true (grant_of poured t) 0 e in omega (arith, none)
+    by false e = sum_by-cons (λ (a : Ask). a.asked) (granted_ask issue poured t) asks
+
+-- so deliveries are of the grants
+deliveries-grants : (issue poured : ℕ) (ts : List Ticket) → sum_by (λ (a : Ask). a.asked) (deliveries_of issue poured ts) ≡ sum_by (grant_of poured) ts
+deliveries-grants issue poured [] = refl
+deliveries-grants issue poured (t ∷ ts) =
+    omega (arith, delivery_ask-sum issue poured t (deliveries_of issue poured ts), sum_by-cons (grant_of poured) t ts, deliveries-grants issue poured ts)
+
+-- those of tickets that tile are of all that was poured, up to all that was asked
+pub deliveries-tiles : (issue poured : ℕ) (ts : List Ticket) → Tiles (intervals_of ts)
+    → sum_by (λ (a : Ask). a.asked) (deliveries_of issue poured ts) ≡ min poured (asked_sum ts)
+deliveries-tiles issue poured ts tiles = deliveries-grants issue poured ts ∙ sum_by-grant_of poured ts tiles
+
+-- the same of tickets that stand end to end from 0
+pub deliveries_sum : (issue poured : ℕ) (tickets : List Ticket) → AreChained 0 (intervals_of tickets)
+    → sum_by (λ (a : Ask). a.asked) (deliveries_of issue poured tickets) ≡ min poured (asked_sum tickets)
+deliveries_sum issue poured tickets chained = deliveries-tiles issue poured tickets (AreChained-Tiles (intervals_of tickets) chained)
+
+-- a delivery of an issue that is of no more shares than its member's limit
+abbrev pub IsDeliveryWithin : ℕ → (ℕ → ℕ) → Ask → Type 0
+IsDeliveryWithin issue limit a = (a.kind ≡ Delivery) × (a.issue ≡ issue) × (a.asked ≤ limit a.member)
+
+delivery_ask-within : (issue poured : ℕ) (limit : ℕ → ℕ) (t : Ticket) → t.asked ≤ limit t.member → IfSome (delivery_ask issue poured t) (IsDeliveryWithin issue limit)
+unfolding delivery_ask
+delivery_ask-within issue poured limit t most = by (grant_of poured t == 0)
+  where
+    by : (b : Bool) → IfSome (if b then None else Some (granted_ask issue poured t)) (IsDeliveryWithin issue limit)
+    by true = tt
+    by false = (refl, refl, omega (arith, most))
+
+-- each is of the issue, and within what limits the member's tickets
+pub deliveries_within : (issue poured : ℕ) (tickets : List Ticket) (limit : ℕ → ℕ) → All (λ (t : Ticket). t.asked ≤ limit t.member) tickets
+    → All (λ (a : Ask). (a.kind ≡ Delivery) × (a.issue ≡ issue) × (a.asked ≤ limit a.member)) (deliveries_of issue poured tickets)
+deliveries_within issue poured tickets limit most =
+    All-filter_map (delivery_ask issue poured) (λ (t : Ticket). t.asked ≤ limit t.member) (IsDeliveryWithin issue limit)
+    (delivery_ask-within issue poured limit) tickets most
+
+delivery_ask-member : (issue poured member : ℕ) (t : Ticket) → IfSome (delivery_ask issue poured t) (λ (a : Ask). (a.member == member) ≡ true → (t.member == member) ≡ true)
+unfolding delivery_ask
+delivery_ask-member issue poured member t = by (grant_of poured t == 0)
+  where
+    by : (b : Bool) → IfSome (if b then None else Some (granted_ask issue poured t)) (λ (a : Ask). (a.member == member) ≡ true → (t.member == member) ≡ true)
+    by true = tt
+    by false = λ e. e
+
+-- where each member has at most one ticket, it has at most one delivery
+pub deliveries_once : (issue poured : ℕ) (tickets : List Ticket) → ((member : ℕ) → count_by (λ (t : Ticket). t.member == member) tickets ≤ 1)
+    → (member : ℕ) → count_by (λ (a : Ask). a.member == member) (deliveries_of issue poured tickets) ≤ 1
+deliveries_once issue poured tickets once member =
+    omega (
+      arith,
+      count_by-filter_map (delivery_ask issue poured) (λ (t : Ticket). t.member == member) (λ (a : Ask). a.member == member)
+          (delivery_ask-member issue poured member) tickets,
+      once member,
+    )
+
+-- there are no more deliveries than tickets
+pub deliveries_few : (issue poured : ℕ) (tickets : List Ticket) → length (deliveries_of issue poured tickets) ≤ length tickets
+unfolding delivery_ask
+deliveries_few issue poured [] = omega arith
+deliveries_few issue poured (t ∷ ts) = by (grant_of poured t == 0) (deliveries_few issue poured ts)
+  where
+    by : (b : Bool) → length (deliveries_of issue poured ts) ≤ length ts
+        → length (cons_option (if b then None else Some (granted_ask issue poured t)) (deliveries_of issue poured ts)) ≤ length (t ∷ ts)
+    by true few = omega arith
+    by false few = omega arith

@@ -1,0 +1,52 @@
+use Rattle.std.proofs.Common.{◌+◌, ℕ, List, [], drop, arith, sym, ◌∙◌}
+use Rattle.std.proofs.lemmas.List.{drop_all}
+use Rattle.std.proofs.lemmas.Bool.{false≢true, iff_false}
+use Rattle.cns_pool.specs.declared.ticket.Ticket.{Ticket}
+use Rattle.cns_allocate.specs.declared.planned.Planned.{Planned}
+use Rattle.cns_allocate.proofs.ServedLemmas.{IsUnderway, rest-cons, underway-last, underway-more, underway-refused, underway-waits}
+use Rattle.cns_allocate.proofs.served.are_served.Goals as goal
+use Rattle.cns_allocate.proofs.served.are_served.Goals.{then-sealed, else-sealed}
+
+pub returns-then-not-is_in_turn : goal.returns-then-not-is_in_turn
+returns-then-not-is_in_turn c =
+    let tickets : List Ticket = c.args.tickets.now in
+    let split = rest-cons tickets c.loop-ticket.ticket-index c.ticket-item.result c.loop-ticket-test.true c.ticket-item.is in (
+      λ e. absurd (false≢true e),
+      λ s.
+          absurd
+          (underway-refused c.args.plan.now tickets c.args.sealed c.loop-ticket.turns c.loop-ticket.start c.ticket-item.result (drop (c.loop-ticket.ticket-index + 1) tickets)
+          c.requires.plan (rw split at c.loop-ticket.invariant.underway) (iff_false c.is_in_turn.ensures c.if-not-is_in_turn.true) s),
+    )
+
+pub loop-ticket-preserved : goal.loop-ticket-preserved
+loop-ticket-preserved c =
+    let tickets : List Ticket = c.args.tickets.now in
+    let split = rest-cons tickets c.loop-ticket.ticket-index c.ticket-item.result c.loop-ticket-test.true c.ticket-item.is in
+    let turn = c.is_in_turn.ensures.0 c.if-not-is_in_turn.false in
+    record {
+      underway =
+          rw (c.serve.ensures, c.from.ensures)
+          (underway-more c.args.plan.now tickets c.loop-ticket.turns c.loop-ticket.start c.ticket-item.result (drop (c.loop-ticket.ticket-index + 1) tickets)
+          (rw split at c.loop-ticket.invariant.underway) turn.0 turn.1);
+      small = omega arith;
+    }
+
+pub returns : goal.returns
+returns c =
+    let plan : List Planned = c.args.plan.now in
+    let tickets : List Ticket = c.args.tickets.now in
+    let waiting : List Planned = c.loop-ticket.turns in
+    let n : ℕ = c.loop-ticket.start in
+    let last : IsUnderway plan tickets waiting n [] = rw (drop_all c.loop-ticket.ticket-index tickets c.loop-ticket-test.false) at c.loop-ticket.invariant.underway in
+    elim c.if-sealed.branch [
+      | then-sealed w ↦ (
+        λ e. underway-last plan tickets c.args.sealed waiting n c.requires.plan last (λ f. absurd (false≢true (sym f ∙ w.if-sealed.true))),
+        λ s.
+            w.result-is ∙ w.if-sealed.true,
+      )
+      | else-sealed w ↦ (
+        λ e. underway-last plan tickets c.args.sealed waiting n c.requires.plan last (λ f. w.is_empty.ensures.0 (sym w.result-is ∙ e)),
+        λ s.
+            w.result-is ∙ w.is_empty.ensures.1 (underway-waits plan tickets waiting n c.requires.plan last (rw w.if-sealed.false at s)),
+      )
+    ]

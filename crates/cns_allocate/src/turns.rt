@@ -1,0 +1,121 @@
+ghost use Rattle.std.specs.Prelude.{◌≡◌, ◌↔◌, ◌==◌, [], length, find, IfOk, IsTrue, nat_lt};
+ghost use Rattle.cns_allocate.specs.Group.{rank};
+ghost use Rattle.cns_allocate.specs.Plan.{IsPlan};
+ghost use Rattle.cns_allocate.specs.Served.{is_after_others, turn_of, without};
+ghost use Rattle.cns_allocate.specs.declared.planned.Planned.{Planned};
+
+use crate::planned::Planned;
+use cns_ids::MemberNo;
+use std::alloc::{AllocError, Global};
+use std::marker::Model;
+
+/// What a member is answered that asks for a ticket. (This project's own rule.)
+#[derive(Clone, Copy, PartialEq, Eq, Debug)]
+pub enum Turn {
+    /// It is not planned, or it has its ticket.
+    NotLong,
+    /// A member of an earlier group has no ticket yet.
+    EarlierGroup,
+    /// It may draw a ticket.
+    Next {
+        /// How many shares the ticket has, all that were planned.
+        asked: u64,
+    },
+}
+
+/// The members of a plan that have no ticket yet, in the plan's order.
+///
+/// A member draws its ticket only after each planned member of the earlier groups has one; in a group
+/// the order is free. (This project's own rule.) Contracts see the members that wait, in their order.
+#[derive(Debug, Drop)]
+pub struct Turns {
+    list: Vec<Planned>,
+}
+
+impl Model for Turns {
+    ghost use Rattle.std.specs.Prelude.{List};
+    ghost use Rattle.cns_allocate.specs.Plan.{IsPlan};
+    ghost use Rattle.cns_allocate.specs.declared.planned.Planned.{Planned};
+
+    ghost Value = { List Planned };
+
+    ghost view = { λ t. t.list.items };
+
+    ghost invariant = { λ t. IsPlan t.list.items };
+}
+
+impl Turns {
+    /// The turns of a plan of which no member has a ticket.
+    pub fn of(alloc: Global, plan: &[Planned]) -> Result<Turns, AllocError>
+        requires plan { IsPlan plan.now }
+        ensures { IfOk result (λ turns. turns ≡ plan.now) }
+    {
+        let list = plan.iter().copied().collect(alloc)?;
+        Ok(Turns { list })
+    }
+
+    /// What a member is answered that asks for a ticket now.
+    pub fn turn(&self, member: MemberNo) -> Turn
+        ensures { result ≡ turn_of self.now member }
+    {
+        match planned_as(self.list.as_slice(), member) {
+            None => Turn::NotLong,
+            Some(planned) if self.is_after_others(&planned) => Turn::EarlierGroup,
+            Some(planned) => Turn::Next {
+                asked: planned.asked,
+            },
+        }
+    }
+
+    /// Notes that a member has its ticket: it waits no longer. It takes no memory.
+    pub fn serve(&mut self, member: MemberNo)
+        ensures { self.new ≡ without member self.old }
+    {
+        self.list.retain(|planned| planned.member != member);
+    }
+
+    /// The members that wait, in the plan's order.
+    pub fn as_slice(&self) -> &[Planned]
+        ensures value { result.now ≡ self.now }
+        ensures lawful { IsPlan self.now }
+    {
+        self.list.as_slice()
+    }
+
+    /// How many members wait.
+    pub fn len(&self) -> usize
+        ensures { result ≡ length self.now }
+    {
+        self.list.len()
+    }
+
+    /// Whether no member waits.
+    pub fn is_empty(&self) -> bool
+        ensures { IsTrue result ↔ (self.now ≡ []) }
+    {
+        self.list.is_empty()
+    }
+
+    // Whether a member of an earlier group waits.
+    fn is_after_others(&self, planned: &Planned) -> bool
+        ensures { result ≡ is_after_others self.now planned.now }
+    {
+        self.list.iter().any(|other| is_before(other, planned))
+    }
+}
+
+// What is planned for a member.
+fn planned_as(plan: &[Planned], member: MemberNo) -> Option<Planned>
+    ensures { result ≡ find (λ (p : Planned). p.member == member) plan.now }
+{
+    plan.iter()
+        .copied()
+        .find(|planned| planned.member == member)
+}
+
+// Whether one is of an earlier group than another.
+fn is_before(one: &Planned, other: &Planned) -> bool
+    ensures { result ≡ nat_lt (rank one.now.group) (rank other.now.group) }
+{
+    one.group < other.group
+}

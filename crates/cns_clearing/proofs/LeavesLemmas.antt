@@ -1,0 +1,156 @@
+-- What the calls of lots leave.
+use Rattle.std.proofs.Common.{◌≡◌, ◌≤◌, ◌+◌, ◌-◌, ℕ, Bool, false, List, [], ◌∷◌, ◌++◌, length, map, Option, Some, None, Ok, Err, ◌≢◌, refl, sym, ap, ◌∙◌, subst}
+use Rattle.std.specs.Prelude.{◌==◌, IfOk, Result, if◌then◌else◌}
+use Rattle.std.specs.declared.alloc.AllocError.{AllocError}
+use Rattle.cns_pool.specs.Pool.{asked_sum}
+use Rattle.cns_pool.specs.declared.ticket.Ticket.{Ticket}
+use Rattle.cns_movements.specs.declared.order.Ask.{Ask}
+use Rattle.cns_allocate.specs.Deliveries.{deliveries_of}
+use Rattle.cns_allocate.specs.Served.{IsServed}
+use Rattle.cns_allocate.specs.Plan.{plan_of}
+use Rattle.cns_allocate.specs.declared.planned.Planned.{Planned}
+use Rattle.cns_netting.specs.declared.position.PositionRow.{PositionRow}
+use Rattle.cns_records.specs.Clear.{AreWritable}
+use Rattle.cns_records.specs.declared.allocation.Allocation.{Allocation}
+use Rattle.cns_records.specs.declared.clear_record.ClearRecord.{ClearRecord}
+use Rattle.cns_records.specs.declared.clear_record.ClearRecord.TheVariants.{Allocate}
+use Rattle.cns_clearing.specs.Answers.{LotCloseLeaves, LotOpenLeaves, LotPourLeaves, MayClose, allocation_of}
+use Rattle.cns_clearing.specs.Commit.{AddLeaves}
+use Rattle.cns_clearing.specs.Faults.{closing_fault}
+use Rattle.cns_clearing.specs.declared.fault.CommitFault.{CommitFault}
+use Rattle.cns_clearing.specs.declared.fault.CommitFault.TheVariants as commit
+use Rattle.std.proofs.lemmas.Option.{none-some}
+use Rattle.cns_clearing.specs.Books.{Books, IsAllocable, IsAllowed, IsLawful, are_spent, books_of, deliveries_in, history_of, orders_of, tickets_of}
+use Rattle.cns_clearing.specs.Closing.{AreRecordable}
+use Rattle.cns_clearing.specs.Lots.{AreLots, IsAllocation, avail_in, longs_among, lots_poured, new_lot, plan_in}
+use Rattle.cns_clearing.specs.Node.{ClearNode}
+use Rattle.cns_clearing.specs.OpenLots.{refilled}
+use Rattle.cns_clearing.specs.Pools.{lot_of}
+use Rattle.cns_clearing.specs.declared.lot.Lot.{Lot}
+use Rattle.cns_clearing.proofs.LotLemmas.{allocable, allocation_lawful, asked_small, lot_found, lots_opened, lots_refilled, previous_is, recordable, tickets_drawn}
+use Rattle.cns_clearing.proofs.PouredLemmas.{pour_adds}
+
+-- the lots once that of the issue was refilled
+pub refilled_is : (c : List ClearRecord) (lots lots' : List Lot) (issue n poured : ℕ) → n ≡ length c → poured ≡ avail_in c issue → lots' ≡ map (refilled issue n poured) lots
+    → lots' ≡ lots_poured c issue lots
+refilled_is c lots lots' issue n poured count avail is = is ∙ rw (count, avail) refl
+
+pub refilled_lots : (c : List ClearRecord) (lots lots' : List Lot) (issue n poured : ℕ) → AreLots c lots → n ≡ length c → poured ≡ avail_in c issue
+    → lots' ≡ map (refilled issue n poured) lots → AreLots c lots'
+refilled_lots c lots lots' issue n poured are count avail is =
+    subst (AreLots c) (sym (refilled_is c lots lots' issue n poured count avail is)) (lots_refilled c lots issue are)
+
+pub pour_leaves : (old : ClearNode) (lots' : List Lot) (issue shares n poured : ℕ) (lot : Lot) → IsLawful old.records → AreLots old.records old.lots → old.down ≡ false
+    → lot_of old.lots issue ≡ Some lot → n ≡ length old.records → poured ≡ avail_in old.records issue → shares ≡ poured - lot.poured
+    → lots' ≡ map (refilled issue n poured) old.lots → LotPourLeaves issue (Ok shares) old (record old { lots = lots' })
+pour_leaves old lots' issue shares n poured lot lawful are up found count avail is filled = (
+  up,
+  pour_adds old issue shares lot lawful are found (is ∙ ap (λ (x : ℕ). x - lot.poured) avail),
+  ap (λ (l : List Lot). record old { lots = l }) (refilled_is old.records old.lots lots' issue n poured count avail filled),
+)
+
+-- the plan of the books is that of the records
+pub plan_is : (c : List ClearRecord) (issue : ℕ) (b : Books) (plan : List Planned) → b ≡ books_of c
+    → plan ≡ plan_of issue b.history b.orders b.priorities (longs_among issue b.previous) → plan ≡ plan_in c issue
+plan_is c issue b plan same is =
+    is ∙ ap (λ (x : Books). plan_of issue x.history x.orders x.priorities (longs_among issue x.previous)) same
+    ∙ ap (λ (rows : List PositionRow). plan_of issue (history_of c) (orders_of c) (books_of c).priorities (longs_among issue rows)) (previous_is c)
+
+pub plan_told : (c : List ClearRecord) (issue : ℕ) (b : Books) (answer : Result (List Planned) AllocError) → b ≡ books_of c
+    → IfOk answer (λ plan. plan ≡ plan_of issue b.history b.orders b.priorities (longs_among issue b.previous)) → IfOk answer (λ plan. plan ≡ plan_in c issue)
+plan_told c issue b (Ok plan) same is = plan_is c issue b plan same is
+plan_told c issue b (Err fault) same is = tt
+
+-- the lot that is opened
+opened_is : (c : List ClearRecord) (issue n poured : ℕ) (plan : List Planned) → n ≡ length c → poured ≡ avail_in c issue → plan ≡ plan_in c issue
+    → (record { issue = issue; opened = n; upto = n; poured = poured; plan = plan }) ≡ new_lot c issue
+opened_is c issue n poured plan count avail is = rw (count, avail, is) refl
+
+-- a list with this lot at its end
+abbrev with_lot : ℕ → ℕ → ℕ → List Planned → List Lot → List Lot
+with_lot issue n poured plan lots = lots ++ record { issue = issue; opened = n; upto = n; poured = poured; plan = plan } ∷ []
+
+pub opened_lots : (c : List ClearRecord) (lots room lots' : List Lot) (issue n poured : ℕ) (plan : List Planned) → AreLots c lots → lot_of lots issue ≡ None → n ≡ length c
+    → poured ≡ avail_in c issue → plan ≡ plan_in c issue → room ≡ lots → lots' ≡ room ++ record { issue = issue; opened = n; upto = n; poured = poured; plan = plan } ∷ []
+    → AreLots c lots'
+opened_lots c lots room lots' issue n poured plan are none count avail is same list =
+    subst (AreLots c) (sym (list ∙ ap (with_lot issue n poured plan) same ∙ ap (λ (x : Lot). lots ++ x ∷ []) (opened_is c issue n poured plan count avail is))) (lots_opened c lots issue are none)
+
+pub open_leaves : (old : ClearNode) (room lots' : List Lot) (issue n poured : ℕ) (plan answer : List Planned) → old.down ≡ false → lot_of old.lots issue ≡ None
+    → n ≡ length old.records → poured ≡ avail_in old.records issue → plan ≡ plan_in old.records issue → answer ≡ plan
+    → room ≡ old.lots → lots' ≡ room ++ record { issue = issue; opened = n; upto = n; poured = poured; plan = plan } ∷ [] → LotOpenLeaves issue (Ok answer) old (record old { lots = lots' })
+open_leaves old room lots' issue n poured plan answer up none count avail is copied same list = (
+  up,
+  none,
+  copied ∙ is,
+  ap (λ (l : List Lot). record old { lots = l }) (list ∙ ap (with_lot issue n poured plan) same ∙ ap (λ (x : Lot). old.lots ++ x ∷ []) (opened_is old.records issue n poured plan count avail is)),
+)
+
+-- ---- closing a lot
+
+pub may_close : (node : ClearNode) (issue : ℕ) (tickets : List Ticket) (sealed : Bool) (lot : Lot) (a : Allocation) → AreLots node.records node.lots
+    → lot_of node.lots issue ≡ Some lot → IsServed lot.plan tickets sealed → a ≡ allocation_of lot tickets sealed → MayClose node issue tickets sealed a
+may_close node issue tickets sealed lot a are found served is = record {
+  lot = lot;
+  found = found;
+  served = served;
+  closes = is;
+  lawful = subst (IsAllocation node.records) (sym is) (allocation_lawful node.records lot tickets sealed (lot_found node.records node.lots issue lot are found).0 served);
+}
+
+-- the tickets can be recorded
+pub close_recordable : (node : ClearNode) (issue : ℕ) (tickets : List Ticket) (sealed : Bool) (lot : Lot) → IsLawful node.records → AreWritable node.records
+    → AreLots node.records node.lots → lot_of node.lots issue ≡ Some lot → IsServed lot.plan tickets sealed → AreRecordable tickets
+close_recordable node issue tickets sealed lot lawful fits are found served =
+    recordable node.records lot tickets sealed lawful fits (lot_found node.records node.lots issue lot are found).0 served
+
+-- they ask for at most 10^18 shares in all
+pub close_small : (node : ClearNode) (issue : ℕ) (tickets : List Ticket) (sealed : Bool) (a : Allocation) → IsLawful node.records → AreWritable node.records
+    → AreLots node.records node.lots → MayClose node issue tickets sealed a → asked_sum tickets ≤ 1000000000000000000
+close_small node issue tickets sealed a lawful fits are may =
+    asked_small node.records may.lot tickets sealed lawful fits (lot_found node.records node.lots issue may.lot are may.found).0 may.served
+
+-- the deliveries of the tickets are those of the allocation
+pub close_asks : (node : ClearNode) (issue : ℕ) (tickets : List Ticket) (sealed : Bool) (a : Allocation) (asks : List Ask) → AreLots node.records node.lots
+    → MayClose node issue tickets sealed a → asks ≡ deliveries_of issue a.poured tickets → asks ≡ deliveries_in a
+close_asks node issue tickets sealed a asks are may is =
+    let same = (lot_found node.records node.lots issue may.lot are may.found).1 in
+    let its : a.issue ≡ issue = ap (λ (x : Allocation). x.issue) may.closes ∙ same in
+    let drawn : tickets_of a.drawn ≡ tickets = ap (λ (x : Allocation). tickets_of x.drawn) may.closes ∙ tickets_drawn tickets in
+    is ∙ ap (λ (i : ℕ). deliveries_of i a.poured tickets) (sym its) ∙ ap (λ (ts : List Ticket). deliveries_of a.issue a.poured ts) (sym drawn)
+
+-- and where there are numbers for them the allocation may be recorded
+pub close_allowed : (node : ClearNode) (issue : ℕ) (tickets : List Ticket) (sealed : Bool) (a : Allocation) (asks : List Ask) → IsLawful node.records → AreWritable node.records
+    → AreLots node.records node.lots → MayClose node issue tickets sealed a → asks ≡ deliveries_in a → are_spent (orders_of node.records) asks ≡ false
+    → IsAllowed node.records (Allocate a)
+close_allowed node issue tickets sealed a asks lawful fits are may is enough =
+    let lot = may.lot in
+    let its = (lot_found node.records node.lots issue lot are may.found).0 in
+    let mine : deliveries_in a ≡ deliveries_of lot.issue lot.poured tickets =
+    ap deliveries_in may.closes ∙ ap (λ (ts : List Ticket). deliveries_of lot.issue lot.poured ts) (tickets_drawn tickets) in
+    let numbers : are_spent (orders_of node.records) (deliveries_of lot.issue lot.poured tickets) ≡ false =
+    subst (λ (l : List Ask). are_spent (orders_of node.records) l ≡ false) (is ∙ mine) enough in
+    subst (λ (x : Allocation). IsAllocable (books_of node.records) x) (sym may.closes) (allocable node.records lot tickets sealed lawful fits its may.served numbers)
+
+-- whether the numbers suffice, of the records
+pub spent_is : (b : Books) (c : List ClearRecord) (l asks : List Ask) (a : Allocation) (r v : Bool) → b ≡ books_of c → l ≡ asks → asks ≡ deliveries_in a
+    → r ≡ are_spent b.orders l → r ≡ v → are_spent (orders_of c) (deliveries_in a) ≡ v
+spent_is b c l asks a r v same list is spent e =
+    sym (spent ∙ ap (λ (x : Books). are_spent x.orders l) same ∙ ap (are_spent (orders_of c)) (list ∙ is)) ∙ e
+
+some_found : (node : ClearNode) (issue : ℕ) (lot : Lot) → lot_of node.lots issue ≡ Some lot → lot_of node.lots issue ≢ None
+some_found node issue lot found none = none-some lot (sym none ∙ found)
+
+-- what a refused commit leaves of a close
+pub close_refused : (old new : ClearNode) (issue : ℕ) (tickets : List Ticket) (sealed : Bool) (a : Allocation) (fault : CommitFault) → old.down ≡ false
+    → MayClose old issue tickets sealed a → IsAllowed old.records (Allocate a) → AddLeaves (Allocate a) (Err fault) old new
+    → LotCloseLeaves issue tickets sealed (Err (closing_fault fault)) old new
+close_refused old new issue tickets sealed a commit.OutOfMemory up may allowed left = (up, some_found old issue may.lot may.found, left)
+close_refused old new issue tickets sealed a commit.Device up may allowed left = (a, may, allowed, left)
+
+-- the number of the first order, of the records
+pub first_is : (b : Books) (c : List ClearRecord) (l : List Ask) (n : ℕ) (r : Option ℕ) → b ≡ books_of c → length l ≡ n
+    → r ≡ (if length l == 0 then None else Some (length b.orders.orders + 1)) → r ≡ (if n == 0 then None else Some (length (orders_of c).orders + 1))
+first_is b c l n r same count is =
+    is ∙ ap (λ (m : ℕ). if m == 0 then None else Some (length b.orders.orders + 1)) count
+    ∙ ap (λ (x : Books). if n == 0 then None else Some (length x.orders.orders + 1)) same

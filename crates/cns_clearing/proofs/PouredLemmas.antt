@@ -1,0 +1,54 @@
+-- What lots have of the shares that are there.
+use Rattle.std.proofs.Common.{◌≡◌, ◌≤◌, ◌+◌, ◌-◌, ℕ, Bool, true, false, List, Option, Some, None, refl, sym, ap, ◌∙◌, subst, arith}
+use Rattle.std.specs.Prelude.{option_map, unwrap_or, if◌then◌else◌}
+use Rattle.std.proofs.lemmas.Bool.{le-leb}
+use Rattle.std.proofs.lemmas.Option.{none-some}
+use Rattle.cns_ids.specs.Shares.{is_shares}
+use Rattle.cns_records.specs.Clear.{AreWritable}
+use Rattle.cns_records.specs.declared.clear_record.ClearRecord.{ClearRecord}
+use Rattle.cns_clearing.specs.Answers.{IsPoured}
+use Rattle.cns_clearing.specs.Books.{IsLawful, orders_of}
+use Rattle.cns_clearing.specs.Lots.{AreLots, avail_in}
+use Rattle.cns_clearing.specs.Node.{ClearNode}
+use Rattle.cns_clearing.specs.Pools.{free_of, lent_of, lot_of}
+use Rattle.cns_clearing.specs.declared.lot.Lot.{Lot}
+use Rattle.cns_clearing.proofs.LotLemmas.{lot_found, lot_pours}
+use Rattle.cns_clearing.proofs.TotalLemmas.{avail_most}
+
+-- a lot has no more than is there
+pub found_most : (c : List ClearRecord) (lots : List Lot) (issue : ℕ) (lot : Lot) → IsLawful c → AreLots c lots → lot_of lots issue ≡ Some lot → lot.poured ≤ avail_in c issue
+found_most c lots issue lot lawful are found =
+    let is = lot_found c lots issue lot are found in
+    subst (λ (i : ℕ). lot.poured ≤ avail_in c i) is.1 (lot_pours c lot lawful is.0)
+
+lent_found : (lots : List Lot) (issue : ℕ) (lot : Lot) → lot_of lots issue ≡ Some lot → lent_of lots issue ≡ lot.poured
+lent_found lots issue lot found = ap (λ (o : Option Lot). unwrap_or (option_map (λ (l : Lot). l.poured) o) 0) found
+
+-- nor is more lent than is there
+pub lent_most : (c : List ClearRecord) (lots : List Lot) (issue : ℕ) → IsLawful c → AreLots c lots → lent_of lots issue ≤ avail_in c issue
+lent_most c lots issue lawful are = by (lot_of lots issue) refl
+  where
+    by : (o : Option Lot) → lot_of lots issue ≡ o → unwrap_or (option_map (λ (l : Lot). l.poured) o) 0 ≤ avail_in c issue
+    by None e = omega arith
+    by (Some lot) e = found_most c lots issue lot lawful are e
+
+-- with the shares that are free it is at most 10^18
+pub free_most : (c : List ClearRecord) (lots : List Lot) (issue free : ℕ) → IsLawful c → AreWritable c → AreLots c lots → free ≡ free_of (orders_of c) lots issue
+    → free + lent_of lots issue ≤ 1000000000000000000
+free_most c lots issue free lawful fits are is = omega (arith, is, lent_most c lots issue lawful are, avail_most c issue lawful fits)
+
+-- what a pour adds is what was free
+pub pour_adds : (node : ClearNode) (issue shares : ℕ) (lot : Lot) → IsLawful node.records → AreLots node.records node.lots → lot_of node.lots issue ≡ Some lot
+    → shares ≡ avail_in node.records issue - lot.poured → IsPoured node issue shares
+pour_adds node issue shares lot lawful are found is =
+    let most = found_most node.records node.lots issue lot lawful are found in
+    let lent = lent_found node.lots issue lot found in
+    record { lot = lot; found = found; free = omega (arith, is, lent); all = omega (arith, is, most) }
+
+-- so many shares are a count of shares
+pub shares_fit : (n : ℕ) (answer : Option ℕ) → n ≤ 1000000000000000000 → answer ≡ (if is_shares n then Some n else None) → answer ≡ None → ⊥
+shares_fit n answer few is none = none-some n (sym none ∙ is ∙ by (is_shares n) (le-leb n 1000000000000000000 few))
+  where
+    by : (b : Bool) → b ≡ true → (if b then Some n else None) ≡ Some n
+    by true e = refl
+    by false e = absurd cc

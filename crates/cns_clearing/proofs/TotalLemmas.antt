@@ -1,0 +1,170 @@
+-- What orders and tickets come to over all members.
+use Rattle.std.proofs.Common.{◌≡◌, ◌≤◌, ◌+◌, ℕ, zero, suc, List, [], ◌∷◌, length, Bool, true, false, cond, refl, sym, subst, arith, inl, inr}
+use Rattle.std.specs.Prelude.{◌==◌, ◌&&◌, All, count_by, sum_by, if◌then◌else◌}
+use Rattle.std.proofs.lemmas.Bool.{cases_eq, cond-false, cond-true, eq-eqb, eqb-true, ne_eqb}
+use Rattle.std.proofs.lemmas.List.Elements.{All-head, All-tail}
+use Rattle.std.proofs.lemmas.List.Sums.{sum_by-cons}
+use Rattle.cns_netting.specs.History.{due}
+use Rattle.cns_netting.specs.declared.entry.NetEntry.TheVariants.{Netted}
+use Rattle.cns_movements.specs.Book.{IsOrderBook}
+use Rattle.cns_movements.specs.Order.{is_cover, is_of, moved_part, moved_sum}
+use Rattle.cns_movements.specs.declared.order.Ask.{Ask}
+use Rattle.cns_movements.specs.declared.order.MoveKind.TheVariants.{Cover}
+use Rattle.cns_movements.specs.declared.order.Order.{Order}
+use Rattle.cns_movements.specs.declared.order.Reply.{Reply}
+use Rattle.cns_movements.proofs.ConfirmLemmas.{taken_from_done}
+use Rattle.cns_allocate.proofs.DeliveryLemmas.{deliveries_sum}
+use Rattle.cns_covers.proofs.BoundLemmas.{covers_are_covers}
+use Rattle.cns_covers.proofs.TotalLemmas.{moved_total, sold_all}
+use Rattle.cns_records.specs.Clear.{AreWritable}
+use Rattle.cns_records.specs.declared.allocation.Allocation.{Allocation}
+use Rattle.cns_records.specs.declared.clear_record.ClearRecord.{ClearRecord}
+use Rattle.cns_records.specs.declared.clear_record.ClearRecord.TheVariants.{Accept, Exempt, Priority, Cycle, Allocate, Confirm}
+use Rattle.cns_records.specs.declared.drawn.Drawn.{Drawn}
+use Rattle.cns_clearing.specs.Books.{Books, Allows, IsAllocable, IsLawful, books_of, covers_on, deliveries_in, orders_of, tickets_of, with_record}
+use Rattle.cns_clearing.specs.Lots.{avail_in}
+use Rattle.cns_clearing.specs.Pools.{avail_of, covered_by_order, covered_of, taken_of}
+use Rattle.cns_clearing.proofs.BooksLemmas.{lawful_bounded, lawful_sound}
+use Rattle.cns_clearing.proofs.LotLemmas.{allocation_issue, covered_confirmed, covered_ordered, covers_deliver_nothing, delivered_by, delivered_most, others_deliver_nothing, taken_confirmed, taken_ordered}
+use Rattle.cns_clearing.proofs.PositionLemmas.{lawful_moved}
+
+-- ---- the shares that covers brought
+
+-- what covers brought a member in an issue is its part of what they brought in the issue
+member_part : (rs : List Reply) (issue member : ℕ) (orders : List Order)
+    → sum_by (λ (o : Order). if o.member == member then covered_by_order rs issue o else 0) orders ≡ moved_sum orders rs Cover member issue
+unfolding moved_sum
+member_part rs issue member [] = refl
+member_part rs issue member (o ∷ orders) =
+    omega (
+      arith,
+      sum_by-cons (λ (x : Order). if x.member == member then covered_by_order rs issue x else 0) o orders,
+      sum_by-cons (λ (x : Order). if is_of Cover member issue x then moved_part rs x else 0) o orders,
+      by (is_cover o.kind) (o.member == member) (o.issue == issue),
+      member_part rs issue member orders,
+    )
+  where
+    by : (cover its here : Bool) → (if its then (if cover && here then moved_part rs o else 0) else 0) ≡ (if cover && (its && here) then moved_part rs o else 0)
+    by true true here = refl
+    by true false here = refl
+    by false true here = refl
+    by false false here = refl
+
+-- covers brought at most 10^18 shares of an issue
+pub covered_most : (c : List ClearRecord) (issue : ℕ) → IsLawful c → AreWritable c → covered_of (orders_of c) issue ≤ 1000000000000000000
+unfolding covered_of
+covered_most c issue lawful fits =
+    let b : Books = books_of c in
+    let sound = lawful_sound c lawful fits in
+    let total =
+    moved_total (due b.history) b.orders.orders (covered_by_order b.orders.replies issue) issue
+    (λ member. omega (
+      arith,
+      member_part b.orders.replies issue member b.orders.orders,
+      (lawful_moved c member issue lawful).brought,
+      sound.bounded.covered member issue,
+    )) in
+    omega (arith, total, sold_all b.history sound.netted)
+
+-- so at most that many are there
+pub avail_most : (c : List ClearRecord) (issue : ℕ) → IsLawful c → AreWritable c → avail_in c issue ≤ 1000000000000000000
+avail_most c issue lawful fits = omega (arith, covered_most c issue lawful fits)
+
+-- ---- the shares that deliveries take
+
+-- an allocation takes no more of its issue than is there, and nothing of another one
+allocation_takes : (b : Books) (a : Allocation) (issue : ℕ) → IsAllocable b a → delivered_by issue (deliveries_in a) ≤ avail_of b.orders issue
+allocation_takes b a issue allocable = by (issue == a.issue) refl
+  where
+    by : (its : Bool) → (issue == a.issue) ≡ its → delivered_by issue (deliveries_in a) ≤ avail_of b.orders issue
+    by true e =
+        let same : issue ≡ a.issue = eqb-true issue a.issue e in
+        let there : a.poured ≤ avail_of b.orders issue = subst (λ (i : ℕ). a.poured ≤ avail_of b.orders i) (sym same) allocable.there in
+        omega (arith, there, delivered_most (deliveries_in a) issue, deliveries_sum a.issue a.poured (tickets_of a.drawn) allocable.chained)
+    by false e = omega (arith, others_deliver_nothing (deliveries_in a) issue a.issue e (allocation_issue b a allocable))
+
+-- with one more record deliveries still take no more than covers brought
+taken_more : (r : ClearRecord) (b : Books) (issue : ℕ) → IsOrderBook b.orders → Allows b r → taken_of b.orders issue ≤ covered_of b.orders issue
+    → taken_of (with_record r b).orders issue ≤ covered_of (with_record r b).orders issue
+taken_more (Accept t) b issue ordered allowed before = before
+taken_more (Exempt m i s) b issue ordered allowed before = before
+taken_more (Priority m i is_on) b issue ordered allowed before = before
+taken_more (Cycle id) b issue ordered allowed before =
+    let asks : List Ask = covers_on b id.day in
+    let none = covers_deliver_nothing asks issue (covers_are_covers (Netted id.day ∷ b.history) b.orders b.exemptions) in
+    omega (arith, before, covered_ordered b.orders asks issue ordered, taken_ordered b.orders asks issue ordered, none)
+taken_more (Allocate a) b issue ordered allowed before =
+    let asks : List Ask = deliveries_in a in
+    omega (arith, before, covered_ordered b.orders asks issue ordered, taken_ordered b.orders asks issue ordered, allocation_takes b a issue allowed)
+taken_more (Confirm r) b issue ordered allowed before =
+    let taken = taken_from_done b.orders r allowed in
+    omega (arith, before, covered_confirmed b.orders r issue ordered taken, taken_confirmed b.orders r issue ordered taken)
+
+-- deliveries never take more shares of an issue than covers brought
+pub taken_covered : (c : List ClearRecord) (issue : ℕ) → IsLawful c → taken_of (orders_of c) issue ≤ covered_of (orders_of c) issue
+unfolding books_of covered_of taken_of
+taken_covered [] issue lawful = omega arith
+taken_covered (r ∷ c) issue lawful = taken_more r (books_of c) issue (lawful_bounded c lawful.1).ordered lawful.0 (taken_covered c issue lawful.1)
+
+-- ---- few tickets
+
+-- how many tickets the members 1 to n have
+counted : ℕ → List Drawn → ℕ
+counted zero tickets = 0
+counted (suc n) tickets = count_by (λ (d : Drawn). d.member == suc n) tickets + counted n tickets
+
+-- whether a member is 1 to n, counted
+counted_one : ℕ → ℕ → ℕ
+counted_one zero member = 0
+counted_one (suc n) member = cond (member == suc n) 1 0 + counted_one n member
+
+counted_none : (n : ℕ) → counted n [] ≡ 0
+unfolding counted
+counted_none zero = refl
+counted_none (suc n) = omega (arith, counted_none n)
+
+counted-cons : (n : ℕ) (d : Drawn) (tickets : List Drawn) → counted n (d ∷ tickets) ≡ counted_one n d.member + counted n tickets
+unfolding counted counted_one
+counted-cons zero d tickets = refl
+counted-cons (suc n) d tickets =
+    omega (arith, sum_by-cons (λ (x : Drawn). cond (x.member == suc n) 1 0) d tickets, counted-cons n d tickets)
+
+-- a member above n is not among them
+one_above : (n member : ℕ) → suc n ≤ member → counted_one n member ≡ 0
+unfolding counted_one
+one_above zero member above = refl
+one_above (suc n) member above =
+    let here : ◌≡◌ {A = ℕ} (cond (member == suc n) 1 0) 0 = cond-false _ 1 0 (ne_eqb member (suc n) (λ e. omega arith)) in
+    omega (arith, here, one_above n member (omega arith))
+
+-- one of them is once
+one_within : (n member : ℕ) → 1 ≤ member → member ≤ n → counted_one n member ≡ 1
+unfolding counted_one
+one_within zero member from to = absurd (omega arith)
+one_within (suc n) member from to =
+    elim (cases_eq member (suc n)) [
+      | inl e ↦
+          let here : ◌≡◌ {A = ℕ} (cond (member == suc n) 1 0) 1 = cond-true _ 1 0 (eq-eqb member (suc n) e) in
+          omega (arith, here, one_above n member (omega arith))
+      | inr ne ↦
+          let here : ◌≡◌ {A = ℕ} (cond (member == suc n) 1 0) 0 = cond-false _ 1 0 (ne_eqb member (suc n) ne) in
+          omega (arith, here, one_within n member from (omega arith))
+    ]
+
+-- each ticket of the members 1 to n is counted
+all_counted : (n : ℕ) (tickets : List Drawn) → All (λ (d : Drawn). (1 ≤ d.member) × (d.member ≤ n)) tickets → length tickets ≡ counted n tickets
+all_counted n [] all = sym (counted_none n)
+all_counted n (d ∷ tickets) all =
+    let here = All-head (λ (x : Drawn). (1 ≤ x.member) × (x.member ≤ n)) d tickets all in
+    let rest = all_counted n tickets (All-tail (λ (x : Drawn). (1 ≤ x.member) × (x.member ≤ n)) d tickets all) in
+    omega (arith, counted-cons n d tickets, one_within n d.member here.0 here.1, rest)
+
+-- and n members with at most one ticket each have at most n
+counted_most : (n : ℕ) (tickets : List Drawn) → ((member : ℕ) → count_by (λ (d : Drawn). d.member == member) tickets ≤ 1) → counted n tickets ≤ n
+unfolding counted
+counted_most zero tickets once = omega arith
+counted_most (suc n) tickets once = omega (arith, once (suc n), counted_most n tickets once)
+
+pub small_pigeonhole : (n : ℕ) (tickets : List Drawn) → All (λ (d : Drawn). (1 ≤ d.member) × (d.member ≤ n)) tickets
+    → ((member : ℕ) → count_by (λ (d : Drawn). d.member == member) tickets ≤ 1) → length tickets ≤ n
+small_pigeonhole n tickets all once = omega (arith, all_counted n tickets all, counted_most n tickets once)

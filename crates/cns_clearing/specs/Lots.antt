@@ -1,0 +1,123 @@
+-- Open lots, and the allocations that close them (this project's own rules). Records stand newest first.
+use Rattle.std.specs.Prelude.{◌≡◌, ℕ, ◌≤◌, ◌==◌, ◌&&◌, not, false, List, [], ◌∷◌, ◌++◌, length, map, filter, All, count_by, Option, Some, None, if◌then◌else◌}
+use Rattle.std.specs.List.{filter_map}
+use Rattle.cns_netting.specs.History.{credit_part}
+use Rattle.cns_netting.specs.Rows.{rows_of}
+use Rattle.cns_netting.specs.declared.position.PositionRow.{PositionRow}
+use Rattle.cns_allocate.specs.Plan.{plan_of}
+use Rattle.cns_allocate.specs.Served.{IsServed}
+use Rattle.cns_allocate.specs.declared.planned.Planned.{Planned}
+use Rattle.cns_records.specs.declared.allocation.Allocation.{Allocation}
+use Rattle.cns_records.specs.declared.clear_record.ClearRecord.{ClearRecord}
+use Rattle.cns_records.specs.declared.clear_record.ClearRecord.TheVariants.{Accept, Exempt, Priority, Cycle, Allocate, Confirm}
+use Rattle.cns_clearing.specs.Books.{books_of, history_of, orders_of, tickets_of}
+use Rattle.cns_clearing.specs.Pools.{avail_of}
+use Rattle.cns_clearing.specs.declared.lot.Lot.{Lot}
+
+-- the records up to the latest cycle, with that
+abbrev pub up_to_cycle : List ClearRecord → List ClearRecord
+up_to_cycle [] = []
+up_to_cycle (Accept t ∷ c) = up_to_cycle c
+up_to_cycle (Exempt m i s ∷ c) = up_to_cycle c
+up_to_cycle (Priority m i is_on ∷ c) = up_to_cycle c
+up_to_cycle (Cycle id ∷ c) = Cycle id ∷ c
+up_to_cycle (Allocate a ∷ c) = up_to_cycle c
+up_to_cycle (Confirm r ∷ c) = up_to_cycle c
+
+abbrev pub all_but_newest : List ClearRecord → List ClearRecord
+all_but_newest [] = []
+all_but_newest (r ∷ c) = c
+
+-- the records up to the cycle before the latest, with that; none where there are not two
+abbrev pub up_to_previous : List ClearRecord → List ClearRecord
+up_to_previous c = up_to_cycle (all_but_newest (up_to_cycle c))
+
+-- the member of a position, where it is long in the issue
+unfoldable pub long_member : ℕ → PositionRow → Option ℕ
+long_member issue row = if (row.issue == issue) && not (credit_part row.position == 0) then Some row.member else None
+
+-- the members that are long in an issue
+abbrev pub longs_among : ℕ → List PositionRow → List ℕ
+longs_among issue rows = filter_map (long_member issue) rows
+
+-- the members that were long in an issue directly after the cycle before the latest
+abbrev pub were_long : List ClearRecord → ℕ → List ℕ
+were_long c issue = longs_among issue (rows_of (history_of (up_to_previous c)))
+
+-- the plan of an issue
+abbrev pub plan_in : List ClearRecord → ℕ → List Planned
+plan_in c issue = plan_of issue (history_of c) (orders_of c) (books_of c).priorities (were_long c issue)
+
+-- the shares of an issue that covers brought, less those that deliveries took or still may take
+abbrev pub avail_in : List ClearRecord → ℕ → ℕ
+avail_in c issue = avail_of (orders_of c) issue
+
+-- a record is neither a cycle nor an allocation of the issue
+abbrev pub IsQuiet : ℕ → ClearRecord → Type 0
+IsQuiet issue (Accept t) = Unit {0}
+IsQuiet issue (Exempt m i s) = Unit {0}
+IsQuiet issue (Priority m i is_on) = Unit {0}
+IsQuiet issue (Cycle id) = ⊥
+IsQuiet issue (Allocate a) = (issue == a.issue) ≡ false
+IsQuiet issue (Confirm r) = Unit {0}
+
+abbrev pub AreQuiet : ℕ → List ClearRecord → Type 0
+AreQuiet issue [] = Unit {0}
+AreQuiet issue (r ∷ c) = IsQuiet issue r × AreQuiet issue c
+
+-- a lot is as these records have it: since it was opened there was neither a cycle nor an allocation of its issue; it has all
+-- shares that were there at its last pour, and the plan of its opening
+pub record IsLot (c : List ClearRecord) (lot : Lot) : Type 0 where
+  pub later : List ClearRecord
+  pub middle : List ClearRecord
+  pub before : List ClearRecord
+  pub split : c ≡ later ++ (middle ++ before)
+  pub opened : lot.opened ≡ length before
+  pub upto : lot.upto ≡ length (middle ++ before)
+  pub quiet : AreQuiet lot.issue (later ++ middle)
+  pub poured : lot.poured ≡ avail_in (middle ++ before) lot.issue
+  pub plan : lot.plan ≡ plan_in before lot.issue
+
+-- the open lots, at most one of an issue
+pub record AreLots (c : List ClearRecord) (lots : List Lot) : Type 0 where
+  pub each : All (IsLot c) lots
+  pub once : (issue : ℕ) → count_by (λ (lot : Lot). lot.issue == issue) lots ≤ 1
+
+-- an allocation closes a lot that is as these records have it, and its tickets serve the lot's plan
+pub record IsAllocation (c : List ClearRecord) (a : Allocation) : Type 0 where
+  pub plan : List Planned
+  pub lot : IsLot c (record { issue = a.issue; opened = a.opened; upto = a.upto; poured = a.poured; plan = plan })
+  pub served : IsServed plan (tickets_of a.drawn) a.sealed
+
+-- the lot that is opened after these records
+abbrev pub new_lot : List ClearRecord → ℕ → Lot
+new_lot c issue = record { issue = issue; opened = length c; upto = length c; poured = avail_in c issue; plan = plan_in c issue }
+
+-- the lots once that of an issue has got all shares that are there
+abbrev pub poured_into : List ClearRecord → ℕ → Lot → Lot
+poured_into c issue lot = if lot.issue == issue then record lot { upto = length c; poured = avail_in c issue } else lot
+
+abbrev pub lots_poured : List ClearRecord → ℕ → List Lot → List Lot
+lots_poured c issue lots = map (poured_into c issue) lots
+
+-- the lots without that of an issue
+abbrev pub without_lot : ℕ → List Lot → List Lot
+without_lot issue lots = filter (λ (lot : Lot). not (lot.issue == issue)) lots
+
+-- the lots once a record was added: an allocation closes the lot of its issue
+abbrev pub lots_after : ClearRecord → List Lot → List Lot
+lots_after (Accept t) lots = lots
+lots_after (Exempt m i s) lots = lots
+lots_after (Priority m i is_on) lots = lots
+lots_after (Cycle id) lots = lots
+lots_after (Allocate a) lots = without_lot a.issue lots
+lots_after (Confirm r) lots = lots
+
+-- a record may be added while these lots are open: no cycle runs while one is
+abbrev pub DoesNotDisturb : ClearRecord → List Lot → Type 0
+DoesNotDisturb (Accept t) lots = Unit {0}
+DoesNotDisturb (Exempt m i s) lots = Unit {0}
+DoesNotDisturb (Priority m i is_on) lots = Unit {0}
+DoesNotDisturb (Cycle id) lots = lots ≡ []
+DoesNotDisturb (Allocate a) lots = Unit {0}
+DoesNotDisturb (Confirm r) lots = Unit {0}

@@ -1,0 +1,83 @@
+-- The tickets of an allocation (this project's own format).
+use Rattle.std.specs.Prelude.{◌≡◌, ℕ, zero, suc, ◌≤◌, nat_le, Bool, true, ◌&&◌, List, [], ◌∷◌, ◌++◌, length, Vec, Result, Ok, Err}
+use Rattle.std.specs.Int.{w16, w32, w64, to_be_bytes}
+use Rattle.std.specs.declared.alloc.Global.{Global}
+use Rattle.std.specs.List.{All, flat_map}
+use Rattle.std.specs.List.Sorted.{IsNonDecreasingBy}
+use Rattle.cns_ids.specs.Member.{IsMember}
+use Rattle.cns_ids.specs.Shares.{IsShares}
+use Rattle.cns_movements.specs.Asked.{IsAsked}
+use Rattle.cns_records.specs.Fields.{bad, ◌>>=◌, tested_at, member_at, shares_at, asked_at}
+use Rattle.cns_records.specs.declared.bad_record.BadRecord.{BadRecord}
+use Rattle.cns_records.specs.declared.drawn.Drawn.{Drawn}
+use Rattle.cns_records.specs.declared.fault.RecordFault.{RecordFault}
+use Rattle.cns_records.specs.declared.fault.RecordFault.TheVariants as fault
+
+-- what the types of a ticket's fields promise
+pub record IsDrawn (t : Drawn) : Type 0 where
+  pub member : IsMember t.member
+  pub start : IsShares t.start
+  pub asked : IsAsked t.asked
+
+-- the same of each ticket of a list, of which there are not too many
+pub record AreDrawn (tickets : List Drawn) : Type 0 where
+  pub few : length tickets ≤ 9999
+  pub each : All IsDrawn tickets
+
+-- the tickets stand by their starts
+abbrev pub IsByStart : List Drawn → Type 0
+IsByStart tickets = IsNonDecreasingBy (λ (t : Drawn). t.start) tickets
+
+-- whether no ticket starts below the one before it, and the first not below this number
+abbrev pub starts_from : ℕ → List Drawn → Bool
+starts_from low [] = true
+starts_from low (t ∷ ts) = nat_le low t.start && starts_from t.start ts
+
+-- whether the tickets stand by their starts
+abbrev pub by_start : List Drawn → Bool
+by_start tickets = starts_from 0 tickets
+
+-- a ticket: its member, its start and how many shares it has
+abbrev pub ticket_bytes : Drawn → List ℕ
+ticket_bytes t = to_be_bytes w16 t.member ++ (to_be_bytes w64 t.start ++ to_be_bytes w64 t.asked)
+
+unfoldable pub ticket_at : List ℕ → Result (Drawn × List ℕ) BadRecord
+ticket_at bytes = do
+  member ← member_at bytes
+  start ← shares_at member.1
+  asked ← asked_at start.1
+  Ok (record { member = member.0; start = start.0; asked = asked.0 }, asked.1)
+
+-- so many tickets, one after the other
+unfoldable pub tickets_at : ℕ → List ℕ → Result (List Drawn × List ℕ) BadRecord
+tickets_at zero bytes = Ok ([], bytes)
+tickets_at (suc n) bytes = do
+  first ← ticket_at bytes
+  others ← tickets_at n first.1
+  Ok (first.0 ∷ others.0, others.1)
+
+-- whether an allocation may have so many tickets
+abbrev pub is_few : ℕ → Bool
+is_few n = nat_le n 9999
+
+-- tickets: how many they are, and each of them
+abbrev pub drawn_bytes : List Drawn → List ℕ
+drawn_bytes tickets = to_be_bytes w32 (length tickets) ++ flat_map ticket_bytes tickets
+
+unfoldable pub drawn_at : List ℕ → Result (List Drawn × List ℕ) BadRecord
+drawn_at bytes = do
+  count ← tested_at w32 is_few bytes
+  tickets_at count.0 count.1
+
+-- what a reader that takes memory returned, and the bytes that it left, are what reading gives; where memory was
+-- short nothing is claimed
+abbrev pub GivesIfRoom : {X : Type 0} → Result X RecordFault → List ℕ → Result (X × List ℕ) BadRecord → Type 0
+GivesIfRoom (Ok x) rest read = read ≡ Ok (x, rest)
+GivesIfRoom (Err fault.BadRecord) rest read = read ≡ bad
+GivesIfRoom (Err fault.OutOfMemory) rest read = Unit {0}
+
+-- the same where it returned a `Vec` of tickets
+abbrev pub GivesTickets : Result (Vec Drawn Global) RecordFault → List ℕ → Result (List Drawn × List ℕ) BadRecord → Type 0
+GivesTickets (Ok tickets) rest read = read ≡ Ok (tickets.items, rest)
+GivesTickets (Err fault.BadRecord) rest read = read ≡ bad
+GivesTickets (Err fault.OutOfMemory) rest read = Unit {0}
