@@ -1,0 +1,2 @@
+pub mod LotLemmas
+pub mod LotsLemmas

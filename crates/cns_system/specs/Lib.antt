@@ -1,0 +1,3 @@
+pub mod Lot
+pub mod Entry
+pub mod Lots
