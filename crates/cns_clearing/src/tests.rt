@@ -497,13 +497,21 @@ fn planned(of: u16, group: Group) -> Result<Planned, Fail> {
     })
 }
 
+// Runs a night cycle, whose only cover has this number.
+fn run_night(node: &mut Clearing<ListKeeper>, day: &[u8], first: u64) -> Result<(), Fail> {
+    let done = node.cycle(cycle(day, CycleKind::Night)?)?;
+    if done.first != Some(number(first)?) {
+        Err("the number of the first cover")?;
+    }
+    Ok(())
+}
+
 // Member 2 is long of 30 shares after the first cycle, and member 3 of as many after the second.
 fn group(node: &mut Clearing<ListKeeper>) -> Result<(), Fail> {
     node.take_trade(&sold(b"D1", b"2025-03-04", 2)?)?;
     node.take_trade(&sold(b"D2", b"2025-03-05", 3)?)?;
-    node.cycle(cycle(b"2025-03-04", CycleKind::Night)?)?;
-    node.cycle(cycle(b"2025-03-05", CycleKind::Night)?)?;
-    Ok(())
+    run_night(node, b"2025-03-04", 1)?;
+    run_night(node, b"2025-03-05", 2)
 }
 
 // The covers bring 40 shares.
@@ -605,19 +613,19 @@ fn assert_bad_tickets(
     assert_shares(rt, node, 0, 40, 0)
 }
 
+fn assert_unserved(rt: &impl Abort, node: &mut Clearing<ListKeeper>) -> Result<(), Fail> {
+    let first = ticket(2, 0, 30)?;
+    let late = ticket(3, 31, 30)?;
+    let turned = [ticket(3, 0, 30)?, ticket(2, 30, 30)?];
+    assert_bad_tickets(rt, node, &turned)?;
+    assert_bad_tickets(rt, node, &[first])?;
+    assert_bad_tickets(rt, node, &[first, late])
+}
+
 #[test]
 fn tickets_that_do_not_serve(rt: HostRuntime) -> Result<(), Fail> {
     let mut node = lent(rt.alloc())?;
-    let first = ticket(2, 0, 30)?;
-    let cases: [&[Ticket]; 3] = [
-        &[ticket(3, 0, 30)?, ticket(2, 30, 30)?],
-        &[first],
-        &[first, ticket(3, 31, 30)?],
-    ];
-    for tickets in cases {
-        assert_bad_tickets(&rt, &mut node, tickets)?;
-    }
-    Ok(())
+    assert_unserved(&rt, &mut node)
 }
 
 fn assert_closes(
@@ -651,19 +659,28 @@ fn assert_deliveries(rt: &impl Abort, node: &Clearing<ListKeeper>) -> Result<(),
     assert_shares(rt, node, 0, 0, 40)
 }
 
+fn assert_serves(rt: &impl Abort, node: &mut Clearing<ListKeeper>) -> Result<(), Fail> {
+    let tickets = [ticket(2, 0, 30)?, ticket(3, 30, 30)?];
+    assert_closes(rt, node, &tickets, false, 40)?;
+    assert_deliveries(rt, node)
+}
+
 #[test]
 fn a_lot_that_serves_all(rt: HostRuntime) -> Result<(), Fail> {
     let mut node = lent(rt.alloc())?;
-    let tickets = [ticket(2, 0, 30)?, ticket(3, 30, 30)?];
-    assert_closes(&rt, &mut node, &tickets, false, 40)?;
-    assert_deliveries(&rt, &node)
+    assert_serves(&rt, &mut node)
+}
+
+fn assert_seals(rt: &impl Abort, node: &mut Clearing<ListKeeper>) -> Result<(), Fail> {
+    let tickets = [ticket(2, 0, 30)?];
+    assert_closes(rt, node, &tickets, true, 30)?;
+    assert_shares(rt, node, 10, 0, 30)
 }
 
 #[test]
 fn a_lot_that_was_sealed(rt: HostRuntime) -> Result<(), Fail> {
     let mut node = lent(rt.alloc())?;
-    assert_closes(&rt, &mut node, &[ticket(2, 0, 30)?], true, 30)?;
-    assert_shares(&rt, &node, 10, 0, 30)
+    assert_seals(&rt, &mut node)
 }
 
 fn assert_pours(rt: &impl Abort, node: &mut Clearing<ListKeeper>) -> Result<(), Fail> {
@@ -674,13 +691,17 @@ fn assert_pours(rt: &impl Abort, node: &mut Clearing<ListKeeper>) -> Result<(), 
     assert_shares(rt, node, 0, 40, 0)
 }
 
+fn assert_late_pours(rt: &impl Abort, node: &mut Clearing<ListKeeper>) -> Result<(), Fail> {
+    node.lot_open(issue()?)?;
+    assert_shares(rt, node, 0, 0, 0)?;
+    cover(node)?;
+    assert_pours(rt, node)
+}
+
 #[test]
 fn a_lot_that_is_poured_into(rt: HostRuntime) -> Result<(), Fail> {
     let mut node = grouped(rt.alloc())?;
-    node.lot_open(issue()?)?;
-    assert_shares(&rt, &node, 0, 0, 0)?;
-    cover(&mut node)?;
-    assert_pours(&rt, &mut node)
+    assert_late_pours(&rt, &mut node)
 }
 
 fn assert_no_lot(rt: &impl Abort, node: &mut Clearing<ListKeeper>) -> Result<(), Fail> {
@@ -761,21 +782,25 @@ fn drawn(of: u16, start: u64, asked: u64) -> Result<Drawn, Fail> {
     })
 }
 
-// The record of a lot that was opened after so many records, and last poured into after 6.
+// The record of a lot that was opened after so many records, and last poured into after 6. Each ticket
+// has its member, its start and its shares.
 fn allocation(
     alloc: Global,
     opened: u64,
     poured: u64,
-    tickets: &[Drawn],
+    tickets: &[(u16, u64, u64)],
 ) -> Result<ClearRecord, Fail> {
-    let tickets = Vec::from_slice(alloc, tickets)?;
+    let mut list = Vec::new(alloc);
+    for (of, start, asked) in tickets {
+        list.push(drawn(*of, *start, *asked)?)?;
+    }
     Ok(ClearRecord::Allocate(Allocation {
         issue: issue()?,
         opened,
         upto: 6,
         poured: shares(poured)?,
         sealed: false,
-        drawn: DrawnList::from_vec(tickets).ok_or("a list of tickets")?,
+        drawn: DrawnList::from_vec(list).ok_or("a list of tickets")?,
     }))
 }
 
@@ -796,8 +821,7 @@ fn keeper_of_groups(alloc: Global, last: ClearRecord) -> Result<ListKeeper, Fail
 #[test]
 fn an_allocation_that_opens(rt: HostRuntime) -> Result<(), Fail> {
     let alloc = rt.alloc();
-    let tickets = [drawn(2, 0, 30)?, drawn(3, 30, 30)?];
-    let last = allocation(alloc, 6, 40, &tickets)?;
+    let last = allocation(alloc, 6, 40, &[(2, 0, 30), (3, 30, 30)])?;
     let node = opened(alloc, keeper_of_groups(alloc, last)?)?;
     assert_deliveries(&rt, &node)
 }
@@ -805,33 +829,31 @@ fn an_allocation_that_opens(rt: HostRuntime) -> Result<(), Fail> {
 fn assert_bad_allocation(
     rt: &impl Abort,
     alloc: Global,
-    last: ClearRecord,
+    opened: u64,
+    poured: u64,
+    tickets: &[(u16, u64, u64)],
 ) -> Result<(), Fail> {
-    let keeper = keeper_of_groups(alloc, last)?;
+    let keeper = keeper_of_groups(alloc, allocation(alloc, opened, poured, tickets)?)?;
     assert_eq!(rt; bad_place(alloc, keeper)?, 7);
     Ok(())
 }
 
+// Two tickets that leave a gap, two of a member, one of too much, and one of a member that is not long.
 #[test]
-fn allocations_that_are_bad(rt: HostRuntime) -> Result<(), Fail> {
+fn bad_tickets_of_allocations(rt: HostRuntime) -> Result<(), Fail> {
     let alloc = rt.alloc();
-    let first = drawn(2, 0, 30)?;
-    // How many records stood before the lot was opened, the shares that were poured, and the tickets:
-    // two that leave a gap, two of a member, one of too much, one of a member that is not long, and
-    // then two where the pour is too much, or the lot was opened too late.
-    let cases: [(u64, u64, &[Drawn]); 6] = [
-        (6, 40, &[first, drawn(3, 31, 30)?]),
-        (6, 40, &[drawn(2, 0, 10)?, drawn(2, 10, 10)?]),
-        (6, 40, &[drawn(2, 0, 31)?]),
-        (6, 40, &[first, drawn(1, 30, 1)?]),
-        (6, 41, &[first]),
-        (7, 40, &[first]),
-    ];
-    for (opened, poured, tickets) in cases {
-        let last = allocation(alloc, opened, poured, tickets)?;
-        assert_bad_allocation(&rt, alloc, last)?;
-    }
-    Ok(())
+    assert_bad_allocation(&rt, alloc, 6, 40, &[(2, 0, 30), (3, 31, 30)])?;
+    assert_bad_allocation(&rt, alloc, 6, 40, &[(2, 0, 10), (2, 10, 10)])?;
+    assert_bad_allocation(&rt, alloc, 6, 40, &[(2, 0, 31)])?;
+    assert_bad_allocation(&rt, alloc, 6, 40, &[(2, 0, 30), (1, 30, 1)])
+}
+
+// A pour of too much, and a lot that was opened after its last pour.
+#[test]
+fn bad_lots_of_allocations(rt: HostRuntime) -> Result<(), Fail> {
+    let alloc = rt.alloc();
+    assert_bad_allocation(&rt, alloc, 6, 41, &[(2, 0, 30)])?;
+    assert_bad_allocation(&rt, alloc, 7, 40, &[(2, 0, 30)])
 }
 
 #[test]

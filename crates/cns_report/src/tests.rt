@@ -1,10 +1,10 @@
 use crate::{
     NodeName, OpeningRefusal, Refusal, Subject, write_again, write_bad_command,
-    write_balance_report, write_confirm_again, write_confirm_done, write_cycle, write_cycle_report,
-    write_exec, write_exempt, write_fail, write_look, write_lot, write_opening_refused,
-    write_opening_row_fault, write_orders, write_pour, write_priority, write_refused,
-    write_report_end, write_restart, write_row_fault, write_seal, write_send, write_ticket,
-    write_trade, write_trade_refused,
+    write_balance_report, write_close, write_confirm_again, write_confirm_done, write_cycle,
+    write_cycle_report, write_exec, write_exempt, write_fail, write_look, write_lot,
+    write_opening_refused, write_opening_row_fault, write_orders, write_pour, write_priority,
+    write_refused, write_report_end, write_restart, write_row_fault, write_seal, write_send,
+    write_ticket, write_trade, write_trade_refused,
 };
 use cns_clearing::PoolRow;
 use cns_depository::{Account, BalanceRow};

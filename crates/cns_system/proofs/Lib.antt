@@ -1,2 +1,4 @@
 pub mod LotLemmas
 pub mod LotsLemmas
+pub mod TiedLemmas
+pub mod NumberedLemmas

@@ -25,7 +25,6 @@ pub record HasTurn (left : List Planned) (member asked : ℕ) : Type 0 where
   pub shares : asked + planned_sum (without member left) ≡ planned_sum left
   pub count : length (without member left) + 1 ≡ length left
 
--- they are so where it is its turn
 pub turn-has : (plan : List Planned) (tickets : List Ticket) (member asked : ℕ) → IsPlan plan → turn_of (waiting plan tickets) member ≡ Next asked
     → HasTurn (waiting plan tickets) member asked
 turn-has plan tickets member asked is next =

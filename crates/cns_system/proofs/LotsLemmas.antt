@@ -2,22 +2,21 @@
 use Rattle.std.proofs.Common.{◌≡◌, ◌<◌, ◌-◌, ◌+◌, ℕ, zero, suc, List, [], ◌∷◌, ◌++◌, length, map, take, drop, get_or, Option, Some, None, Result, Ok, Err, Bool, true, false, ap, sym, subst, refl, arith, ◌∙◌}
 use Rattle.std.specs.Prelude.{◌==◌, IsSomeAnd, slice_get, slice_set, if◌then◌else◌}
 use Rattle.std.proofs.lemmas.List.{set-get_or}
-use Rattle.std.proofs.lemmas.List.Elements.{All-get_or, All-map, All-weaker}
-use Rattle.std.proofs.lemmas.Option.{get_or_from_slice_get, slice_get_within}
+use Rattle.std.proofs.lemmas.List.Elements.{All-map, All-weaker}
+use Rattle.std.proofs.lemmas.Option.{get_or_from_slice_get}
 use Rattle.cns_pool.specs.declared.ticket.Ticket.{Ticket}
 use Rattle.cns_system.specs.declared.fault.ReserveFault.{ReserveFault}
 use Rattle.cns_system.specs.declared.fault.ReserveFault.TheVariants.{NoLot, StaleLot, NotLong, EarlierGroup, Sealed}
 use Rattle.cns_system.specs.Lot.{LotState, IsLot, with_end}
 use Rattle.cns_system.specs.Lots.{lot_at, update_at, AreLotsLawful, DrawLeaves, HasOpenLot, ReserveLeaves}
 
--- the lot that was opened with a number and has not ended, of which this holds
+-- the lot that was opened with a number and has not ended
 pub record IsOpen (lots : List LotState) (number : ℕ) (P : LotState → Type 0) : Type 0 where
   pub lot : LotState
   pub found : lot_at lots number ≡ Some lot
   pub going : lot.ended ≡ false
   pub holds : P lot
 
--- there is one where the fact says so, and the other way round
 pub open-parts : (lots : List LotState) (number : ℕ) (P : LotState → Type 0) → HasOpenLot lots number P → IsOpen lots number P
 open-parts lots number P is = by (lot_at lots number) refl is
   where
@@ -37,17 +36,6 @@ in_place lots number l d found = by (number == 0) found
     by true e = cc
     by false e = get_or_from_slice_get lots (number - 1) l d e
 
--- what holds of each lot holds of the one of a number
-pub lawful_at : (lots : List LotState) (number : ℕ) (l : LotState) → AreLotsLawful lots → lot_at lots number ≡ Some l → IsLot l
-lawful_at lots number l is found = by (number == 0) found
-  where
-    by : (b : Bool) → (if b then None else slice_get lots (number - 1)) ≡ Some l → IsLot l
-    by true e = cc
-    by false e =
-        let one : IsLot (get_or lots (number - 1) l) = All-get_or IsLot lots (number - 1) l (slice_get_within lots (number - 1) l e) is in
-        let here : get_or lots (number - 1) l ≡ l = get_or_from_slice_get lots (number - 1) l l e in subst IsLot here one
-
--- a number finds its lot also in a place that is known by another name
 read_at : (lots items : List LotState) (number place : ℕ) (l d : LotState) → items ≡ lots → place ≡ number - 1 → lot_at lots number ≡ Some l → get_or items place d ≡ l
 read_at lots items number place l d same is_place found = rw (same, is_place) (in_place lots number l d found)
 
@@ -92,20 +80,19 @@ reserve_leaves lots items number place member (Err EarlierGroup) l new is draws 
 reserve_leaves lots items number place member (Err Sealed) l new is draws =
     (open-from lots number _ l is.found is.going (draws.0, draws.1), ap (λ (k : LotState). slice_set items place k) draws.2 ∙ is.stays)
 
--- lots that are lawful still are when all have ended
+-- lots that have all ended are lawful
 pub lawful_ended : (lots : List LotState) → AreLotsLawful lots → AreLotsLawful (map with_end lots)
 lawful_ended lots is =
     All-map IsLot with_end lots
     (All-weaker IsLot (λ (l : LotState). IsLot (with_end l)) (λ l h. record { plan = h.plan; served = h.served; planned = h.planned; poured = h.poured }) lots is)
 
--- where the first i of some lots have ended, the next one ends
 ended_next : (lots : List LotState) (i : ℕ) (l new : LotState) → i < length lots → l ≡ get_or (map with_end (take i lots) ++ drop i lots) i l → new ≡ with_end l
     → slice_set (map with_end (take i lots) ++ drop i lots) i new ≡ map with_end (take (suc i) lots) ++ drop (suc i) lots
 ended_next [] i l new below read ended = absurd (omega (arith, below))
 ended_next (x ∷ lots) zero l new below read ended = ap (λ y. y ∷ lots) (ended ∙ ap with_end read)
 ended_next (x ∷ lots) (suc i) l new below read ended = ap (λ ys. with_end x ∷ ys) (ended_next lots i l new (omega (arith, below)) read ended)
 
--- the same, counted as a loop counts
+-- where the first i of some lots have ended, one more ends
 pub ended_more : (lots items : List LotState) (i : ℕ) (l new : LotState) → items ≡ map with_end (take i lots) ++ drop i lots → i < length lots → l ≡ get_or items i l
     → new ≡ with_end l → slice_set items i new ≡ map with_end (take (i + 1) lots) ++ drop (i + 1) lots
 ended_more lots items i l new first below read ended =

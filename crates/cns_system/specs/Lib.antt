@@ -1,3 +1,4 @@
 pub mod Lot
 pub mod Entry
 pub mod Lots
+pub mod Numbered

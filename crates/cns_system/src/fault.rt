@@ -31,6 +31,63 @@ pub enum ReserveFault {
     Sealed,
 }
 
+/// Why no lot is opened; the first that applies. (This project's own rule.)
+#[derive(Clone, Copy, PartialEq, Eq, Debug, Error)]
+pub enum OpenFault {
+    /// The node is down until it is restarted.
+    #[error("the clearing node is down")]
+    Down,
+    /// A lot of the issue is open.
+    #[error("a lot of the issue is open")]
+    LotAlready,
+    /// 1,000,000 lots were opened: there are no numbers left.
+    #[error("the numbers of lots are spent")]
+    LotsSpent,
+    /// There is no memory. Nothing has changed.
+    #[error("out of memory")]
+    OutOfMemory,
+}
+
+/// Why nothing is poured into a lot; the first that applies. (This project's own rule.)
+#[derive(Clone, Copy, PartialEq, Eq, Debug, Error)]
+pub enum PourFault {
+    /// No lot was opened with this number.
+    #[error("no lot has this number")]
+    NoLot,
+    /// The lot has ended.
+    #[error("the lot has ended")]
+    StaleLot,
+    /// The node is down until it is restarted.
+    #[error("the clearing node is down")]
+    Down,
+}
+
+/// Why a lot is not closed; the first that applies. (This project's own rule.)
+#[derive(Clone, Copy, PartialEq, Eq, Debug, Error)]
+pub enum CloseFault {
+    /// No lot was opened with this number.
+    #[error("no lot has this number")]
+    NoLot,
+    /// The lot has ended.
+    #[error("the lot has ended")]
+    StaleLot,
+    /// The node is down until it is restarted.
+    #[error("the clearing node is down")]
+    Down,
+    /// The lot is not sealed, and a member of its plan has no ticket.
+    #[error("a member of the plan has no ticket yet")]
+    Unserved,
+    /// The deliveries are more than the movement numbers that are left.
+    #[error("movement numbers are spent")]
+    NumbersSpent,
+    /// There is no memory. Nothing has changed.
+    #[error("out of memory")]
+    OutOfMemory,
+    /// The device of the journal failed. The lot is open, and the node is down until it is restarted.
+    #[error("the journal's device failed")]
+    Device,
+}
+
 impl From<LotFault> for ReserveFault {
     ghost use Rattle.std.specs.Prelude.{◌≡◌};
     ghost use Rattle.cns_system.specs.Lots.{reserve_fault};

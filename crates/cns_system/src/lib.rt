@@ -1,4 +1,4 @@
-//! The book of lots by number.
+//! The book of lots by number, and the clearing node with its lots by number.
 //!
 //! A lot gives the shares of an issue that are poured into it to the members of a plan, who draw
 //! tickets from it in turn.
@@ -7,10 +7,12 @@
 mod entry;
 mod fault;
 mod lots;
+mod numbered;
 
 pub use entry::Look;
-pub use fault::{LotFault, ReserveFault};
+pub use fault::{CloseFault, LotFault, OpenFault, PourFault, ReserveFault};
 pub use lots::LotBook;
+pub use numbered::{NumberedClearing, Opened};
 
 #[cfg(test)]
 mod tests;

@@ -1,4 +1,4 @@
-ghost use Rattle.std.specs.Prelude.{◌≡◌, ◌↔◌, ◌⊎◌, ◌+◌, ◌-◌, ◌^◌, ◌<◌, ◌≤◌, true, [], ◌∷◌, ◌++◌, length, map, IfOk, OnErr, OnOk, IsTrue};
+ghost use Rattle.std.specs.Prelude.{◌≡◌, ◌↔◌, ◌⊎◌, ◌+◌, ◌-◌, ◌^◌, ◌<◌, ◌≤◌, true, [], ◌∷◌, ◌++◌, length, map, take, IfOk, OnErr, OnOk, IsTrue};
 ghost use Rattle.cns_pool.specs.Pool.{asked_sum};
 ghost use Rattle.cns_allocate.specs.Served.{waiting};
 ghost use Rattle.cns_system.specs.Lot.{new_lot, planned_sum, with_end, with_pour, with_seal};
@@ -191,12 +191,19 @@ impl LotBook {
     }
 
     // The lot of a number.
-    fn find(&self, number: u64) -> Result<&LotEntry, LotFault>
+    pub(crate) fn find(&self, number: u64) -> Result<&LotEntry, LotFault>
         ensures gives { LotGives (λ lot entry. entry.now ≡ lot) number result self.now }
         ensures lawful { AreLotsLawful self.now }
     {
         let index = self.place(number)?;
         Ok(&self.lots[index])
+    }
+
+    // Takes back the lot that was opened last, whose number was given to nobody yet.
+    pub(crate) fn withdraw(&mut self)
+        ensures after { self.new ≡ take (length self.old - 1) self.old }
+    {
+        let _latest = self.lots.pop();
     }
 
     // The place of the lot of a number.

@@ -1,0 +1,250 @@
+-- What the calls of a node with its lots by number leave.
+use Rattle.std.proofs.Common.{◌≡◌, ◌≤◌, ◌-◌, ◌+◌, ℕ, zero, suc, List, [], ◌∷◌, ◌++◌, length, take, Option, Some, None, Result, Ok, Err, Bool, true, false, ap, sym, subst, refl, arith, ◌∙◌, inl, inr, length-append}
+use Rattle.std.specs.Prelude.{◌==◌, ◌⊎◌, All, IsSomeAnd, option_map, slice_get, unwrap_or, if◌then◌else◌}
+use Rattle.std.proofs.lemmas.Bool.{eq-eqb, eqb-true, false_from_ne_true}
+use Rattle.std.proofs.lemmas.List.Elements.{All-head, All-tail}
+use Rattle.std.proofs.lemmas.Option.{same_Some}
+use Rattle.std.proofs.Math.Seq.{take-append_seam}
+use Rattle.cns_netting.specs.Book.{IsBook}
+use Rattle.cns_netting.specs.declared.entry.NetEntry.{NetEntry}
+use Rattle.cns_covers.proofs.BoundLemmas.{settled_most}
+use Rattle.cns_pool.specs.declared.ticket.Ticket.{Ticket}
+use Rattle.cns_allocate.specs.Served.{IsServed, waiting}
+use Rattle.cns_allocate.specs.declared.planned.Planned.{Planned}
+use Rattle.cns_allocate.proofs.ServedLemmas.{served_whole}
+use Rattle.cns_allocate.proofs.TotalLemmas.{plan_of-total}
+use Rattle.cns_records.specs.declared.clear_record.ClearRecord.{ClearRecord}
+use Rattle.cns_clearing.specs.Answers.{LotCloseLeaves, LotOpenLeaves, LotPourLeaves}
+use Rattle.cns_clearing.specs.Books.{IsLawful, books_of, history_of, orders_of}
+use Rattle.cns_clearing.specs.Lots.{avail_in, lots_poured, plan_in, poured_into, were_long}
+use Rattle.cns_clearing.specs.Lots as node
+use Rattle.cns_clearing.specs.Node.{ClearNode}
+use Rattle.cns_clearing.specs.Pools.{free_of, lent_of, lot_of}
+use Rattle.cns_clearing.specs.Replay.{RestartLeaves}
+use Rattle.cns_clearing.proofs.BooksLemmas.{lawful_bounded}
+use Rattle.cns_clearing.specs.declared.fault.Closed.{Closed}
+use Rattle.cns_clearing.specs.declared.fault.LotOpenFault.{LotOpenFault}
+use Rattle.cns_clearing.specs.declared.fault.LotOpenFault.TheVariants as opening
+use Rattle.cns_clearing.specs.declared.fault.LotPourFault.{LotPourFault}
+use Rattle.cns_clearing.specs.declared.fault.LotPourFault.TheVariants as pouring
+use Rattle.cns_clearing.specs.declared.lot.Lot.{Lot}
+use Rattle.cns_clearing.specs.declared.replay.ReplayFault.{ReplayFault}
+use Rattle.cns_clearing.specs.declared.replay.ReplayFault.TheVariants.{OutOfMemory, BadJournal, Device}
+use Rattle.cns_clearing.specs.declared.replay.Restarted.{Restarted}
+use Rattle.cns_system.specs.Lot.{LotState, IsLot, new_lot, planned_sum, with_end, with_pour, with_seal, with_ticket}
+use Rattle.cns_system.specs.Lots.{lot_at, update_at, AreLotsLawful, HasOpenLot, LotLeaves, ReserveLeaves}
+use Rattle.cns_system.specs.Numbered.{AreTied}
+use Rattle.cns_system.specs.declared.fault.LotFault.{LotFault}
+use Rattle.cns_system.specs.declared.fault.LotFault.TheVariants as fault
+use Rattle.cns_system.specs.declared.fault.ReserveFault.{ReserveFault}
+use Rattle.cns_system.specs.declared.fault.ReserveFault.TheVariants as refusal
+use Rattle.cns_system.proofs.LotsLemmas.{open-from, open-parts}
+use Rattle.cns_system.proofs.TiedLemmas.{at_place, found_of, found_poured, found_without, tied_changed, tied_more}
+
+-- ---- a restart ends all lots
+
+pub restart_lots : (r : Result Restarted ReplayFault) (old new : ClearNode) → RestartLeaves r old new → new.lots ≡ []
+restart_lots (Ok done) old new h = ap (λ (n : ClearNode). n.lots) h.0
+restart_lots (Err OutOfMemory) old new h = ap (λ (n : ClearNode). n.lots) h.0
+restart_lots (Err (BadJournal place)) old new h = ap (λ (n : ClearNode). n.lots) h.0
+restart_lots (Err Device) old new h = ap (λ (n : ClearNode). n.lots) h.0
+
+-- ---- changes of the lots by number alone
+
+-- a lot that keeps its issue, its plan and what was poured
+stays_tied : (open_lots : List Lot) (lots : List LotState) (n : ℕ) (l x : LotState) → AreTied open_lots lots → lot_at lots n ≡ Some l → l.ended ≡ false
+    → x.issue ≡ l.issue → x.plan ≡ l.plan → x.poured ≡ l.poured → AreTied open_lots (update_at lots n x)
+stays_tied open_lots lots n l x are found going issue plan poured =
+    let tied = are.each n l found going in
+    tied_changed open_lots open_lots lots n l x are found going issue
+    (λ up. record { twin = tied.twin; found = ap (lot_of open_lots) issue ∙ tied.found; plan = tied.plan ∙ sym plan; poured = tied.poured ∙ sym poured })
+    (λ other differ. refl)
+
+pub seal_tied : (open_lots : List Lot) (n : ℕ) (r : Result (Unit {0}) LotFault) (lots after : List LotState) → AreTied open_lots lots → LotLeaves with_seal n r lots after
+    → AreTied open_lots after
+seal_tied open_lots n (Ok u) lots after are h =
+    let at = open-parts lots n (λ (l : LotState). after ≡ update_at lots n (with_seal l)) h in
+    subst (AreTied open_lots) (sym at.holds) (stays_tied open_lots lots n at.lot (with_seal at.lot) are at.found at.going refl refl refl)
+seal_tied open_lots n (Err fault.NoLot) lots after are h = subst (AreTied open_lots) (sym h.1) are
+seal_tied open_lots n (Err fault.StaleLot) lots after are h = subst (AreTied open_lots) (sym h.1) are
+
+pub reserve_tied : (open_lots : List Lot) (n member : ℕ) (r : Result Ticket ReserveFault) (lots after : List LotState) → AreTied open_lots lots
+    → ReserveLeaves n member r lots after → AreTied open_lots after
+reserve_tied open_lots n member (Ok ticket) lots after are h =
+    let at = open-parts lots n _ h in
+    subst (AreTied open_lots) (sym at.holds.3) (stays_tied open_lots lots n at.lot (with_ticket ticket at.lot) are at.found at.going refl refl refl)
+reserve_tied open_lots n member (Err refusal.NoLot) lots after are h = subst (AreTied open_lots) (sym h.1) are
+reserve_tied open_lots n member (Err refusal.StaleLot) lots after are h = subst (AreTied open_lots) (sym h.1) are
+reserve_tied open_lots n member (Err refusal.NotLong) lots after are h = subst (AreTied open_lots) (sym h.1) are
+reserve_tied open_lots n member (Err refusal.EarlierGroup) lots after are h = subst (AreTied open_lots) (sym h.1) are
+reserve_tied open_lots n member (Err refusal.Sealed) lots after are h = subst (AreTied open_lots) (sym h.1) are
+
+-- ---- an opening
+
+-- a plan asks for at most 10^18 shares in all
+pub small_plan : (c : List ClearRecord) (issue : ℕ) (h : List NetEntry) (plan : List Planned) → IsLawful c → h ≡ history_of c → IsBook h → plan ≡ plan_in c issue
+    → planned_sum plan ≤ 1000000000000000000
+small_plan c issue h plan lawful is fits is_plan =
+    let bounded = (lawful_bounded c lawful).bounded in
+    subst (λ (ps : List Planned). planned_sum ps ≤ 1000000000000000000) (sym is_plan)
+    (plan_of-total issue (history_of c) (orders_of c) (books_of c).priorities (were_long c issue) (subst IsBook is fits)
+    (λ m i. settled_most (history_of c) (orders_of c) bounded m i))
+
+-- where no lot is open, all shares that are there are free
+pub all_free : (c : List ClearRecord) (open_lots : List Lot) (issue : ℕ) → lot_of open_lots issue ≡ None → free_of (orders_of c) open_lots issue ≡ avail_in c issue
+all_free c open_lots issue none =
+    let lent : lent_of open_lots issue ≡ 0 = ap (λ (o : Option Lot). unwrap_or (option_map (λ (l : Lot). l.poured) o) 0) none in omega (arith, lent)
+
+pub open_tied : (old new : ClearNode) (lots after : List LotState) (issue poured : ℕ) (plan answer : List Planned) → AreTied old.lots lots
+    → LotOpenLeaves issue (Ok answer) old new → plan ≡ plan_in old.records issue → poured ≡ free_of (orders_of old.records) old.lots issue
+    → after ≡ lots ++ new_lot issue plan poured ∷ [] → AreTied new.lots after
+open_tied old new lots after issue poured plan answer are h is_plan free is =
+    let there : poured ≡ avail_in old.records issue = free ∙ all_free old.records old.lots issue h.1 in
+    subst (λ (l : List Lot). AreTied l after) (sym (ap (λ (n : ClearNode). n.lots) h.3))
+    (subst (AreTied (old.lots ++ node.new_lot old.records issue ∷ [])) (sym is)
+    (tied_more old.lots lots (node.new_lot old.records issue) (new_lot issue plan poured) are h.1 refl (sym is_plan) (sym there)))
+
+-- a refused opening leaves the node
+pub open_refused : (issue : ℕ) (f : LotOpenFault) (old new : ClearNode) → LotOpenLeaves issue (Err f) old new → new ≡ old
+open_refused issue opening.Down old new h = h.1
+open_refused issue opening.LotAlready old new h = h.2
+open_refused issue opening.OutOfMemory old new h = h.2
+
+-- the lots without the one that was opened last
+pub taken_back : (lots more after : List LotState) (x : LotState) → more ≡ lots ++ x ∷ [] → after ≡ take (length more - 1) more → after ≡ lots
+taken_back lots more after x is_more is =
+    let count : length (lots ++ x ∷ []) - 1 ≡ length lots = omega (arith, length-append lots (x ∷ [])) in
+    is ∙ ap (λ (l : List LotState). take (length l - 1) l) is_more ∙ ap (λ n. take n (lots ++ x ∷ [])) count ∙ take-append_seam lots (x ∷ [])
+
+-- ---- a lot that is open
+
+-- the node has it
+pub no_twin : (open_lots : List Lot) (lots : List LotState) (n issue : ℕ) (l : LotState) → AreTied open_lots lots → lot_at lots n ≡ Some l → l.ended ≡ false
+    → issue ≡ l.issue → lot_of open_lots issue ≡ None → ⊥
+no_twin open_lots lots n issue l are found going is none =
+    let tied = are.each n l found going in
+    let no : None ≡ Some tied.twin = sym none ∙ ap (lot_of open_lots) is ∙ tied.found in cc
+
+-- ---- a pour
+
+pub pour_never : (old new : ClearNode) (lots : List LotState) (n issue : ℕ) (f : LotPourFault) → AreTied old.lots lots → HasOpenLot lots n (λ (l : LotState). issue ≡ l.issue)
+    → old.down ≡ false → LotPourLeaves issue (Err f) old new → ⊥
+pour_never old new lots n issue pouring.Down are has up h = let no : true ≡ false = sym h.0 ∙ up in cc
+pour_never old new lots n issue pouring.NoLot are has up h =
+    let at = open-parts lots n (λ (l : LotState). issue ≡ l.issue) has in
+    no_twin old.lots lots n issue at.lot are at.found at.going at.holds h.1
+
+-- what is poured into a lot stays small
+pub pour_small : (old new : ClearNode) (lots : List LotState) (n issue shares free : ℕ) → AreTied old.lots lots → HasOpenLot lots n (λ (l : LotState). issue ≡ l.issue)
+    → free ≡ free_of (orders_of old.records) old.lots issue → free + lent_of old.lots issue ≤ 1000000000000000000
+    → LotPourLeaves issue (Ok shares) old new → HasOpenLot lots n (λ (l : LotState). l.poured + shares ≤ 1000000000000000000)
+pour_small old new lots n issue shares free are has is_free few h =
+    let at = open-parts lots n (λ (l : LotState). issue ≡ l.issue) has in
+    let tied = are.each n at.lot at.found at.going in
+    let found : lot_of old.lots issue ≡ Some tied.twin = ap (lot_of old.lots) at.holds ∙ tied.found in
+    let lent : lent_of old.lots issue ≡ tied.twin.poured = ap (λ (o : Option Lot). unwrap_or (option_map (λ (l : Lot). l.poured) o) 0) found in
+    let shares_are : shares ≡ free = h.1.free ∙ sym is_free in
+    let same : tied.twin.poured ≡ at.lot.poured = tied.poured in
+    open-from lots n (λ (l : LotState). l.poured + shares ≤ 1000000000000000000) at.lot at.found at.going (omega (arith, few, lent, shares_are, same))
+
+poured_same : (c : List ClearRecord) (issue : ℕ) (l : Lot) → l.issue ≡ issue → poured_into c issue l ≡ record l { upto = length c; poured = avail_in c issue }
+poured_same c issue l is = ap (λ b. if b then record l { upto = length c; poured = avail_in c issue } else l) (eq-eqb l.issue issue is)
+
+poured_other : (c : List ClearRecord) (issue : ℕ) (l : Lot) → (l.issue ≡ issue → ⊥) → poured_into c issue l ≡ l
+poured_other c issue l differ =
+    ap (λ b. if b then record l { upto = length c; poured = avail_in c issue } else l) (false_from_ne_true (l.issue == issue) (λ e. differ (eqb-true l.issue issue e)))
+
+others_poured : (c : List ClearRecord) (issue other : ℕ) (lots : List Lot) → (other ≡ issue → ⊥) → lot_of (lots_poured c issue lots) other ≡ lot_of lots other
+others_poured c issue other lots differ = found_poured c issue other lots ∙ by (lot_of lots other) refl
+  where
+    by : (o : Option Lot) → lot_of lots other ≡ o → option_map (poured_into c issue) o ≡ o
+    by None e = refl
+    by (Some l) e = ap Some (poured_other c issue l (λ is. differ (sym (found_of lots other l e) ∙ is)))
+
+pub pour_tied : (old new : ClearNode) (lots after : List LotState) (n issue shares : ℕ) → AreTied old.lots lots → HasOpenLot lots n (λ (l : LotState). issue ≡ l.issue)
+    → LotPourLeaves issue (Ok shares) old new → HasOpenLot lots n (λ (l : LotState). after ≡ update_at lots n (with_pour shares l)) → AreTied new.lots after
+pour_tied old new lots after n issue shares are has h pours =
+    let at = open-parts lots n (λ (l : LotState). issue ≡ l.issue) has in
+    let last = open-parts lots n (λ (l : LotState). after ≡ update_at lots n (with_pour shares l)) pours in
+    let one : last.lot ≡ at.lot = same_Some last.lot at.lot (sym last.found ∙ at.found) in
+    let after_is : after ≡ update_at lots n (with_pour shares at.lot) = last.holds ∙ ap (λ (l : LotState). update_at lots n (with_pour shares l)) one in
+    let tied = are.each n at.lot at.found at.going in
+    let twin : Lot = tied.twin in
+    let c : List ClearRecord = old.records in
+    let found : lot_of old.lots issue ≡ Some twin = ap (lot_of old.lots) at.holds ∙ tied.found in
+    let is : twin.issue ≡ issue = found_of old.lots issue twin found in
+    let poured : lot_of (lots_poured c issue old.lots) issue ≡ Some (record twin { upto = length c; poured = avail_in c issue }) =
+    found_poured c issue issue old.lots ∙ ap (option_map (poured_into c issue)) found ∙ ap Some (poured_same c issue twin is) in
+    let same : h.1.lot ≡ twin = same_Some h.1.lot twin (sym h.1.found ∙ found) in
+    let all : avail_in c issue ≡ at.lot.poured + shares = sym h.1.all ∙ ap (λ (l : Lot). l.poured + shares) same ∙ ap (λ p. p + shares) tied.poured in
+    subst (λ (l : List Lot). AreTied l after) (sym (ap (λ (m : ClearNode). m.lots) h.2))
+    (subst (AreTied (lots_poured c issue old.lots)) (sym after_is)
+    (tied_changed old.lots (lots_poured c issue old.lots) lots n at.lot (with_pour shares at.lot) are at.found at.going refl
+    (λ up. record {
+      twin = record twin { upto = length c; poured = avail_in c issue };
+      found = ap (lot_of (lots_poured c issue old.lots)) (sym at.holds) ∙ poured;
+      plan = tied.plan;
+      poured = all;
+    })
+    (λ other differ. others_poured c issue other old.lots (λ e. differ (e ∙ at.holds)))))
+
+-- ---- a close
+
+-- what a change of an open lot leaves
+pub change_is : (change : LotState → LotState) (n : ℕ) (r : Result (Unit {0}) LotFault) (lots after : List LotState) (l : LotState) → lot_at lots n ≡ Some l → l.ended ≡ false
+    → LotLeaves change n r lots after → after ≡ update_at lots n (change l)
+change_is change n (Ok u) lots after l found going h =
+    let at = open-parts lots n (λ (k : LotState). after ≡ update_at lots n (change k)) h in
+    at.holds ∙ ap (λ (k : LotState). update_at lots n (change k)) (same_Some at.lot l (sym at.found ∙ found))
+change_is change n (Err fault.NoLot) lots after l found going h = let no : None ≡ Some l = sym h.0 ∙ found in cc
+change_is change n (Err fault.StaleLot) lots after l found going h =
+    let Q : Option LotState → Type 0 = λ o. IsSomeAnd o (λ (k : LotState). k.ended ≡ true) in
+    let ended : l.ended ≡ true = subst Q found h.0 in
+    let no : true ≡ false = sym ended ∙ going in cc
+
+pub close_tied : (old new : ClearNode) (lots after : List LotState) (n issue : ℕ) (tickets : List Ticket) (sealed : Bool) (done : Closed) (l : LotState)
+    (r : Result (Unit {0}) LotFault) → AreTied old.lots lots → HasOpenLot lots n (λ (k : LotState). l ≡ k) → issue ≡ l.issue
+    → LotCloseLeaves issue tickets sealed (Ok done) old new → LotLeaves with_end n r lots after → AreTied new.lots after
+close_tied old new lots after n issue tickets sealed done l r are has is h ends =
+    let at = open-parts lots n (λ (k : LotState). l ≡ k) has in
+    let issue_is : issue ≡ at.lot.issue = is ∙ ap (λ (k : LotState). k.issue) at.holds in
+    let after_is = change_is with_end n r lots after at.lot at.found at.going ends in
+    let closes : h.0.issue ≡ at.lot.issue = ap (λ a. a.issue) h.1.closes ∙ found_of old.lots issue h.1.lot h.1.found ∙ issue_is in
+    subst (λ (ls : List Lot). AreTied ls after) (sym h.4.3)
+    (subst (AreTied (node.without_lot h.0.issue old.lots)) (sym after_is)
+    (tied_changed old.lots (node.without_lot h.0.issue old.lots) lots n at.lot (with_end at.lot) are at.found at.going refl
+    (λ up. absurd (let no : true ≡ false = up in cc))
+    (λ other differ. found_without h.0.issue other old.lots (λ e. differ (e ∙ closes)))))
+
+pub close_no_lot : (open_lots : List Lot) (lots : List LotState) (n issue : ℕ) (l : LotState) → AreTied open_lots lots → HasOpenLot lots n (λ (k : LotState). l ≡ k)
+    → issue ≡ l.issue → lot_of open_lots issue ≡ None → ⊥
+close_no_lot open_lots lots n issue l are has is none =
+    let at = open-parts lots n (λ (k : LotState). l ≡ k) has in
+    no_twin open_lots lots n issue at.lot are at.found at.going (is ∙ ap (λ (k : LotState). k.issue) at.holds) none
+
+lawful_at : (lots : List LotState) (i : ℕ) (l : LotState) → All IsLot lots → slice_get lots i ≡ Some l → IsLot l
+lawful_at [] i l all found = cc
+lawful_at (x ∷ lots) zero l all found = subst IsLot (same_Some x l found) (All-head IsLot x lots all)
+lawful_at (x ∷ lots) (suc i) l all found = lawful_at lots i l (All-tail IsLot x lots all) found
+
+-- the tickets of a lot that is sealed, or in which nobody waits, serve its plan
+pub met_served : (l : LotState) → IsLot l → ((l.sealed ≡ true) ⊎ (waiting l.plan l.tickets ≡ [])) → IsServed l.plan l.tickets l.sealed
+met_served l is met = by l.sealed refl met
+  where
+    by : (b : Bool) → l.sealed ≡ b → ((l.sealed ≡ true) ⊎ (waiting l.plan l.tickets ≡ [])) → IsServed l.plan l.tickets b
+    by true e m = is.served
+    by false e (inl is_sealed) = let no : true ≡ false = sym is_sealed ∙ e in cc
+    by false e (inr nobody) = served_whole l.plan l.tickets is.plan is.served nobody
+
+pub close_no_bad : (open_lots : List Lot) (lots : List LotState) (n issue : ℕ) (tickets : List Ticket) (sealed : Bool) (l : LotState) → AreTied open_lots lots
+    → AreLotsLawful lots → HasOpenLot lots n (λ (k : LotState). l ≡ k) → issue ≡ l.issue → tickets ≡ l.tickets → sealed ≡ l.sealed
+    → ((l.sealed ≡ true) ⊎ (waiting l.plan l.tickets ≡ []))
+    → ((twin : Lot) × (lot_of open_lots issue ≡ Some twin) × (IsServed twin.plan tickets sealed → ⊥)) → ⊥
+close_no_bad open_lots lots n issue tickets sealed l are lawful has is drawn seal met bad =
+    let at = open-parts lots n (λ (k : LotState). l ≡ k) has in
+    let found : lot_at lots n ≡ Some l = at.found ∙ ap Some (sym at.holds) in
+    let going : l.ended ≡ false = ap (λ (k : LotState). k.ended) at.holds ∙ at.going in
+    let tied = are.each n l found going in
+    let served = met_served l (lawful_at lots (n - 1) l lawful (at_place lots n l found).1) met in
+    let same : l.plan ≡ bad.0.plan = sym tied.plan ∙ ap (λ (k : Lot). k.plan) (same_Some tied.twin bad.0 (sym tied.found ∙ ap (lot_of open_lots) (sym is) ∙ bad.1)) in
+    bad.2 (rw (drawn, seal) (subst (λ (ps : List Planned). IsServed ps l.tickets l.sealed) same served))

@@ -1,0 +1,222 @@
+-- The lots by number beside those of the node, as either change.
+use Rattle.std.proofs.Common.{◌≡◌, ◌≤◌, ◌-◌, ◌+◌, ℕ, zero, suc, List, [], ◌∷◌, ◌++◌, length, map, Option, Some, None, Bool, true, false, not, cond, ap, sym, subst, refl, arith, ◌∙◌, inl, inr}
+use Rattle.std.specs.Prelude.{◌==◌, ◌⊎◌, find, slice_get, slice_set, option_map, if◌then◌else◌}
+use Rattle.std.specs.Option.{option_or}
+use Rattle.std.proofs.lemmas.Bool.{cases_eq, eq-eqb, eqb-false, eqb-true, false_from_ne_true}
+use Rattle.std.proofs.lemmas.List.Folds.{find-append}
+use Rattle.std.proofs.lemmas.Option.{same_Some, slice_get-map}
+use Rattle.cns_clearing.specs.Lots.{avail_in, lots_poured, poured_into, without_lot}
+use Rattle.cns_clearing.specs.Pools.{lot_of}
+use Rattle.cns_clearing.specs.declared.lot.Lot.{Lot}
+use Rattle.cns_records.specs.declared.clear_record.ClearRecord.{ClearRecord}
+use Rattle.cns_system.specs.Lot.{LotState, with_end}
+use Rattle.cns_system.specs.Lots.{lot_at, update_at}
+use Rattle.cns_system.specs.Numbered.{AreTied, IsTied}
+
+-- ---- the node's lot of an issue
+
+-- a lot that is found is of the issue
+pub found_of : (open_lots : List Lot) (issue : ℕ) (lot : Lot) → lot_of open_lots issue ≡ Some lot → lot.issue ≡ issue
+found_of [] issue lot found = cc
+found_of (first ∷ rest) issue lot found = by (first.issue == issue) refl found (found_of rest issue lot)
+  where
+    by : (b : Bool) → (first.issue == issue) ≡ b → cond b (Some first) (lot_of rest issue) ≡ Some lot → (lot_of rest issue ≡ Some lot → lot.issue ≡ issue) → lot.issue ≡ issue
+    by true e is more = subst (λ (l : Lot). l.issue ≡ issue) (same_Some first lot is) (eqb-true first.issue issue e)
+    by false e is more = more is
+
+-- a change that keeps what a test says of each
+found_mapped : (p : Lot → Bool) (f : Lot → Lot) → ((l : Lot) → p (f l) ≡ p l) → (lots : List Lot) → find p (map f lots) ≡ option_map f (find p lots)
+found_mapped p f same [] = refl
+found_mapped p f same (l ∷ lots) =
+    ap (λ b. cond b (Some (f l)) (find p (map f lots))) (same l) ∙ by (p l) (found_mapped p f same lots)
+  where
+    by : (b : Bool) → find p (map f lots) ≡ option_map f (find p lots) → cond b (Some (f l)) (find p (map f lots)) ≡ option_map f (cond b (Some l) (find p lots))
+    by true rest = refl
+    by false rest = rest
+
+poured_issue : (c : List ClearRecord) (issue : ℕ) (l : Lot) → (poured_into c issue l).issue ≡ l.issue
+poured_issue c issue l = by (l.issue == issue)
+  where
+    by : (b : Bool) → (if b then record l { upto = length c; poured = avail_in c issue } else l).issue ≡ l.issue
+    by true = refl
+    by false = refl
+
+pub found_poured : (c : List ClearRecord) (issue other : ℕ) (lots : List Lot) → lot_of (lots_poured c issue lots) other ≡ option_map (poured_into c issue) (lot_of lots other)
+found_poured c issue other lots =
+    found_mapped (λ (l : Lot). l.issue == other) (poured_into c issue) (λ l. ap (λ (n : ℕ). n == other) (poured_issue c issue l)) lots
+
+-- the lots without that of an issue have those of the others
+pub found_without : (issue other : ℕ) (lots : List Lot) → (other ≡ issue → ⊥) → lot_of (without_lot issue lots) other ≡ lot_of lots other
+found_without issue other [] differ = refl
+found_without issue other (l ∷ lots) differ =
+    by (l.issue == other) refl (l.issue == issue) refl (found_without issue other lots differ)
+  where
+    by : (b : Bool) → (l.issue == other) ≡ b → (d : Bool) → (l.issue == issue) ≡ d → lot_of (without_lot issue lots) other ≡ lot_of lots other
+        → lot_of (cond (not d) (l ∷ without_lot issue lots) (without_lot issue lots)) other ≡ cond b (Some l) (lot_of lots other)
+    by true e true f rest = absurd (differ (sym (eqb-true l.issue other e) ∙ eqb-true l.issue issue f))
+    by true e false f rest = ap (λ b. cond b (Some l) (lot_of (without_lot issue lots) other)) e
+    by false e true f rest = rest
+    by false e false f rest = ap (λ b. cond b (Some l) (lot_of (without_lot issue lots) other)) e ∙ rest
+
+found_more : (open_lots : List Lot) (new lot : Lot) (issue : ℕ) → lot_of open_lots issue ≡ Some lot → lot_of (open_lots ++ new ∷ []) issue ≡ Some lot
+found_more open_lots new lot issue found =
+    let p : Lot → Bool = λ (l : Lot). l.issue == issue in
+    find-append p open_lots (new ∷ []) ∙ ap (λ (o : Option Lot). option_or o (find p (new ∷ []))) found
+
+found_new : (open_lots : List Lot) (new : Lot) (issue : ℕ) → new.issue ≡ issue → lot_of open_lots issue ≡ None → lot_of (open_lots ++ new ∷ []) issue ≡ Some new
+found_new open_lots new issue is none =
+    let p : Lot → Bool = λ (l : Lot). l.issue == issue in
+    find-append p open_lots (new ∷ []) ∙ ap (λ (o : Option Lot). option_or o (find p (new ∷ []))) none
+    ∙ ap (λ b. cond b (Some new) None) (eq-eqb new.issue issue is)
+
+-- ---- the lot of a number
+
+get_set_same : (lots : List LotState) (i : ℕ) (l x : LotState) → slice_get lots i ≡ Some l → slice_get (slice_set lots i x) i ≡ Some x
+get_set_same [] i l x found = cc
+get_set_same (y ∷ lots) zero l x found = refl
+get_set_same (y ∷ lots) (suc i) l x found = get_set_same lots i l x found
+
+get_set_other : (lots : List LotState) (i j : ℕ) (x : LotState) → (j ≡ i → ⊥) → slice_get (slice_set lots i x) j ≡ slice_get lots j
+get_set_other [] i j x differ = refl
+get_set_other (y ∷ lots) zero zero x differ = absurd (differ refl)
+get_set_other (y ∷ lots) zero (suc j) x differ = refl
+get_set_other (y ∷ lots) (suc i) zero x differ = refl
+get_set_other (y ∷ lots) (suc i) (suc j) x differ = get_set_other lots i j x (λ e. differ (ap suc e))
+
+get_more : (lots : List LotState) (i : ℕ) (x l : LotState) → slice_get (lots ++ x ∷ []) i ≡ Some l → (slice_get lots i ≡ Some l) ⊎ ((i ≡ length lots) × (x ≡ l))
+get_more [] zero x l found = inr (refl, same_Some x l found)
+get_more [] (suc i) x l found = cc
+get_more (y ∷ lots) zero x l found = inl found
+get_more (y ∷ lots) (suc i) x l found = by (get_more lots i x l found)
+  where
+    by : (slice_get lots i ≡ Some l) ⊎ ((i ≡ length lots) × (x ≡ l)) → (slice_get lots i ≡ Some l) ⊎ ((suc i ≡ suc (length lots)) × (x ≡ l))
+    by (inl h) = inl h
+    by (inr h) = inr (ap suc h.0, h.1)
+
+positive : (n : ℕ) → (n ≡ 0 → ⊥) → 1 ≤ n
+positive zero differ = absurd (differ refl)
+positive (suc n) differ = omega arith
+
+-- a number that has a lot is 1 or more
+pub at_place : (lots : List LotState) (n : ℕ) (l : LotState) → lot_at lots n ≡ Some l → (1 ≤ n) × (slice_get lots (n - 1) ≡ Some l)
+at_place lots n l found = by (n == 0) refl found
+  where
+    by : (b : Bool) → (n == 0) ≡ b → (if b then None else slice_get lots (n - 1)) ≡ Some l → (1 ≤ n) × (slice_get lots (n - 1) ≡ Some l)
+    by true e is = cc
+    by false e is = (positive n (eqb-false n 0 e), is)
+
+from_place : (lots : List LotState) (n : ℕ) (l : LotState) → 1 ≤ n → slice_get lots (n - 1) ≡ Some l → lot_at lots n ≡ Some l
+from_place lots n l some found =
+    let given : (n == 0) ≡ false = false_from_ne_true (n == 0) (λ e. absurd (omega (arith, some, eqb-true n 0 e))) in
+    ap (λ b. if b then None else slice_get lots (n - 1)) given ∙ found
+
+-- ---- after a change
+
+-- where a number's lot took the place of one of the same issue
+record IsFrom (lots : List LotState) (m : ℕ) (k : LotState) : Type 0 where
+  before : LotState
+  found : lot_at lots m ≡ Some before
+  going : before.ended ≡ false
+  issue : before.issue ≡ k.issue
+
+at_changed : (lots : List LotState) (n m : ℕ) (l x k : LotState) → lot_at lots n ≡ Some l → lot_at (update_at lots n x) m ≡ Some k
+    → ((m ≡ n) × (x ≡ k)) ⊎ ((m ≡ n → ⊥) × (lot_at lots m ≡ Some k))
+at_changed lots n m l x k found changed = by (cases_eq m n)
+  where
+    here : (1 ≤ n) × (slice_get lots (n - 1) ≡ Some l)
+    here = at_place lots n l found
+
+    there : (1 ≤ m) × (slice_get (slice_set lots (n - 1) x) (m - 1) ≡ Some k)
+    there = at_place (update_at lots n x) m k changed
+
+    by : (m ≡ n) ⊎ (m ≡ n → ⊥) → ((m ≡ n) × (x ≡ k)) ⊎ ((m ≡ n → ⊥) × (lot_at lots m ≡ Some k))
+    by (inl e) =
+        inl (
+          e,
+          same_Some x k (sym (get_set_same lots (n - 1) l x here.1) ∙ ap (λ (i : ℕ). slice_get (slice_set lots (n - 1) x) (i - 1)) (sym e) ∙ there.1),
+        )
+    by (inr differ) =
+        let apart : m - 1 ≡ n - 1 → ⊥ = λ e. differ (omega (arith, e, here.0, there.0)) in
+        inr (differ, from_place lots m k there.0 (sym (get_set_other lots (n - 1) (m - 1) x apart) ∙ there.1))
+
+-- a lot of a number that has not ended changes, and stays of its issue; the lots of other issues stay
+pub tied_changed : (open_lots after : List Lot) (lots : List LotState) (n : ℕ) (l x : LotState) → AreTied open_lots lots → lot_at lots n ≡ Some l → l.ended ≡ false
+    → x.issue ≡ l.issue → (x.ended ≡ false → IsTied after x)
+    → ((other : ℕ) → (other ≡ l.issue → ⊥) → lot_of after other ≡ lot_of open_lots other) → AreTied after (update_at lots n x)
+tied_changed open_lots after lots n l x are found going issue one others = record {
+  each = λ m k at up. each m k at up (at_changed lots n m l x k found at);
+  once = λ m p k j at_m at_p up_k up_j same.
+      let first = from m k at_m up_k (at_changed lots n m l x k found at_m) in
+      let second = from p j at_p up_j (at_changed lots n p l x j found at_p) in
+      are.once m p first.before second.before first.found second.found first.going second.going (first.issue ∙ same ∙ sym second.issue);
+}
+  where
+    each : (m : ℕ) (k : LotState) → lot_at (update_at lots n x) m ≡ Some k → k.ended ≡ false
+        → ((m ≡ n) × (x ≡ k)) ⊎ ((m ≡ n → ⊥) × (lot_at lots m ≡ Some k)) → IsTied after k
+    each m k at up (inl h) = subst (λ (y : LotState). y.ended ≡ false → IsTied after y) h.1 one up
+    each m k at up (inr h) =
+        let tied = are.each m k h.1 up in
+        let other : k.issue ≡ l.issue → ⊥ = λ e. h.0 (are.once m n k l h.1 found up going e) in
+        record { twin = tied.twin; found = others k.issue other ∙ tied.found; plan = tied.plan; poured = tied.poured }
+
+    from : (m : ℕ) (k : LotState) → lot_at (update_at lots n x) m ≡ Some k → k.ended ≡ false
+        → ((m ≡ n) × (x ≡ k)) ⊎ ((m ≡ n → ⊥) × (lot_at lots m ≡ Some k)) → IsFrom lots m k
+    from m k at up (inl h) = record {
+      before = l;
+      found = ap (lot_at lots) h.0 ∙ found;
+      going = going;
+      issue = sym issue ∙ ap (λ (y : LotState). y.issue) h.1;
+    }
+    from m k at up (inr h) = record { before = k; found = h.1; going = up; issue = refl }
+
+-- the lots where both have one more
+pub tied_more : (open_lots : List Lot) (lots : List LotState) (new : Lot) (x : LotState) → AreTied open_lots lots → lot_of open_lots x.issue ≡ None
+    → new.issue ≡ x.issue → new.plan ≡ x.plan → new.poured ≡ x.poured → AreTied (open_lots ++ new ∷ []) (lots ++ x ∷ [])
+tied_more open_lots lots new x are none issue plan poured = record {
+  each = λ m k at up. each m k up (place m k at);
+  once = λ m p k j at_m at_p up_k up_j same. once m p k j up_k up_j same (place m k at_m) (place p j at_p);
+}
+  where
+    place : (m : ℕ) (k : LotState) → lot_at (lots ++ x ∷ []) m ≡ Some k → (lot_at lots m ≡ Some k) ⊎ ((m ≡ length lots + 1) × (x ≡ k))
+    place m k at =
+        let here = at_place (lots ++ x ∷ []) m k at in
+        by here.0 (get_more lots (m - 1) x k here.1)
+      where
+        by : 1 ≤ m → (slice_get lots (m - 1) ≡ Some k) ⊎ ((m - 1 ≡ length lots) × (x ≡ k)) → (lot_at lots m ≡ Some k) ⊎ ((m ≡ length lots + 1) × (x ≡ k))
+        by some (inl h) = inl (from_place lots m k some h)
+        by some (inr h) = inr (omega (arith, some, h.0), h.1)
+
+    each : (m : ℕ) (k : LotState) → k.ended ≡ false → (lot_at lots m ≡ Some k) ⊎ ((m ≡ length lots + 1) × (x ≡ k)) → IsTied (open_lots ++ new ∷ []) k
+    each m k up (inl h) =
+        let tied = are.each m k h up in
+        record { twin = tied.twin; found = found_more open_lots new tied.twin k.issue tied.found; plan = tied.plan; poured = tied.poured }
+    each m k up (inr h) =
+        subst (IsTied (open_lots ++ new ∷ [])) h.1 (record { twin = new; found = found_new open_lots new x.issue issue none; plan = plan; poured = poured })
+
+    apart : (m : ℕ) (k : LotState) → lot_at lots m ≡ Some k → k.ended ≡ false → k.issue ≡ x.issue → ⊥
+    apart m k at up e =
+        let tied = are.each m k at up in
+        let no : None ≡ Some tied.twin = sym none ∙ ap (lot_of open_lots) (sym e) ∙ tied.found in cc
+
+    once : (m p : ℕ) (k j : LotState) → k.ended ≡ false → j.ended ≡ false → k.issue ≡ j.issue → (lot_at lots m ≡ Some k) ⊎ ((m ≡ length lots + 1) × (x ≡ k))
+        → (lot_at lots p ≡ Some j) ⊎ ((p ≡ length lots + 1) × (x ≡ j)) → m ≡ p
+    once m p k j up_k up_j same (inl h) (inl g) = are.once m p k j h g up_k up_j same
+    once m p k j up_k up_j same (inl h) (inr g) = absurd (apart m k h up_k (same ∙ ap (λ (y : LotState). y.issue) (sym g.1)))
+    once m p k j up_k up_j same (inr h) (inl g) = absurd (apart p j g up_j (sym same ∙ ap (λ (y : LotState). y.issue) (sym h.1)))
+    once m p k j up_k up_j same (inr h) (inr g) = h.0 ∙ sym g.0
+
+-- lots that have all ended
+ended_at : (lots : List LotState) (n : ℕ) (k : LotState) → lot_at (map with_end lots) n ≡ Some k → k.ended ≡ true
+ended_at lots n k at =
+    let here = at_place (map with_end lots) n k at in
+    by (slice_get lots (n - 1)) (sym (slice_get-map with_end lots (n - 1)) ∙ here.1)
+  where
+    by : (o : Option LotState) → option_map with_end o ≡ Some k → k.ended ≡ true
+    by None e = cc
+    by (Some l) e = ap (λ (y : LotState). y.ended) (sym (same_Some (with_end l) k e))
+
+pub tied_ended : (lots : List LotState) → AreTied [] (map with_end lots)
+tied_ended lots = record {
+  each = λ n k at up. let no : true ≡ false = sym (ended_at lots n k at) ∙ up in cc;
+  once = λ m n k l at_m at_n up_k up_l same. let no : true ≡ false = sym (ended_at lots m k at_m) ∙ up_k in cc;
+}

@@ -1,0 +1,88 @@
+-- A clearing node with its lots by number, and what each call answers and leaves (this project's own rules). A refusal tells that
+-- those named before it did not apply; only `Device` leaves anything changed.
+use Rattle.std.specs.Prelude.{◌≡◌, ◌≢◌, ◌⊎◌, ℕ, ◌+◌, ◌<◌, ◌≤◌, true, false, List, [], ◌∷◌, ◌++◌, length, Some, None, Result, Ok, Err}
+use Rattle.cns_allocate.specs.Served.{waiting}
+use Rattle.cns_clearing.specs.Answers.{LotCloseLeaves, LotOpenLeaves, LotPourLeaves}
+use Rattle.cns_clearing.specs.Lots.{avail_in, plan_in}
+use Rattle.cns_clearing.specs.Node.{ClearNode}
+use Rattle.cns_clearing.specs.Pools.{lot_of}
+use Rattle.cns_clearing.specs.declared.lot.Lot.{Lot}
+use Rattle.cns_clearing.specs.declared.fault.Closed.{Closed}
+use Rattle.cns_clearing.specs.declared.fault.LotCloseFault.TheVariants as closing
+use Rattle.cns_system.specs.Lot.{LotState, new_lot, with_end, with_pour}
+use Rattle.cns_system.specs.Lots.{lot_at, update_at, HasEndedLot, HasOpenLot}
+use Rattle.cns_system.specs.declared.fault.OpenFault.{OpenFault}
+use Rattle.cns_system.specs.declared.fault.OpenFault.TheVariants as opening
+use Rattle.cns_system.specs.declared.fault.PourFault.{PourFault}
+use Rattle.cns_system.specs.declared.fault.PourFault.TheVariants as pouring
+use Rattle.cns_system.specs.declared.fault.CloseFault.{CloseFault}
+use Rattle.cns_system.specs.declared.fault.CloseFault.TheVariants as close
+use Rattle.cns_system.specs.declared.numbered.Opened.{Opened}
+
+-- the node, and the lots in the order of their numbers
+pub record NumberedNode : Type 0 where
+  pub clear : ClearNode
+  pub lots : List LotState
+
+-- one of the node's open lots is this one: it is of its issue, and has its plan and what was poured into it
+pub record IsTied (open_lots : List Lot) (lot : LotState) : Type 0 where
+  pub twin : Lot
+  pub found : lot_of open_lots lot.issue ≡ Some twin
+  pub plan : twin.plan ≡ lot.plan
+  pub poured : twin.poured ≡ lot.poured
+
+-- each lot that has not ended is one of the node's, and no two of them are of one issue
+pub record AreTied (open_lots : List Lot) (lots : List LotState) : Type 0 where
+  pub each : (number : ℕ) (lot : LotState) → lot_at lots number ≡ Some lot → lot.ended ≡ false → IsTied open_lots lot
+  pub once : (m n : ℕ) (k l : LotState) → lot_at lots m ≡ Some k → lot_at lots n ≡ Some l → k.ended ≡ false → l.ended ≡ false → k.issue ≡ l.issue → m ≡ n
+
+-- an opened lot has the next number and all shares of the issue that are there, and its plan has so many members
+pub record IsOpened (node : NumberedNode) (issue : ℕ) (opened : Opened) : Type 0 where
+  pub number : opened.number ≡ length node.lots + 1
+  pub poured : opened.poured ≡ avail_in node.clear.records issue
+  pub longs : opened.longs ≡ length (plan_in node.clear.records issue)
+
+-- what the opening of a lot leaves, by its answer
+abbrev pub OpenLeaves : ℕ → Result Opened OpenFault → NumberedNode → NumberedNode → Type 0
+OpenLeaves issue (Ok opened) old new =
+    (length old.lots < 1000000) × IsOpened old issue opened × LotOpenLeaves issue (Ok (plan_in old.clear.records issue)) old.clear new.clear
+    × (new.lots ≡ old.lots ++ new_lot issue (plan_in old.clear.records issue) opened.poured ∷ [])
+OpenLeaves issue (Err opening.Down) old new = (old.clear.down ≡ true) × (new ≡ old)
+OpenLeaves issue (Err opening.LotAlready) old new = (old.clear.down ≡ false) × (lot_of old.clear.lots issue ≢ None) × (new ≡ old)
+OpenLeaves issue (Err opening.LotsSpent) old new =
+    (old.clear.down ≡ false) × (lot_of old.clear.lots issue ≡ None) × (1000000 ≤ length old.lots) × (new ≡ old)
+OpenLeaves issue (Err opening.OutOfMemory) old new =
+    (old.clear.down ≡ false) × (lot_of old.clear.lots issue ≡ None) × (length old.lots < 1000000) × (new ≡ old)
+
+-- what a pour leaves, by its answer: what the node pours into the lot of the issue is poured into the lot of the number
+abbrev pub PourLeaves : ℕ → Result ℕ PourFault → NumberedNode → NumberedNode → Type 0
+PourLeaves number (Ok shares) old new =
+    HasOpenLot old.lots number
+    (λ (lot : LotState). LotPourLeaves lot.issue (Ok shares) old.clear new.clear × (new.lots ≡ update_at old.lots number (with_pour shares lot)))
+PourLeaves number (Err pouring.NoLot) old new = (lot_at old.lots number ≡ None) × (new ≡ old)
+PourLeaves number (Err pouring.StaleLot) old new = HasEndedLot old.lots number × (new ≡ old)
+PourLeaves number (Err pouring.Down) old new = HasOpenLot old.lots number (λ (lot : LotState). old.clear.down ≡ true) × (new ≡ old)
+
+-- a lot is sealed, or each member of its plan has a ticket
+abbrev pub IsMet : LotState → Type 0
+IsMet lot = (lot.sealed ≡ true) ⊎ (waiting lot.plan lot.tickets ≡ [])
+
+-- what a close leaves, by its answer: the node closes the lot of the issue with the tickets and the seal of the lot of the number
+abbrev pub CloseLeaves : ℕ → Result Closed CloseFault → NumberedNode → NumberedNode → Type 0
+CloseLeaves number (Ok done) old new =
+    HasOpenLot old.lots number
+    (λ (lot : LotState).
+    IsMet lot × LotCloseLeaves lot.issue lot.tickets lot.sealed (Ok done) old.clear new.clear × (new.lots ≡ update_at old.lots number (with_end lot)))
+CloseLeaves number (Err close.NoLot) old new = (lot_at old.lots number ≡ None) × (new ≡ old)
+CloseLeaves number (Err close.StaleLot) old new = HasEndedLot old.lots number × (new ≡ old)
+CloseLeaves number (Err close.Down) old new = HasOpenLot old.lots number (λ (lot : LotState). old.clear.down ≡ true) × (new ≡ old)
+CloseLeaves number (Err close.Unserved) old new =
+    HasOpenLot old.lots number (λ (lot : LotState). (old.clear.down ≡ false) × (lot.sealed ≡ false) × (waiting lot.plan lot.tickets ≢ [])) × (new ≡ old)
+CloseLeaves number (Err close.NumbersSpent) old new =
+    HasOpenLot old.lots number
+    (λ (lot : LotState). IsMet lot × LotCloseLeaves lot.issue lot.tickets lot.sealed (Err closing.NumbersSpent) old.clear new.clear) × (new ≡ old)
+CloseLeaves number (Err close.OutOfMemory) old new =
+    HasOpenLot old.lots number (λ (lot : LotState). IsMet lot × (old.clear.down ≡ false)) × (new ≡ old)
+CloseLeaves number (Err close.Device) old new =
+    HasOpenLot old.lots number
+    (λ (lot : LotState). IsMet lot × LotCloseLeaves lot.issue lot.tickets lot.sealed (Err closing.Device) old.clear new.clear) × (new.lots ≡ old.lots)

@@ -1,0 +1,310 @@
+ghost use Rattle.std.specs.Prelude.{◌≡◌, ◌^◌, ◌≤◌, [], length, map, IfOk};
+ghost use Rattle.cns_records.specs.declared.clear_record.ClearRecord.TheVariants.{Exempt, Priority};
+ghost use Rattle.cns_clearing.specs.Answers.{CycleLeaves, NodePlanned, ReplyLeaves, SettingLeaves, TradeLeaves};
+ghost use Rattle.cns_clearing.specs.Lots.{plan_in};
+ghost use Rattle.cns_clearing.specs.Replay.{RestartLeaves};
+ghost use Rattle.cns_pool.specs.Pool.{asked_sum};
+ghost use Rattle.cns_system.specs.Lot.{planned_sum, with_end, with_seal};
+ghost use Rattle.cns_system.specs.Lots.{AreLotsLawful, LotGives, LotLeaves, ReserveLeaves};
+ghost use Rattle.cns_system.specs.Numbered.{AreTied, CloseLeaves, OpenLeaves, PourLeaves};
+
+use crate::entry::Look;
+use crate::fault::{CloseFault, LotFault, OpenFault, PourFault, ReserveFault};
+use crate::lots::LotBook;
+use cns_allocate::Plan;
+use cns_clearing::{
+    Clearing, Closed, CycleFault, Cycled, LotCloseFault, ReplayFault, ReplyFault, Restarted,
+    SettingFault, Taken, TradeFault,
+};
+use cns_ids::{Cusip, CycleId, MemberNo, Shares};
+use cns_journal::{Keeper, NotPlanned};
+use cns_movements::Reply;
+use cns_pool::Ticket;
+use cns_trades::Trade;
+use std::alloc::{AllocError, Global};
+use std::marker::Model;
+
+// How many lots may be opened in all.
+const MAX_LOTS: u64 = 1_000_000;
+
+/// A lot that was opened.
+#[derive(Clone, Copy, PartialEq, Eq, Debug)]
+pub struct Opened {
+    /// Its number.
+    pub number: u64,
+    /// The shares that were poured into it.
+    pub poured: u64,
+    /// How many members its plan has.
+    pub longs: usize,
+}
+
+/// The clearing node, with its lots by number.
+///
+/// Each lot that has not ended is the node's open lot of its issue, with the same plan and the same
+/// shares poured, and its tickets serve the plan. (This project's own rules.)
+///
+/// Contracts see the node, and the lots in the order of their numbers.
+#[derive(Drop)]
+pub struct NumberedClearing<K: Keeper> {
+    node: Clearing<K>,
+    lots: LotBook,
+}
+
+impl<K: Keeper> Model for NumberedClearing<K> {
+    ghost use Rattle.cns_system.specs.Numbered.{AreTied, NumberedNode};
+
+    ghost Value = { NumberedNode };
+
+    ghost view = { λ n. record { clear = n.node; lots = n.lots } };
+
+    ghost invariant = { λ n. AreTied n.node.lots n.lots };
+}
+
+impl<K: Keeper> NumberedClearing<K> {
+    /// A node without open lots, and no lots by number. It takes no memory.
+    pub fn new(alloc: Global, node: Clearing<K>) -> NumberedClearing<K>
+        requires { node.lots ≡ [] }
+        ensures clear { result.clear ≡ node }
+        ensures lots { result.lots ≡ [] }
+    {
+        NumberedClearing {
+            node,
+            lots: LotBook::new(alloc),
+        }
+    }
+
+    /// The clearing node.
+    pub fn node(&self) -> &Clearing<K>
+        ensures { result.now ≡ self.now.clear }
+    {
+        &self.node
+    }
+
+    /// The lots by number.
+    pub fn book(&self) -> &LotBook
+        ensures lots { result.now ≡ self.now.lots }
+
+        // Each lot that has not ended is the node's open lot of its issue.
+        ensures tied { AreTied self.now.clear.lots self.now.lots }
+    {
+        &self.lots
+    }
+
+    /// How many lots were opened, which is the highest number that was given.
+    pub fn lot_count(&self) -> u64
+        ensures { result ≡ length self.now.lots }
+    {
+        self.lots.len()
+    }
+
+    /// Opens a lot of an issue: all its free shares are poured into it, its plan is fixed, and it has
+    /// the next number.
+    ///
+    /// Refuses `Down`, then `LotAlready`, then `LotsSpent` where 1,000,000 lots were opened. It adds no
+    /// record. (This project's own rule.)
+    pub fn lot_open(&mut self, issue: Cusip) -> Result<Opened, OpenFault>
+        ensures { OpenLeaves issue result self.old self.new }
+    {
+        if self.node.is_down() {
+            return Err(OpenFault::Down);
+        }
+        if self.node.lot(issue).is_some() {
+            return Err(OpenFault::LotAlready);
+        }
+        if self.lots.len() >= MAX_LOTS {
+            return Err(OpenFault::LotsSpent);
+        }
+        let Ok(plan) = plan_of(&self.node, issue) else {
+            return Err(OpenFault::OutOfMemory);
+        };
+        let poured = self.node.free(issue) as u64;
+        let Ok(number) = self.lots.open(issue, &plan, poured) else {
+            return Err(OpenFault::OutOfMemory);
+        };
+        match self.node.lot_open(issue) {
+            Ok(plan) => Ok(Opened {
+                number,
+                poured,
+                longs: plan.len(),
+            }),
+            Err(_) => {
+                self.lots.withdraw();
+                Err(OpenFault::OutOfMemory)
+            }
+        }
+    }
+
+    /// Draws a member's ticket from a lot, of all the shares that are planned for it, which starts
+    /// where the last one of the lot ends. It takes no memory, and is the same while the node is down.
+    ///
+    /// It is refused where the number has no lot, the lot has ended, the member is not planned or has
+    /// its ticket, a planned member of an earlier group has no ticket yet, or the lot is sealed, and
+    /// told the first of these that applies. A refusal changes nothing. (This project's own rule.)
+    pub fn reserve(&mut self, number: u64, member: MemberNo) -> Result<Ticket, ReserveFault>
+        ensures lots { ReserveLeaves number member result self.old.lots self.new.lots }
+        ensures clear { self.new.clear ≡ self.old.clear }
+    {
+        self.lots.reserve(number, member)
+    }
+
+    /// What was poured into a lot, the shares of its tickets, and whether it is sealed.
+    pub fn look(&mut self, number: u64) -> Result<Look, LotFault>
+        ensures shown { LotGives (λ lot shown. shown ≡ record {
+          poured = lot.poured;
+          asked = asked_sum lot.tickets;
+          sealed = lot.sealed;
+        }) number result self.old.lots }
+        ensures same { self.new ≡ self.old }
+    {
+        self.lots.look(number)
+    }
+
+    /// Seals a lot: no ticket is drawn from it from now on. A sealed lot stays as it is.
+    pub fn seal(&mut self, number: u64) -> Result<(), LotFault>
+        ensures lots { LotLeaves with_seal number result self.old.lots self.new.lots }
+        ensures clear { self.new.clear ≡ self.old.clear }
+    {
+        self.lots.seal(number)
+    }
+
+    /// Pours the shares of a lot's issue that have become free into the lot, and answers how many.
+    ///
+    /// Refuses `NoLot`, then `StaleLot`, then `Down`. It adds no record and takes no memory. (This
+    /// project's own rule.)
+    pub fn lot_pour(&mut self, number: u64) -> Result<u64, PourFault>
+        ensures { PourLeaves number result self.old self.new }
+    {
+        let issue = match self.lots.issue(number) {
+            Ok(issue) => issue,
+            Err(LotFault::NoLot) => return Err(PourFault::NoLot),
+            Err(LotFault::StaleLot) => return Err(PourFault::StaleLot),
+        };
+        if self.node.is_down() {
+            return Err(PourFault::Down);
+        }
+        // What is free and what the lot has are together few enough for it.
+        let _free = self.node.free(issue);
+        let Ok(shares) = self.node.lot_pour(issue) else {
+            unreachable!()
+        };
+        self.lots.pour(number, shares);
+        Ok(shares)
+    }
+
+    /// Closes a lot with the tickets that its members drew: each is granted what was poured into its
+    /// interval, and a delivery of that is ordered, where it is not 0. What was not granted is free
+    /// again, and the lot has ended.
+    ///
+    /// Refuses `NoLot`, then `StaleLot`, then `Down`, then `Unserved` where the lot is not sealed and a
+    /// member of its plan has no ticket, then `NumbersSpent`, which never comes where nothing is
+    /// granted. After `Device` the lot is open and nothing is ordered, and the node is down until it is
+    /// restarted. (This project's own rule.)
+    pub fn lot_close(&mut self, number: u64) -> Result<Closed, CloseFault>
+        ensures { CloseLeaves number result self.old self.new }
+    {
+        let lot = match self.lots.find(number) {
+            Ok(lot) => lot,
+            Err(LotFault::NoLot) => return Err(CloseFault::NoLot),
+            Err(LotFault::StaleLot) => return Err(CloseFault::StaleLot),
+        };
+        if self.node.is_down() {
+            return Err(CloseFault::Down);
+        }
+        if !lot.is_served() {
+            return Err(CloseFault::Unserved);
+        }
+        match self
+            .node
+            .lot_close(lot.issue(), lot.tickets(), lot.is_sealed())
+        {
+            Ok(closed) => {
+                let _ended = self.lots.end(number);
+                Ok(closed)
+            }
+            Err(LotCloseFault::NumbersSpent) => Err(CloseFault::NumbersSpent),
+            Err(LotCloseFault::OutOfMemory) => Err(CloseFault::OutOfMemory),
+            Err(LotCloseFault::Device) => Err(CloseFault::Device),
+            Err(LotCloseFault::Down) => unreachable!(),
+            Err(LotCloseFault::NoLot) => unreachable!(),
+            Err(LotCloseFault::BadTickets) => unreachable!(),
+        }
+    }
+
+    /// Restarts the node as it does itself. All lots end, also where the restart is refused.
+    pub fn restart(&mut self) -> Result<Restarted, ReplayFault>
+        ensures clear { RestartLeaves result self.old.clear self.new.clear }
+        ensures lots { self.new.lots ≡ map with_end self.old.lots }
+    {
+        self.lots.end_all();
+        self.node.restart()
+    }
+
+    /// Accepts a trade, as the node does itself.
+    pub fn take_trade(&mut self, trade: &Trade) -> Result<(), TradeFault>
+        ensures clear { TradeLeaves trade.now result self.old.clear self.new.clear }
+        ensures lots { self.new.lots ≡ self.old.lots }
+    {
+        self.node.take_trade(trade)
+    }
+
+    /// Exempts shares of a member in an issue from covers, as the node does itself.
+    pub fn exempt(
+        &mut self,
+        member: MemberNo,
+        issue: Cusip,
+        shares: Shares,
+    ) -> Result<(), SettingFault>
+        ensures clear { SettingLeaves (Exempt member issue shares) result self.old.clear self.new.clear }
+        ensures lots { self.new.lots ≡ self.old.lots }
+    {
+        self.node.exempt(member, issue, shares)
+    }
+
+    /// Sets whether a member has priority in an issue, as the node does itself.
+    pub fn priority(&mut self, member: MemberNo, issue: Cusip, on: bool) -> Result<(), SettingFault>
+        ensures clear { SettingLeaves (Priority member issue on) result self.old.clear self.new.clear }
+        ensures lots { self.new.lots ≡ self.old.lots }
+    {
+        self.node.priority(member, issue, on)
+    }
+
+    /// Runs a cycle, as the node does itself.
+    pub fn cycle(&mut self, id: CycleId) -> Result<Cycled, CycleFault>
+        ensures clear { CycleLeaves id result self.old.clear self.new.clear }
+        ensures lots { self.new.lots ≡ self.old.lots }
+    {
+        self.node.cycle(id)
+    }
+
+    /// Takes the depository's reply to an order, as the node does itself.
+    pub fn take_reply(&mut self, reply: &Reply) -> Result<Taken, ReplyFault>
+        ensures clear { ReplyLeaves reply.now result self.old.clear self.new.clear }
+        ensures lots { self.new.lots ≡ self.old.lots }
+    {
+        self.node.take_reply(reply)
+    }
+
+    /// Makes the next commit of the keeper fail, where the keeper plans failures, as the node does
+    /// itself.
+    pub fn plan(&mut self, stands: bool) -> Result<(), NotPlanned>
+        ensures clear { NodePlanned stands result self.old.clear self.new.clear }
+        ensures lots { self.new.lots ≡ self.old.lots }
+    {
+        self.node.plan(stands)
+    }
+}
+
+// The plan that a lot of an issue would have if it were opened now.
+fn plan_of<K: Keeper>(node: &Clearing<K>, issue: Cusip) -> Result<Plan, AllocError>
+    ensures plan { IfOk result (λ plan. plan ≡ plan_in node.now.records issue) }
+    ensures small { IfOk result (λ plan. planned_sum plan ≤ 10 ^ 18) }
+{
+    let plan = node.lot_plan(issue)?;
+    let book = node.book();
+    let [first, ..] = plan.as_slice() else {
+        return Ok(plan);
+    };
+    // As all positions are bounded, so is what the plan asks for in all.
+    let _position = book.position(first.member, issue);
+    Ok(plan)
+}
