@@ -6,7 +6,9 @@
 # Reading: 10,000, 100,000 and 1,000,000 trades, each taken and told. From one size
 # to the next the time may grow by 12 at most: the last column says `ok` or `TOO SLOW`.
 # Netting: 1,000, 4,000 and 16,000 trades of 50 members in 20 issues, two cycles and a
-# report. These times are only printed.
+# report. Lots: 5,000 and 20,000 trades in 200 issues, three rounds of a cycle, a pump, a
+# lot of each issue and a pump. Longs: 1,000, 3,000 and 9,000 members that one lot of one
+# issue serves. These times are only printed.
 # Each input is run three times; the time is the best, the memory the highest.
 # The exit status is 0; with --strict it is 1 where a line of the first table says
 # TOO SLOW or FAILED.
@@ -119,6 +121,19 @@ last=''
 measure 1000 1000 - --members 50 --issues 20 --net
 measure 4000 4000 - --members 50 --issues 20 --net
 measure 16000 16000 - --members 50 --issues 20 --net
+
+printf '\nlots (500 members, 20 of them sellers, 200 issues, three rounds)\n'
+printf '%10s %10s %9s %9s %9s\n' rows bytes seconds MiB growth
+last=''
+measure 5000 5000 - --sellers 20 --rounds 3
+measure 20000 20000 - --sellers 20 --rounds 3
+
+printf '\nlongs (one lot of one issue)\n'
+printf '%10s %10s %9s %9s %9s\n' rows bytes seconds MiB growth
+last=''
+measure 1000 3000 - --longs
+measure 3000 9000 - --longs
+measure 9000 27000 - --longs
 bad=$netting
 
 [[ $strict == yes ]] && exit "$bad"

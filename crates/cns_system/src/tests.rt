@@ -13,6 +13,8 @@ use cns_trades::{Trade, TradeId};
 use std::alloc::Global;
 use std::test::Fail;
 
+mod numbered;
+
 fn member(number: u16) -> Result<MemberNo, Fail> {
     Ok(MemberNo::new(number).ok_or("member")?)
 }

@@ -10,25 +10,26 @@ use Rattle.cns_records.specs.declared.clear_record.ClearRecord.{ClearRecord}
 use Rattle.cns_records.specs.declared.clear_record.ClearRecord.TheVariants as entry
 use Rattle.cns_clearing.specs.Answers.{CycleLeaves, covers_in}
 use Rattle.cns_clearing.specs.Books.{are_spent, books_of, is_later, latest_of, orders_of}
-use Rattle.cns_clearing.specs.Node.{ClearNode, Added, Failed}
+use Rattle.cns_clearing.specs.Node.{Added, Failed}
 use Rattle.cns_clearing.specs.declared.lot.Lot.{Lot}
 use Rattle.cns_clearing.specs.declared.fault.Cycled.{Cycled}
 use Rattle.cns_clearing.specs.declared.fault.CycleFault.{CycleFault}
 use Rattle.cns_clearing.specs.declared.fault.CycleFault.TheVariants as cycle
+use Rattle.cns_system.specs.Numbered.{NumberedNode}
 use Rattle.cns_report.specs.Lines.{cycle_line, order_lines, refused_line}
 use Rattle.cns_report.specs.declared.refusal.Subject.TheVariants as subject
 use Rattle.cns_report.specs.declared.refusal.Refusal.TheVariants as refusal
 use Rattle.cnsd.specs.Clear.{clear_commits, cycle_text, cycled}
 use Rattle.cnsd.specs.ClearTexts.{IsTold, cycle_answer_text}
 use Rattle.cnsd.specs.States.{ClearState, IsKnown, clear_added, clear_failed, clear_state, is_failure}
-use Rattle.cnsd.proofs.StateLemmas.{clear_when_added, clear_when_failed}
+use Rattle.cnsd.proofs.StateLemmas.{clear_unchanged, clear_when_added, clear_when_failed}
 
 -- a state and a text as wanted
 pub record IsAsWanted (wanted : ClearState × List ℕ) (new : ClearState) (out out' : List ℕ) : Type 0 where
   pub state : new ≡ wanted.0
   pub text : out' ≡ out ++ wanted.1
 
-as_wanted : (wanted : ClearState × List ℕ) (new : ClearState) (line out out' : List ℕ) → (new, line) ≡ wanted → out' ≡ out ++ line → IsAsWanted wanted new out out'
+pub as_wanted : (wanted : ClearState × List ℕ) (new : ClearState) (line out out' : List ℕ) → (new, line) ≡ wanted → out' ≡ out ++ line → IsAsWanted wanted new out out'
 as_wanted wanted new line out out' e t = record {
   state = ap (λ (p : ClearState × List ℕ). p.0) e;
   text = t ∙ ap (λ (p : ClearState × List ℕ). out ++ p.1) e;
@@ -43,19 +44,20 @@ commits_failed : (s s' : ClearState) (r : ClearRecord) (done failed : List ℕ) 
     → (s', failed) ≡ clear_commits s r done failed
 commits_failed s s' r done failed fails same = rw (same, fails) refl
 
-commit_done : (old new : ClearNode) (r : ClearRecord) (done failed : List ℕ) → Added r old new → (clear_state new, done) ≡ clear_commits (clear_state old) r done failed
-commit_done old new r done failed added =
+commit_done : (old new : NumberedNode) (r : ClearRecord) (done failed : List ℕ) → Added r old.clear new.clear → new.lots ≡ old.lots
+    → (clear_state new, done) ≡ clear_commits (clear_state old) r done failed
+commit_done old new r done failed added lots =
     let commit = clear_when_added r old new added in
-    commits_done (clear_state old) (clear_state new) r done failed commit.0 commit.1
+    commits_done (clear_state old) (clear_state new) r done failed commit.0 (commit.1 ∙ rw lots refl)
 
-commit_failed : (old new : ClearNode) (r : ClearRecord) (done failed : List ℕ) → IsKnown old.honest old.tried old.foresight → Failed r old new
-    → (clear_state new, failed) ≡ clear_commits (clear_state old) r done failed
-commit_failed old new r done failed known fails =
-    let commit = clear_when_failed r old new known.foreseen fails in
+commit_failed : (old new : NumberedNode) (r : ClearRecord) (done failed : List ℕ) → IsKnown old.clear.honest old.clear.tried old.clear.foresight
+    → Failed r old.clear new.clear → new.lots ≡ old.lots → (clear_state new, failed) ≡ clear_commits (clear_state old) r done failed
+commit_failed old new r done failed known fails lots =
+    let commit = clear_when_failed r old new known.foreseen fails lots in
     commits_failed (clear_state old) (clear_state new) r done failed commit.0 commit.1
 
 -- the covers of a cycle are the last orders after it
-last_of : (before made : List Order) (n : ℕ) → n ≡ length made → drop (length (before ++ made) - n) (before ++ made) ≡ made
+pub last_of : (before made : List Order) (n : ℕ) → n ≡ length made → drop (length (before ++ made) - n) (before ++ made) ≡ made
 last_of before made n is =
     let size : length (before ++ made) - n ≡ length before = omega (arith, is, length-append before made) in
     rw size (drop-append_seam before made)
@@ -96,24 +98,25 @@ cycled_beside_lots s id up later some = by s.lots refl
     by (lot ∷ lots) e = rw (up, later, e) refl
 
 -- what a cycle leaves and tells
-pub cycle_told : (id : CycleId) (answer : Result Cycled CycleFault) (old new : ClearNode) (out out' : List ℕ) → IsKnown old.honest old.tried old.foresight
-    → CycleLeaves id answer old new → IsTold (cycle_answer_text id new.records answer) out out' → IsAsWanted (cycled (clear_state old) id) (clear_state new) out out'
-cycle_told id (Ok done) old new out out' known (allowed, none, made, added) told =
-    let lines : cycle_line id done.due ++ order_lines (drop (length (orders_of new.records).orders - done.count) (orders_of new.records).orders)
-    ≡ cycle_text (clear_state old) id (covers_in old.records id.day) =
-    rw (made.due, last_orders old.records new.records id done.count added.1 made.count) refl in
-    as_wanted _ _ _ out out' (commit_done old new (entry.Cycle id) _ _ added ∙ cycled_up (clear_state old) id added.0 allowed.0 none allowed.1) (told ∙ ap (λ l. out ++ l) lines)
-cycle_told id (Err cycle.Down) old new out out' known (down, same) told =
-    as_wanted _ _ _ out out' (ap (λ (n : ClearNode). (clear_state n, refused_line subject.Cycle refusal.Down)) same ∙ cycled_down (clear_state old) id down) told
-cycle_told id (Err cycle.CycleOrder) old new out out' known (up, early, same) told =
-    as_wanted _ _ _ out out' (ap (λ (n : ClearNode). (clear_state n, refused_line subject.Cycle refusal.CycleOrder)) same ∙ cycled_early (clear_state old) id up early) told
-cycle_told id (Err cycle.LotsOpen) old new out out' known (up, later, some, same) told =
-    as_wanted _ _ _ out out' (ap (λ (n : ClearNode). (clear_state n, refused_line subject.Cycle refusal.LotsOpen)) same ∙ cycled_beside_lots (clear_state old) id up later some) told
-cycle_told id (Err cycle.NumbersSpent) old new out out' known (up, later, none, spent, same) told =
-    as_wanted _ _ _ out out' (ap (λ (n : ClearNode). (clear_state n, refused_line subject.Cycle refusal.NumbersSpent)) same ∙ cycled_spent (clear_state old) id up later none spent) told
-cycle_told id (Err cycle.OutOfMemory) old new out out' known left told = absurd told
-cycle_told id (Err cycle.Device) old new out out' known (allowed, none, failed) told =
-    as_wanted _ _ _ out out' (commit_failed old new (entry.Cycle id) _ _ known failed ∙ cycled_up (clear_state old) id failed.0 allowed.0 none allowed.1) told
+pub cycle_told : (id : CycleId) (answer : Result Cycled CycleFault) (old new : NumberedNode) (out out' : List ℕ) → IsKnown old.clear.honest old.clear.tried old.clear.foresight
+    → CycleLeaves id answer old.clear new.clear → new.lots ≡ old.lots → IsTold (cycle_answer_text id new.clear.records answer) out out'
+    → IsAsWanted (cycled (clear_state old) id) (clear_state new) out out'
+cycle_told id (Ok done) old new out out' known (allowed, none, made, added) lots told =
+    let lines : cycle_line id done.due ++ order_lines (drop (length (orders_of new.clear.records).orders - done.count) (orders_of new.clear.records).orders)
+    ≡ cycle_text (clear_state old) id (covers_in old.clear.records id.day) =
+    rw (made.due, last_orders old.clear.records new.clear.records id done.count added.1 made.count) refl in
+    as_wanted _ _ _ out out' (commit_done old new (entry.Cycle id) _ _ added lots ∙ cycled_up (clear_state old) id added.0 allowed.0 none allowed.1) (told ∙ ap (λ l. out ++ l) lines)
+cycle_told id (Err cycle.Down) old new out out' known (down, same) lots told =
+    as_wanted _ _ _ out out' (rw (clear_unchanged old new same lots) (cycled_down (clear_state old) id down)) told
+cycle_told id (Err cycle.CycleOrder) old new out out' known (up, early, same) lots told =
+    as_wanted _ _ _ out out' (rw (clear_unchanged old new same lots) (cycled_early (clear_state old) id up early)) told
+cycle_told id (Err cycle.LotsOpen) old new out out' known (up, later, some, same) lots told =
+    as_wanted _ _ _ out out' (rw (clear_unchanged old new same lots) (cycled_beside_lots (clear_state old) id up later some)) told
+cycle_told id (Err cycle.NumbersSpent) old new out out' known (up, later, none, spent, same) lots told =
+    as_wanted _ _ _ out out' (rw (clear_unchanged old new same lots) (cycled_spent (clear_state old) id up later none spent)) told
+cycle_told id (Err cycle.OutOfMemory) old new out out' known left lots told = absurd told
+cycle_told id (Err cycle.Device) old new out out' known (allowed, none, failed) lots told =
+    as_wanted _ _ _ out out' (commit_failed old new (entry.Cycle id) _ _ known failed lots ∙ cycled_up (clear_state old) id failed.0 allowed.0 none allowed.1) told
 
 -- what follows from what holds where an answer is Ok holds there
 pub on_ok : {A E : Type 0} (r : Result A E) (P Q : Type 0) → (P → Q) → OnOk r P → OnOk r Q

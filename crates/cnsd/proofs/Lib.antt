@@ -6,3 +6,4 @@ pub mod StateLemmas
 pub mod OpenedLemmas
 pub mod ClearSideLemmas
 pub mod DepotSideLemmas
+pub mod LotCommandLemmas

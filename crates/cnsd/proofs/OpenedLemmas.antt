@@ -38,9 +38,9 @@ depot_opened openings run journal foresight node opened empty =
 
 pub clear_first : (keeper : KeeperState) (node : ClearNode) → clear.IsOpened keeper node → keeper.honest ≡ true
     → keeper.journal ≡ record { kept = []; undecided = None } → keeper.foresight ≡ sure
-    → clear_state node ≡ record { records = []; tried = None; down = false; lots = []; foresight = sure }
+    → clear_state (record { clear = node; lots = [] }) ≡ record { records = []; tried = None; down = false; lots = []; numbered = []; foresight = sure }
 clear_first keeper node opened honest empty known =
-    ap clear_state opened.value ∙ rw (clear_opened keeper node opened honest empty, known) refl
+    ap (λ (n : ClearNode). clear_state (record { clear = n; lots = [] })) opened.value ∙ rw (clear_opened keeper node opened honest empty, known) refl
 
 pub depot_first : (openings : List Opening) (run : Running) (journal : Journal) (foresight : Foresight) (node : DepNode)
     → depot.IsOpened openings true run journal foresight node → journal ≡ record { kept = []; undecided = None } → foresight ≡ sure

@@ -6,6 +6,7 @@ use Rattle.cns_records.specs.declared.clear_record.ClearRecord.{ClearRecord}
 use Rattle.cns_records.specs.declared.dep_record.DepRecord.{DepRecord}
 use Rattle.cns_clearing.specs.Node as clear
 use Rattle.cns_depository.specs.Node as depot
+use Rattle.cns_system.specs.Numbered.{NumberedNode}
 use Rattle.cnsd.specs.States.{IsKnown, after_failure, clear_added, clear_failed, clear_state, depot_added, depot_failed, depot_state, is_failure}
 
 -- a commit that may succeed does not fail
@@ -51,15 +52,21 @@ known_failed honest honest' tried tried' f f' known h fails =
     }
 
 -- the clearing node after an acknowledged record, and after one whose commit failed
-pub clear_when_added : (r : ClearRecord) (old new : clear.ClearNode) → clear.Added r old new
-    → (is_failure old.foresight.next ≡ false) × (clear_state new ≡ clear_added (clear_state old) r)
+pub clear_when_added : (r : ClearRecord) (old new : NumberedNode) → clear.Added r old.clear new.clear
+    → (is_failure old.clear.foresight.next ≡ false) × (clear_state new ≡ record (clear_added (clear_state old) r) { numbered = new.lots })
 clear_when_added r old new (up, records, tried, lots, honest, still, failures, foresight, may) =
-    (no_failure old.foresight.next may, rw (records, tried, lots, still, up, foresight) refl)
+    (no_failure old.clear.foresight.next may, rw (records, tried, lots, still, up, foresight) refl)
 
-pub clear_when_failed : (r : ClearRecord) (old new : clear.ClearNode) → old.foresight.next ≢ Unforeseen → clear.Failed r old new
-    → (is_failure old.foresight.next ≡ true) × (clear_state new ≡ clear_failed (clear_state old) r)
-clear_when_failed r old new foreseen (up, records, tried, lots, honest, down, risen, failed) =
-    (a_failure old.foresight.next new.foresight foreseen failed, rw (records, tried, lots, down, failure_to old.foresight.next new.foresight foreseen failed) refl)
+pub clear_when_failed : (r : ClearRecord) (old new : NumberedNode) → old.clear.foresight.next ≢ Unforeseen → clear.Failed r old.clear new.clear → new.lots ≡ old.lots
+    → (is_failure old.clear.foresight.next ≡ true) × (clear_state new ≡ clear_failed (clear_state old) r)
+clear_when_failed r old new foreseen (up, records, tried, lots, honest, down, risen, failed) same = (
+  a_failure old.clear.foresight.next new.clear.foresight foreseen failed,
+  rw (records, tried, lots, down, failure_to old.clear.foresight.next new.clear.foresight foreseen failed, same) refl,
+)
+
+-- a call that leaves the node and the lots by number as they were
+pub clear_unchanged : (old new : NumberedNode) → new.clear ≡ old.clear → new.lots ≡ old.lots → clear_state new ≡ clear_state old
+clear_unchanged old new same lots = rw (same, lots) refl
 
 -- the depository likewise
 pub depot_when_added : (e : DepRecord) (old new : depot.DepNode) → depot.Added e old new

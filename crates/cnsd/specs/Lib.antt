@@ -4,6 +4,7 @@ pub mod Words
 pub mod Script
 pub mod States
 pub mod Clear
+pub mod LotCommands
 pub mod ClearTexts
 pub mod Depot
 pub mod Link

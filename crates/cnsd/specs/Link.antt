@@ -40,7 +40,7 @@ sure = record { next = Succeeds; stands = None }
 -- the start: nothing but openings
 abbrev pub first_world : List Opening → World
 first_world openings = record {
-  clear = record { records = []; tried = None; down = false; lots = []; foresight = sure };
+  clear = record { records = []; tried = None; down = false; lots = []; numbered = []; foresight = sure };
   depot = record { openings = openings; records = []; tried = None; down = false; foresight = sure };
   orders = [];
   replies = [];

@@ -1,25 +1,34 @@
 -- What the text of a script reads of the two nodes, and what a commit, a planned failure and a restart leave of it.
-use Rattle.std.specs.Prelude.{◌≡◌, ◌≢◌, Bool, true, false, List, [], ◌∷◌, Option, Some, None}
+use Rattle.std.specs.Prelude.{◌≡◌, ◌≢◌, Bool, true, false, List, [], ◌∷◌, map, Option, Some, None}
 use Rattle.cns_journal.specs.Keeper.{Foresight, Forecast, Unforeseen, Succeeds, Fails}
 use Rattle.cns_records.specs.declared.clear_record.ClearRecord.{ClearRecord}
 use Rattle.cns_records.specs.declared.dep_record.DepRecord.{DepRecord}
 use Rattle.cns_trades.specs.declared.opening.Opening.{Opening}
 use Rattle.cns_clearing.specs.Lots.{lots_after}
-use Rattle.cns_clearing.specs.Node.{ClearNode}
 use Rattle.cns_clearing.specs.declared.lot.Lot.{Lot}
+use Rattle.cns_system.specs.Lot.{LotState, with_end}
+use Rattle.cns_system.specs.Numbered.{NumberedNode}
 use Rattle.cns_depository.specs.Node.{DepNode}
 
--- the clearing node: its records, the newest first, the record whose commit failed, whether the node is down, its open lots, and
--- what is known beforehand of its keeper
+-- the clearing node: its records, the newest first, the record whose commit failed, whether the node is down, its open lots, all
+-- lots in the order of their numbers, and what is known beforehand of its keeper
 pub record ClearState : Type 0 where
   pub records : List ClearRecord
   pub tried : Option ClearRecord
   pub down : Bool
   pub lots : List Lot
+  pub numbered : List LotState
   pub foresight : Foresight
 
-abbrev pub clear_state : ClearNode → ClearState
-clear_state n = record { records = n.records; tried = n.tried; down = n.down; lots = n.lots; foresight = n.foresight }
+abbrev pub clear_state : NumberedNode → ClearState
+clear_state n = record {
+  records = n.clear.records;
+  tried = n.clear.tried;
+  down = n.clear.down;
+  lots = n.clear.lots;
+  numbered = n.lots;
+  foresight = n.clear.foresight;
+}
 
 -- the depository: its openings, and the same
 pub record DepotState : Type 0 where
@@ -81,6 +90,7 @@ clear_restarted s = record {
   tried = None;
   down = false;
   lots = [];
+  numbered = map with_end s.numbered;
   foresight = record s.foresight { stands = None };
 }
 

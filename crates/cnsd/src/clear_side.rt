@@ -5,35 +5,35 @@ ghost use Rattle.cns_netting.specs.Rows.{rows_of};
 ghost use Rattle.cns_report.specs.Lines.{restart_line};
 ghost use Rattle.cns_report.specs.Report.{cycle_report_text};
 ghost use Rattle.cns_report.specs.declared.refusal.NodeName.TheVariants as node;
-ghost use Rattle.cns_report.specs.declared.refusal.Subject.TheVariants as subject;
-ghost use Rattle.cns_report.specs.Lines.{exempt_line, priority_line};
 ghost use Rattle.cnsd.specs.Clear.{told_trade, told_row, told_rows, exempted, prioritized, cycled, order_at, told_reply, unconfirmed as unconfirmed_of};
-ghost use Rattle.cnsd.specs.ClearTexts.{trade_text, setting_text, cycle_answer_text, reply_text, IsTold};
 ghost use Rattle.cnsd.specs.Link.{sure};
+ghost use Rattle.cnsd.specs.LotCommands.{allocated, closed, drawn, looked_at, lot_opened, members_of, poured, sealed, served};
 ghost use Rattle.cnsd.specs.States.{clear_restarted, is_returned, planned};
 
-use cns_clearing::{
-    Clearing, CycleFault, Cycled, OrderFault, ReplyFault, SettingFault, Taken, TradeFault,
+use crate::serving::{After, OpenedLot, reserve_each};
+use crate::tell::{
+    tell_close, tell_cycle, tell_exempt, tell_look, tell_lot, tell_pour, tell_priority, tell_reply,
+    tell_reserve, tell_seal, tell_trade,
 };
+use cns_allocate::Planned;
+use cns_clearing::{Clearing, OrderFault};
 use cns_ids::{Cusip, CycleId, MemberNo, Shares};
 use cns_journal::ListKeeper;
 use cns_movements::{MoveNo, Order, Reply};
-use cns_report::{
-    NodeName, Refusal, Subject, write_confirm_again, write_confirm_done, write_cycle,
-    write_cycle_report, write_exempt, write_orders, write_priority, write_refused, write_restart,
-    write_row_fault, write_trade, write_trade_refused,
-};
-use cns_trades::{Row, Trade, TradeId, Verdict};
+use cns_report::{NodeName, write_cycle_report, write_restart, write_row_fault};
+use cns_system::NumberedClearing;
+use cns_trades::{Row, Trade};
 use std::alloc::{AllocError, Global};
 use std::marker::Model;
 
-/// The clearing node over a keeper in memory, of which all is known beforehand.
+/// The clearing node with its lots by number, over a keeper in memory, of which all is known
+/// beforehand.
 ///
-/// Contracts see its records, the one whose commit failed, whether it is down, its open lots, and what
-/// is known beforehand.
+/// Contracts see its records, the one whose commit failed, whether it is down, its open lots, all lots
+/// in the order of their numbers, and what is known beforehand.
 #[derive(Drop)]
 pub(crate) struct ClearSide {
-    node: Clearing<ListKeeper>,
+    node: NumberedClearing<ListKeeper>,
     alloc: Global,
 }
 
@@ -44,18 +44,21 @@ impl Model for ClearSide {
 
     ghost view = { λ s. clear_state s.node };
 
-    ghost invariant = { λ s. IsKnown s.node.honest s.node.tried s.node.foresight };
+    ghost invariant = { λ s. IsKnown s.node.clear.honest s.node.clear.tried s.node.clear.foresight };
 }
 
 impl ClearSide {
     /// A node without records.
     pub(crate) fn new(alloc: Global) -> Result<ClearSide, AllocError>
-        ensures { IfOk result (λ side. side ≡ record { records = []; tried = None; down = false; lots = []; foresight = sure }) }
+        ensures { IfOk result (λ side. side ≡ record { records = []; tried = None; down = false; lots = []; numbered = []; foresight = sure }) }
     {
         let Ok(node) = Clearing::open(alloc, ListKeeper::new(alloc)) else {
             return Err(AllocError);
         };
-        Ok(ClearSide { node, alloc })
+        Ok(ClearSide {
+            node: NumberedClearing::new(alloc, node),
+            alloc,
+        })
     }
 
     // Takes a trade, and tells it.
@@ -114,7 +117,7 @@ impl ClearSide {
         ensures text { OnOk result (string_bytes out.new ≡ string_bytes out.old ++ (cycled self.old cycle.now).1) }
     {
         let answer = self.node.cycle(*cycle);
-        tell_cycle(&self.node, cycle, answer, out)
+        tell_cycle(self.node.node(), cycle, answer, out)
     }
 
     /// The order of this number.
@@ -122,8 +125,8 @@ impl ClearSide {
         ensures { result ≡ order_at self.now number }
     {
         match MoveNo::new(number) {
-            Some(number) => self.node.order(number),
-            None if self.node.is_down() => Err(OrderFault::Down),
+            Some(number) => self.node.node().order(number),
+            None if self.node.node().is_down() => Err(OrderFault::Down),
             None => Err(OrderFault::UnknownMove),
         }
     }
@@ -132,7 +135,7 @@ impl ClearSide {
     pub(crate) fn unconfirmed(&self) -> Result<Vec<u64>, AllocError>
         ensures { IfOk result (λ numbers. numbers.items ≡ unconfirmed_of (orders_of self.now.records).orders (orders_of self.now.records).replies) }
     {
-        let book = self.node.orders();
+        let book = self.node.node().orders();
         let mut numbers = Vec::new(self.alloc);
         for order in book.orders() {
             if book.confirmed(order.number).is_none() {
@@ -149,6 +152,107 @@ impl ClearSide {
     {
         let answer = self.node.take_reply(reply);
         tell_reply(reply, answer, out)
+    }
+
+    /// Opens a lot of an issue, and tells it.
+    pub(crate) fn lot_open(
+        &mut self,
+        issue: Cusip,
+        out: &mut String,
+    ) -> Result<Option<OpenedLot>, AllocError>
+        ensures after { OnOk result (self.new ≡ (lot_opened self.old issue).state) }
+        ensures text { OnOk result (string_bytes out.new ≡ string_bytes out.old ++ (lot_opened self.old issue).text) }
+        ensures opened { IfOk result (λ lot. lot ≡ (lot_opened self.old issue).opened) }
+    {
+        let answer = self.node.lot_open(issue);
+        tell_lot(answer, out)?;
+        let Ok(opened) = answer else {
+            return Ok(None);
+        };
+        let Ok(plan) = self.node.book().planned(opened.number) else {
+            unreachable!()
+        };
+        Ok(Some(OpenedLot {
+            number: opened.number,
+            members: members(self.alloc, plan)?,
+        }))
+    }
+
+    /// Pours the free shares of its issue into a lot, and tells it.
+    pub(crate) fn pour(&mut self, number: u64, out: &mut String) -> Result<(), AllocError>
+        ensures after { OnOk result (self.new ≡ (poured self.old number).0) }
+        ensures text { OnOk result (string_bytes out.new ≡ string_bytes out.old ++ (poured self.old number).1) }
+    {
+        let answer = self.node.lot_pour(number);
+        tell_pour(answer, out)
+    }
+
+    /// Draws a member's ticket from a lot, and tells it.
+    pub(crate) fn reserve(
+        &mut self,
+        number: u64,
+        member: MemberNo,
+        out: &mut String,
+    ) -> Result<After, AllocError>
+        ensures after { OnOk result (self.new ≡ (drawn self.old number member).state) }
+        ensures text { OnOk result (string_bytes out.new ≡ string_bytes out.old ++ (drawn self.old number member).text) }
+        ensures next { IfOk result (λ after. after ≡ (drawn self.old number member).after) }
+    {
+        let answer = self.node.reserve(number, member);
+        tell_reserve(answer, out)
+    }
+
+    /// Looks at a lot, and tells what it shows.
+    pub(crate) fn look(&mut self, number: u64, out: &mut String) -> Result<(), AllocError>
+        ensures after { OnOk result (self.new ≡ self.old) }
+        ensures text { OnOk result (string_bytes out.new ≡ string_bytes out.old ++ looked_at self.old number) }
+    {
+        let answer = self.node.look(number);
+        tell_look(answer, out)
+    }
+
+    /// Seals a lot, and tells it.
+    pub(crate) fn seal(&mut self, number: u64, out: &mut String) -> Result<(), AllocError>
+        ensures after { OnOk result (self.new ≡ (sealed self.old number).0) }
+        ensures text { OnOk result (string_bytes out.new ≡ string_bytes out.old ++ (sealed self.old number).1) }
+    {
+        let answer = self.node.seal(number);
+        tell_seal(answer, out)
+    }
+
+    /// Closes a lot, and tells what it granted and ordered.
+    pub(crate) fn close(&mut self, number: u64, out: &mut String) -> Result<(), AllocError>
+        ensures after { OnOk result (self.new ≡ (closed self.old number).0) }
+        ensures text { OnOk result (string_bytes out.new ≡ string_bytes out.old ++ (closed self.old number).1) }
+    {
+        let answer = self.node.lot_close(number);
+        tell_close(self.node.node(), answer, out)
+    }
+
+    /// Draws a ticket for each member of an opened lot and closes it, and tells all that.
+    ///
+    /// A sealed lot is closed with the tickets that it has. Another refusal ends this.
+    #[tactic(auto, unfolding(crate::specs::LotCommands::served))]
+    pub(crate) fn serve(&mut self, lot: &OpenedLot, out: &mut String) -> Result<(), AllocError>
+        ensures after { OnOk result (self.new ≡ (served self.old lot.now).0) }
+        ensures text { OnOk result (string_bytes out.new ≡ string_bytes out.old ++ (served self.old lot.now).1) }
+    {
+        if reserve_each(self, lot.number, lot.members.as_slice(), out)? {
+            self.close(lot.number, out)?;
+        }
+        Ok(())
+    }
+
+    /// Opens a lot of an issue and serves it, and tells all that.
+    #[tactic(auto, unfolding(crate::specs::LotCommands::allocated))]
+    pub(crate) fn allocate(&mut self, issue: Cusip, out: &mut String) -> Result<(), AllocError>
+        ensures after { OnOk result (self.new ≡ (allocated self.old issue).0) }
+        ensures text { OnOk result (string_bytes out.new ≡ string_bytes out.old ++ (allocated self.old issue).1) }
+    {
+        match self.lot_open(issue, out)? {
+            Some(lot) => self.serve(&lot, out),
+            None => Ok(()),
+        }
     }
 
     /// Plans the next commit to fail.
@@ -178,111 +282,10 @@ impl ClearSide {
         ensures { OnOk result (string_bytes out.new ≡ string_bytes out.old
             ++ cycle_report_text (latest_of self.now.records) (rows_of (history_of self.now.records)) (pools_of (orders_of self.now.records) self.now.lots)) }
     {
-        let positions = self.node.book().rows()?;
-        let pools = self.node.pools(self.alloc)?;
-        write_cycle_report(
-            out,
-            self.node.latest(),
-            positions.as_slice(),
-            pools.as_slice(),
-        )
-    }
-}
-
-// Tells what the node answered to a trade. Want of memory is told by no line.
-fn tell_trade(
-    id: TradeId,
-    answer: Result<(), TradeFault>,
-    out: &mut String,
-) -> Result<(), AllocError>
-    ensures told { OnOk result (IsTold (trade_text id answer) (string_bytes out.old) (string_bytes out.new)) }
-{
-    match answer {
-        Ok(()) => write_trade(out, id, Verdict::New),
-        Err(TradeFault::Refused(verdict)) => write_trade(out, id, verdict),
-        Err(TradeFault::Down) => write_trade_refused(out, id, Refusal::Down),
-        Err(TradeFault::Device) => write_trade_refused(out, id, Refusal::Device),
-        Err(TradeFault::OutOfMemory) => Err(AllocError),
-    }
-}
-
-// Tells what the node answered to an exemption.
-fn tell_exempt(answer: Result<(), SettingFault>, out: &mut String) -> Result<(), AllocError>
-    ensures told { OnOk result (IsTold (setting_text subject.Exempt exempt_line answer) (string_bytes out.old) (string_bytes out.new)) }
-{
-    match answer {
-        Ok(()) => write_exempt(out),
-        Err(fault) => tell_setting_fault(Subject::Exempt, fault, out),
-    }
-}
-
-// Tells what the node answered to a priority.
-fn tell_priority(answer: Result<(), SettingFault>, out: &mut String) -> Result<(), AllocError>
-    ensures told { OnOk result (IsTold (setting_text subject.Priority priority_line answer) (string_bytes out.old) (string_bytes out.new)) }
-{
-    match answer {
-        Ok(()) => write_priority(out),
-        Err(fault) => tell_setting_fault(Subject::Priority, fault, out),
-    }
-}
-
-// Tells why a setting was refused.
-fn tell_setting_fault(
-    command: Subject,
-    fault: SettingFault,
-    out: &mut String,
-) -> Result<(), AllocError>
-    ensures told { OnOk result (IsTold (setting_text command [] (Err fault)) (string_bytes out.old) (string_bytes out.new)) }
-{
-    match fault {
-        SettingFault::Down => write_refused(out, command, Refusal::Down),
-        SettingFault::Device => write_refused(out, command, Refusal::Device),
-        SettingFault::OutOfMemory => Err(AllocError),
-    }
-}
-
-// Tells what the node answered to a cycle; the orders that it made are the node's last ones.
-fn tell_cycle(
-    node: &Clearing<ListKeeper>,
-    cycle: &CycleId,
-    answer: Result<Cycled, CycleFault>,
-    out: &mut String,
-) -> Result<(), AllocError>
-    ensures told { OnOk result (IsTold (cycle_answer_text cycle.now node.now.records answer) (string_bytes out.old) (string_bytes out.new)) }
-{
-    match answer {
-        Ok(done) => {
-            write_cycle(out, *cycle, done.due)?;
-            let orders = node.orders().orders();
-            let (_, issued) = orders.split_at(orders.len().saturating_sub(done.count));
-            write_orders(out, issued)
-        }
-        Err(CycleFault::Down) => write_refused(out, Subject::Cycle, Refusal::Down),
-        Err(CycleFault::CycleOrder) => write_refused(out, Subject::Cycle, Refusal::CycleOrder),
-        Err(CycleFault::LotsOpen) => write_refused(out, Subject::Cycle, Refusal::LotsOpen),
-        Err(CycleFault::NumbersSpent) => write_refused(out, Subject::Cycle, Refusal::NumbersSpent),
-        Err(CycleFault::Device) => write_refused(out, Subject::Cycle, Refusal::Device),
-        Err(CycleFault::OutOfMemory) => Err(AllocError),
-    }
-}
-
-// Tells what the node answered to a reply.
-fn tell_reply(
-    reply: &Reply,
-    answer: Result<Taken, ReplyFault>,
-    out: &mut String,
-) -> Result<(), AllocError>
-    ensures told { OnOk result (IsTold (reply_text reply.now answer) (string_bytes out.old) (string_bytes out.new)) }
-{
-    match answer {
-        Ok(Taken::Done) => write_confirm_done(out, reply.number.number(), reply.moved.count()),
-        Ok(Taken::Again) => write_confirm_again(out, reply.number.number(), reply.moved.count()),
-        Err(ReplyFault::Down) => write_refused(out, Subject::Reply, Refusal::Down),
-        Err(ReplyFault::UnknownMove) => write_refused(out, Subject::Reply, Refusal::UnknownMove),
-        Err(ReplyFault::Conflict) => write_refused(out, Subject::Reply, Refusal::Conflict),
-        Err(ReplyFault::TooMuch) => write_refused(out, Subject::Reply, Refusal::TooMuch),
-        Err(ReplyFault::Device) => write_refused(out, Subject::Reply, Refusal::Device),
-        Err(ReplyFault::OutOfMemory) => Err(AllocError),
+        let node = self.node.node();
+        let positions = node.book().rows()?;
+        let pools = node.pools(self.alloc)?;
+        write_cycle_report(out, node.latest(), positions.as_slice(), pools.as_slice())
     }
 }
 
@@ -300,4 +303,15 @@ pub(crate) fn take_rows(
         side.take_row(row, out)?;
     }
     Ok(())
+}
+
+// The members of a plan, in its order.
+fn members(alloc: Global, plan: &[Planned]) -> Result<Vec<MemberNo>, AllocError>
+    ensures { IfOk result (λ members. members.items ≡ members_of plan.now) }
+{
+    let mut members = Vec::new(alloc);
+    for planned in plan {
+        members.push(planned.member)?;
+    }
+    Ok(members)
 }

@@ -6,6 +6,7 @@ mod arguments;
 mod batch;
 mod clear_side;
 mod command;
+mod course;
 mod depot_side;
 mod fault;
 mod input;
@@ -15,7 +16,9 @@ mod opening;
 mod output;
 mod script;
 mod sections;
+mod serving;
 mod steps;
+mod tell;
 
 use arguments::{Request, read_request};
 use batch::run_uncounted;

@@ -1,6 +1,7 @@
 ghost use Rattle.std.specs.Prelude.{◌≡◌, ◌++◌, OnOk, string_bytes};
 ghost use Rattle.cnsd.specs.Run.{script_text};
 
+use crate::course::{Course, end};
 use crate::line::run_line;
 use crate::nodes::Nodes;
 use crate::sections::{line_size, line_text};
@@ -18,7 +19,10 @@ pub(crate) fn run_script(
 ) -> Result<(), AllocError>
     ensures { OnOk result (string_bytes out.new ≡ string_bytes out.old ++ script_text openings rows.now script.now) }
 {
-    let mut nodes = Nodes::new(alloc, openings)?;
+    let mut course = Course {
+        nodes: Nodes::new(alloc, openings)?,
+        beside: None,
+    };
     let mut left = rows;
     let mut number = 1;
     let mut at = 0;
@@ -26,12 +30,13 @@ pub(crate) fn run_script(
         let (_, rest) = script.split_at(at);
         let size = line_size(rest);
         let (line, _) = rest.split_at(size);
-        let ran = run_line(nodes, left, number, line_text(line), out)?;
-        nodes = ran.nodes;
+        let ran = run_line(course, left, number, line_text(line), out)?;
+        course = ran.course;
         let (_, more) = left.split_at(ran.taken);
         left = more;
         number += 1;
         at += size;
     }
+    end(course, out)?;
     Ok(())
 }

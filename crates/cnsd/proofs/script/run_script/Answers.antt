@@ -19,4 +19,4 @@ loop-at-preserved c =
     )
 
 pub returns : goal.returns
-returns c = run_end c.loop-at.number _ c.args.script.now _ _ c.loop-at.at c.loop-at-test.false c.loop-at.invariant.2
+returns c = run_end c.loop-at.number _ c.args.script.now _ _ _ c.loop-at.at c.loop-at-test.false c.loop-at.invariant.2 c.in_ok-end.ensures.text
