@@ -25,6 +25,10 @@ taken_by_order replies issue o = if is_delivery o.kind && (o.issue == issue) the
 abbrev pub out_by_order : List Reply → ℕ → Order → ℕ
 out_by_order replies issue o = if is_delivery o.kind && (o.issue == issue) then open_part replies o else 0
 
+-- what a delivery took of the pool of an issue, once it is confirmed
+abbrev pub delivered_by_order : List Reply → ℕ → Order → ℕ
+delivered_by_order replies issue o = if is_delivery o.kind && (o.issue == issue) then moved_part replies o else 0
+
 -- the shares that confirmed covers brought in an issue
 unfoldable pub covered_of : Orders → ℕ → ℕ
 covered_of book issue = sum_by (covered_by_order book.replies issue) book.orders
@@ -36,6 +40,10 @@ taken_of book issue = sum_by (taken_by_order book.replies issue) book.orders
 -- the shares that unconfirmed deliveries ask for
 unfoldable pub out_of : Orders → ℕ → ℕ
 out_of book issue = sum_by (out_by_order book.replies issue) book.orders
+
+-- the shares that confirmed deliveries took in an issue
+unfoldable pub delivered_of : Orders → ℕ → ℕ
+delivered_of book issue = sum_by (delivered_by_order book.replies issue) book.orders
 
 -- the shares that covers brought, less those that deliveries took or still may take
 abbrev pub avail_of : Orders → ℕ → ℕ

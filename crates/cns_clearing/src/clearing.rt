@@ -6,7 +6,7 @@ ghost use Rattle.cns_clearing.specs.Books.{AreEffects, AreSound, IsAllowed, IsLa
 ghost use Rattle.cns_clearing.specs.Lots.{AreLots, DoesNotDisturb, avail_in, plan_in};
 ghost use Rattle.cns_clearing.specs.Position.{IsBetween, due_in, position_in};
 ghost use Rattle.cns_clearing.specs.Commit.{AddLeaves};
-ghost use Rattle.cns_clearing.specs.Pools.{free_of as free_in, lent_of as lent_in, lot_of, out_of as out_in, rows_of};
+ghost use Rattle.cns_clearing.specs.Pools.{covered_of as covered_in, delivered_of as delivered_in, free_of as free_in, lent_of as lent_in, lot_of, out_of as out_in, rows_of};
 ghost use Rattle.cns_clearing.specs.Answers.{ClosingGives, CycleLeaves, LotCloseLeaves, LotOpenLeaves, LotPourLeaves, NodePlanned, OrderGives, ReplyLeaves, SettingLeaves, TradeLeaves};
 ghost use Rattle.cns_clearing.specs.Replay.{IsOpened, Reread, RestartLeaves};
 
@@ -416,9 +416,15 @@ impl<K: Keeper> Clearing<K> {
 
     /// The shares of an issue that unconfirmed deliveries ask for.
     pub fn out(&self, issue: Cusip) -> u128
-        ensures { result ≡ out_in (orders_of self.now.records) issue }
+        ensures value { result ≡ out_in (orders_of self.now.records) issue }
+
+        // The shares that are free, lent and out, with those that confirmed deliveries took, are all
+        // that confirmed covers brought: none appears, and none is lost.
+        ensures whole { let book = orders_of self.now.records in
+            free_in book self.now.lots issue + lent_in self.now.lots issue + result + delivered_in book issue
+            ≡ covered_in book issue }
     {
-        out_of(self.books().orders(), issue)
+        self.going_out(issue)
     }
 
     /// The pools that have shares, by issue.
@@ -477,6 +483,7 @@ impl<K: Keeper> Clearing<K> {
         ensures sound { AreSound result.now.books }
         ensures lawful { IsLawful self.now.records }
         ensures fits { AreWritable self.now.records }
+        ensures lots { AreLots self.now.records self.now.lots }
     {
         &self.books
     }
@@ -505,6 +512,17 @@ impl<K: Keeper> Clearing<K> {
             unreachable!()
         };
         shares
+    }
+
+    // The shares of an issue that unconfirmed deliveries ask for. It stands apart from `out`, since the
+    // folder of that one's proof would have the name of what the toolchain makes.
+    fn going_out(&self, issue: Cusip) -> u128
+        ensures value { result ≡ out_in (orders_of self.now.records) issue }
+        ensures whole { let book = orders_of self.now.records in
+            free_in book self.now.lots issue + lent_in self.now.lots issue + result + delivered_in book issue
+            ≡ covered_in book issue }
+    {
+        out_of(self.books().orders(), issue)
     }
 
     // The allocation that closes the lot of an issue with these tickets.

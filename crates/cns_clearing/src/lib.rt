@@ -26,4 +26,12 @@ pub use pools::{PoolRow, PoolRows};
 pub use replay::{ReplayFault, Restarted};
 
 #[cfg(test)]
+mod journal_tests;
+#[cfg(test)]
+mod lot_tests;
+#[cfg(test)]
+mod test_support;
+#[cfg(test)]
 mod tests;
+#[cfg(test)]
+mod text_tests;

@@ -1,0 +1,209 @@
+use crate::test_support::{
+    Call, Draw, FIRST_REPLY, Look, LotCall, OPEN, SECOND_REPLY, Start, Step, tell,
+};
+use crate::{CycleFault, LotCloseFault, LotOpenFault, LotPourFault, OrderFault};
+use cns_ids::CycleKind;
+use cns_movements::MoveKind;
+use std::test::Fail;
+
+const ALL_FREE: Step = Step::See(Look::Shares(40, 0, 0));
+
+const ALL_LENT: Step = Step::See(Look::Shares(0, 40, 0));
+
+const OPENS: [Step; 7] = [
+    ALL_FREE,
+    OPEN,
+    ALL_LENT,
+    Step::Lot(LotCall::NotOpened(LotOpenFault::LotAlready)),
+    Step::Do(Call::Cycle(5, CycleKind::Day, Err(CycleFault::LotsOpen))),
+    Step::Do(Call::Cycle(5, CycleKind::Night, Err(CycleFault::CycleOrder))),
+    ALL_LENT,
+];
+
+#[test]
+fn a_lot_that_opens(rt: HostRuntime) -> Result<(), Fail> {
+    tell(&rt, rt.alloc(), Start::Covered, &OPENS)
+}
+
+const IS_OPEN: [Step; 2] = [
+    Step::Lot(LotCall::Holds(6, 6, 40)),
+    Step::See(Look::Pool(0, 40, 0)),
+];
+
+#[test]
+fn a_lot_that_is_open(rt: HostRuntime) -> Result<(), Fail> {
+    tell(&rt, rt.alloc(), Start::Lent, &IS_OPEN)
+}
+
+pub(crate) const SECOND: Draw = Draw {
+    member: 2,
+    start: 0,
+    asked: 30,
+};
+
+pub(crate) const THIRD: Draw = Draw {
+    member: 3,
+    start: 30,
+    asked: 30,
+};
+
+// It leaves a gap after that of member 2.
+pub(crate) const LATE: Draw = Draw {
+    member: 3,
+    start: 31,
+    asked: 30,
+};
+
+const THIRD_AT_FIRST: Draw = Draw {
+    member: 3,
+    start: 0,
+    asked: 30,
+};
+
+const SECOND_AT_LAST: Draw = Draw {
+    member: 2,
+    start: 30,
+    asked: 30,
+};
+
+const BAD: Result<(u64, u64, usize), LotCloseFault> = Err(LotCloseFault::BadTickets);
+
+const UNSERVED: [Step; 6] = [
+    Step::Lot(LotCall::Close(&[THIRD_AT_FIRST, SECOND_AT_LAST], false, BAD)),
+    ALL_LENT,
+    Step::Lot(LotCall::Close(&[SECOND], false, BAD)),
+    ALL_LENT,
+    Step::Lot(LotCall::Close(&[SECOND, LATE], false, BAD)),
+    ALL_LENT,
+];
+
+#[test]
+fn tickets_that_do_not_serve(rt: HostRuntime) -> Result<(), Fail> {
+    tell(&rt, rt.alloc(), Start::Lent, &UNSERVED)
+}
+
+const FIRST_DELIVERY: Step = Step::See(Look::Order(3, Ok((MoveKind::Delivery, 2, 30))));
+
+const SECOND_DELIVERY: Step = Step::See(Look::Order(4, Ok((MoveKind::Delivery, 3, 10))));
+
+const NO_OTHER: Step = Step::See(Look::Order(5, Err(OrderFault::UnknownMove)));
+
+const ALL_OUT: Step = Step::See(Look::Shares(0, 0, 40));
+
+// The orders of a lot that served both members.
+pub(crate) const DELIVERIES: [Step; 4] = [FIRST_DELIVERY, SECOND_DELIVERY, NO_OTHER, ALL_OUT];
+
+const SERVES: [Step; 6] = [
+    Step::Lot(LotCall::Close(&[SECOND, THIRD], false, Ok((40, 3, 2)))),
+    Step::Lot(LotCall::NoLot),
+    FIRST_DELIVERY,
+    SECOND_DELIVERY,
+    NO_OTHER,
+    ALL_OUT,
+];
+
+#[test]
+fn a_lot_that_serves_all(rt: HostRuntime) -> Result<(), Fail> {
+    tell(&rt, rt.alloc(), Start::Lent, &SERVES)
+}
+
+const SEALS: [Step; 3] = [
+    Step::Lot(LotCall::Close(&[SECOND], true, Ok((30, 3, 1)))),
+    Step::Lot(LotCall::NoLot),
+    Step::See(Look::Shares(10, 0, 30)),
+];
+
+#[test]
+fn a_lot_that_was_sealed(rt: HostRuntime) -> Result<(), Fail> {
+    tell(&rt, rt.alloc(), Start::Lent, &SEALS)
+}
+
+const POURS: [Step; 9] = [
+    OPEN,
+    Step::See(Look::Shares(0, 0, 0)),
+    FIRST_REPLY,
+    SECOND_REPLY,
+    ALL_FREE,
+    Step::Lot(LotCall::Pour(Ok(40))),
+    ALL_LENT,
+    Step::Lot(LotCall::Pour(Ok(0))),
+    ALL_LENT,
+];
+
+#[test]
+fn a_lot_that_is_poured_into(rt: HostRuntime) -> Result<(), Fail> {
+    tell(&rt, rt.alloc(), Start::Grouped, &POURS)
+}
+
+const NO_POUR: Step = Step::Lot(LotCall::Pour(Err(LotPourFault::NoLot)));
+
+const NO_CLOSE: Step = Step::Lot(LotCall::Close(&[SECOND], true, Err(LotCloseFault::NoLot)));
+
+const NO_LOT: [Step; 3] = [NO_POUR, NO_CLOSE, ALL_FREE];
+
+#[test]
+fn a_node_without_a_lot(rt: HostRuntime) -> Result<(), Fail> {
+    tell(&rt, rt.alloc(), Start::Covered, &NO_LOT)
+}
+
+const LOTS_DOWN: [Step; 3] = [
+    Step::Lot(LotCall::NotOpened(LotOpenFault::Down)),
+    Step::Lot(LotCall::Pour(Err(LotPourFault::Down))),
+    Step::Lot(LotCall::Close(&[], true, Err(LotCloseFault::Down))),
+];
+
+#[test]
+fn lots_of_a_node_that_is_down(rt: HostRuntime) -> Result<(), Fail> {
+    tell(&rt, rt.alloc(), Start::Lost, &LOTS_DOWN)
+}
+
+// A close that the device fails leaves the lot open, until a restart ends it.
+const CLOSE_FAILS: Step = Step::Lot(LotCall::Close(
+    &[SECOND, THIRD],
+    false,
+    Err(LotCloseFault::Device),
+));
+
+const CLOSE_STANDS: [Step; 10] = [
+    Step::Do(Call::Plan(true)),
+    CLOSE_FAILS,
+    ALL_LENT,
+    Step::Do(Call::Restart(7, true)),
+    FIRST_DELIVERY,
+    SECOND_DELIVERY,
+    NO_OTHER,
+    ALL_OUT,
+    NO_POUR,
+    NO_CLOSE,
+];
+
+#[test]
+fn a_failed_close_stands(rt: HostRuntime) -> Result<(), Fail> {
+    tell(&rt, rt.alloc(), Start::Lent, &CLOSE_STANDS)
+}
+
+const CLOSE_IS_LOST: [Step; 6] = [
+    Step::Do(Call::Plan(false)),
+    CLOSE_FAILS,
+    ALL_LENT,
+    Step::Do(Call::Restart(6, false)),
+    Step::See(Look::Order(3, Err(OrderFault::UnknownMove))),
+    ALL_FREE,
+];
+
+#[test]
+fn a_failed_close_does_not_stand(rt: HostRuntime) -> Result<(), Fail> {
+    tell(&rt, rt.alloc(), Start::Lent, &CLOSE_IS_LOST)
+}
+
+const RESTART_ENDS: [Step; 4] = [
+    Step::Do(Call::Restart(6, false)),
+    ALL_FREE,
+    NO_POUR,
+    NO_CLOSE,
+];
+
+#[test]
+fn a_restart_ends_the_lot(rt: HostRuntime) -> Result<(), Fail> {
+    tell(&rt, rt.alloc(), Start::Lent, &RESTART_ENDS)
+}
