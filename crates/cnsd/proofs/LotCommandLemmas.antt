@@ -1,6 +1,6 @@
 -- What the clearing node's answers to the commands of lots leave of its state, and tell.
-use Rattle.std.proofs.Common.{◌≡◌, ◌≢◌, ◌<◌, ◌≤◌, ℕ, ◌+◌, ◌-◌, Bool, true, false, List, [], ◌∷◌, ◌++◌, length, drop, Option, Some, None, Result, Ok, Err, refl, sym, ap, ◌∙◌, subst, arith, length-append, inl, inr}
-use Rattle.std.specs.Prelude.{◌⊎◌, min, map, nat_lt, IfOk, IsSomeAnd, OnOk, slice_get, ◌==◌, if◌then◌else◌}
+use Rattle.std.proofs.Common.{◌≡◌, ◌≢◌, ◌<◌, ◌≤◌, ℕ, ◌+◌, ◌-◌, Bool, true, false, List, [], ◌∷◌, ◌++◌, length, drop, Option, Some, None, Result, Ok, Err, refl, sym, ap, ◌∙◌, subst, arith, inl, inr}
+use Rattle.std.specs.Prelude.{◌⊎◌, IfOk, IsSomeAnd, OnOk, slice_get, ◌==◌, if◌then◌else◌}
 use Rattle.std.proofs.lemmas.Bool.{eqb-true, false_from_ne_true, lt-ltb, le-ltb}
 use Rattle.std.proofs.lemmas.Option.{none-some, same_Some}
 use Rattle.cns_movements.specs.Order.{numbered}
@@ -13,7 +13,7 @@ use Rattle.cns_allocate.specs.declared.turns.Turn.TheVariants as turn
 use Rattle.cns_records.specs.declared.allocation.Allocation.{Allocation}
 use Rattle.cns_records.specs.declared.clear_record.ClearRecord.{ClearRecord}
 use Rattle.cns_records.specs.declared.clear_record.ClearRecord.TheVariants as entry
-use Rattle.cns_clearing.specs.Answers.{allocation_of, IsClosed, LotCloseLeaves, MayClose}
+use Rattle.cns_clearing.specs.Answers.{allocation_of, IsClosed, LotCloseLeaves}
 use Rattle.cns_clearing.specs.declared.fault.LotCloseFault.TheVariants as node_closing
 use Rattle.cns_clearing.specs.Books.{are_spent, books_of, deliveries_in, orders_of}
 use Rattle.cns_clearing.specs.Lots.{avail_in, lots_poured, new_lot, plan_in}
@@ -38,7 +38,7 @@ use Rattle.cns_system.specs.declared.fault.ReserveFault.TheVariants as reserving
 use Rattle.cns_system.specs.declared.fault.CloseFault.{CloseFault}
 use Rattle.cns_system.specs.declared.fault.CloseFault.TheVariants as closing
 use Rattle.cns_system.proofs.LotsLemmas.{open-parts}
-use Rattle.cns_report.specs.Lines.{close_line, look_line, lot_line, order_lines, pour_line, refused_line, seal_line, ticket_line}
+use Rattle.cns_report.specs.Lines.{close_line, lot_line, order_lines, pour_line, refused_line, seal_line, ticket_line}
 use Rattle.cns_report.specs.declared.refusal.Refusal.TheVariants as refusal
 use Rattle.cns_report.specs.declared.refusal.Subject.TheVariants as subject
 use Rattle.cnsd.specs.ClearTexts.{IsTold, after_draw, close_answer_text, draw_text, look_text, lot_text, pour_text, seal_text}

@@ -21,7 +21,6 @@ use Rattle.cns_system.specs.declared.fault.LotFault.TheVariants as fault
 use Rattle.cns_report.specs.Lines.{close_line, look_line, lot_line, order_lines, pour_line, refused_line, seal_line, ticket_line}
 use Rattle.cns_report.specs.declared.refusal.Refusal.{Refusal}
 use Rattle.cns_report.specs.declared.refusal.Refusal.TheVariants as refusal
-use Rattle.cns_report.specs.declared.refusal.Subject.{Subject}
 use Rattle.cns_report.specs.declared.refusal.Subject.TheVariants as subject
 use Rattle.cnsd.specs.States.{ClearState, clear_added, clear_failed, is_failure}
 use Rattle.cnsd.specs.declared.serving.After.{After}

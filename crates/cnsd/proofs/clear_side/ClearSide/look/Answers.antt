@@ -1,6 +1,6 @@
 use Rattle.std.proofs.Common.{◌≡◌, ◌++◌, ap, ◌∙◌, subst, string_bytes}
 use Rattle.cnsd.specs.LotCommands.{looked_at}
-use Rattle.cnsd.specs.States.{ClearState, clear_state}
+use Rattle.cnsd.specs.States.{ClearState}
 use Rattle.cnsd.proofs.ClearSideLemmas.{on_ok}
 use Rattle.cnsd.proofs.LotCommandLemmas.{look_told}
 use Rattle.cnsd.proofs.clear_side.ClearSide.look.Goals as goal
