@@ -1,15 +1,14 @@
 #!/usr/bin/env bash
 # Measures a program on large inputs.
 #
-#   bench/run.sh PROGRAM [--strict] [--long]
+#   bench/run.sh PROGRAM [--strict]
 #
 # Reading: 10,000, 100,000 and 1,000,000 trades, each taken and told. From one size
 # to the next the time may grow by 12 at most: the last column says `ok` or `TOO SLOW`.
 # Netting: 1,000, 4,000 and 16,000 trades of 50 members in 20 issues, two cycles and a
-# report. Lots: 250, 500 and 1,000 trades in 200 issues, three rounds of a cycle, a pump,
-# a lot of each issue and a pump; with --long also 20,000 trades, once, for as long as it
-# takes. Longs: 1,000, 3,000 and 9,000 members that one lot of one issue serves. These times
-# are only printed.
+# report. Lots: 1,250, 5,000 and 20,000 trades in 200 issues, three rounds of a cycle, a pump,
+# a lot of each issue and a pump. Longs: 1,000, 3,000 and 9,000 members that one lot of one
+# issue serves. These times are only printed.
 # Each input is run three times; the time is the best, the memory the highest.
 # The exit status is 0; with --strict it is 1 where a line of the first table says
 # TOO SLOW or FAILED.
@@ -24,16 +23,14 @@ runs=3
 
 program=''
 strict=no
-long=no
 for word in "$@"; do
     case $word in
     --strict) strict=yes ;;
-    --long) long=yes ;;
     *) program=$word ;;
     esac
 done
 if [[ -z $program ]] || ! command -v "$program" >/dev/null; then
-    printf 'usage: %s PROGRAM [--strict] [--long]\n' "$0" >&2
+    printf 'usage: %s PROGRAM [--strict]\n' "$0" >&2
     exit 2
 fi
 
@@ -129,16 +126,9 @@ measure 16000 16000 - --members 50 --issues 20 --net
 printf '\nlots (500 members, 20 of them sellers, 200 issues, three rounds)\n'
 printf '%10s %10s %9s %9s %9s\n' rows bytes seconds MiB growth
 last=''
-measure 250 250 - --sellers 20 --rounds 3
-measure 500 500 - --sellers 20 --rounds 3
-measure 1000 1000 - --sellers 20 --rounds 3
-if [[ $long == yes ]]; then
-    runs=1
-    limit=36000
-    measure 20000 20000 - --sellers 20 --rounds 3
-    runs=3
-    limit=${BENCH_SECONDS:-600}
-fi
+measure 1250 1250 - --sellers 20 --rounds 3
+measure 5000 5000 - --sellers 20 --rounds 3
+measure 20000 20000 - --sellers 20 --rounds 3
 
 printf '\nlongs (one lot of one issue)\n'
 printf '%10s %10s %9s %9s %9s\n' rows bytes seconds MiB growth

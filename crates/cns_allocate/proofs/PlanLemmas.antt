@@ -1,22 +1,22 @@
 -- What holds of each plan.
-use Rattle.std.proofs.Common.{◌≡◌, ◌≤◌, ◌+◌, ◌-◌, ℕ, List, [], ◌∷◌, ◌++◌, Option, Some, None, Bool, true, false, cond, refl, arith, append_assoc, Less}
+use Rattle.std.proofs.Common.{◌≡◌, ◌≤◌, ◌+◌, ◌-◌, ℕ, List, [], ◌∷◌, ◌++◌, Option, Some, None, Bool, true, false, cond, refl, ap, arith, append_assoc, Less}
 use Rattle.std.specs.Prelude.{◌&&◌, ◌==◌, nat_lt, All, AllPairs, IfSome, count_by, sum_by, filter, ℤ, pos, negsuc, ◌-ℤ◌, if◌then◌else◌}
 use Rattle.std.specs.List.{filter_map, cons_option}
 use Rattle.std.proofs.lemmas.Bool.{and_from, and_parts, cond-false, cond-true, eqb-true, false_from_ne_true, ltb-true}
-use Rattle.std.proofs.lemmas.Cmp.{nat_cmp_total, on_total, then_total, tied_itself}
+use Rattle.std.proofs.lemmas.Cmp.{tied_itself}
 use Rattle.std.proofs.lemmas.Int.{ints}
 use Rattle.std.proofs.lemmas.List.Elements.{All-append, All-cons, All-filter, All-head, All-nil, All-tail, All-weaker, filter_passes}
 use Rattle.std.proofs.lemmas.List.Kept.{AllPairs-cons}
 use Rattle.std.proofs.lemmas.List.Sums.{sum_by-append, sum_by-cons}
-use Rattle.std.specs.Cmp.{IsTotalOrder}
 use Rattle.cns_netting.specs.History.{credit, credit_part, debit, due, position_of, settled_in, sold}
-use Rattle.cns_netting.specs.Rows.{holding_cmp, holdings_of, open_row, rows_of}
+use Rattle.cns_netting.specs.Rows.{holding_cmp, holdings_of, is_row_in, open_row, rows_of}
 use Rattle.cns_netting.specs.Book.{IsBook}
 use Rattle.cns_netting.specs.declared.entry.NetEntry.{NetEntry}
 use Rattle.cns_netting.specs.declared.entry.NetEntry.TheVariants.{Accepted, Netted, Settled}
 use Rattle.cns_netting.specs.declared.position.Holding.{Holding}
 use Rattle.cns_netting.specs.declared.position.PositionRow.{PositionRow}
 use Rattle.cns_netting.proofs.BookLemmas.{bought-most}
+use Rattle.cns_netting.proofs.HoldingLemmas.{AreAscending, holding_order, holdings-ascending}
 use Rattle.cns_movements.specs.Asked.{IsAsked}
 use Rattle.cns_movements.specs.Order.{open_sum}
 use Rattle.cns_movements.specs.declared.order.MoveKind.TheVariants.{Delivery}
@@ -24,7 +24,6 @@ use Rattle.cns_movements.specs.Book.{Orders}
 use Rattle.cns_covers.specs.Bounds.{AreBounded}
 use Rattle.cns_covers.specs.Covers.{IsUnsettled}
 use Rattle.cns_covers.specs.declared.priorities.Prioritized.{Prioritized}
-use Rattle.cns_covers.proofs.BoundLemmas.{AreAscending, holdings-ascending}
 use Rattle.cns_allocate.specs.Group.{is_in, rank}
 use Rattle.cns_allocate.specs.Plan.{IsPlan, LongsFit, by_group, group_in, long_of, plan_of, planned_of, want_of, wanting}
 use Rattle.cns_allocate.specs.declared.group.Group.{Group}
@@ -95,6 +94,28 @@ rows_fit h (k ∷ ks) fit = All-cons_option _ (open_row h k) (filter_map (open_r
 pub rows_of-fit : (h : List NetEntry) → LongsFit h → All (λ (row : PositionRow). long_of row ≤ 1000000000000000000) (rows_of h)
 rows_of-fit h fit = rows_fit h (holdings_of h) fit
 
+-- so are those of an issue
+pub rows_in-fit : (h : List NetEntry) (issue : ℕ) → LongsFit h → All (λ (row : PositionRow). long_of row ≤ 1000000000000000000) (filter (is_row_in issue) (rows_of h))
+rows_in-fit h issue fit = All-filter (is_row_in issue) (λ (row : PositionRow). long_of row ≤ 1000000000000000000) (rows_of h) (rows_of-fit h fit)
+
+-- the positions of the issue are all that the plan asks for
+planned_in : (issue : ℕ) (book : Orders) (settings : List Prioritized) (were_long : List ℕ) (rows : List PositionRow)
+    → filter_map (planned_of issue book settings were_long) (filter (is_row_in issue) rows) ≡ filter_map (planned_of issue book settings were_long) rows
+unfolding planned_of
+planned_in issue book settings were_long [] = refl
+planned_in issue book settings were_long (row ∷ rows) = by (row.issue == issue) refl (planned_in issue book settings were_long rows)
+  where
+    by : (b : Bool) → (row.issue == issue) ≡ b
+        → filter_map (planned_of issue book settings were_long) (filter (is_row_in issue) rows) ≡ filter_map (planned_of issue book settings were_long) rows
+        → filter_map (planned_of issue book settings were_long) (cond b (row ∷ filter (is_row_in issue) rows) (filter (is_row_in issue) rows))
+        ≡ filter_map (planned_of issue book settings were_long) (row ∷ rows)
+    by true e rest = ap (cons_option (planned_of issue book settings were_long row)) rest
+    by false e rest = rw e rest
+
+pub wanting-rows_in : (issue : ℕ) (h : List NetEntry) (book : Orders) (settings : List Prioritized) (were_long : List ℕ)
+    → filter_map (planned_of issue book settings were_long) (filter (is_row_in issue) (rows_of h)) ≡ wanting issue h book settings were_long
+wanting-rows_in issue h book settings were_long = planned_in issue book settings were_long (rows_of h)
+
 -- what is planned of a position asks for a share, and for no more than the position has
 planned_of-asked : (issue : ℕ) (book : Orders) (settings : List Prioritized) (were_long : List ℕ) (row : PositionRow)
     → long_of row ≤ 1000000000000000000 → IfSome (planned_of issue book settings were_long row) (λ (p : Planned). IsAsked p.asked)
@@ -136,9 +157,6 @@ abbrev pub is_planned_as : ℕ → Planned → Bool
 is_planned_as member p = p.member == member
 
 -- a holding that stands after another one is not of its issue and member
-holding_order : IsTotalOrder holding_cmp
-holding_order = then_total (on_total (λ (k : Holding). k.issue) nat_cmp_total) (on_total (λ (k : Holding). k.member) nat_cmp_total)
-
 other_holding : (k x : Holding) → holding_cmp k x ≡ Less → is_holding_of k.issue k.member x ≡ false
 other_holding k x less =
     false_from_ne_true _

@@ -55,7 +55,7 @@ impl Plan {
             IfOk result (λ plan.
             plan ≡ plan_of issue history orders.now.book settings were_long.now) }
     {
-        let rows = book.rows()?;
+        let rows = book.rows_in(issue)?;
         let planned = planned_rows(alloc, &rows, issue, orders, priorities, were_long)?;
         let mut list = Vec::new(alloc);
         add_group(&mut list, &planned, Group::Priority)?;

@@ -1,16 +1,12 @@
 -- The bounds hold as a history and its movements grow, and what follows from them.
-use Rattle.std.proofs.Common.{◌≡◌, ◌≤◌, ◌+◌, ◌*◌, ℕ, zero, suc, List, [], ◌∷◌, ◌++◌, length, Option, Some, None, Bool, true, false, cond, refl, ◌∙◌, ap, arith, Ordering, Less, Equal, Greater}
+use Rattle.std.proofs.Common.{◌≡◌, ◌≤◌, ◌+◌, ◌*◌, ℕ, zero, suc, List, [], ◌∷◌, ◌++◌, length, Option, Some, None, Bool, true, false, cond, refl, ap, arith, Less}
 use Rattle.std.specs.Prelude.{◌&&◌, ◌==◌, All, count_by, ℤ, pos, negsuc, neg_ℤ, ◌-ℤ◌, ◌+ℤ◌, ◌≤ℤ◌, sum_by, if◌then◌else◌}
 use Rattle.std.specs.List.{filter_map, cons_option}
-use Rattle.std.specs.Cmp.{IsTotalOrder}
-use Rattle.std.specs.Ordering.{match_ordering, ordering_reverse}
-use Rattle.std.specs.BTreeSet.{insert_key}
 use Rattle.std.proofs.lemmas.Bool.{and_from, and_parts, eq-eqb, eqb-true, false_from_ne_true}
-use Rattle.std.proofs.lemmas.Cmp.{nat_cmp_total, on_total, then_total, tied_itself}
+use Rattle.std.proofs.lemmas.Cmp.{tied_itself}
 use Rattle.std.proofs.lemmas.Int.{ints}
 use Rattle.std.proofs.lemmas.List.Elements.{All-cons, All-head, All-nil, All-tail, All-weaker}
 use Rattle.std.proofs.lemmas.List.Sums.{sum_by-cons}
-use Rattle.std.proofs.lemmas.Map.Views.{All-insert_key}
 use Rattle.cns_trades.specs.declared.trade.Trade.{Trade}
 use Rattle.cns_netting.specs.History.{bought, credit, credit_part, debit, debit_part, due, due_since, is_reached, latest, position_of, settled_in, settled_out, sold}
 use Rattle.cns_netting.specs.Rows.{holding_cmp, holdings_of}
@@ -18,6 +14,7 @@ use Rattle.cns_netting.specs.Book.{IsBook, IsWithin}
 use Rattle.cns_netting.specs.declared.entry.NetEntry.{NetEntry}
 use Rattle.cns_netting.specs.declared.entry.NetEntry.TheVariants.{Accepted, Netted, Settled}
 use Rattle.cns_netting.specs.declared.position.Holding.{Holding}
+use Rattle.cns_netting.proofs.HoldingLemmas.{AreAscending, holding_order, holdings-ascending}
 use Rattle.cns_netting.proofs.BookLemmas.{book_netted, bought-most, sold-most}
 use Rattle.cns_netting.proofs.TallyLemmas.{Reaches, bought-due, reaches_latest, sold-due}
 use Rattle.cns_movements.specs.Order.{is_of, moved_of, numbered, open_sum, order_of, same_kind}
@@ -78,39 +75,6 @@ sold-grows h day m i = sold_grows None (Some day) (λ settle e. cc e) h m i
 pub bought-grows : (h : List NetEntry) (day m i : ℕ) → bought (due h) m i ≤ bought (due (Netted day ∷ h)) m i
 unfolding Reaches
 bought-grows h day m i = bought_grows None (Some day) (λ settle e. cc e) h m i
-
--- holdings are compared by issue and then by member
-holding_order : IsTotalOrder holding_cmp
-holding_order = then_total (on_total (λ (k : Holding). k.issue) nat_cmp_total) (on_total (λ (k : Holding). k.member) nat_cmp_total)
-
--- each holding stands before all that follow it
-abbrev pub AreAscending : List Holding → Type 0
-AreAscending [] = Unit {0}
-AreAscending (k ∷ ks) = All (λ (q : Holding). holding_cmp k q ≡ Less) ks × AreAscending ks
-
--- what stands before a holding stands before those after it
-before_all : (k x : Holding) (xs : List Holding) → holding_cmp k x ≡ Less → All (λ (q : Holding). holding_cmp x q ≡ Less) xs → All (λ (q : Holding). holding_cmp k q ≡ Less) xs
-before_all k x xs e rest =
-    All-weaker (λ (q : Holding). holding_cmp x q ≡ Less) (λ (q : Holding). holding_cmp k q ≡ Less) (λ q less. holding_order.trans k x q e less) xs rest
-
--- one more holding takes its place in the order
-insert_key-ascending : (ks : List Holding) (k : Holding) → AreAscending ks → AreAscending (insert_key holding_cmp ks k)
-insert_key-ascending [] k h = (All-nil _, tt)
-insert_key-ascending (x ∷ xs) k h = by (holding_cmp k x) refl (insert_key-ascending xs k h.1)
-  where
-    by : (r : Ordering) → holding_cmp k x ≡ r → AreAscending (insert_key holding_cmp xs k)
-        → AreAscending (match_ordering r (k ∷ x ∷ xs) (x ∷ xs) (x ∷ insert_key holding_cmp xs k))
-    by Less e rest = (All-cons (λ (q : Holding). holding_cmp k q ≡ Less) x xs e (before_all k x xs e h.0), h)
-    by Equal e rest = h
-    by Greater e rest = (All-insert_key holding_cmp k (λ (q : Holding). holding_cmp x q ≡ Less) xs h.0 (holding_order.antisymm x k ∙ ap ordering_reverse e), rest)
-
--- the holdings of a history stand in order, so each is there at most once
-pub holdings-ascending : (h : List NetEntry) → AreAscending (holdings_of h)
-unfolding holdings_of
-holdings-ascending [] = tt
-holdings-ascending (Accepted t ∷ h) = insert_key-ascending _ _ (insert_key-ascending _ _ (holdings-ascending h))
-holdings-ascending (Netted d ∷ h) = holdings-ascending h
-holdings-ascending (Settled m i z ∷ h) = insert_key-ascending _ _ (holdings-ascending h)
 
 -- the shares that the asks of a kind, a member and an issue ask for
 asked_by : MoveKind → ℕ → ℕ → List Ask → ℕ

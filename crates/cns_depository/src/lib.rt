@@ -23,4 +23,10 @@ pub use openings::{OpeningFault, Openings};
 pub use replay::ReplayFault;
 
 #[cfg(test)]
+mod journal_tests;
+#[cfg(test)]
+mod test_support;
+#[cfg(test)]
 mod tests;
+#[cfg(test)]
+mod text_tests;

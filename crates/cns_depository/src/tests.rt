@@ -1,319 +1,164 @@
-use crate::{
-    Account, Answer, BalanceRow, DepFault, Depository, OpeningFault, Openings, ReplayFault,
-    Restarted,
+use crate::test_support::{
+    APPLE, Holder, MICROSOFT, Moved, Opened, Placed, Step, TWENTY, assert_same, opening, tell,
 };
-use cns_ids::{Cusip, MemberNo, Shares};
-use cns_journal::{Keeper, ListKeeper};
-use cns_movements::{Asked, MoveKind, MoveNo, Order, Reply};
-use cns_records::DepRecord;
-use cns_trades::Opening;
-use std::alloc::Global;
+use crate::{DepFault, OpeningFault, Openings};
+use cns_ids::Shares;
+use cns_movements::MoveKind;
+use std::process::Abort;
 use std::test::Fail;
 
-fn issue() -> Result<Cusip, Fail> {
-    Ok(Cusip::read(b"037833100")?)
-}
+// An opening, and the answer to its addition.
+type Added = (Opened, Result<(), OpeningFault>);
 
-fn member(number: u16) -> Result<MemberNo, Fail> {
-    Ok(MemberNo::new(number).ok_or("a member's number")?)
-}
+const ADDED: [Added; 5] = [
+    ((1, APPLE, Shares::MAX), Ok(())),
+    ((2, APPLE, 1), Err(OpeningFault::IssueSum)),
+    ((1, APPLE, 5), Err(OpeningFault::Double)),
+    ((2, APPLE, 0), Ok(())),
+    ((1, MICROSOFT, Shares::MAX), Ok(())),
+];
 
-fn account(number: u16) -> Result<Account, Fail> {
-    Ok(Account::Member(member(number)?))
-}
-
-fn shares(count: u64) -> Result<Shares, Fail> {
-    Ok(Shares::new(count).ok_or("a count of shares")?)
-}
-
-fn order(number: u64, kind: MoveKind, of: u16, asked: u64) -> Result<Order, Fail> {
-    Ok(Order {
-        number: MoveNo::new(number).ok_or("a movement's number")?,
-        kind,
-        member: member(of)?,
-        issue: issue()?,
-        asked: Asked::new(asked).ok_or("shares that are asked for")?,
-    })
-}
-
-fn opening(of: u16, count: u64) -> Result<Opening, Fail> {
-    Ok(Opening {
-        member: member(of)?,
-        issue: issue()?,
-        shares: shares(count)?,
-    })
-}
-
-// Openings of members in one issue.
-fn openings(alloc: Global, of: &[(u16, u64)]) -> Result<Openings, Fail> {
-    let mut list = Openings::new(alloc);
-    for (number, count) in of {
-        list.add(&opening(*number, *count)?)?;
-    }
-    Ok(list)
-}
-
-// A depository with nothing executed.
-fn depository(alloc: Global, of: &[(u16, u64)]) -> Result<Depository<ListKeeper>, Fail> {
-    match Depository::open(alloc, ListKeeper::new(alloc), openings(alloc, of)?) {
-        Ok(node) => Ok(node),
-        Err(refused) => Err(Fail::from(refused.fault)),
-    }
-}
-
-fn reply(number: u64, moved: u64) -> Result<Reply, Fail> {
-    Ok(Reply {
-        number: MoveNo::new(number).ok_or("a movement's number")?,
-        moved: shares(moved)?,
-    })
+fn add(rt: &impl Abort, list: &mut Openings, added: &Added) -> Result<(), Fail> {
+    let (opened, wanted) = *added;
+    let opening = opening(opened)?;
+    assert_same(rt, &list.add(&opening), &wanted);
+    Ok(())
 }
 
 #[test]
 fn openings_of_one_issue(rt: HostRuntime) -> Result<(), Fail> {
     let mut list = Openings::new(rt.alloc());
-    let most = Shares::MAX;
-    assert_eq!(rt; list.add(&opening(1, most)?), Ok(()));
-    assert_eq!(rt; list.add(&opening(2, 1)?), Err(OpeningFault::IssueSum));
-    assert_eq!(rt; list.add(&opening(1, 5)?), Err(OpeningFault::Double));
-    assert_eq!(rt; list.add(&opening(2, 0)?), Ok(()));
-    let mut other = opening(1, most)?;
-    other.issue = Cusip::read(b"594918104")?;
-    assert_eq!(rt; list.add(&other), Ok(()));
+    for added in &ADDED {
+        add(&rt, &mut list, added)?;
+    }
     Ok(())
 }
+
+const COVER: Placed = (1, MoveKind::Cover, 1, APPLE, 60);
+
+const OTHER: Placed = (1, MoveKind::Cover, 1, APPLE, 61);
+
+const A_COVER: [Step; 8] = [
+    Step::NotExecuted(1),
+    Step::Take(COVER, Ok(Moved::Done(20))),
+    Step::Balance((APPLE, Holder::Member(1), 0)),
+    Step::Balance((APPLE, Holder::Cns, 20)),
+    Step::Take(COVER, Ok(Moved::Again(20))),
+    Step::Executed(COVER, 20),
+    Step::Take(OTHER, Err(DepFault::Conflict)),
+    Step::Balance((APPLE, Holder::Cns, 20)),
+];
 
 #[test]
 fn a_cover_moves_what_is_there(rt: HostRuntime) -> Result<(), Fail> {
-    let mut node = depository(rt.alloc(), &[(1, 20)])?;
-    let cover = order(1, MoveKind::Cover, 1, 60)?;
-    assert_eq!(rt; node.executed(cover.number), None);
-    assert_eq!(rt; node.take_order(&cover), Ok(Answer::Done(reply(1, 20)?)));
-    assert_eq!(rt; node.balance(account(1)?, issue()?), 0);
-    assert_eq!(rt; node.balance(Account::Cns, issue()?), 20);
-    assert_eq!(rt; node.take_order(&cover), Ok(Answer::Again(reply(1, 20)?)));
-    assert_eq!(rt; node.executed(cover.number), Some((cover, shares(20)?)));
-    let other = order(1, MoveKind::Cover, 1, 61)?;
-    assert_eq!(rt; node.take_order(&other), Err(DepFault::Conflict));
-    assert_eq!(rt; node.balance(Account::Cns, issue()?), 20);
-    Ok(())
+    tell(&rt, rt.alloc(), &TWENTY, &A_COVER)
 }
+
+const LONG_AND_EMPTY: [Opened; 2] = [(1, APPLE, 100), (3, APPLE, 0)];
+
+const FOURTH: Placed = (4, MoveKind::Delivery, 3, APPLE, 60);
+
+const ORDERS: [Step; 11] = [
+    Step::Take((1, MoveKind::Cover, 1, APPLE, 100), Ok(Moved::Done(100))),
+    Step::Take((2, MoveKind::Cover, 3, APPLE, 60), Ok(Moved::Done(0))),
+    Step::Take((3, MoveKind::Delivery, 2, APPLE, 60), Ok(Moved::Done(60))),
+    Step::Take(FOURTH, Ok(Moved::Done(40))),
+    Step::Take((6, MoveKind::Cover, 2, APPLE, 10), Ok(Moved::Done(10))),
+    Step::Balance((APPLE, Holder::Member(1), 0)),
+    Step::Balance((APPLE, Holder::Member(2), 50)),
+    Step::Balance((APPLE, Holder::Member(3), 40)),
+    Step::Balance((APPLE, Holder::Member(4), 0)),
+    Step::Balance((APPLE, Holder::Cns, 10)),
+    Step::Take(FOURTH, Ok(Moved::Again(40))),
+];
 
 #[test]
 fn orders_in_turn(rt: HostRuntime) -> Result<(), Fail> {
-    let mut node = depository(rt.alloc(), &[(1, 100), (3, 0)])?;
-    // An order's number, kind, member and asked shares, and the shares that it moves.
-    let cases = [
-        (1, MoveKind::Cover, 1, 100, 100),
-        (2, MoveKind::Cover, 3, 60, 0),
-        (3, MoveKind::Delivery, 2, 60, 60),
-        (4, MoveKind::Delivery, 3, 60, 40),
-        (6, MoveKind::Cover, 2, 10, 10),
-    ];
-    for (number, kind, of, asked, moved) in cases {
-        let answer = node.take_order(&order(number, kind, of, asked)?);
-        assert_eq!(rt; answer, Ok(Answer::Done(reply(number, moved)?)));
-    }
-    for (number, held) in [(1, 0), (2, 50), (3, 40), (4, 0)] {
-        assert_eq!(rt; node.balance(account(number)?, issue()?), held);
-    }
-    assert_eq!(rt; node.balance(Account::Cns, issue()?), 10);
-    let again = node.take_order(&order(4, MoveKind::Delivery, 3, 60)?);
-    assert_eq!(rt; again, Ok(Answer::Again(reply(4, 40)?)));
-    Ok(())
+    tell(&rt, rt.alloc(), &LONG_AND_EMPTY, &ORDERS)
 }
 
-fn row(issue: Cusip, account: Account, shares: u128) -> BalanceRow {
-    BalanceRow {
-        issue,
-        account,
-        shares,
-    }
-}
+const BALANCES: [Step; 3] = [
+    Step::Balances(&[(APPLE, Holder::Member(1), 20)]),
+    Step::Take((1, MoveKind::Cover, 1, APPLE, 35), Ok(Moved::Done(20))),
+    Step::Balances(&[(APPLE, Holder::Cns, 20)]),
+];
 
 #[test]
 fn balances_after_a_cover(rt: HostRuntime) -> Result<(), Fail> {
-    let mut node = depository(rt.alloc(), &[(1, 20)])?;
-    let before = [row(issue()?, account(1)?, 20)];
-    assert_eq!(rt; node.balances(rt.alloc())?.as_slice(), before.as_slice());
-    let cover = order(1, MoveKind::Cover, 1, 35)?;
-    assert_eq!(rt; node.take_order(&cover), Ok(Answer::Done(reply(1, 20)?)));
-    let after = [row(issue()?, Account::Cns, 20)];
-    assert_eq!(rt; node.balances(rt.alloc())?.as_slice(), after.as_slice());
-    Ok(())
+    tell(&rt, rt.alloc(), &TWENTY, &BALANCES)
 }
+
+const TWO_ISSUES: [Opened; 5] = [
+    (1, MICROSOFT, 7),
+    (9, APPLE, 3),
+    (2, APPLE, 10),
+    (4, APPLE, 0),
+    (1, APPLE, 5),
+];
+
+const IN_TWO_ISSUES: [Step; 5] = [
+    Step::Take((1, MoveKind::Cover, 2, APPLE, 4), Ok(Moved::Done(4))),
+    Step::Take((2, MoveKind::Cover, 1, MICROSOFT, 7), Ok(Moved::Done(7))),
+    Step::Take((3, MoveKind::Delivery, 4, APPLE, 1), Ok(Moved::Done(1))),
+    Step::Take((5, MoveKind::Cover, 9, APPLE, 3), Ok(Moved::Done(3))),
+    Step::Balances(&[
+        (APPLE, Holder::Cns, 6),
+        (APPLE, Holder::Member(1), 5),
+        (APPLE, Holder::Member(2), 6),
+        (APPLE, Holder::Member(4), 1),
+        (MICROSOFT, Holder::Cns, 7),
+    ]),
+];
 
 #[test]
 fn balances_by_issue_and_account(rt: HostRuntime) -> Result<(), Fail> {
-    let later = Cusip::read(b"594918104")?;
-    let mut list = Openings::new(rt.alloc());
-    let mut other = opening(1, 7)?;
-    other.issue = later;
-    list.add(&other)?;
-    for (of, count) in [(9, 3), (2, 10), (4, 0), (1, 5)] {
-        list.add(&opening(of, count)?)?;
-    }
-    let mut node = match Depository::open(rt.alloc(), ListKeeper::new(rt.alloc()), list) {
-        Ok(node) => node,
-        Err(refused) => return Err(Fail::from(refused.fault)),
-    };
-    let mut elsewhere = order(2, MoveKind::Cover, 1, 7)?;
-    elsewhere.issue = later;
-    let orders = [
-        order(1, MoveKind::Cover, 2, 4)?,
-        elsewhere,
-        order(3, MoveKind::Delivery, 4, 1)?,
-        order(5, MoveKind::Cover, 9, 3)?,
-    ];
-    for order in &orders {
-        node.take_order(order)?;
-    }
-    let wanted = [
-        row(issue()?, Account::Cns, 6),
-        row(issue()?, account(1)?, 5),
-        row(issue()?, account(2)?, 6),
-        row(issue()?, account(4)?, 1),
-        row(later, Account::Cns, 7),
-    ];
-    assert_eq!(rt; node.balances(rt.alloc())?.as_slice(), wanted.as_slice());
-    Ok(())
+    tell(&rt, rt.alloc(), &TWO_ISSUES, &IN_TWO_ISSUES)
 }
+
+const PART: Placed = (1, MoveKind::Cover, 1, APPLE, 15);
+
+const PLANS: [Step; 6] = [
+    Step::Plan(true),
+    Step::Plan(false),
+    Step::Down(false),
+    Step::Take(PART, Err(DepFault::Device)),
+    Step::Restart(0, false),
+    Step::Take(PART, Ok(Moved::Done(15))),
+];
 
 #[test]
 fn the_last_plan_counts(rt: HostRuntime) -> Result<(), Fail> {
-    let mut node = depository(rt.alloc(), &[(1, 20)])?;
-    let cover = order(1, MoveKind::Cover, 1, 15)?;
-    assert_eq!(rt; node.plan(true), Ok(()));
-    assert_eq!(rt; node.plan(false), Ok(()));
-    assert!(rt; !node.is_down());
-    assert_eq!(rt; node.take_order(&cover), Err(DepFault::Device));
-    assert_eq!(rt;
-        node.restart(),
-        Ok(Restarted {
-            records: 0,
-            kept: false
-        })
-    );
-    assert_eq!(rt; node.take_order(&cover), Ok(Answer::Done(reply(1, 15)?)));
-    Ok(())
+    tell(&rt, rt.alloc(), &TWENTY, &PLANS)
 }
+
+const STANDS: [Step; 10] = [
+    Step::Plan(true),
+    Step::Take(PART, Err(DepFault::Device)),
+    Step::Down(true),
+    Step::Take(PART, Err(DepFault::Down)),
+    Step::Balance((APPLE, Holder::Cns, 0)),
+    Step::Restart(1, true),
+    Step::Down(false),
+    Step::Take(PART, Ok(Moved::Again(15))),
+    Step::Restart(1, false),
+    Step::Balance((APPLE, Holder::Cns, 15)),
+];
+
+const IS_LOST: [Step; 10] = [
+    Step::Plan(false),
+    Step::Take(PART, Err(DepFault::Device)),
+    Step::Down(true),
+    Step::Take(PART, Err(DepFault::Down)),
+    Step::Balance((APPLE, Holder::Cns, 0)),
+    Step::Restart(0, false),
+    Step::Down(false),
+    Step::Take(PART, Ok(Moved::Done(15))),
+    Step::Restart(1, false),
+    Step::Balance((APPLE, Holder::Cns, 15)),
+];
 
 #[test]
 fn a_failed_commit_stands_or_does_not(rt: HostRuntime) -> Result<(), Fail> {
-    for stands in [true, false] {
-        let mut node = depository(rt.alloc(), &[(1, 20)])?;
-        let cover = order(1, MoveKind::Cover, 1, 15)?;
-        node.plan(stands)?;
-        assert_eq!(rt; node.take_order(&cover), Err(DepFault::Device));
-        assert!(rt; node.is_down());
-        assert_eq!(rt; node.take_order(&cover), Err(DepFault::Down));
-        assert_eq!(rt; node.balance(Account::Cns, issue()?), 0);
-        let records = u64::from(stands);
-        assert_eq!(rt;
-            node.restart(),
-            Ok(Restarted {
-                records,
-                kept: stands
-            })
-        );
-        assert!(rt; !node.is_down());
-        let answer = reply(1, 15)?;
-        let wanted = if stands {
-            Answer::Again(answer)
-        } else {
-            Answer::Done(answer)
-        };
-        assert_eq!(rt; node.take_order(&cover), Ok(wanted));
-        assert_eq!(rt;
-            node.restart(),
-            Ok(Restarted {
-                records: 1,
-                kept: false
-            })
-        );
-        assert_eq!(rt; node.balance(Account::Cns, issue()?), 15);
-    }
-    Ok(())
-}
-
-// A keeper with the payloads of these executions of one order, by the shares that each moved.
-fn keeper_of(alloc: Global, executed: &[u64]) -> Result<ListKeeper, Fail> {
-    let mut keeper = ListKeeper::new(alloc);
-    for moved in executed {
-        let entry = DepRecord::Exec {
-            order: order(1, MoveKind::Cover, 1, 60)?,
-            moved: shares(*moved)?,
-        };
-        keeper.commit(entry.write(alloc)?.as_slice())?;
-    }
-    Ok(keeper)
-}
-
-#[test]
-fn journals_that_are_bad(rt: HostRuntime) -> Result<(), Fail> {
-    let cases: [(&[u64], u64); 3] = [(&[19], 1), (&[20, 20], 2), (&[60], 1)];
-    for (executed, place) in cases {
-        let keeper = keeper_of(rt.alloc(), executed)?;
-        match Depository::open(rt.alloc(), keeper, openings(rt.alloc(), &[(1, 20)])?) {
-            Ok(_) => return Err(Fail::from("a bad journal was opened")),
-            Err(refused) => {
-                assert_eq!(rt; refused.fault, ReplayFault::BadJournal { place });
-                assert_eq!(rt; refused.keeper.count(), executed.len() as u64);
-            }
-        }
-    }
-    let mut keeper = ListKeeper::new(rt.alloc());
-    keeper.commit(b"no record")?;
-    match Depository::open(rt.alloc(), keeper, Openings::new(rt.alloc())) {
-        Ok(_) => return Err(Fail::from("a bad journal was opened")),
-        Err(refused) => {
-            assert_eq!(rt; refused.fault, ReplayFault::BadJournal { place: 1 });
-        }
-    }
-    Ok(())
-}
-
-#[test]
-fn a_journal_that_opens(rt: HostRuntime) -> Result<(), Fail> {
-    let keeper = keeper_of(rt.alloc(), &[20])?;
-    match Depository::open(rt.alloc(), keeper, openings(rt.alloc(), &[(1, 20)])?) {
-        Ok(node) => {
-            assert_eq!(rt; node.balance(account(1)?, issue()?), 0);
-            assert_eq!(rt; node.balance(Account::Cns, issue()?), 20);
-            assert!(rt; !node.is_down());
-            Ok(())
-        }
-        Err(refused) => Err(Fail::from(refused.fault)),
-    }
-}
-
-#[test]
-fn texts_of_faults(rt: HostRuntime) -> Result<(), Fail> {
-    let texts = [
-        OpeningFault::Double.to_string(rt.alloc())?,
-        OpeningFault::IssueSum.to_string(rt.alloc())?,
-        OpeningFault::OutOfMemory.to_string(rt.alloc())?,
-        DepFault::Down.to_string(rt.alloc())?,
-        DepFault::Conflict.to_string(rt.alloc())?,
-        DepFault::OutOfMemory.to_string(rt.alloc())?,
-        DepFault::Device.to_string(rt.alloc())?,
-        ReplayFault::OutOfMemory.to_string(rt.alloc())?,
-        ReplayFault::BadJournal { place: 2 }.to_string(rt.alloc())?,
-        ReplayFault::Device.to_string(rt.alloc())?,
-    ];
-    let wanted = [
-        "the member has an opening in the issue",
-        "the openings of the issue would pass 10^18 shares",
-        "out of memory",
-        "the depository is down",
-        "another order has this number",
-        "out of memory",
-        "the journal's device failed",
-        "out of memory",
-        "record 2 of the journal is bad",
-        "the journal's device failed",
-    ];
-    for (text, words) in texts.iter().zip(wanted) {
-        assert_eq!(rt; text.as_str(), words);
-    }
-    Ok(())
+    tell(&rt, rt.alloc(), &TWENTY, &STANDS)?;
+    tell(&rt, rt.alloc(), &TWENTY, &IS_LOST)
 }

@@ -1,2 +1,4 @@
 pub mod TallyLemmas
 pub mod BookLemmas
+pub mod HoldingLemmas
+pub mod IssueLemmas

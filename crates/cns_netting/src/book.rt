@@ -1,18 +1,19 @@
-ghost use Rattle.std.specs.Prelude.{◌≡◌, ◌+◌, ◌^◌, ◌<◌, List, [], ◌∷◌, None, reverse, length, ◌+ℤ◌, IfOk, OnOk, OnErr, IsOk};
+ghost use Rattle.std.specs.Prelude.{◌≡◌, ◌++◌, ◌+◌, ◌^◌, ◌<◌, List, [], ◌∷◌, None, reverse, length, filter, ◌+ℤ◌, IfOk, OnOk, OnErr, IsOk};
+ghost use Rattle.std.specs.List.{filter_map};
 ghost use Rattle.cns_trades.specs.Verdicts.{known};
 ghost use Rattle.cns_netting.specs.Book.{IsBook, IsWithin};
 ghost use Rattle.cns_netting.specs.History.{accepted, becoming_due, credit, debit, due_since, position_of, longs_of, shorts_of};
-ghost use Rattle.cns_netting.specs.Rows.{holdings_of, with_holdings, netted_by, open_row as open_row_of, rows_of};
+ghost use Rattle.cns_netting.specs.Rows.{counts_in, is_row_in, IsPartOf, holdings_of, with_holdings, netted_by, open_row as open_row_of, rows_of};
 ghost use Rattle.cns_netting.specs.Tally.{due_of_entry, reached_after};
 ghost use Rattle.cns_netting.specs.declared.entry.NetEntry.TheVariants.{Accepted, Netted, Settled};
 
 use crate::entry::NetEntry;
-use crate::position::{Holding, PositionRow};
+use crate::position::PositionRow;
+use crate::rows::{entries_in, open_rows};
 use crate::tally::{Tally, has_reached, reached_before, tally_of};
 use cns_ids::{Cusip, Day, MemberNo};
 use cns_trades::Trade;
 use std::alloc::{AllocError, Global};
-use std::collections::BTreeSet;
 use std::marker::Model;
 
 /// Accepted trades, due or not, with the nettings and settlements since.
@@ -35,8 +36,13 @@ impl Model for NetBook {
     ghost invariant = { λ b. IsBook (reverse b.entries.items) };
 }
 
-// The tally of a member in an issue, as after a netting of `reached`.
-fn tally_at(entries: &[NetEntry], reached: Option<Day>, member: MemberNo, issue: Cusip) -> Tally
+/// The tally of a member in an issue, as after a netting of `reached`.
+pub(crate) fn tally_at(
+    entries: &[NetEntry],
+    reached: Option<Day>,
+    member: MemberNo,
+    issue: Cusip,
+) -> Tally
     requires book { IsBook (reverse entries.now) }
     requires size { length entries.now < 2 ^ 63 }
     ensures credit { result.credit ≡ credit (netted_by reached (reverse entries.now)) member issue }
@@ -82,87 +88,6 @@ impl DueCount {
         }
         self.reached = reached_before(entry, self.reached);
     }
-}
-
-// The holdings that some entry names, each once, in order.
-fn holdings(alloc: Global, entries: &[NetEntry]) -> Result<BTreeSet<Holding>, AllocError>
-    ensures { IfOk result (λ s. s.keys ≡ holdings_of (reverse entries.now)) }
-{
-    let mut holdings = BTreeSet::new(alloc);
-    for entry in entries {
-        add_holdings(&mut holdings, entry)?;
-    }
-    Ok(holdings)
-}
-
-// Adds the holdings that an entry names.
-fn add_holdings(holdings: &mut BTreeSet<Holding>, entry: &NetEntry) -> Result<(), AllocError>
-    ensures { OnOk result (holdings.new.keys ≡ with_holdings holdings.old.keys entry.now) }
-{
-    match entry {
-        NetEntry::Accepted(trade) => {
-            let issue = trade.issue;
-            holdings.insert(Holding {
-                issue,
-                member: trade.buyer,
-            })?;
-            holdings.insert(Holding {
-                issue,
-                member: trade.seller,
-            })?;
-        }
-        NetEntry::Netted(_) => {}
-        NetEntry::Settled { member, issue, .. } => {
-            holdings.insert(Holding {
-                issue: *issue,
-                member: *member,
-            })?;
-        }
-    }
-    Ok(())
-}
-
-// The same as a list.
-fn holdings_in_order(alloc: Global, entries: &[NetEntry]) -> Result<Vec<Holding>, AllocError>
-    ensures { IfOk result (λ v. v.items ≡ holdings_of (reverse entries.now)) }
-{
-    let holdings = holdings(alloc, entries)?;
-    holdings.iter().copied().collect(alloc)
-}
-
-// The row of a holding, where its position is not 0, as after a netting of `reached`.
-#[tactic(auto, unfolding(crate::specs::Rows::open_row))]
-fn open_row(entries: &[NetEntry], reached: Option<Day>, holding: &Holding) -> Option<PositionRow>
-    requires book { IsBook (reverse entries.now) }
-    requires size { length entries.now < 2 ^ 63 }
-    ensures { result ≡ open_row_of (netted_by reached (reverse entries.now)) holding.now }
-{
-    let tally = tally_at(entries, reached, holding.member, holding.issue);
-    if tally.credit == tally.debit {
-        return None;
-    }
-    Some(PositionRow {
-        issue: holding.issue,
-        member: holding.member,
-        position: tally.position(),
-    })
-}
-
-// The positions other than 0, as after a netting of `reached`.
-fn open_rows(
-    alloc: Global,
-    entries: &[NetEntry],
-    reached: Option<Day>,
-) -> Result<Vec<PositionRow>, AllocError>
-    requires book { IsBook (reverse entries.now) }
-    requires size { length entries.now < 2 ^ 63 }
-    ensures { IfOk result (λ v. v.items ≡ rows_of (netted_by reached (reverse entries.now))) }
-{
-    let holdings = holdings_in_order(alloc, entries)?;
-    holdings
-        .iter()
-        .filter_map(|holding| open_row(entries, reached, holding))
-        .collect(alloc)
 }
 
 // The member after some number of members.
@@ -303,6 +228,15 @@ impl NetBook {
         ensures { IfOk result (λ rows. rows.items ≡ rows_of self.now.history) }
     {
         open_rows(*self.entries.allocator(), self.entries.as_slice(), None)
+    }
+
+    /// The positions other than 0 in an issue, by member.
+    pub fn rows_in(&self, issue: Cusip) -> Result<Vec<PositionRow>, AllocError>
+        ensures { IfOk result (λ rows. rows.items ≡ filter (is_row_in issue) (rows_of self.now.history)) }
+    {
+        let alloc = *self.entries.allocator();
+        let entries = entries_in(alloc, self.entries.as_slice(), issue)?;
+        open_rows(alloc, &entries, None)
     }
 
     /// The positions other than 0 that `net` of a date would leave, by issue, then member.

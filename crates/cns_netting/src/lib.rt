@@ -4,6 +4,7 @@
 mod book;
 mod entry;
 mod position;
+mod rows;
 mod tally;
 
 pub use book::NetBook;

@@ -62,3 +62,34 @@ fn due_trades_net_to_one_position(rt: HostRuntime) -> Result<(), Fail> {
     assert_eq!(rt; book.shorts(issue), 60);
     Ok(())
 }
+
+#[test]
+fn rows_in_an_issue(rt: HostRuntime) -> Result<(), Fail> {
+    let (first, mut second) = two_trades()?;
+    second.issue = Cusip::read(b"594918104")?;
+    let mut book = NetBook::new(rt.alloc());
+    book.accept(first)?;
+    if second.id != first.id {
+        book.accept(second)?;
+    }
+    book.net(first.settle)?;
+    let short = PositionRow {
+        issue: second.issue,
+        member: second.seller,
+        position: -40,
+    };
+    let long = PositionRow {
+        issue: second.issue,
+        member: second.buyer,
+        position: 40,
+    };
+    let other = Cusip::read(b"459200101")?;
+    assert_eq!(rt; book.rows()?.len(), 4);
+    assert_eq!(rt; book.rows_in(first.issue)?.len(), 2);
+    assert_eq!(rt;
+        book.rows_in(second.issue)?.as_slice(),
+        [long, short].as_slice()
+    );
+    assert_eq!(rt; book.rows_in(other)?.len(), 0);
+    Ok(())
+}

@@ -2,7 +2,7 @@ use Rattle.std.proofs.Common.{refl}
 use Rattle.std.proofs.lemmas.List.{take_more}
 use Rattle.cns_netting.specs.Rows.{holdings_of}
 use Rattle.cns_netting.proofs.TallyLemmas.{reverse-last}
-use Rattle.cns_netting.proofs.book.holdings.Goals as goal
+use Rattle.cns_netting.proofs.rows.holdings.Goals as goal
 
 pub loop-entry-init : goal.loop-entry-init
 unfolding holdings_of

@@ -1,0 +1,53 @@
+use crate::test_support::assert_same;
+use crate::{DepFault, OpeningFault, ReplayFault};
+use std::alloc::Global;
+use std::fmt;
+use std::process::Abort;
+use std::test::Fail;
+
+// Faults, each with its text.
+fn assert_texts<T: fmt::Display>(
+    rt: &impl Abort,
+    alloc: Global,
+    cases: &[(T, &str)],
+) -> Result<(), Fail> {
+    for (fault, words) in cases {
+        assert_same(rt, &fault.to_string(alloc)?.as_str(), words);
+    }
+    Ok(())
+}
+
+const OPENINGS: [(OpeningFault, &str); 3] = [
+    (
+        OpeningFault::Double,
+        "the member has an opening in the issue",
+    ),
+    (
+        OpeningFault::IssueSum,
+        "the openings of the issue would pass 10^18 shares",
+    ),
+    (OpeningFault::OutOfMemory, "out of memory"),
+];
+
+const ORDERS: [(DepFault, &str); 4] = [
+    (DepFault::Down, "the depository is down"),
+    (DepFault::Conflict, "another order has this number"),
+    (DepFault::OutOfMemory, "out of memory"),
+    (DepFault::Device, "the journal's device failed"),
+];
+
+const REPLAYS: [(ReplayFault, &str); 3] = [
+    (ReplayFault::OutOfMemory, "out of memory"),
+    (
+        ReplayFault::BadJournal { place: 2 },
+        "record 2 of the journal is bad",
+    ),
+    (ReplayFault::Device, "the journal's device failed"),
+];
+
+#[test]
+fn texts_of_faults(rt: HostRuntime) -> Result<(), Fail> {
+    assert_texts(&rt, rt.alloc(), &OPENINGS)?;
+    assert_texts(&rt, rt.alloc(), &ORDERS)?;
+    assert_texts(&rt, rt.alloc(), &REPLAYS)
+}
