@@ -1,6 +1,6 @@
-ghost use Rattle.std.specs.Prelude.{◌≡◌, ◌+◌, ◌≤◌, option_map, Err, IfOk, IfErr};
+ghost use Rattle.std.specs.Prelude.{◌≡◌, ◌+◌, ◌≤◌, option_map, reverse, Err, IfOk, IfErr};
 ghost use Rattle.cns_depository.specs.Openings.{opening_shares};
-ghost use Rattle.cns_depository.specs.Stock.{order_in, moved_by, record_of as record_in, moved_in, moved_out, balance_of as balance_in};
+ghost use Rattle.cns_depository.specs.Stock.{IsLawfulDepot, order_in, moved_by, record_of as record_in, moved_in, moved_out, balance_of as balance_in};
 ghost use Rattle.cns_depository.specs.Balances.{balance_rows as balance_rows_of, AreComplete, AreAscending};
 ghost use Rattle.cns_depository.specs.Answers.{OrderLeaves, IsKnownAnswer};
 ghost use Rattle.cns_depository.specs.Node.{NodePlanned};
@@ -115,6 +115,14 @@ impl<K: Keeper> Depository<K> {
         ensures { result ≡ self.now.down }
     {
         self.down
+    }
+
+    /// The records of the orders that were executed, the first one first.
+    pub fn records(&self) -> &[DepRecord]
+        ensures records { reverse result.now ≡ self.now.records }
+        ensures lawful { IsLawfulDepot self.now.openings self.now.records }
+    {
+        self.records.as_slice()
     }
 
     /// The order that was executed under this number, and the shares that it moved.

@@ -1,4 +1,4 @@
-ghost use Rattle.std.specs.Prelude.{◌≡◌, ◌+◌, ◌-◌, ◌^◌, ◌<◌, ◌≤◌, min, nat_lt, if◌then◌else◌, [], ◌++◌, length, replicate, Some, None, IfOk, IfErr, OnOk, OnErr, IsTrue, ◌↔◌, vec_capacity};
+ghost use Rattle.std.specs.Prelude.{◌≡◌, ◌+◌, ◌-◌, ◌^◌, ◌<◌, ◌≤◌, min, nat_lt, if◌then◌else◌, [], ◌++◌, length, replicate, reverse, Some, None, IfOk, IfErr, OnOk, OnErr, IsTrue, ◌↔◌, vec_capacity};
 ghost use Rattle.cns_movements.specs.Order.{order_of, moved_of, open_sum, open_part as open_shares, is_of, numbered};
 ghost use Rattle.cns_movements.specs.Book.{with_asks, IsOrderBook};
 ghost use Rattle.cns_movements.specs.Confirm.{confirm_answer, after_reply, added_by};
@@ -248,6 +248,14 @@ impl OrderBook {
         ensures lawful { IsOrderBook self.now.book }
     {
         &self.orders
+    }
+
+    /// The confirmations, the first one first.
+    pub fn replies(&self) -> &[Reply]
+        ensures replies { reverse result.now ≡ self.now.book.replies }
+        ensures lawful { IsOrderBook self.now.book }
+    {
+        &self.replies
     }
 }
 

@@ -2,3 +2,5 @@ pub mod LotLemmas
 pub mod LotsLemmas
 pub mod TiedLemmas
 pub mod NumberedLemmas
+pub mod RunLemmas
+pub mod AgreementLemmas

@@ -2,3 +2,8 @@ pub mod Lot
 pub mod Entry
 pub mod Lots
 pub mod Numbered
+pub mod Outcomes
+pub mod World
+pub mod Step
+pub mod Agreement
+pub mod Start

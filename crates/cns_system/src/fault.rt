@@ -88,6 +88,20 @@ pub enum CloseFault {
     Device,
 }
 
+/// Why the two nodes are not opened; the first that applies. (This project's own rule.)
+#[derive(Clone, Copy, PartialEq, Eq, Debug, Error)]
+pub enum StartFault {
+    /// The clearing node is not opened.
+    #[error("the clearing node: {0}")]
+    Clear(cns_clearing::ReplayFault),
+    /// The depository is not opened.
+    #[error("the depository: {0}")]
+    Depot(cns_depository::ReplayFault),
+    /// The records of the two nodes do not agree.
+    #[error("the records of the two nodes do not agree")]
+    Disagree,
+}
+
 impl From<LotFault> for ReserveFault {
     ghost use Rattle.std.specs.Prelude.{◌≡◌};
     ghost use Rattle.cns_system.specs.Lots.{reserve_fault};

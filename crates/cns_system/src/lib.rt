@@ -4,15 +4,22 @@
 //! tickets from it in turn.
 #![tactic(auto)]
 
+mod agreement;
 mod entry;
+mod event;
 mod fault;
 mod lots;
 mod numbered;
+mod outcome;
+mod system;
 
 pub use entry::Look;
-pub use fault::{CloseFault, LotFault, OpenFault, PourFault, ReserveFault};
+pub use event::{Event, NodeName};
+pub use fault::{CloseFault, LotFault, OpenFault, PourFault, ReserveFault, StartFault};
 pub use lots::LotBook;
 pub use numbered::{NumberedClearing, Opened};
+pub use outcome::{Outcome, Refusal};
+pub use system::System;
 
 #[cfg(test)]
 mod tests;

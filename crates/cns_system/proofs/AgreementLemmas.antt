@@ -1,0 +1,51 @@
+-- The agreement of two nodes, tested record by record.
+use Rattle.std.proofs.Common.{◌≡◌, ◌<◌, ◌+◌, ◌∙◌, ℕ, List, [], ◌∷◌, ◌++◌, ap, get_or, length, reverse, subst, sym, take}
+use Rattle.std.specs.Prelude.{All}
+use Rattle.std.proofs.lemmas.List.{reverse-append, reverse-reverse}
+use Rattle.std.proofs.lemmas.List.Elements.{All-append, All-cons, All-head, All-more, All-nil, All-tail}
+use Rattle.cns_movements.specs.Book.{Orders}
+use Rattle.cns_movements.specs.declared.order.Reply.{Reply}
+use Rattle.cns_records.specs.declared.clear_record.ClearRecord.{ClearRecord}
+use Rattle.cns_records.specs.declared.dep_record.DepRecord.{DepRecord}
+use Rattle.cns_clearing.specs.Books.{orders_of}
+use Rattle.cns_system.specs.Agreement.{Agree, IsExecuted, IsOrdered}
+
+module _ {X : Type 0} (P : X → Type 0) where
+  -- an element of a list of which something holds throughout
+  pub all_here : (xs : List X) (i : ℕ) (x : X) → i < length xs → x ≡ get_or xs i x → All P xs → P x
+  all_here xs i x within is all = subst P (sym is) (all i x within)
+
+  -- one element more of which it holds
+  pub all_next : (xs : List X) (i : ℕ) (x : X) → i < length xs → x ≡ get_or xs i x → All P (take i xs) → P x → All P (take (i + 1) xs)
+  all_next xs i x within is all here = All-more P xs i x within all (subst P is here)
+
+  -- the same in the other order
+  pub all_turned : (xs : List X) → All P xs → All P (reverse xs)
+  all_turned [] all = All-nil P
+  all_turned (x ∷ xs) all =
+      subst (All P) (sym (reverse-append (x ∷ []) xs))
+      (All-append P (reverse xs) (x ∷ []) (all_turned xs (All-tail P x xs all)) (All-cons P x [] (All-head P x xs all) (All-nil P)))
+
+  pub all_turned_back : (xs : List X) → All P (reverse xs) → All P xs
+  all_turned_back xs all = subst (All P) (reverse-reverse xs) (all_turned (reverse xs) all)
+
+-- two nodes agree where each of their lists, the oldest first, passes
+module _ (c : List ClearRecord) (p : List DepRecord) (book : Orders) (records : List DepRecord) (replies : List Reply)
+    (book_is : book ≡ orders_of c) (records_are : reverse records ≡ p) (replies_are : reverse replies ≡ book.replies) where
+  pub agree_from : All (IsOrdered book.orders) records → All (IsExecuted p) replies → Agree c p
+  agree_from ordered executed = record {
+    ordered =
+        subst (λ (b : Orders). All (IsOrdered b.orders) p) book_is
+        (subst (All (IsOrdered book.orders)) records_are (all_turned (IsOrdered book.orders) records ordered));
+    executed = subst (All (IsExecuted p)) (replies_are ∙ ap (λ (b : Orders). b.replies) book_is) (all_turned (IsExecuted p) replies executed);
+  }
+
+  pub ordered_from : Agree c p → All (IsOrdered book.orders) records
+  ordered_from agree =
+      all_turned_back (IsOrdered book.orders) records
+      (subst (All (IsOrdered book.orders)) (sym records_are) (subst (λ (b : Orders). All (IsOrdered b.orders) p) (sym book_is) agree.ordered))
+
+  pub executed_from : Agree c p → All (IsExecuted p) replies
+  executed_from agree =
+      all_turned_back (IsExecuted p) replies
+      (subst (All (IsExecuted p)) (sym (replies_are ∙ ap (λ (b : Orders). b.replies) book_is)) agree.executed)

@@ -1,0 +1,24 @@
+-- When the records of the two nodes agree (this project's own rule).
+use Rattle.std.specs.Prelude.{◌≡◌, ℕ, List, All, Option, Some, None}
+use Rattle.cns_movements.specs.Order.{order_of}
+use Rattle.cns_movements.specs.declared.order.MoveKind.TheVariants.{Delivery}
+use Rattle.cns_movements.specs.declared.order.Order.{Order}
+use Rattle.cns_movements.specs.declared.order.Reply.{Reply}
+use Rattle.cns_records.specs.declared.clear_record.ClearRecord.{ClearRecord}
+use Rattle.cns_records.specs.declared.dep_record.DepRecord.{DepRecord}
+use Rattle.cns_records.specs.declared.dep_record.DepRecord.TheVariants.{Exec}
+use Rattle.cns_clearing.specs.Books.{orders_of}
+use Rattle.cns_depository.specs.Stock.{moved_by, record_of}
+
+-- an executed movement is that of the order of its number, and a delivery moved all that it asks for
+abbrev pub IsOrdered : List Order → DepRecord → Type 0
+IsOrdered orders (Exec o moved) = (order_of orders o.number ≡ Some o) × (o.kind ≡ Delivery → moved ≡ o.asked)
+
+-- a confirmed movement was executed, and moved so much
+abbrev pub IsExecuted : List DepRecord → Reply → Type 0
+IsExecuted p r = (e : DepRecord) × (record_of p r.number ≡ Some e) × (moved_by e ≡ r.moved)
+
+-- the records of a clearing node and those of a depository agree
+pub record Agree (c : List ClearRecord) (p : List DepRecord) : Type 0 where
+  pub ordered : All (IsOrdered (orders_of c).orders) p
+  pub executed : All (IsExecuted p) (orders_of c).replies

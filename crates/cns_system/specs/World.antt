@@ -1,0 +1,38 @@
+-- Both nodes and the link between them, as contracts see them.
+use Rattle.std.specs.Prelude.{ℕ, List, Option, Some, None, Result, Ok, Err}
+use Rattle.cns_movements.specs.declared.order.Order.{Order}
+use Rattle.cns_movements.specs.declared.order.Reply.{Reply}
+use Rattle.cns_wire.specs.ReadFrame.{read_frame_of}
+use Rattle.cns_wire.specs.declared.frame.Frame.{Frame}
+use Rattle.cns_wire.specs.declared.frame.Frame.TheVariants as frame
+use Rattle.cns_wire.specs.declared.frame.FrameFault.{FrameFault}
+use Rattle.cns_depository.specs.Node.{DepNode}
+use Rattle.cns_system.specs.Numbered.{NumberedNode}
+
+-- the clearing node with its lots by number, the depository, and the packets that were put on the link of orders and on that of
+-- replies, the oldest first
+pub record World : Type 0 where
+  pub clear : NumberedNode
+  pub depot : DepNode
+  pub orders : List (List ℕ)
+  pub replies : List (List ℕ)
+
+-- the order that a frame holds, and the reply that one holds
+abbrev pub order_in_frame : Result Frame FrameFault → Option Order
+order_in_frame (Ok (frame.Order o)) = Some o
+order_in_frame (Ok (frame.Reply r)) = None
+order_in_frame (Err fault) = None
+
+abbrev pub reply_in_frame : Result Frame FrameFault → Option Reply
+reply_in_frame (Ok (frame.Order o)) = None
+reply_in_frame (Ok (frame.Reply r)) = Some r
+reply_in_frame (Err fault) = None
+
+-- the order that a packet holds, and the reply that one holds
+abbrev pub order_in_packet : Option (List ℕ) → Option Order
+order_in_packet None = None
+order_in_packet (Some bytes) = order_in_frame (read_frame_of bytes)
+
+abbrev pub reply_in_packet : Option (List ℕ) → Option Reply
+reply_in_packet None = None
+reply_in_packet (Some bytes) = reply_in_frame (read_frame_of bytes)
