@@ -10,10 +10,11 @@ use Rattle.cns_pool.specs.Pool.{asked_sum, intervals_of}
 use Rattle.cns_pool.proofs.TileLemmas.{AreChained-Tiles}
 use Rattle.cns_movements.specs.declared.order.Ask.{Ask}
 use Rattle.cns_movements.specs.declared.order.MoveKind.TheVariants.{Delivery}
+use Rattle.cns_covers.proofs.RowLemmas.{All-filter_map}
 use Rattle.cns_allocate.specs.Deliveries.{deliveries_of, delivery_ask}
 use Rattle.cns_allocate.specs.Grants.{grant_of}
 use Rattle.cns_allocate.proofs.GrantLemmas.{sum_by-grant_of}
-use Rattle.cns_allocate.proofs.PlanLemmas.{All-filter_map, count_by-filter_map}
+use Rattle.cns_allocate.proofs.PlanLemmas.{count_by-filter_map}
 
 -- the delivery of a ticket that is granted a share
 abbrev granted_ask : ℕ → ℕ → Ticket → Ask

@@ -1,4 +1,5 @@
 pub mod PlanLemmas
+pub mod WantLemmas
 pub mod GrantLemmas
 pub mod StartLemmas
 pub mod TotalLemmas

@@ -1,14 +1,14 @@
 -- What holds of each plan.
-use Rattle.std.proofs.Common.{◌≡◌, ◌≤◌, ◌+◌, ◌-◌, ℕ, List, [], ◌∷◌, ◌++◌, Option, Some, None, Bool, true, false, cond, refl, ap, arith, append_assoc, Less}
+use Rattle.std.proofs.Common.{◌≡◌, ◌≤◌, ◌+◌, ◌-◌, ℕ, List, [], ◌∷◌, ◌++◌, Option, Some, None, Bool, true, false, cond, refl, ap, ◌∙◌, arith, append_assoc, Less}
 use Rattle.std.specs.Prelude.{◌&&◌, ◌==◌, nat_lt, All, AllPairs, IfSome, count_by, sum_by, filter, ℤ, pos, negsuc, ◌-ℤ◌, if◌then◌else◌}
 use Rattle.std.specs.List.{filter_map, cons_option}
-use Rattle.std.proofs.lemmas.Bool.{and_from, and_parts, cond-false, cond-true, eqb-true, false_from_ne_true, ltb-true}
-use Rattle.std.proofs.lemmas.Cmp.{tied_itself}
+use Rattle.std.proofs.Math.Bool.{and_comm}
+use Rattle.std.proofs.lemmas.Bool.{and_from, and_parts, cond-false, cond-true, eqb-true, ltb-true}
 use Rattle.std.proofs.lemmas.Int.{ints}
-use Rattle.std.proofs.lemmas.List.Elements.{All-append, All-cons, All-filter, All-head, All-nil, All-tail, All-weaker, filter_passes}
+use Rattle.std.proofs.lemmas.List.Elements.{All-append, All-filter, All-head, All-tail, All-weaker, filter_passes}
 use Rattle.std.proofs.lemmas.List.Kept.{AllPairs-cons}
 use Rattle.std.proofs.lemmas.List.Sums.{sum_by-append, sum_by-cons}
-use Rattle.cns_netting.specs.History.{credit, credit_part, debit, due, position_of, settled_in, sold}
+use Rattle.cns_netting.specs.History.{credit, credit_part, debit, due, settled_in, sold}
 use Rattle.cns_netting.specs.Rows.{holding_cmp, holdings_of, is_row_in, open_row, rows_of}
 use Rattle.cns_netting.specs.Book.{IsBook}
 use Rattle.cns_netting.specs.declared.entry.NetEntry.{NetEntry}
@@ -16,7 +16,7 @@ use Rattle.cns_netting.specs.declared.entry.NetEntry.TheVariants.{Accepted, Nett
 use Rattle.cns_netting.specs.declared.position.Holding.{Holding}
 use Rattle.cns_netting.specs.declared.position.PositionRow.{PositionRow}
 use Rattle.cns_netting.proofs.BookLemmas.{bought-most}
-use Rattle.cns_netting.proofs.HoldingLemmas.{AreAscending, holding_order, holdings-ascending}
+use Rattle.cns_netting.proofs.HoldingLemmas.{AreAscending, holdings-ascending}
 use Rattle.cns_movements.specs.Asked.{IsAsked}
 use Rattle.cns_movements.specs.Order.{open_sum}
 use Rattle.cns_movements.specs.declared.order.MoveKind.TheVariants.{Delivery}
@@ -24,6 +24,8 @@ use Rattle.cns_movements.specs.Book.{Orders}
 use Rattle.cns_covers.specs.Bounds.{AreBounded}
 use Rattle.cns_covers.specs.Covers.{IsUnsettled}
 use Rattle.cns_covers.specs.declared.priorities.Prioritized.{Prioritized}
+use Rattle.cns_covers.proofs.BoundLemmas.{other_place, share_grows}
+use Rattle.cns_covers.proofs.RowLemmas.{All-filter_map, All-rows_of, IfSome-open_row}
 use Rattle.cns_allocate.specs.Group.{is_in, rank}
 use Rattle.cns_allocate.specs.Plan.{IsPlan, LongsFit, by_group, group_in, long_of, plan_of, planned_of, want_of, wanting}
 use Rattle.cns_allocate.specs.declared.group.Group.{Group}
@@ -60,39 +62,18 @@ settled_in-none (Settled m i z ∷ h) member issue none = absurd none
 pub unsettled_longs : (h : List NetEntry) → IsBook h → IsUnsettled h → LongsFit h
 unsettled_longs h book none = covered_longs h book (λ m i. omega (arith, settled_in-none h m i none))
 
--- the row of a holding is long of at most 10^18 shares where all longs are
-open_row-fit : (h : List NetEntry) (k : Holding) → LongsFit h → IfSome (open_row h k) (λ (row : PositionRow). long_of row ≤ 1000000000000000000)
-unfolding open_row
-open_row-fit h k fit = by (credit h k.member k.issue == debit h k.member k.issue)
-  where
-    by : (b : Bool)
-        → IfSome (if b then None else Some (record { issue = k.issue; member = k.member; position = position_of h k.member k.issue }))
-        (λ (row : PositionRow). long_of row ≤ 1000000000000000000)
-    by true = tt
-    by false = rw (credit_part-difference (credit h k.member k.issue) (debit h k.member k.issue)) (fit.within k.member k.issue)
-
 -- ---- what each element gives
-
-All-cons_option : {X : Type 0} (P : X → Type 0) (o : Option X) (xs : List X) → IfSome o P → All P xs → All P (cons_option o xs)
-All-cons_option P None xs one rest = rest
-All-cons_option P (Some x) xs one rest = All-cons P x xs one rest
-
-pub All-filter_map : {X Y : Type 0} (f : X → Option Y) (P : X → Type 0) (Q : Y → Type 0) → ((x : X) → P x → IfSome (f x) Q) → (xs : List X) → All P xs → All Q (filter_map f xs)
-All-filter_map f P Q each [] all = All-nil Q
-All-filter_map f P Q each (x ∷ xs) all =
-    All-cons_option Q (f x) (filter_map f xs) (each x (All-head P x xs all)) (All-filter_map f P Q each xs (All-tail P x xs all))
 
 -- what holds of an element that is given where b is so
 pub IfSome-if : {X : Type 0} (P : X → Type 0) (b : Bool) (x : X) → (b ≡ true → P x) → IfSome (if b then Some x else None) P
 IfSome-if P true x h = h refl
 IfSome-if P false x h = tt
 
-rows_fit : (h : List NetEntry) (ks : List Holding) → LongsFit h → All (λ (row : PositionRow). long_of row ≤ 1000000000000000000) (filter_map (open_row h) ks)
-rows_fit h [] fit = All-nil _
-rows_fit h (k ∷ ks) fit = All-cons_option _ (open_row h k) (filter_map (open_row h) ks) (open_row-fit h k fit) (rows_fit h ks fit)
-
+-- all rows are long of at most 10^18 shares where all longs are
 pub rows_of-fit : (h : List NetEntry) → LongsFit h → All (λ (row : PositionRow). long_of row ≤ 1000000000000000000) (rows_of h)
-rows_of-fit h fit = rows_fit h (holdings_of h) fit
+rows_of-fit h fit =
+    All-rows_of (λ (row : PositionRow). long_of row ≤ 1000000000000000000) h
+    (λ k. rw (credit_part-difference (credit h k.member k.issue) (debit h k.member k.issue)) (fit.within k.member k.issue))
 
 -- so are those of an issue
 pub rows_in-fit : (h : List NetEntry) (issue : ℕ) → LongsFit h → All (λ (row : PositionRow). long_of row ≤ 1000000000000000000) (filter (is_row_in issue) (rows_of h))
@@ -136,15 +117,9 @@ count_by-filter_map f q p each [] = omega arith
 count_by-filter_map {Y = Y} f q p each (x ∷ xs) =
     omega (arith, sum_by-cons (λ y. cond (q y) 1 0) x xs, by (f x) (each x), count_by-filter_map f q p each xs)
   where
-    one : (a b : Bool) → (a ≡ true → b ≡ true) → cond a 1 0 ≤ cond b 1 0
-    one true true h = omega arith
-    one true false h = let no = h refl in cc no
-    one false true h = omega arith
-    one false false h = omega arith
-
     by : (o : Option Y) → IfSome o (λ y. p y ≡ true → q x ≡ true) → count_by p (cons_option o (filter_map f xs)) ≤ cond (q x) 1 0 + count_by p (filter_map f xs)
     by None h = omega arith
-    by (Some y) h = omega (arith, sum_by-cons (λ z. cond (p z) 1 0) y (filter_map f xs), one (p y) (q x) h)
+    by (Some y) h = omega (arith, sum_by-cons (λ z. cond (p z) 1 0) y (filter_map f xs), share_grows (p y) (q x) 1 h)
 
 -- whether a holding, or a position, is of an issue and a member
 abbrev is_holding_of : ℕ → ℕ → Holding → Bool
@@ -158,14 +133,7 @@ is_planned_as member p = p.member == member
 
 -- a holding that stands after another one is not of its issue and member
 other_holding : (k x : Holding) → holding_cmp k x ≡ Less → is_holding_of k.issue k.member x ≡ false
-other_holding k x less =
-    false_from_ne_true _
-    (λ e.
-    let same = and_parts (x.issue == k.issue) (x.member == k.member) e in
-    let issues = eqb-true x.issue k.issue same.0 in
-    let members = eqb-true x.member k.member same.1 in
-    let itself = tied_itself holding_order k in
-    cc)
+other_holding k x less = and_comm (x.issue == k.issue) (x.member == k.member) ∙ other_place k x less
 
 no_other : (k : Holding) (ks : List Holding) → All (λ (q : Holding). holding_cmp k q ≡ Less) ks → count_by (is_holding_of k.issue k.member) ks ≡ 0
 no_other k [] apart = refl
@@ -194,14 +162,8 @@ holdings_once issue member (k ∷ ks) up = by (is_holding_of issue member k) ref
 -- the position of a holding is of its issue and member
 open_row-place : (h : List NetEntry) (issue member : ℕ) (k : Holding)
     → IfSome (open_row h k) (λ (row : PositionRow). is_row_of issue member row ≡ true → is_holding_of issue member k ≡ true)
-unfolding open_row
-open_row-place h issue member k = by (credit h k.member k.issue == debit h k.member k.issue)
-  where
-    by : (b : Bool)
-        → IfSome (if b then None else Some (record { issue = k.issue; member = k.member; position = position_of h k.member k.issue }))
-        (λ (row : PositionRow). is_row_of issue member row ≡ true → is_holding_of issue member k ≡ true)
-    by true = tt
-    by false = λ e. e
+open_row-place h issue member k =
+    IfSome-open_row (λ (row : PositionRow). is_row_of issue member row ≡ true → is_holding_of issue member k ≡ true) h k (λ e. e)
 
 -- the member planned of a position is that of the position, which is of the issue
 planned_of-place : (issue : ℕ) (book : Orders) (settings : List Prioritized) (were_long : List ℕ) (member : ℕ) (row : PositionRow)
@@ -249,13 +211,14 @@ sum_by-by_group f ps =
       sum_by-groups f ps,
     )
 
-All-by_group : (P : Planned → Type 0) (ps : List Planned) → All P ps → All P (by_group ps)
+-- what holds of each element holds of each in its group
+pub All-by_group : (P : Planned → Type 0) (ps : List Planned) → All P ps → All P (by_group ps)
 All-by_group P ps all =
     All-append P (filter (is_in Priority) ps) (filter (is_in WasLong) ps ++ filter (is_in Other) ps) (All-filter (is_in Priority) P ps all)
     (All-append P (filter (is_in WasLong) ps) (filter (is_in Other) ps) (All-filter (is_in WasLong) P ps all) (All-filter (is_in Other) P ps all))
 
 -- two members in the order of their groups
-abbrev IsNoLater : Planned → Planned → Type 0
+abbrev pub IsNoLater : Planned → Planned → Type 0
 IsNoLater p q = rank p.group ≤ rank q.group
 
 -- those of a group before others of that group or later ones

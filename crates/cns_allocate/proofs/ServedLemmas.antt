@@ -1,6 +1,8 @@
 -- Tickets that are drawn in turn are those of a lot that may close, and the other way round.
 use Rattle.std.proofs.Common.{◌≡◌, ◌≤◌, ◌<◌, ◌+◌, ℕ, suc, drop, get_or, drop-cons, List, [], ◌∷◌, ◌++◌, length, Bool, true, false, not, cond, Some, ap, refl, sym, arith, ◌∙◌}
 use Rattle.std.specs.Prelude.{◌==◌, ◌||◌, ◌&&◌, ◌↔◌, All, AllPairs, IsPermutation, count_by, sum_by, filter, find}
+use Rattle.std.proofs.Math.Bool.{or-false}
+use Rattle.std.proofs.Math.Nat.{le_refl}
 use Rattle.std.proofs.lemmas.List.Elements.{All-cons, All-filter, All-head, All-nil, All-tail}
 use Rattle.std.proofs.lemmas.List.Folds.{list_any-append}
 use Rattle.std.proofs.lemmas.List.Kept.{AllPairs-cons}
@@ -15,12 +17,8 @@ use Rattle.cns_allocate.specs.Plan.{IsPlan}
 use Rattle.cns_allocate.specs.Served.{AreDrawnBy, IsServed, has_ticket, turn_of, waiting, without}
 use Rattle.cns_allocate.specs.declared.planned.Planned.{Planned}
 use Rattle.cns_allocate.specs.declared.turns.Turn.TheVariants.{Next}
-use Rattle.cns_allocate.proofs.PlanLemmas.{is_planned_as}
+use Rattle.cns_allocate.proofs.PlanLemmas.{IsNoLater, is_planned_as}
 use Rattle.cns_allocate.proofs.TurnLemmas.{IsPlan-without, filter_twice, find-first, find-without, nat_eq-sym, same_rest, turn-next, turn-parts}
-
--- two planned in the order of their groups
-abbrev IsNoLater : Planned → Planned → Type 0
-IsNoLater p q = rank p.group ≤ rank q.group
 
 -- ---- those who wait
 
@@ -45,10 +43,6 @@ waiting-first plan t ts =
     filter_twice (λ (p : Planned). not (has_ticket ts p.member)) (λ (p : Planned). not (p.member == t.member)) (λ (p : Planned). not (has_ticket (t ∷ ts) p.member))
     (λ p. not_or (t.member == p.member) (has_ticket ts p.member) ∙ rw (nat_eq-sym t.member p.member) refl) plan
 
-or_none : (b : Bool) → (b || false) ≡ b
-or_none true = refl
-or_none false = refl
-
 -- after one more ticket, those who waited do, but for the one that drew it
 pub waiting_more : (plan : List Planned) (tickets : List Ticket) (t : Ticket)
     → waiting plan (tickets ++ t ∷ []) ≡ filter (λ (p : Planned). not (p.member == t.member)) (waiting plan tickets)
@@ -59,7 +53,7 @@ waiting_more plan tickets t =
   where
     one : (p : Planned) → not (has_ticket (tickets ++ t ∷ []) p.member) ≡ (not (has_ticket tickets p.member) && not (p.member == t.member))
     one p =
-        rw (list_any-append (λ (u : Ticket). u.member == p.member) tickets (t ∷ []), or_none (t.member == p.member), nat_eq-sym p.member t.member)
+        rw (list_any-append (λ (u : Ticket). u.member == p.member) tickets (t ∷ []), or-false (t.member == p.member), nat_eq-sym p.member t.member)
         (not_or (has_ticket tickets p.member) (t.member == p.member))
 
 -- ---- tickets drawn in turn
@@ -225,9 +219,6 @@ served_each : (plan : List Planned) (tickets : List Ticket) (sealed : Bool) (P :
 served_each plan tickets sealed P Q each s all =
     drawn_all P Q each tickets s.order s.drawn (All-permutation P plan s.order (IsPermutation-sym s.order plan s.permutation) all)
 
-no_more : (n : ℕ) → n ≤ n
-no_more n = omega arith
-
 -- no member has two tickets
 pub served_once : (plan : List Planned) (tickets : List Ticket) (sealed : Bool) → IsPlan plan → IsServed plan tickets sealed → (member : ℕ)
     → count_by (λ (t : Ticket). t.member == member) tickets ≤ 1
@@ -235,7 +226,7 @@ served_once plan tickets sealed is s member =
     omega (
       arith,
       drawn_sum (λ (t : Ticket). cond (t.member == member) 1 0) (λ (p : Planned). cond (p.member == member) 1 0)
-          (λ t p members asks. rw members (no_more (cond (p.member == member) 1 0))) tickets s.order s.drawn,
+          (λ t p members asks. rw members (le_refl (cond (p.member == member) 1 0))) tickets s.order s.drawn,
       sum_by-IsPermutation (λ (p : Planned). cond (p.member == member) 1 0) s.order plan s.permutation,
       is.once member,
     )

@@ -39,7 +39,7 @@ filter_twice p q r each (x ∷ xs) = rw (each x) (by (q x) (p x) refl (filter_tw
     by false b e rest = rest
 
 -- no more of what is kept pass a test
-count_by-filter : {X : Type 0} (p q : X → Bool) (xs : List X) → count_by q (filter p xs) ≤ count_by q xs
+pub count_by-filter : {X : Type 0} (p q : X → Bool) (xs : List X) → count_by q (filter p xs) ≤ count_by q xs
 count_by-filter p q xs = omega (arith, sum_by-filter_both p (λ x. not (p x)) (λ x. refl) (λ x. cond (q x) 1 0) xs)
 
 -- where none passes, each fails
@@ -54,7 +54,7 @@ count_none p (x ∷ xs) none = by (p x) refl (count_none p xs)
     by false e rest = All-cons (λ y. p y ≡ false) x xs e (rest (omega (arith, none, sum_by-cons (λ y. cond (p y) 1 0) x xs)))
 
 -- what is found is one of the list, and passes
-find-All : {X : Type 0} (P : X → Type 0) (test : X → Bool) (xs : List X) (y : X) → All P xs → find test xs ≡ Some y → P y
+pub find-All : {X : Type 0} (P : X → Type 0) (test : X → Bool) (xs : List X) (y : X) → All P xs → find test xs ≡ Some y → P y
 find-All P test [] y all found = cc
 find-All {X = X} P test (x ∷ xs) y all found = by (test x) found (find-All P test xs y (All-tail P x xs all))
   where
@@ -62,7 +62,7 @@ find-All {X = X} P test (x ∷ xs) y all found = by (test x) found (find-All P t
     by true e rest = let same : x ≡ y = cc in rw (← same) (All-head P x xs all)
     by false e rest = rest e
 
-find-passes : {X : Type 0} (test : X → Bool) (xs : List X) (y : X) → find test xs ≡ Some y → test y ≡ true
+pub find-passes : {X : Type 0} (test : X → Bool) (xs : List X) (y : X) → find test xs ≡ Some y → test y ≡ true
 find-passes test [] y found = cc
 find-passes {X = X} test (x ∷ xs) y found = by (test x) refl found (find-passes test xs y)
   where
@@ -70,7 +70,7 @@ find-passes {X = X} test (x ∷ xs) y found = by (test x) refl found (find-passe
     by true e f rest = let same : x ≡ y = cc in rw (← same) e
     by false e f rest = rest f
 
-find-none : {X : Type 0} (test : X → Bool) (xs : List X) → find test xs ≡ None → count_by test xs ≡ 0
+pub find-none : {X : Type 0} (test : X → Bool) (xs : List X) → find test xs ≡ None → count_by test xs ≡ 0
 find-none test [] none = refl
 find-none test (x ∷ xs) none = by (test x) refl none (find-none test xs)
   where

@@ -115,6 +115,16 @@ lawful_sound (r ∷ c) lawful fits =
     let netted = netted_more r (books_of c) (lawful_sound c lawful.1 fits.2) lawful.0 fits.0 in
     record { netted = netted; bounded = orderly.bounded; ordered = orderly.ordered }
 
+-- records are lawful from the oldest one on
+pub lawful_before : (later c : List ClearRecord) → IsLawful (later ++ c) → IsLawful c
+lawful_before [] c lawful = lawful
+lawful_before (r ∷ later) c lawful = lawful_before later c lawful.1
+
+-- and so they are writable
+pub writable_before : (later c : List ClearRecord) → AreWritable (later ++ c) → AreWritable c
+writable_before [] c fits = fits
+writable_before (r ∷ later) c fits = writable_before later c fits.2
+
 -- records are writable in any order
 pub writable-append : (xs ys : List ClearRecord) → AreWritable xs → AreWritable ys → AreWritable (xs ++ ys)
 writable-append [] ys first then = then

@@ -1,7 +1,7 @@
--- The tickets of a pool as those of a record.
-use Rattle.std.proofs.Common.{◌≡◌, ◌≤◌, ℕ, Bool, true, false, List, [], ◌∷◌, length, map, take, Option, Some, None, refl, sym, ap, ◌∙◌, subst, arith}
+-- The tickets of a pool as those of a record, and back.
+use Rattle.std.proofs.Common.{◌≡◌, ◌≤◌, ℕ, List, [], ◌∷◌, length, map, take, Option, Some, None, refl, sym, ap, ◌∙◌, subst, arith}
 use Rattle.std.specs.Prelude.{◌==◌, All, cond, count_by, nat_le, if◌then◌else◌}
-use Rattle.std.proofs.lemmas.Bool.{le-leb}
+use Rattle.std.proofs.lemmas.Bool.{cond-true, le-leb}
 use Rattle.std.proofs.lemmas.List.{take_all}
 use Rattle.std.proofs.lemmas.List.Elements.{All-weaker}
 use Rattle.std.proofs.lemmas.List.Sums.{sum_by-cons}
@@ -10,8 +10,14 @@ use Rattle.cns_pool.specs.declared.ticket.Ticket.{Ticket}
 use Rattle.cns_records.specs.Drawn.{IsDrawn}
 use Rattle.cns_records.specs.declared.drawn.Drawn.{Drawn}
 use Rattle.cns_clearing.specs.Answers.{drawn_in_record, drawn_of}
+use Rattle.cns_clearing.specs.Books.{tickets_of}
 use Rattle.cns_clearing.specs.Closing.{AreApart}
 use Rattle.cns_clearing.proofs.TotalLemmas.{small_pigeonhole}
+
+-- the tickets of a record are those that were drawn
+pub tickets_drawn : (tickets : List Ticket) → tickets_of (drawn_of tickets) ≡ tickets
+tickets_drawn [] = refl
+tickets_drawn (t ∷ tickets) = ap (λ ts. t ∷ ts) (tickets_drawn tickets)
 
 -- a member has as many of both
 drawn_times : (member : ℕ) (ts : List Ticket) → count_by (λ (d : Drawn). d.member == member) (drawn_of ts) ≡ count_by (λ (t : Ticket). t.member == member) ts
@@ -35,8 +41,4 @@ drawn_few ts ds i all same ranges apart =
 
 -- so they are a list of a record
 pub drawn_fits : (d : List Drawn) (answer : Option (List Drawn)) → length d ≤ 9999 → answer ≡ (if nat_le (length d) 9999 then Some d else None) → answer ≡ None → ⊥
-drawn_fits d answer few is none = none-some d (sym none ∙ is ∙ by (nat_le (length d) 9999) (le-leb (length d) 9999 few))
-  where
-    by : (b : Bool) → b ≡ true → (if b then Some d else None) ≡ Some d
-    by true e = refl
-    by false e = absurd cc
+drawn_fits d answer few is none = none-some d (sym none ∙ is ∙ cond-true (nat_le (length d) 9999) (Some d) None (le-leb (length d) 9999 few))

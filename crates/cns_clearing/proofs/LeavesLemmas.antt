@@ -27,7 +27,10 @@ use Rattle.cns_clearing.specs.Node.{ClearNode}
 use Rattle.cns_clearing.specs.OpenLots.{refilled}
 use Rattle.cns_clearing.specs.Pools.{lot_of}
 use Rattle.cns_clearing.specs.declared.lot.Lot.{Lot}
-use Rattle.cns_clearing.proofs.LotLemmas.{allocable, allocation_lawful, asked_small, lot_found, lots_opened, lots_refilled, previous_is, recordable, tickets_drawn}
+use Rattle.cns_clearing.proofs.PositionLemmas.{previous_is}
+use Rattle.cns_clearing.proofs.LotLemmas.{lot_found, lots_opened, lots_refilled}
+use Rattle.cns_clearing.proofs.DrawnLemmas.{tickets_drawn}
+use Rattle.cns_clearing.proofs.AllocationLemmas.{allocable, allocation_lawful, asked_small, recordable}
 use Rattle.cns_clearing.proofs.PouredLemmas.{pour_adds}
 
 -- the lots once that of the issue was refilled

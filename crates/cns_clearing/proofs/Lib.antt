@@ -5,7 +5,11 @@ pub mod PositionLemmas
 pub mod ListLemmas
 pub mod ClosingLemmas
 pub mod LotLemmas
+pub mod PoolLemmas
+pub mod WantLemmas
 pub mod TotalLemmas
 pub mod DrawnLemmas
+pub mod PlanLemmas
+pub mod AllocationLemmas
 pub mod PouredLemmas
 pub mod LeavesLemmas

@@ -1,26 +1,26 @@
--- Due trades and positions are those of the books.
-use Rattle.std.proofs.Common.{◌≡◌, ◌≤◌, ◌+◌, ℕ, zero, suc, Bool, true, false, List, [], ◌∷◌, ◌++◌, length, Option, Some, None, refl, sym, ap, ◌∙◌, subst, arith}
-use Rattle.std.specs.Prelude.{◌&&◌, ◌==◌, ◌||◌, nat_le, ℤ, pos, neg_ℤ, ◌+ℤ◌, ◌-ℤ◌, ◌≤ℤ◌, if◌then◌else◌}
+-- Due trades, and positions now and after the latest two cycles, are those of the books.
+use Rattle.std.proofs.Common.{◌≡◌, ◌+◌, ℕ, List, [], ◌∷◌, ◌++◌, length, Option, Some, None, refl, sym, ap, ◌∙◌, subst, arith}
+use Rattle.std.specs.Prelude.{◌&&◌, ◌==◌, ◌||◌, nat_le, ℤ, pos, neg_ℤ, ◌+ℤ◌, ◌-ℤ◌, ◌≤ℤ◌}
 use Rattle.std.specs.List.{list_any}
-use Rattle.std.proofs.lemmas.List.Sums.{sum_by-cons}
 use Rattle.cns_movements.specs.Book.{IsOrderBook}
 use Rattle.cns_trades.specs.declared.trade.Trade.{Trade}
-use Rattle.cns_netting.specs.History.{bought, credit_part, debit_part, due, due_since, is_reached, latest, position_of, settled_in, settled_out, sold}
+use Rattle.cns_netting.specs.History.{bought, due, due_since, is_reached, latest, position_of, settled_in, settled_out, sold}
 use Rattle.cns_netting.specs.declared.entry.NetEntry.{NetEntry}
 use Rattle.cns_netting.proofs.TallyLemmas.{is_reached-latest}
-use Rattle.cns_movements.specs.Order.{is_of, moved_of, moved_part, moved_sum, numbered, open_sum, same_kind}
+use Rattle.cns_movements.specs.Order.{is_of, moved_sum, numbered, open_sum}
 use Rattle.cns_movements.specs.declared.order.Ask.{Ask}
 use Rattle.cns_movements.specs.declared.order.MoveKind.{MoveKind}
 use Rattle.cns_movements.specs.declared.order.MoveKind.TheVariants.{Cover, Delivery}
 use Rattle.cns_movements.specs.declared.order.Order.{Order}
 use Rattle.cns_movements.specs.declared.order.Reply.{Reply}
 use Rattle.cns_movements.proofs.ConfirmLemmas.{IsTaken, taken_from_done}
-use Rattle.cns_movements.proofs.ReplyLemmas.{moved_of_above, moved_sum-append, moved_sum-with_reply}
-use Rattle.cns_covers.specs.Bounds.{amount_of}
-use Rattle.cns_covers.proofs.BoundLemmas.{position_bounds}
+use Rattle.cns_movements.proofs.ReplyLemmas.{moved_new, moved_of_above, moved_sum-append, moved_sum-with_reply}
+use Rattle.cns_covers.proofs.BoundLemmas.{credit_moved, debit_moved, position_bounds}
 use Rattle.cns_records.specs.declared.clear_record.ClearRecord.{ClearRecord}
 use Rattle.cns_records.specs.declared.clear_record.ClearRecord.TheVariants.{Accept, Exempt, Priority, Cycle, Allocate, Confirm}
 use Rattle.cns_clearing.specs.Books.{Books, Allows, IsLawful, books_of, covers_on, deliveries_in, history_of, settled_by, with_record}
+use Rattle.cns_netting.specs.Rows.{holdings_of, rows_of}
+use Rattle.cns_clearing.specs.Lots.{up_to_cycle, up_to_previous}
 use Rattle.cns_clearing.specs.Position.{IsBetween, due_before, due_in, is_cycle_from, position_in}
 use Rattle.cns_clearing.proofs.BooksLemmas.{lawful_bounded}
 
@@ -51,42 +51,6 @@ due_alike reached later (Confirm r ∷ c) alike =
 pub due_in_is : (c : List ClearRecord) → due (history_of c) ≡ due_in c
 due_in_is c = due_alike None [] c (λ s. refl)
 
--- new orders have moved nothing
-moved_sum_new : (n : ℕ) (asks : List Ask) (rs : List Reply) (kind : MoveKind) (m i : ℕ) → ((j : ℕ) → n ≤ j → moved_of rs j ≡ None) → moved_sum (numbered n asks) rs kind m i ≡ 0
-unfolding moved_sum
-moved_sum_new n [] rs kind m i none = refl
-moved_sum_new n (a ∷ asks) rs kind m i none =
-    let o : Order = record { number = n; kind = a.kind; member = a.member; issue = a.issue; asked = a.asked } in
-    let rest = moved_sum_new (suc n) asks rs kind m i (λ j le. none j (omega arith)) in
-    let part : moved_part rs o ≡ 0 = rw (none n (omega arith)) refl in
-    let here = nothing (is_of kind m i o) (moved_part rs o) part in
-    omega (arith, sum_by-cons (λ (o : Order). if is_of kind m i o then moved_part rs o else 0) o (numbered (suc n) asks), rest, here)
-  where
-    nothing : (b : Bool) (p : ℕ) → p ≡ 0 → (if b then p else 0) ≡ 0
-    nothing true p e = e
-    nothing false p e = refl
-
--- what a confirmed movement brings its member, and takes from it
-no_credit : (moved : ℕ) → credit_part (neg_ℤ (pos moved)) ≡ 0
-no_credit zero = refl
-no_credit (suc n) = refl
-
-all_debit : (moved : ℕ) → debit_part (neg_ℤ (pos moved)) ≡ moved
-all_debit zero = refl
-all_debit (suc n) = refl
-
-nothing_either : (b : Bool) (p : ℕ) → p ≡ 0 → (if b then p else 0) ≡ 0
-nothing_either true p e = e
-nothing_either false p e = refl
-
-credit_moved : (kind : MoveKind) (here : Bool) (moved : ℕ) → (if here then credit_part (amount_of kind moved) else 0) ≡ (if same_kind Cover kind && here then moved else 0)
-credit_moved Cover here moved = refl
-credit_moved Delivery here moved = nothing_either here (credit_part (neg_ℤ (pos moved))) (no_credit moved)
-
-debit_moved : (kind : MoveKind) (here : Bool) (moved : ℕ) → (if here then debit_part (amount_of kind moved) else 0) ≡ (if same_kind Delivery kind && here then moved else 0)
-debit_moved Cover here moved = nothing_either here 0 refl
-debit_moved Delivery here moved = ap (λ n. if here then n else 0) (all_debit moved)
-
 -- the settlements are what confirmed orders moved
 pub record AreMoved (b : Books) (m i : ℕ) : Type 0 where
   pub brought : settled_in b.history m i ≡ moved_sum b.orders.orders b.orders.replies Cover m i
@@ -107,11 +71,12 @@ moved_confirmed b r m i ordered taken moved =
 
 moved_ordered : (b : Books) (asks : List Ask) (kind : MoveKind) (m i : ℕ) → IsOrderBook b.orders
     → moved_sum (b.orders.orders ++ numbered (length b.orders.orders + 1) asks) b.orders.replies kind m i ≡ moved_sum b.orders.orders b.orders.replies kind m i
+unfolding moved_sum
 moved_ordered b asks kind m i ordered =
     let os = b.orders.orders in
     let rs = b.orders.replies in
     let next : ℕ = length os + 1 in
-    let new = moved_sum_new next asks rs kind m i (λ j le. moved_of_above os rs j ordered.numbered ordered.known (omega arith)) in
+    let new = moved_new (is_of kind m i) next asks rs (λ j le. moved_of_above os rs j ordered.numbered ordered.known (omega arith)) in
     omega (arith, moved_sum-append os (numbered next asks) rs kind m i, new)
 
 moved_more : (r : ClearRecord) (b : Books) (m i : ℕ) → IsOrderBook b.orders → Allows b r → AreMoved b m i → AreMoved (with_record r b) m i
@@ -154,3 +119,27 @@ position_between c m i lawful =
       low = subst (λ (ts : List Trade). neg_ℤ (pos (sold ts m i)) ≤ℤ (position -ℤ pos less)) (due_in_is c) bounds.0;
       high = subst (λ (ts : List Trade). (position +ℤ pos more) ≤ℤ pos (bought ts m i)) (due_in_is c) bounds.1;
     }
+
+-- ---- the positions that the books keep
+
+-- the positions directly after the latest cycle
+pub recent_is : (c : List ClearRecord) → (books_of c).recent ≡ rows_of (history_of (up_to_cycle c))
+unfolding books_of holdings_of
+recent_is [] = refl
+recent_is (Accept t ∷ c) = recent_is c
+recent_is (Exempt m i s ∷ c) = recent_is c
+recent_is (Priority m i is_on ∷ c) = recent_is c
+recent_is (Cycle id ∷ c) = refl
+recent_is (Allocate a ∷ c) = recent_is c
+recent_is (Confirm r ∷ c) = recent_is c
+
+-- and those directly after the cycle before it
+pub previous_is : (c : List ClearRecord) → (books_of c).previous ≡ rows_of (history_of (up_to_previous c))
+unfolding books_of holdings_of
+previous_is [] = refl
+previous_is (Accept t ∷ c) = previous_is c
+previous_is (Exempt m i s ∷ c) = previous_is c
+previous_is (Priority m i is_on ∷ c) = previous_is c
+previous_is (Cycle id ∷ c) = recent_is c
+previous_is (Allocate a ∷ c) = previous_is c
+previous_is (Confirm r ∷ c) = previous_is c

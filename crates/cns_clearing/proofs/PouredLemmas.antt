@@ -1,7 +1,7 @@
 -- What lots have of the shares that are there.
 use Rattle.std.proofs.Common.{◌≡◌, ◌≤◌, ◌+◌, ◌-◌, ℕ, Bool, true, false, List, [], ◌∷◌, Option, Some, None, refl, sym, ap, ◌∙◌, subst, arith}
 use Rattle.std.specs.Prelude.{◌&&◌, ◌==◌, is_some, option_map, sum_by, unwrap_or, if◌then◌else◌}
-use Rattle.std.proofs.lemmas.Bool.{le-leb}
+use Rattle.std.proofs.lemmas.Bool.{cond-true, le-leb}
 use Rattle.std.proofs.lemmas.List.Sums.{sum_by-cons}
 use Rattle.std.proofs.lemmas.Option.{none-some}
 use Rattle.cns_ids.specs.Shares.{is_shares}
@@ -17,7 +17,8 @@ use Rattle.cns_clearing.specs.Lots.{AreLots, avail_in}
 use Rattle.cns_clearing.specs.Node.{ClearNode}
 use Rattle.cns_clearing.specs.Pools.{covered_of, delivered_by_order, delivered_of, free_of, lent_of, lot_of, out_by_order, out_of, taken_by_order, taken_of}
 use Rattle.cns_clearing.specs.declared.lot.Lot.{Lot}
-use Rattle.cns_clearing.proofs.LotLemmas.{lot_found, lot_pours}
+use Rattle.cns_clearing.proofs.LotLemmas.{lot_found}
+use Rattle.cns_clearing.proofs.PlanLemmas.{lot_pours}
 use Rattle.cns_clearing.proofs.TotalLemmas.{avail_most, taken_covered}
 
 -- a lot has no more than is there
@@ -81,8 +82,4 @@ pour_adds node issue shares lot lawful are found is =
 
 -- so many shares are a count of shares
 pub shares_fit : (n : ℕ) (answer : Option ℕ) → n ≤ 1000000000000000000 → answer ≡ (if is_shares n then Some n else None) → answer ≡ None → ⊥
-shares_fit n answer few is none = none-some n (sym none ∙ is ∙ by (is_shares n) (le-leb n 1000000000000000000 few))
-  where
-    by : (b : Bool) → b ≡ true → (if b then Some n else None) ≡ Some n
-    by true e = refl
-    by false e = absurd cc
+shares_fit n answer few is none = none-some n (sym none ∙ is ∙ cond-true (is_shares n) (Some n) None (le-leb n 1000000000000000000 few))

@@ -15,7 +15,7 @@ use Rattle.cns_clearing.specs.Replay.{AreReplayed, IsReplayed, IsBadPayload, IsB
 use Rattle.cns_clearing.specs.declared.lot.Lot.{Lot}
 use Rattle.cns_clearing.specs.declared.replay.ReplayFault.{ReplayFault}
 use Rattle.cns_clearing.specs.declared.replay.ReplayFault.TheVariants.{OutOfMemory, BadJournal, Device}
-use Rattle.cns_clearing.proofs.BooksLemmas.{lawful_sound, writable-reverse}
+use Rattle.cns_clearing.proofs.BooksLemmas.{lawful_before, lawful_sound, writable-reverse}
 use Rattle.cns_clearing.proofs.NodeLemmas.{allowed_writable, reverse_more, writable_more}
 
 -- what is spelled so is read so
@@ -102,11 +102,7 @@ refused_replay f xs i x items items' (BadJournal place) within is replayed befor
       bad = left.1;
     }
 
--- what stands after other records is lawful without them
-lawful_drop : (xs ys : List ClearRecord) → IsLawful (xs ++ ys) → IsLawful ys
-lawful_drop [] ys lawful = lawful
-lawful_drop (x ∷ xs) ys lawful = lawful_drop xs ys lawful.1
-
+-- records the other way round, on both sides of one of them
 reverse_round : (before rest : List ClearRecord) (r : ClearRecord) → reverse (before ++ r ∷ rest) ≡ reverse rest ++ r ∷ reverse before
 reverse_round before rest r =
     reverse-append before (r ∷ rest) ∙ ap (λ l. l ++ reverse before) (reverse-append (r ∷ []) rest) ∙ append_assoc (reverse rest) (r ∷ []) (reverse before)
@@ -147,7 +143,7 @@ never_bad : (full : List ClearRecord) (given : List (List ℕ)) (place : ℕ) �
 never_bad full given place r is bad =
     let split = round bad.before full bad.payload bad.after bad.replayed.fits r.fits (sym is ∙ bad.given_is) in
     let lawful = subst IsLawful (ap reverse split.is ∙ reverse_round bad.before split.rest split.entry) r.lawful in
-    bad.bad split.entry split.ranges split.spelled (lawful_drop (reverse split.rest) (split.entry ∷ reverse bad.before) lawful).0
+    bad.bad split.entry split.ranges split.spelled (lawful_before (reverse split.rest) (split.entry ∷ reverse bad.before) lawful).0
 
 tried_replayed : (items : List ClearRecord) (tried : Option ClearRecord) (u : ClearRecord) → tried ≡ Some u → IsLawful (reverse items) → AreWritable items
     → IsTried (reverse items) tried → AreReplayed (items ++ u ∷ [])

@@ -25,7 +25,7 @@ use Rattle.cns_clearing.specs.Books.{Books, Allows, IsAllocable, IsLawful, books
 use Rattle.cns_clearing.specs.Lots.{avail_in}
 use Rattle.cns_clearing.specs.Pools.{avail_of, covered_by_order, covered_of, taken_of}
 use Rattle.cns_clearing.proofs.BooksLemmas.{lawful_bounded, lawful_sound}
-use Rattle.cns_clearing.proofs.LotLemmas.{allocation_issue, covered_confirmed, covered_ordered, covers_deliver_nothing, delivered_by, delivered_most, others_deliver_nothing, taken_confirmed, taken_ordered}
+use Rattle.cns_clearing.proofs.PoolLemmas.{allocation_issue, covered_confirmed, covered_ordered, covers_deliver_nothing, delivered_by, delivered_most, others_deliver_nothing, taken_confirmed, taken_ordered}
 use Rattle.cns_clearing.proofs.PositionLemmas.{lawful_moved}
 
 -- ---- the shares that covers brought

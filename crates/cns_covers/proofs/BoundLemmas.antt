@@ -1,5 +1,5 @@
 -- The bounds hold as a history and its movements grow, and what follows from them.
-use Rattle.std.proofs.Common.{◌≡◌, ◌≤◌, ◌+◌, ◌*◌, ℕ, zero, suc, List, [], ◌∷◌, ◌++◌, length, Option, Some, None, Bool, true, false, cond, refl, ap, arith, Less}
+use Rattle.std.proofs.Common.{◌≡◌, ◌≤◌, ◌+◌, ◌*◌, ℕ, zero, suc, List, [], ◌∷◌, length, Option, Some, None, Bool, true, false, cond, refl, ap, arith, Less}
 use Rattle.std.specs.Prelude.{◌&&◌, ◌==◌, All, count_by, ℤ, pos, negsuc, neg_ℤ, ◌-ℤ◌, ◌+ℤ◌, ◌≤ℤ◌, sum_by, if◌then◌else◌}
 use Rattle.std.specs.List.{filter_map, cons_option}
 use Rattle.std.proofs.lemmas.Bool.{and_from, and_parts, eq-eqb, eqb-true, false_from_ne_true}
@@ -24,7 +24,8 @@ use Rattle.cns_movements.specs.declared.order.MoveKind.{MoveKind}
 use Rattle.cns_movements.specs.declared.order.MoveKind.TheVariants.{Cover, Delivery}
 use Rattle.cns_movements.specs.declared.order.Order.{Order}
 use Rattle.cns_movements.specs.declared.order.Reply.{Reply}
-use Rattle.cns_movements.proofs.ReplyLemmas.{moved_of_above, open_sum-append, open_sum-with_reply, open_sum_new}
+use Rattle.cns_movements.proofs.AskLemmas.{asked_by, asked_by-numbered, covers_leave_deliveries, deliveries_leave_covers, open_sum_asked}
+use Rattle.cns_movements.proofs.ReplyLemmas.{nothing_either, open_sum-with_reply}
 use Rattle.cns_covers.specs.Bounds.{AreBounded, AreDeliverable, amount_of, want_in}
 use Rattle.cns_covers.specs.Covers.{ShortsFit, ask_for, cover_ask, cover_of, covers_of}
 use Rattle.cns_covers.specs.declared.exemptions.Exempted.{Exempted}
@@ -40,7 +41,7 @@ unfolding settled_in settled_out
 bounded_accepted h book t bounded = record { covered = λ m i. bounded.covered m i; delivered = λ m i. bounded.delivered m i }
 
 -- shares that count where x holds count no less where y holds, if x implies y
-share_grows : (x y : Bool) (q : ℕ) → (x ≡ true → y ≡ true) → (if x then q else 0) ≤ (if y then q else 0)
+pub share_grows : (x y : Bool) (q : ℕ) → (x ≡ true → y ≡ true) → (if x then q else 0) ≤ (if y then q else 0)
 share_grows true true q f = omega arith
 share_grows true false q f = let no = f refl in cc no
 share_grows false true q f = omega arith
@@ -76,51 +77,6 @@ pub bought-grows : (h : List NetEntry) (day m i : ℕ) → bought (due h) m i �
 unfolding Reaches
 bought-grows h day m i = bought_grows None (Some day) (λ settle e. cc e) h m i
 
--- the shares that the asks of a kind, a member and an issue ask for
-asked_by : MoveKind → ℕ → ℕ → List Ask → ℕ
-asked_by kind m i [] = 0
-asked_by kind m i (a ∷ asks) = (if same_kind kind a.kind && ((a.member == m) && (a.issue == i)) then a.asked else 0) + asked_by kind m i asks
-
-asked_by-numbered : (kind : MoveKind) (m i n : ℕ) (asks : List Ask)
-    → sum_by (λ (o : Order). if is_of kind m i o then o.asked else 0) (numbered n asks) ≡ asked_by kind m i asks
-unfolding asked_by
-asked_by-numbered kind m i n [] = refl
-asked_by-numbered kind m i n (a ∷ asks) =
-    let o : Order = record { number = n; kind = a.kind; member = a.member; issue = a.issue; asked = a.asked } in
-    omega (arith, sum_by-cons (λ (o : Order). if is_of kind m i o then o.asked else 0) o (numbered (suc n) asks), asked_by-numbered kind m i (suc n) asks)
-
--- a book with more asks has open what it had open before and all that they ask for
-open_sum_asked : (book : Orders) (asks : List Ask) (kind : MoveKind) (m i : ℕ) → IsOrderBook book
-    → open_sum (book.orders ++ numbered (length book.orders + 1) asks) book.replies kind m i ≡ open_sum book.orders book.replies kind m i + asked_by kind m i asks
-open_sum_asked book asks kind m i lawful =
-    let os = book.orders in
-    let rs = book.replies in
-    let next : ℕ = length os + 1 in
-    omega (
-      arith,
-      open_sum-append os (numbered next asks) rs kind m i,
-      open_sum_new next asks rs kind m i (λ j le. moved_of_above os rs j lawful.numbered lawful.known (omega arith)),
-      asked_by-numbered kind m i next asks,
-    )
-
--- asks of one kind ask for nothing of another
-asked_by-other_kind : (kind other : MoveKind) (m i : ℕ) (asks : List Ask) → same_kind kind other ≡ false → All (λ (a : Ask). a.kind ≡ other) asks → asked_by kind m i asks ≡ 0
-unfolding asked_by
-asked_by-other_kind kind other m i [] differ all = refl
-asked_by-other_kind kind other m i (a ∷ asks) differ all =
-    let rest = asked_by-other_kind kind other m i asks differ (All-tail (λ (b : Ask). b.kind ≡ other) a asks all) in
-    rw (All-head (λ (b : Ask). b.kind ≡ other) a asks all, differ) (omega (arith, rest))
-
--- new deliveries change no open covers
-pub deliveries_leave_covers : (book : Orders) (asks : List Ask) (m i : ℕ) → IsOrderBook book → All (λ (a : Ask). a.kind ≡ Delivery) asks
-    → open_sum (with_asks book asks).orders book.replies Cover m i ≡ open_sum book.orders book.replies Cover m i
-deliveries_leave_covers book asks m i lawful all = omega (arith, open_sum_asked book asks Cover m i lawful, asked_by-other_kind Cover Delivery m i asks refl all)
-
--- and new covers no open deliveries
-pub covers_leave_deliveries : (book : Orders) (asks : List Ask) (m i : ℕ) → IsOrderBook book → All (λ (a : Ask). a.kind ≡ Cover) asks
-    → open_sum (with_asks book asks).orders book.replies Delivery m i ≡ open_sum book.orders book.replies Delivery m i
-covers_leave_deliveries book asks m i lawful all = omega (arith, open_sum_asked book asks Delivery m i lawful, asked_by-other_kind Delivery Cover m i asks refl all)
-
 -- one holding more asks for its cover, in its own place
 asked_by-ask_for : (m i member issue c : ℕ) (rest : List Ask)
     → asked_by Cover m i (cons_option (ask_for member issue c) rest) ≡ (if (member == m) && (issue == i) then c else 0) + asked_by Cover m i rest
@@ -138,7 +94,7 @@ asked_by-ask_for m i member issue c rest = by (c == 0) refl
     by false e = refl
 
 -- a holding that stands after another one is not of its member and issue
-other_place : (k x : Holding) → holding_cmp k x ≡ Less → ((x.member == k.member) && (x.issue == k.issue)) ≡ false
+pub other_place : (k x : Holding) → holding_cmp k x ≡ Less → ((x.member == k.member) && (x.issue == k.issue)) ≡ false
 other_place k x less =
     false_from_ne_true _
     (λ e.
@@ -160,7 +116,7 @@ asked_by-others h book settings k (x ∷ xs) apart =
     at (asked_by-ask_for k.member k.issue x.member x.issue (cover_of h book settings x.member x.issue) (filter_map (cover_ask h book settings) xs)) in
     omega (arith, here, rest)
 
-at_most : (b : Bool) (n : ℕ) → (if b then n else 0) ≤ n
+pub at_most : (b : Bool) (n : ℕ) → (if b then n else 0) ≤ n
 at_most true n = omega arith
 at_most false n = omega arith
 
@@ -238,10 +194,10 @@ bounded_cycle h book settings day lawful bounded =
 
 -- ---- deliveries
 
-shared_factor : (a b q : ℕ) → (a + b) * q ≡ a * q + b * q
+pub shared_factor : (a b q : ℕ) → (a + b) * q ≡ a * q + b * q
 shared_factor a b q = omega arith
 
-at_most_once : (n q : ℕ) → n ≤ 1 → n * q ≤ q
+pub at_most_once : (n q : ℕ) → n ≤ 1 → n * q ≤ q
 at_most_once zero q le = omega arith
 at_most_once (suc zero) q le = omega arith
 at_most_once (suc (suc n)) q le = absurd (omega arith)
@@ -309,24 +265,20 @@ bounded_delivered h book issue asks lawful bounded deliverable =
 -- ---- confirmations
 
 -- a confirmed delivery brings its member's position nothing, and takes from it what it moved
-no_credit : (moved : ℕ) → credit_part (neg_ℤ (pos moved)) ≡ 0
+pub no_credit : (moved : ℕ) → credit_part (neg_ℤ (pos moved)) ≡ 0
 no_credit zero = refl
 no_credit (suc n) = refl
 
-all_debit : (moved : ℕ) → debit_part (neg_ℤ (pos moved)) ≡ moved
+pub all_debit : (moved : ℕ) → debit_part (neg_ℤ (pos moved)) ≡ moved
 all_debit zero = refl
 all_debit (suc n) = refl
 
-nothing_either : (b : Bool) (p : ℕ) → p ≡ 0 → (if b then p else 0) ≡ 0
-nothing_either true p e = e
-nothing_either false p e = refl
-
 -- so what a confirmed order brings is that of a cover, and what it takes that of a delivery
-credit_moved : (kind : MoveKind) (here : Bool) (moved : ℕ) → (if here then credit_part (amount_of kind moved) else 0) ≡ (if same_kind Cover kind && here then moved else 0)
+pub credit_moved : (kind : MoveKind) (here : Bool) (moved : ℕ) → (if here then credit_part (amount_of kind moved) else 0) ≡ (if same_kind Cover kind && here then moved else 0)
 credit_moved Cover here moved = refl
 credit_moved Delivery here moved = nothing_either here (credit_part (neg_ℤ (pos moved))) (no_credit moved)
 
-debit_moved : (kind : MoveKind) (here : Bool) (moved : ℕ) → (if here then debit_part (amount_of kind moved) else 0) ≡ (if same_kind Delivery kind && here then moved else 0)
+pub debit_moved : (kind : MoveKind) (here : Bool) (moved : ℕ) → (if here then debit_part (amount_of kind moved) else 0) ≡ (if same_kind Delivery kind && here then moved else 0)
 debit_moved Cover here moved = nothing_either here 0 refl
 debit_moved Delivery here moved = ap (λ n. if here then n else 0) (all_debit moved)
 

@@ -1,10 +1,9 @@
 -- Covers of a history, by its positions; and what keeps shorts small.
 use Rattle.std.proofs.Common.{◌≡◌, ◌≤◌, ◌-◌, ℕ, List, [], ◌∷◌, length, Option, Some, None, Bool, true, false, refl, ap, arith}
-use Rattle.std.specs.Prelude.{◌==◌, All, IfSome, option_and_then, ℤ, pos, negsuc, ◌-ℤ◌, if◌then◌else◌}
+use Rattle.std.specs.Prelude.{◌==◌, All, option_and_then, ℤ, pos, negsuc, ◌-ℤ◌, if◌then◌else◌}
 use Rattle.std.specs.List.{filter_map, cons_option}
 use Rattle.std.proofs.lemmas.Bool.{eqb-true}
 use Rattle.std.proofs.lemmas.Int.{ints}
-use Rattle.std.proofs.lemmas.List.Elements.{All-cons, All-nil}
 use Rattle.cns_netting.specs.History.{accepted, credit, debit, debit_part, position_of, settled_out}
 use Rattle.cns_netting.specs.Rows.{holdings_of, open_row, rows_of}
 use Rattle.cns_netting.specs.Book.{IsBook, QuantitiesFit}
@@ -16,6 +15,7 @@ use Rattle.cns_netting.proofs.BookLemmas.{sold-most}
 use Rattle.cns_movements.specs.Book.{Orders}
 use Rattle.cns_covers.specs.Covers.{IsUnsettled, ShortsFit, ask_for, cover_ask, covers_of, row_ask, short_of}
 use Rattle.cns_covers.specs.declared.exemptions.Exempted.{Exempted}
+use Rattle.cns_covers.proofs.RowLemmas.{All-rows_of}
 
 -- the size of a difference below 0
 debit_part-difference : (c d : ℕ) → debit_part (pos c -ℤ pos d) ≡ d - c
@@ -57,27 +57,11 @@ filter_map-rows h book settings (k ∷ ks) =
 pub covers_of-rows : (h : List NetEntry) (book : Orders) (settings : List Exempted) → filter_map (row_ask book settings) (rows_of h) ≡ covers_of h book settings
 covers_of-rows h book settings = filter_map-rows h book settings (holdings_of h)
 
--- the row of a holding is short of at most 10^18 shares where all shorts are
-open_row-fit : (h : List NetEntry) (k : Holding) → ShortsFit h → IfSome (open_row h k) (λ (row : PositionRow). short_of row ≤ 1000000000000000000)
-unfolding open_row
-open_row-fit h k fit = by (credit h k.member k.issue == debit h k.member k.issue)
-  where
-    by : (b : Bool)
-        → IfSome (if b then None else Some (record { issue = k.issue; member = k.member; position = position_of h k.member k.issue }))
-        (λ (row : PositionRow). short_of row ≤ 1000000000000000000)
-    by true = tt
-    by false = rw (debit_part-difference (credit h k.member k.issue) (debit h k.member k.issue)) (fit.within k.member k.issue)
-
-All-cons_option : {X : Type 0} (P : X → Type 0) (o : Option X) (xs : List X) → IfSome o P → All P xs → All P (cons_option o xs)
-All-cons_option P None xs one rest = rest
-All-cons_option P (Some x) xs one rest = All-cons P x xs one rest
-
-rows_fit : (h : List NetEntry) (ks : List Holding) → ShortsFit h → All (λ (row : PositionRow). short_of row ≤ 1000000000000000000) (filter_map (open_row h) ks)
-rows_fit h [] fit = All-nil _
-rows_fit h (k ∷ ks) fit = All-cons_option _ (open_row h k) (filter_map (open_row h) ks) (open_row-fit h k fit) (rows_fit h ks fit)
-
+-- all rows are short of at most 10^18 shares where all shorts are
 pub rows_of-fit : (h : List NetEntry) → ShortsFit h → All (λ (row : PositionRow). short_of row ≤ 1000000000000000000) (rows_of h)
-rows_of-fit h fit = rows_fit h (holdings_of h) fit
+rows_of-fit h fit =
+    All-rows_of (λ (row : PositionRow). short_of row ≤ 1000000000000000000) h
+    (λ k. rw (debit_part-difference (credit h k.member k.issue) (debit h k.member k.issue)) (fit.within k.member k.issue))
 
 -- without settlements nothing is settled away
 settled_out-none : (h : List NetEntry) (member issue : ℕ) → IsUnsettled h → settled_out h member issue ≡ 0

@@ -1,3 +1,4 @@
+pub mod RowLemmas
 pub mod CoverLemmas
 pub mod BoundLemmas
 pub mod TotalLemmas

@@ -1,4 +1,6 @@
+pub mod BytesLemmas
 pub mod OrderLemmas
 pub mod ReplyLemmas
+pub mod AskLemmas
 pub mod BookLemmas
 pub mod ConfirmLemmas

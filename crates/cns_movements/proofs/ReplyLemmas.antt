@@ -1,9 +1,9 @@
 -- Confirmations by the numbers of their orders, and what one more of them does to the sums.
-use Rattle.std.proofs.Common.{◌≡◌, ℕ, ◌+◌, ◌<◌, ◌≤◌, Bool, true, false, eqb, List, [], ◌∷◌, ◌++◌, length, Option, Some, None, sym, refl, ap, ◌∙◌, arith, inl, inr}
+use Rattle.std.proofs.Common.{◌≡◌, ℕ, suc, ◌+◌, ◌<◌, ◌≤◌, Bool, true, false, eqb, List, [], ◌∷◌, ◌++◌, length, Option, Some, None, sym, refl, ap, ◌∙◌, arith, inl, inr}
 use Rattle.std.specs.Prelude.{find, option_map, is_some, unwrap_or, sum_by, if◌then◌else◌}
 use Rattle.std.proofs.lemmas.Bool.{cases_eq, eq-eqb, ne_eqb, cond-true, cond-false}
 use Rattle.std.proofs.lemmas.Option.{none-some, same_Some}
-use Rattle.std.proofs.lemmas.List.Sums.{sum_by-append}
+use Rattle.std.proofs.lemmas.List.Sums.{sum_by-append, sum_by-cons}
 use Rattle.cns_movements.specs.declared.order.MoveKind.{MoveKind}
 use Rattle.cns_movements.specs.declared.order.Order.{Order}
 use Rattle.cns_movements.specs.declared.order.Ask.{Ask}
@@ -57,6 +57,11 @@ moved_le_asked os (r ∷ rs) n m o h found confirmed =
 abbrev term : Bool → ℕ → ℕ
 term counted part = if counted then part else 0
 
+-- a part of 0 is a term of 0, whether it is counted or not
+pub nothing_either : (b : Bool) (p : ℕ) → p ≡ 0 → (if b then p else 0) ≡ 0
+nothing_either true p e = e
+nothing_either false p e = refl
+
 -- a first confirmation takes what its order asked for out of the open shares
 pub open_sum-with_reply : (os : List Order) (rs : List Reply) (r : Reply) (o : Order) (kind : MoveKind) (member issue : ℕ) → IsNumbered 1 os
     → order_of os r.number ≡ Some o → moved_of rs r.number ≡ None
@@ -67,15 +72,11 @@ open_sum-with_reply os rs r o kind member issue h found first =
     let others : (y : Order) → (y.number ≡ r.number → ⊥) → term (is_of kind member issue y) (open_part (r ∷ rs) y) ≡ term (is_of kind member issue y) (open_part rs y) =
     λ y ne. ap (λ (m : Option ℕ). term (is_of kind member issue y) (if is_some m then 0 else y.asked)) (moved_of_other r rs y.number (λ e. ne (sym e))) in
     let after : term (is_of kind member issue o) (open_part (r ∷ rs) o) ≡ 0 =
-    ap (λ (m : Option ℕ). term (is_of kind member issue o) (if is_some m then 0 else o.asked)) (moved_of_same r rs o.number (sym number)) ∙ nothing (is_of kind member issue o) in
+    ap (λ (m : Option ℕ). term (is_of kind member issue o) (if is_some m then 0 else o.asked)) (moved_of_same r rs o.number (sym number)) ∙ nothing_either (is_of kind member issue o) 0 refl in
     let before : term (is_of kind member issue o) (open_part rs o) ≡ term (is_of kind member issue o) o.asked =
     ap (λ (m : Option ℕ). term (is_of kind member issue o) (if is_some m then 0 else o.asked)) (ap (moved_of rs) number ∙ first) in
     let all = sum_but_one (λ y. term (is_of kind member issue y) (open_part (r ∷ rs) y)) (λ y. term (is_of kind member issue y) (open_part rs y)) os 1 r.number o h found others in
     omega (arith, all, after, before)
-  where
-    nothing : (b : Bool) → term b 0 ≡ 0
-    nothing true = refl
-    nothing false = refl
 
 -- and adds what it moved to the moved shares
 pub moved_sum-with_reply : (os : List Order) (rs : List Reply) (r : Reply) (o : Order) (kind : MoveKind) (member issue : ℕ) → IsNumbered 1 os
@@ -89,13 +90,9 @@ moved_sum-with_reply os rs r o kind member issue h found first =
     let after : term (is_of kind member issue o) (moved_part (r ∷ rs) o) ≡ term (is_of kind member issue o) r.moved =
     ap (λ (m : Option ℕ). term (is_of kind member issue o) (unwrap_or m 0)) (moved_of_same r rs o.number (sym number)) in
     let before : term (is_of kind member issue o) (moved_part rs o) ≡ 0 =
-    ap (λ (m : Option ℕ). term (is_of kind member issue o) (unwrap_or m 0)) (ap (moved_of rs) number ∙ first) ∙ nothing (is_of kind member issue o) in
+    ap (λ (m : Option ℕ). term (is_of kind member issue o) (unwrap_or m 0)) (ap (moved_of rs) number ∙ first) ∙ nothing_either (is_of kind member issue o) 0 refl in
     let all = sum_but_one (λ y. term (is_of kind member issue y) (moved_part (r ∷ rs) y)) (λ y. term (is_of kind member issue y) (moved_part rs y)) os 1 r.number o h found others in
     omega (arith, all, after, before)
-  where
-    nothing : (b : Bool) → term b 0 ≡ 0
-    nothing true = refl
-    nothing false = refl
 
 -- the open shares of two lists of orders
 pub open_sum-append : (os more : List Order) (rs : List Reply) (kind : MoveKind) (member issue : ℕ)
@@ -117,6 +114,17 @@ open_sum_new n asks rs kind member issue new =
     sum_same_from (λ (o : Order). if is_of kind member issue o then open_part rs o else 0) (λ (o : Order). if is_of kind member issue o then o.asked else 0)
     (numbered n asks) n (IsNumbered-numbered n asks)
     (λ o le. ap (λ (m : Option ℕ). term (is_of kind member issue o) (if is_some m then 0 else o.asked)) (new o.number le))
+
+-- and moved nothing, whichever of them are counted
+pub moved_new : (counted : Order → Bool) (n : ℕ) (asks : List Ask) (rs : List Reply) → ((j : ℕ) → n ≤ j → moved_of rs j ≡ None)
+    → sum_by (λ (o : Order). if counted o then moved_part rs o else 0) (numbered n asks) ≡ 0
+moved_new counted n [] rs none = refl
+moved_new counted n (a ∷ asks) rs none =
+    let o : Order = record { number = n; kind = a.kind; member = a.member; issue = a.issue; asked = a.asked } in
+    let rest = moved_new counted (suc n) asks rs (λ j le. none j (omega arith)) in
+    let part : moved_part rs o ≡ 0 = rw (none n (omega arith)) refl in
+    let here = nothing_either (counted o) (moved_part rs o) part in
+    omega (arith, sum_by-cons (λ (x : Order). if counted x then moved_part rs x else 0) o (numbered (suc n) asks), rest, here)
 
 -- a confirmed order moved, and an unconfirmed one asks for, no more than it asked for
 pub parts_le_asked : (os : List Order) (rs : List Reply) (o : Order) → AreKnown os rs → order_of os o.number ≡ Some o

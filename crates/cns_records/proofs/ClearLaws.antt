@@ -18,7 +18,8 @@ use Rattle.cns_records.specs.declared.allocation.Allocation.{Allocation}
 use Rattle.cns_records.specs.Fields.{bad, whole, id_bytes, day_bytes, flag_bytes, cycle_kind_bytes}
 use Rattle.cns_records.specs.Clear.{spelling, IsTradeInRange, IsAllocationInRange, HasRanges, IsWritable, AreWritable, accepted, accept_of, exempt_of, priority_of, cycle_of, allocated, allocate_of, confirm_of, of_kind, read_clear_of, ReadsAs}
 use Rattle.cns_records.specs.Drawn.{by_start, drawn_bytes}
-use Rattle.cns_records.proofs.FieldLemmas.{IsBytes, bind_ok, chosen, tested_ok, whole_ok, done, ok_is, step, chain, last, again_last, number_field, wide64}
+use Rattle.cns_movements.proofs.BytesLemmas.{IsBytes}
+use Rattle.cns_records.proofs.FieldLemmas.{bind_ok, chosen, tested_ok, whole_ok, done, ok_is, step, chain, last, again_last, number_field, wide64}
 use Rattle.cns_records.proofs.FieldLaws.{id_field, day_field, member_field, issue_field, quantity_field, shares_field, flag_field, cycle_kind_field, move_no_field}
 use Rattle.cns_records.proofs.DrawnLaws.{both, drawn_field, tickets_length, by_start-sound, by_start-complete}
 

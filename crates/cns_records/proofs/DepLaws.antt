@@ -14,7 +14,8 @@ use Rattle.cns_records.specs.declared.dep_record.DepRecord.{DepRecord}
 use Rattle.cns_records.specs.declared.dep_record.DepRecord.TheVariants.{Exec}
 use Rattle.cns_records.specs.Fields.{bad, whole, move_kind_bytes}
 use Rattle.cns_records.specs.Dep.{dep_spelling, HasDepRanges, IsDepWritable, AreDepWritable, executed, exec_of, read_dep_of}
-use Rattle.cns_records.proofs.FieldLemmas.{IsBytes, bind_ok, chosen, tested_ok, whole_ok, done, ok_is, step, chain, last, again_last}
+use Rattle.cns_movements.proofs.BytesLemmas.{IsBytes}
+use Rattle.cns_records.proofs.FieldLemmas.{bind_ok, chosen, tested_ok, whole_ok, done, ok_is, step, chain, last, again_last}
 use Rattle.cns_records.proofs.FieldLaws.{move_kind_field, move_no_field, member_field, issue_field, asked_field, shares_field}
 
 bad_is_not_ok : (r : DepRecord) → bad ≡ done r → ⊥

@@ -10,7 +10,8 @@ use Rattle.cns_records.specs.declared.bad_record.BadRecord.{BadRecord}
 use Rattle.cns_records.specs.declared.drawn.Drawn.{Drawn}
 use Rattle.cns_records.specs.Fields.{bad, ◌>>=◌, number_at, tested_at, member_at, shares_at, asked_at}
 use Rattle.cns_records.specs.Drawn.{IsDrawn, AreDrawn, IsByStart, starts_from, by_start, ticket_bytes, ticket_at, tickets_at, is_few, drawn_bytes, drawn_at}
-use Rattle.cns_records.proofs.FieldLemmas.{IsBytes, bind_ok, guard_ok, tested_ok, ok_is, Takes, IsField, step, chain, tested_field, wide32}
+use Rattle.cns_movements.proofs.BytesLemmas.{IsBytes}
+use Rattle.cns_records.proofs.FieldLemmas.{bind_ok, guard_ok, tested_ok, ok_is, Takes, IsField, step, chain, tested_field, wide32}
 use Rattle.cns_records.proofs.FieldLaws.{member_field, shares_field, asked_field}
 
 -- ---- a ticket

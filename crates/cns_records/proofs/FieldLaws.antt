@@ -20,7 +20,8 @@ use Rattle.cns_movements.specs.declared.order.MoveKind.{MoveKind}
 use Rattle.cns_movements.specs.declared.order.MoveKind.TheVariants.{Cover, Delivery}
 use Rattle.cns_trades.specs.TradeId.{IsId, is_id_text}
 use Rattle.cns_records.specs.Fields.{◌>>=◌, byte_at, text_at, tested, member_at, quantity_at, shares_at, move_no_at, asked_at, id_bytes, id_at, day_bytes, day_at, issue_from, issue_at, flag_bytes, flag_at, cycle_kind_bytes, cycle_kind_at, move_kind_bytes, move_kind_at}
-use Rattle.cns_records.proofs.FieldLemmas.{IsBytes, bind_ok, chosen, tested_ok, ok_is, Takes, IsField, step, byte_field, number_field, tested_field, text_takes, text_again, wide16, wide64, one_takes}
+use Rattle.cns_movements.proofs.BytesLemmas.{IsBytes}
+use Rattle.cns_records.proofs.FieldLemmas.{bind_ok, chosen, tested_ok, ok_is, Takes, IsField, step, byte_field, number_field, tested_field, text_takes, text_again, wide16, wide64, one_takes}
 
 -- ---- numbers
 

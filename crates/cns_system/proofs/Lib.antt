@@ -4,3 +4,5 @@ pub mod TiedLemmas
 pub mod NumberedLemmas
 pub mod RunLemmas
 pub mod AgreementLemmas
+pub mod AccordLemmas
+pub mod KeepsLemmas

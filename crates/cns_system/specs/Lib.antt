@@ -7,3 +7,4 @@ pub mod World
 pub mod Step
 pub mod Agreement
 pub mod Start
+pub mod Accord

@@ -19,6 +19,10 @@ use Rattle.cns_clearing.specs.declared.fault.Taken.TheVariants as taken
 use Rattle.cns_clearing.specs.declared.replay.ReplayFault.{ReplayFault}
 use Rattle.cns_clearing.specs.declared.replay.ReplayFault.TheVariants as replay
 use Rattle.cns_clearing.specs.declared.replay.Restarted.{Restarted}
+use Rattle.cns_depository.specs.declared.fault.Answer.{Answer}
+use Rattle.cns_depository.specs.declared.fault.Answer.TheVariants as answer
+use Rattle.cns_depository.specs.declared.fault.DepFault.{DepFault}
+use Rattle.cns_depository.specs.declared.fault.DepFault.TheVariants as fault
 use Rattle.cns_depository.specs.declared.replay.ReplayFault.{ReplayFault as DepotReplayFault}
 use Rattle.cns_depository.specs.declared.replay.ReplayFault.TheVariants as depot
 use Rattle.cns_depository.specs.declared.depository.Restarted.{Restarted as DepotRestarted}
@@ -117,6 +121,15 @@ close_outcome (Err close.Unserved) = outcome.Refused refusal.Unserved
 close_outcome (Err close.NumbersSpent) = outcome.Refused refusal.NumbersSpent
 close_outcome (Err close.OutOfMemory) = outcome.Refused refusal.OutOfMemory
 close_outcome (Err close.Device) = outcome.Refused refusal.Device
+
+-- of an order that came to the depository, with the packet of its reply
+abbrev pub order_outcome : ℕ → Result Answer DepFault → Outcome
+order_outcome packet (Ok (answer.Done r)) = outcome.Executed r packet
+order_outcome packet (Ok (answer.Again r)) = outcome.ExecutedAgain r packet
+order_outcome packet (Err fault.Down) = outcome.Refused refusal.Down
+order_outcome packet (Err fault.Conflict) = outcome.Refused refusal.Conflict
+order_outcome packet (Err fault.OutOfMemory) = outcome.Refused refusal.OutOfMemory
+order_outcome packet (Err fault.Device) = outcome.Refused refusal.Device
 
 -- of a reply that came to the clearing node
 abbrev pub reply_outcome : Reply → Result Taken ReplyFault → Outcome

@@ -1,6 +1,6 @@
 -- What each event comes to, and what it leaves of the nodes and the link (this project's own rules). A node's call tells what it
 -- answers and leaves; here that is its outcome, and nothing else changes.
-use Rattle.std.specs.Prelude.{◌≡◌, ℕ, ◌+◌, true, false, List, [], ◌∷◌, ◌++◌, length, map, Option, Some, None, Result, Ok, Err}
+use Rattle.std.specs.Prelude.{◌≡◌, ◌⊎◌, ℕ, ◌+◌, true, false, List, [], ◌∷◌, ◌++◌, length, map, Option, Some, None, Result, Ok, Err}
 use Rattle.cns_movements.specs.Order.{order_of}
 use Rattle.cns_movements.specs.declared.order.Order.{Order}
 use Rattle.cns_movements.specs.declared.order.Reply.{Reply}
@@ -12,8 +12,9 @@ use Rattle.cns_depository.specs.Node.{DepNode}
 use Rattle.cns_depository.specs.Replay.{RestartLeaves as DepotRestartLeaves}
 use Rattle.cns_depository.specs.declared.depository.Restarted.{Restarted as DepotRestarted}
 use Rattle.cns_depository.specs.declared.replay.ReplayFault.{ReplayFault as DepotReplayFault}
+use Rattle.cns_depository.specs.declared.fault.Answer.{Answer}
 use Rattle.cns_depository.specs.declared.fault.Answer.TheVariants as answer
-use Rattle.cns_depository.specs.declared.fault.DepFault.TheVariants as fault
+use Rattle.cns_depository.specs.declared.fault.DepFault.{DepFault}
 use Rattle.cns_clearing.specs.Answers.{CycleLeaves, ReplyLeaves, SettingLeaves, TradeLeaves}
 use Rattle.cns_clearing.specs.Books.{orders_of}
 use Rattle.cns_clearing.specs.Node.{ClearNode}
@@ -24,7 +25,7 @@ use Rattle.cns_pool.specs.Pool.{asked_sum}
 use Rattle.cns_system.specs.Lot.{LotState, with_end, with_seal}
 use Rattle.cns_system.specs.Lots.{LotGives, LotLeaves, ReserveLeaves}
 use Rattle.cns_system.specs.Numbered.{NumberedNode, CloseLeaves, OpenLeaves, PourLeaves}
-use Rattle.cns_system.specs.Outcomes.{asked_outcome, clear_restart_outcome, close_outcome, cycle_outcome, depot_restart_outcome, open_outcome, pour_outcome, poured_outcome, reply_outcome, reserve_outcome, seal_outcome, setting_outcome, trade_outcome}
+use Rattle.cns_system.specs.Outcomes.{asked_outcome, clear_restart_outcome, close_outcome, cycle_outcome, depot_restart_outcome, open_outcome, order_outcome, pour_outcome, poured_outcome, reply_outcome, reserve_outcome, seal_outcome, setting_outcome, trade_outcome}
 use Rattle.cns_system.specs.World.{World, order_in_packet, reply_in_packet}
 use Rattle.cns_system.specs.declared.entry.Look.{Look}
 use Rattle.cns_system.specs.declared.event.Event.{Event}
@@ -32,7 +33,8 @@ use Rattle.cns_system.specs.declared.event.Event.TheVariants as event
 use Rattle.cns_system.specs.declared.event.NodeName.TheVariants as node
 use Rattle.cns_system.specs.declared.fault.LotFault.{LotFault}
 use Rattle.cns_system.specs.declared.outcome.Outcome.{Outcome}
-use Rattle.cns_system.specs.declared.outcome.Outcome.TheVariants as outcome
+use Rattle.cns_system.specs.declared.outcome.Outcome.TheVariants as outcomes
+use Rattle.cns_system.specs.declared.outcome.Refusal.{Refusal}
 use Rattle.cns_system.specs.declared.outcome.Refusal.TheVariants as refusal
 
 -- an event at the clearing node: a call of it answers this, and leaves so much of it and nothing else changed
@@ -63,38 +65,52 @@ ClearRestarts result old new = RestartLeaves result old.clear new.clear × (new.
 abbrev pub order_at : World → ℕ → Option Order
 order_at w number = order_of (orders_of w.clear.clear.records).orders number
 
--- an order is put on the link as the next packet, where the clearing node is up and has it
-abbrev pub SendStep : ℕ → Outcome → World → World → Type 0
-SendStep number (outcome.Sent packet) old new =
-    (old.clear.clear.down ≡ false) × ((o : Order) × (order_at old number ≡ Some o) × (new ≡ record old { orders = old.orders ++ order_frame o ∷ [] }))
-    × (packet ≡ length old.orders + 1)
-SendStep number (outcome.Refused refusal.Down) old new = (old.clear.clear.down ≡ true) × (new ≡ old)
-SendStep number (outcome.Refused refusal.UnknownMove) old new = (old.clear.clear.down ≡ false) × (order_at old number ≡ None) × (new ≡ old)
-SendStep number (outcome.Refused refusal.OutOfMemory) old new = (old.clear.clear.down ≡ false) × (new ≡ old)
-SendStep number _ old new = ⊥
+-- an order is put on the link as the next packet, and is read from it again
+pub record IsSent (number packet : ℕ) (old new : World) : Type 0 where
+  pub up : old.clear.clear.down ≡ false
+  pub order : Order
+  pub found : order_at old number ≡ Some order
+  pub put : new ≡ record old { orders = old.orders ++ order_frame order ∷ [] }
+  pub reads : order_in_packet (Some (order_frame order)) ≡ Some order
+  pub packet_is : packet ≡ length old.orders + 1
 
--- an order that came to the depository: its answer, and the packet of its reply
+-- why an order is not sent: the clearing node is down, or has no such order
+abbrev pub IsNotSent : ℕ → Refusal → World → Type 0
+IsNotSent number refusal.Down w = w.clear.clear.down ≡ true
+IsNotSent number refusal.UnknownMove w = (w.clear.clear.down ≡ false) × (order_at w number ≡ None)
+IsNotSent number refusal.OutOfMemory w = w.clear.clear.down ≡ false
+IsNotSent number _ w = ⊥
+
+abbrev pub SendStep : ℕ → Outcome → World → World → Type 0
+SendStep number outcome old new =
+    ((packet : ℕ) × (outcome ≡ outcomes.Sent packet) × IsSent number packet old new)
+    ⊎ ((refusal : Refusal) × (outcome ≡ outcomes.Refused refusal) × IsNotSent number refusal old × (new ≡ old))
+
+-- a reply is put on the link as the next packet, and is read from it again
+pub record IsPut (r : Reply) (old new : World) : Type 0 where
+  pub put : new.replies ≡ old.replies ++ reply_frame r ∷ []
+  pub reads : reply_in_packet (Some (reply_frame r)) ≡ Some r
+
+-- what an answer of the depository puts on the link: its reply, where it has one
+abbrev pub Puts : Result Answer DepFault → World → World → Type 0
+Puts (Ok (answer.Done r)) old new = IsPut r old new
+Puts (Ok (answer.Again r)) old new = IsPut r old new
+Puts (Err fault) old new = new.replies ≡ old.replies
+
+-- an order that came to the depository: its answer, and the packet of its reply; or there was no memory for that packet
 abbrev pub OrderTaken : Order → Outcome → World → World → Type 0
-OrderTaken o (outcome.Executed r packet) old new =
-    OrderLeaves o (Ok (answer.Done r)) old.depot new.depot × (new.replies ≡ old.replies ++ reply_frame r ∷ []) × (packet ≡ length old.replies + 1)
-OrderTaken o (outcome.ExecutedAgain r packet) old new =
-    OrderLeaves o (Ok (answer.Again r)) old.depot new.depot × (new.replies ≡ old.replies ++ reply_frame r ∷ []) × (packet ≡ length old.replies + 1)
-OrderTaken o (outcome.Refused refusal.Down) old new = OrderLeaves o (Err fault.Down) old.depot new.depot × (new.replies ≡ old.replies)
-OrderTaken o (outcome.Refused refusal.Conflict) old new = OrderLeaves o (Err fault.Conflict) old.depot new.depot × (new.replies ≡ old.replies)
-OrderTaken o (outcome.Refused refusal.OutOfMemory) old new = (new.depot ≡ old.depot) × (new.replies ≡ old.replies)
-OrderTaken o (outcome.Refused refusal.Device) old new = OrderLeaves o (Err fault.Device) old.depot new.depot × (new.replies ≡ old.replies)
-OrderTaken o _ old new = ⊥
+OrderTaken o outcome old new =
+    ((result : Result Answer DepFault) × (outcome ≡ order_outcome (length old.replies + 1) result) × OrderLeaves o result old.depot new.depot × Puts result old new)
+    ⊎ ((outcome ≡ outcomes.Refused refusal.OutOfMemory) × (new.depot ≡ old.depot) × (new.replies ≡ old.replies))
 
 -- a packet arrives at the depository, where it is one of an order
 abbrev pub OrderInStep : Option Order → Outcome → World → World → Type 0
-OrderInStep None (outcome.Refused refusal.NoPacket) old new = new ≡ old
-OrderInStep None _ old new = ⊥
+OrderInStep None outcome old new = (outcome ≡ outcomes.Refused refusal.NoPacket) × (new ≡ old)
 OrderInStep (Some o) outcome old new = (new.clear ≡ old.clear) × (new.orders ≡ old.orders) × OrderTaken o outcome old new
 
 -- a packet arrives at the clearing node, where it is one of a reply
 abbrev pub ReplyInStep : Option Reply → Outcome → World → World → Type 0
-ReplyInStep None (outcome.Refused refusal.NoPacket) old new = new ≡ old
-ReplyInStep None _ old new = ⊥
+ReplyInStep None outcome old new = (outcome ≡ outcomes.Refused refusal.NoPacket) × (new ≡ old)
 ReplyInStep (Some r) outcome old new = AtClear (reply_outcome r) (ByNode (ReplyLeaves r)) outcome old new
 
 -- a restart of the depository

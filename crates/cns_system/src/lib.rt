@@ -11,6 +11,7 @@ mod fault;
 mod lots;
 mod numbered;
 mod outcome;
+mod pair;
 mod system;
 
 pub use entry::Look;

@@ -1,11 +1,11 @@
 -- Frames: what is read would be written as just the bytes that were read.
-use Rattle.std.proofs.Common.{◌≡◌, ℕ, ◌+◌, ◌<◌, ◌≤◌, Bool, true, false, cond, not, eqb, ltb, ◌&&◌, List, [], ◌∷◌, ◌++◌, length, get_or, take, drop, refl, sym, ap, ◌∙◌, arith, Option, Some, None, inl, inr}
+use Rattle.std.proofs.Common.{◌≡◌, ℕ, ◌+◌, ◌≤◌, Bool, true, false, cond, not, eqb, ltb, ◌&&◌, List, [], ◌∷◌, ◌++◌, length, take, drop, refl, sym, ap, ◌∙◌, arith, Option, Some, None}
 use Rattle.std.specs.Prelude.{Result, Ok, Err, IfOk, codes, slice_index, ◌==◌}
 use Rattle.std.specs.List.{starts_with}
 use Rattle.std.specs.Int.{from_be_bytes, to_be_bytes, w16, w64}
-use Rattle.std.proofs.lemmas.Bool.{cond_both, and_parts, cases_lt, ltb-false, eqb-true, not-false}
+use Rattle.std.proofs.lemmas.Bool.{cond_both, and_parts, ltb-false, eqb-true, not-false}
 use Rattle.std.proofs.lemmas.Bool.Decides.{nat_tests}
-use Rattle.std.proofs.lemmas.List.{take-append-drop, length-take, length-drop, get_or-drop, get_or-take, get_or_past, take_all, take-take, drop-take}
+use Rattle.std.proofs.lemmas.List.{take-append-drop, length-take, length-drop, take_all, take-take, drop-take}
 use Rattle.std.proofs.lemmas.Nat.{be_bytes_2, be_bytes_8}
 use Rattle.cns_ids.specs.Cusip.{cusip_text, read_cusip, with_digit, first_bad, number_of, check_digit, IsCusip}
 use Rattle.cns_ids.specs.Member.{is_member}
@@ -19,26 +19,13 @@ use Rattle.cns_movements.specs.declared.order.MoveKind.{MoveKind}
 use Rattle.cns_movements.specs.declared.order.MoveKind.TheVariants.{Cover, Delivery}
 use Rattle.cns_movements.specs.declared.order.Order.{Order}
 use Rattle.cns_movements.specs.declared.order.Reply.{Reply}
+use Rattle.cns_movements.proofs.BytesLemmas.{IsBytes, IsBytes-drop, IsBytes-take}
 use Rattle.cns_wire.specs.declared.frame.Frame.{Frame}
 use Rattle.cns_wire.specs.declared.frame.Frame.TheVariants as frame
 use Rattle.cns_wire.specs.declared.frame.FrameFault.{FrameFault}
 use Rattle.cns_wire.specs.declared.frame.FrameFault.TheVariants.{Short, Long, Field}
 use Rattle.cns_wire.specs.Frame.{header, kind_byte, order_frame, reply_frame, IsFrame}
 use Rattle.cns_wire.specs.ReadFrame.{of_size, of_kind, order_of, reply_of, order_in, reply_in, with_order, with_reply, read_frame_of}
-
--- every number of a list is a byte
-abbrev pub IsBytes : List ℕ → Type 0
-IsBytes bytes = (i : ℕ) → get_or bytes i 0 < 256
-
-IsBytes-drop : (n : ℕ) (bytes : List ℕ) → IsBytes bytes → IsBytes (drop n bytes)
-IsBytes-drop n bytes h i = rw get_or-drop (h (n + i))
-
-IsBytes-take : (n : ℕ) (bytes : List ℕ) → IsBytes bytes → IsBytes (take n bytes)
-IsBytes-take n bytes h i =
-    elim (cases_lt i n) [
-      | inl lt ↦ rw (get_or-take n bytes i 0 lt) (h i)
-      | inr le ↦ rw (get_or_past (take n bytes) i 0 (omega (arith, length-take n bytes))) (omega arith)
-    ]
 
 -- a test that did not refuse
 passed : {A : Type 0} (b : Bool) (fault : FrameFault) (r : Result A FrameFault) (x : A) → cond b (Err fault) r ≡ Ok x → (b ≡ false) × (r ≡ Ok x)

@@ -7,3 +7,4 @@ pub mod OpenedLemmas
 pub mod ClearSideLemmas
 pub mod DepotSideLemmas
 pub mod LotCommandLemmas
+pub mod CommandLineLemmas

@@ -12,3 +12,5 @@ pub mod Run
 pub mod Opened
 pub mod Text
 pub mod Status
+pub mod Check
+pub mod CommandLine

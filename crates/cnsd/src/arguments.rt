@@ -1,13 +1,19 @@
-use clap::{Command, Error};
+ghost use Rattle.std.specs.Prelude.{◌≡◌, IfOk, map};
+ghost use Rattle.clap.specs.Words.{FailsBy, app_of, fault_of, subcommand_of, subcommand_rows_of};
+ghost use Rattle.cnsd.specs.CommandLine.{AsksFor, asked_text, cnsd_app};
+
+use clap::{Arg, ArgAction, ArgMatches, Command, Error};
 use std::alloc::{AllocError, Global};
 use std::rt::Env;
 use std::{env, io};
 
 /// What the command line asks for.
-#[derive(Clone, Copy, PartialEq, Eq, Debug)]
+#[derive(PartialEq, Eq, Debug, Drop)]
 pub(crate) enum Request {
     /// `cnsd run`: one batch from standard input to standard output.
     Run,
+    /// `cnsd cusip TEXT`: whether this text is a CUSIP.
+    Cusip(String),
     /// Help or the version, which was printed.
     Told,
     /// Nothing that there is; the fault was printed.
@@ -15,21 +21,46 @@ pub(crate) enum Request {
 }
 
 // The command line that there is.
-fn command<'a>(alloc: Global) -> Result<Command<'a>, AllocError> {
+fn command<'a>(alloc: Global) -> Result<Command<'a>, AllocError>
+    ensures { IfOk result (λ c. app_of c ≡ cnsd_app) }
+{
     let run = Command::new(alloc, "run").about(
         "Reads openings, trades and a script from standard input, and writes what they come to",
     );
+    let text = Arg::new(alloc, "text")
+        .value_name("TEXT")
+        .help("The text, such as 037833100")
+        .required(true)
+        .action(ArgAction::Set);
+    let cusip = Command::new(alloc, "cusip")
+        .about("Reads a text as a CUSIP, and writes `ok` or its first fault")
+        .arg(text)?;
     Command::new(alloc, "cnsd")
         .about("A Continuous Net Settlement book and a depository's stock record")
         .version("0.1.0")
         .subcommand_required(true)
-        .subcommand(run)
+        .subcommand(run)?
+        .subcommand(cusip)
+}
+
+// What the matches of a command line ask for; the library refuses a `cusip` with no text.
+fn request_of(alloc: Global, matches: &ArgMatches) -> Result<Request, AllocError>
+    ensures { IfOk result (AsksFor (asked_text (subcommand_rows_of matches.now))) }
+{
+    let Some(cusip) = matches.subcommand_matches("cusip") else {
+        return Ok(Request::Run);
+    };
+    let text = cusip.get_str("text").unwrap_or("");
+    Ok(Request::Cusip(String::from_str(alloc, text)?))
 }
 
 // Reads words as a command line; help, the version and faults come as the library's own errors.
-fn parse<'a>(alloc: Global, words: &'a [&'a str]) -> Result<(), Error> {
-    command(alloc)?.try_get_matches_from(words)?;
-    Ok(())
+fn parse<'a>(alloc: Global, words: &'a [&'a str]) -> Result<Request, Error>
+    ensures asks { IfOk result (AsksFor (asked_text (subcommand_of cnsd_app (map (λ w. w.now) words.now)))) }
+    ensures fails { FailsBy (fault_of cnsd_app (map (λ w. w.now) words.now)) result }
+{
+    let matches = command(alloc)?.try_get_matches_from(words)?;
+    Ok(request_of(alloc, &matches)?)
 }
 
 // The words of the command line, the program's name first.
@@ -50,7 +81,7 @@ fn texts(alloc: Global, words: &[String]) -> Result<Vec<&str>, AllocError> {
     Ok(texts)
 }
 
-/// Reads the command line, and prints help, the version or the fault where it asks for no run.
+/// Reads the command line, and prints help, the version or the fault where it asks for nothing else.
 pub(crate) fn read_request<R: Env + AllocGlobal + Print + Eprint>(rt: &R) -> Request {
     let Ok(words) = words(rt) else {
         let _ = rt.eprintln("cnsd: the command line cannot be read");
@@ -61,7 +92,7 @@ pub(crate) fn read_request<R: Env + AllocGlobal + Print + Eprint>(rt: &R) -> Req
         return Request::Faulty;
     };
     match parse(rt.alloc(), texts.as_slice()) {
-        Ok(()) => Request::Run,
+        Ok(request) => request,
         Err(error) => {
             let _ = error.print(rt);
             if error.use_stderr() {

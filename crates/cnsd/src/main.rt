@@ -1,9 +1,11 @@
 //! A Continuous Net Settlement book: `cnsd run` reads one text of trades and a script from standard
-//! input, and writes what the script's commands tell to standard output.
+//! input, and writes what the script's commands tell to standard output. `cnsd cusip` says of one text
+//! whether it is a CUSIP.
 #![tactic(auto)]
 
 mod arguments;
 mod batch;
+mod check;
 mod clear_side;
 mod command;
 mod course;
@@ -22,10 +24,18 @@ mod tell;
 
 use arguments::{Request, read_request};
 use batch::run_uncounted;
+use check::check_cusip;
+use fault::BatchFault;
 use std::io;
 use std::marker::Brand;
 use std::process::ExitCode;
 use std::sync::ledger::Blank;
+
+// Tells a fault on standard error, and gives its exit status.
+fn tell_fault(rt: &HostRuntime, fault: BatchFault) -> ExitCode {
+    let _ = rt.eprintln(fault);
+    ExitCode::from(fault.status())
+}
 
 // One batch from standard input to standard output; a fault is told on standard error.
 fn run(rt: &HostRuntime) -> ExitCode {
@@ -33,16 +43,24 @@ fn run(rt: &HostRuntime) -> ExitCode {
     let mut writer = io::writer(rt);
     match run_uncounted::<_, _, Brand>(rt.alloc(), &mut reader, &mut writer, Blank::new(1)) {
         Ok(()) => ExitCode::SUCCESS,
-        Err(fault) => {
-            let _ = rt.eprintln(fault);
-            ExitCode::from(fault.status())
-        }
+        Err(fault) => tell_fault(rt, fault),
+    }
+}
+
+// Tells on standard output whether a text is a CUSIP; a fault is told on standard error.
+fn cusip(rt: &HostRuntime, text: &[u8]) -> ExitCode {
+    let mut writer = io::writer(rt);
+    match check_cusip(rt.alloc(), text, &mut writer) {
+        Ok(true) => ExitCode::SUCCESS,
+        Ok(false) => ExitCode::from(1),
+        Err(fault) => tell_fault(rt, fault),
     }
 }
 
 fn main(rt: HostRuntime) -> ExitCode {
     match read_request(&rt) {
         Request::Run => run(&rt),
+        Request::Cusip(text) => cusip(&rt, text.as_bytes()),
         Request::Told => ExitCode::SUCCESS,
         Request::Faulty => ExitCode::from(1),
     }

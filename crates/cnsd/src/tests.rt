@@ -1,4 +1,5 @@
 use crate::batch::run_uncounted;
+use crate::check::check_cusip;
 use crate::fault::BatchFault;
 use std::alloc::Global;
 use std::io;
@@ -196,4 +197,37 @@ fn the_longest_input_and_one_byte_more(rt: HostRuntime) {
         assert_eq!(rt; end, want);
         assert_eq!(rt; out.len(), 0);
     }
+}
+
+#[test]
+fn cusips_and_their_faults(rt: HostRuntime) -> Result<(), Fail> {
+    let cases: [(&[u8], &[u8], bool); 6] = [
+        (b"037833100", b"ok\n", true),
+        (b"17275R102", b"ok\n", true),
+        (b"", b"Length\n", false),
+        (b"0378331\xc3\xa9", b"BadChar 8\n", false),
+        (b"037833101", b"CheckDigit 0\n", false),
+        (b"17275R100", b"CheckDigit 2\n", false),
+    ];
+    for (text, line, is_cusip) in cases {
+        let mut out = Vec::new(rt.alloc());
+        assert_eq!(rt; check_cusip(rt.alloc(), text, &mut out)?, is_cusip);
+        assert_eq!(rt; out.as_slice(), line);
+    }
+    Ok(())
+}
+
+#[test]
+fn a_failed_write_leaves_a_first_part_of_the_line(rt: HostRuntime) {
+    for (calls, part) in [(0, b"".as_slice()), (1, b"Che"), (4, b"CheckDigit 0")] {
+        let mut writer = Short {
+            taken: Vec::new(rt.alloc()),
+            calls,
+        };
+        let end = check_cusip(rt.alloc(), b"037833101", &mut writer);
+        assert_eq!(rt; end, Err(BatchFault::Write));
+        assert_eq!(rt; writer.taken.as_slice(), part);
+    }
+    let end = check_cusip(rt.alloc(), b"037833100", &mut Broken);
+    assert_eq!(rt; end, Err(BatchFault::Write));
 }

@@ -5,7 +5,8 @@ use Rattle.cns_wire.specs.declared.frame.FrameFault.{FrameFault}
 use Rattle.cns_wire.specs.Frame.{frame_text, IsInRange, IsFrame}
 use Rattle.cns_wire.specs.ReadFrame.{read_frame_of}
 use Rattle.cns_wire.proofs.FrameLemmas.{read_frame_of-frame_text}
-use Rattle.cns_wire.proofs.ReadLemmas.{IsBytes, read_frame_of-spelled}
+use Rattle.cns_movements.proofs.BytesLemmas.{IsBytes}
+use Rattle.cns_wire.proofs.ReadLemmas.{read_frame_of-spelled}
 use Rattle.cns_wire.proofs.read.read_frame.Goals as goal
 
 -- what was read is the frame that the bytes spell

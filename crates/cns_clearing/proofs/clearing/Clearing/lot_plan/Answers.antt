@@ -1,4 +1,3 @@
-use Rattle.std.proofs.Common.{Ok}
 use Rattle.cns_clearing.proofs.LeavesLemmas.{plan_told}
 use Rattle.cns_clearing.proofs.clearing.Clearing.lot_plan.Goals as goal
 

@@ -5,7 +5,7 @@ use Rattle.std.specs.Prelude.{slice_get}
 use Rattle.cns_movements.specs.Order.{IsNumbered, order_of}
 use Rattle.cns_movements.proofs.OrderLemmas.{order_at as found_at, order_of_below}
 use Rattle.cns_clearing.specs.Books.{orders_of}
-use Rattle.cns_system.proofs.system.System.order_at.Goals as goal
+use Rattle.cns_system.proofs.pair.Pair.order_at.Goals as goal
 
 pub returns-in_err-place : goal.returns-in_err-place
 returns-in_err-place g c =

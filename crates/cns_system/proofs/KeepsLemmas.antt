@@ -1,0 +1,394 @@
+-- Each call of a node keeps the two nodes and the link in accord, and so does each event.
+use Rattle.std.proofs.Common.{◌≡◌, ◌≤◌, ◌∙◌, ◌⊎◌, inl, inr, ℕ, Bool, true, false, List, [], ◌∷◌, ◌++◌, Option, Some, None, Result, Ok, Err, ap, cond, refl, subst, sym}
+use Rattle.std.proofs.Math.Nat.{min-le_left}
+use Rattle.std.specs.Prelude.{◌==◌, ◌-◌, All, slice_get, IsSomeAnd, if◌then◌else◌}
+use Rattle.std.proofs.lemmas.Bool.{eq-eqb}
+use Rattle.std.proofs.lemmas.Option.{none-some, same_Some}
+use Rattle.cns_ids.specs.declared.cycle.CycleId.{CycleId}
+use Rattle.cns_trades.specs.declared.trade.Trade.{Trade}
+use Rattle.cns_movements.specs.Order.{order_of}
+use Rattle.cns_movements.specs.declared.order.Order.{Order}
+use Rattle.cns_movements.specs.declared.order.Reply.{Reply}
+use Rattle.cns_movements.proofs.OrderLemmas.{order_of_number}
+use Rattle.cns_pool.specs.declared.ticket.Ticket.{Ticket}
+use Rattle.cns_records.specs.declared.clear_record.ClearRecord.{ClearRecord}
+use Rattle.cns_records.specs.declared.clear_record.ClearRecord.TheVariants as entry
+use Rattle.cns_records.specs.declared.dep_record.DepRecord.{DepRecord}
+use Rattle.cns_records.specs.declared.dep_record.DepRecord.TheVariants.{Exec}
+use Rattle.cns_clearing.specs.Answers.{CycleLeaves, ReplyLeaves, SettingLeaves, TradeLeaves}
+use Rattle.cns_clearing.specs.Books.{orders_of}
+use Rattle.cns_clearing.specs.Node.{ClearNode, Added, Failed}
+use Rattle.cns_clearing.specs.Replay.{RestartLeaves, Restarts}
+use Rattle.cns_clearing.specs.declared.fault.CycleFault.{CycleFault}
+use Rattle.cns_clearing.specs.declared.fault.CycleFault.TheVariants as cycle
+use Rattle.cns_clearing.specs.declared.fault.Cycled.{Cycled}
+use Rattle.cns_clearing.specs.declared.fault.Closed.{Closed}
+use Rattle.cns_clearing.specs.declared.fault.ReplyFault.{ReplyFault}
+use Rattle.cns_clearing.specs.declared.fault.ReplyFault.TheVariants as reply
+use Rattle.cns_clearing.specs.declared.fault.SettingFault.{SettingFault}
+use Rattle.cns_clearing.specs.declared.fault.SettingFault.TheVariants as setting
+use Rattle.cns_clearing.specs.declared.fault.Taken.{Taken}
+use Rattle.cns_clearing.specs.declared.fault.Taken.TheVariants as taken
+use Rattle.cns_clearing.specs.declared.fault.TradeFault.{TradeFault}
+use Rattle.cns_clearing.specs.declared.fault.TradeFault.TheVariants as trade
+use Rattle.cns_clearing.specs.declared.lot.Lot.{Lot}
+use Rattle.cns_clearing.specs.declared.replay.ReplayFault.{ReplayFault}
+use Rattle.cns_clearing.specs.declared.replay.ReplayFault.TheVariants as replay
+use Rattle.cns_clearing.specs.declared.replay.Restarted.{Restarted}
+use Rattle.cns_depository.specs.Answers.{OrderLeaves, next_record}
+use Rattle.cns_depository.specs.Node.{DepNode}
+use Rattle.cns_depository.specs.Replay.{RestartLeaves as DepotRestartLeaves, Restarts as DepotRestarts}
+use Rattle.cns_depository.specs.Stock.{moved_by, order_in, record_of}
+use Rattle.cns_depository.specs.declared.fault.Answer.{Answer}
+use Rattle.cns_depository.specs.declared.fault.Answer.TheVariants as answer
+use Rattle.cns_depository.specs.declared.fault.DepFault.{DepFault}
+use Rattle.cns_depository.specs.declared.fault.DepFault.TheVariants as fault
+use Rattle.cns_depository.specs.declared.replay.ReplayFault.{ReplayFault as DepotReplayFault}
+use Rattle.cns_depository.specs.declared.replay.ReplayFault.TheVariants as depot_replay
+use Rattle.cns_depository.specs.declared.depository.Restarted.{Restarted as DepotRestarted}
+use Rattle.cns_system.specs.Accord.{Accord, FitsStock, IsInAccord, IsKnown}
+use Rattle.cns_system.specs.Agreement.{IsExecuted}
+use Rattle.cns_system.specs.Lot.{LotState, with_seal}
+use Rattle.cns_system.specs.Lots.{LotLeaves, ReserveLeaves, lot_at}
+use Rattle.cns_system.specs.Outcomes.{asked_outcome, clear_restart_outcome, close_outcome, cycle_outcome, open_outcome, pour_outcome, poured_outcome, reply_outcome, reserve_outcome, seal_outcome, setting_outcome, trade_outcome}
+use Rattle.cns_system.specs.Numbered.{NumberedNode, CloseLeaves, OpenLeaves, PourLeaves}
+use Rattle.cns_wire.specs.Frame.{order_frame, reply_frame}
+use Rattle.cns_wire.specs.Packet.{packet_at}
+use Rattle.cns_system.specs.Step.{AtClear, ByLots, ByNode, ClearRestarts, DepotRestartStep, IsPut, Looks, OrderInStep, OrderTaken, Puts, ReplyInStep, Run, SendStep, Step}
+use Rattle.cns_system.specs.World.{World, order_in_packet, reply_in_packet}
+use Rattle.cns_system.specs.declared.event.Event.{Event}
+use Rattle.cns_system.specs.declared.event.Event.TheVariants as event
+use Rattle.cns_system.specs.declared.event.NodeName.TheVariants as node
+use Rattle.cns_system.specs.declared.fault.CloseFault.{CloseFault}
+use Rattle.cns_system.specs.declared.fault.CloseFault.TheVariants as close
+use Rattle.cns_system.specs.declared.fault.OpenFault.{OpenFault}
+use Rattle.cns_system.specs.declared.fault.OpenFault.TheVariants as opening
+use Rattle.cns_system.specs.declared.fault.PourFault.{PourFault}
+use Rattle.cns_system.specs.declared.fault.PourFault.TheVariants as pouring
+use Rattle.cns_system.specs.declared.numbered.Opened.{Opened}
+use Rattle.cns_system.specs.declared.outcome.Outcome.{Outcome}
+use Rattle.cns_system.proofs.AccordLemmas.{executed_more, executed_stays, grown, kept, order_put, reply_put, stock_kept}
+
+-- what is found in an option
+some_and : {X : Type 0} (o : Option X) (P : X → Type 0) → IsSomeAnd o P → (x : X) × P x
+some_and None P h = absurd h
+some_and (Some x) P h = (x, h)
+
+-- ---- the calls of the clearing node
+
+module _ (d : DepNode) (orders replies : List (List ℕ)) where
+  -- a call of the clearing node keeps the accord, where its keeper is honest
+  abbrev pub Keeps : ClearNode → ClearNode → Type 0
+  Keeps old new = (new.honest ≡ old.honest) × (old.honest ≡ true → Accord old d orders replies → Accord new d orders replies)
+
+  by_added : (old new : ClearNode) (u : ClearRecord) → (Accord old d orders replies → FitsStock d.records u) → Added u old new → Keeps old new
+  by_added old new u fits h = (h.4, λ honest a. grown old new d orders replies u a (fits a) h.1 (h.2 ∙ a.clear_up h.0))
+
+  by_failed : (old new : ClearNode) (u : ClearRecord) → (Accord old d orders replies → FitsStock d.records u) → Failed u old new → Keeps old new
+  by_failed old new u fits h = (
+    h.4,
+    λ honest a. kept old new d orders replies a h.1 (λ v tried. subst (FitsStock d.records) (same_Some u v (sym h.2 ∙ tried)) (fits a)) (λ up. cc (up, h.5)),
+  )
+
+  by_same : (old new : ClearNode) → new ≡ old → Keeps old new
+  by_same old new e = (ap (λ (n : ClearNode). n.honest) e, λ honest a. subst (λ (n : ClearNode). Accord n d orders replies) (sym e) a)
+
+  by_lots : (old new : ClearNode) (lots : List Lot) → new ≡ record old { lots = lots } → Keeps old new
+  by_lots old new lots e = (
+    ap (λ (n : ClearNode). n.honest) e,
+    λ honest a. kept old new d orders replies a (ap (λ (n : ClearNode). n.records) e)
+        (λ u tried. a.clear_tried u (sym (ap (λ (n : ClearNode). n.tried) e) ∙ tried))
+        (λ up. ap (λ (n : ClearNode). n.tried) e ∙ a.clear_up (sym (ap (λ (n : ClearNode). n.down) e) ∙ up)),
+  )
+
+  trade_keeps : (t : Trade) (result : Result (Unit {0}) TradeFault) (old new : ClearNode) → TradeLeaves t result old new → Keeps old new
+  trade_keeps t (Ok x) old new h = by_added old new (entry.Accept t) (λ a. tt) h.1
+  trade_keeps t (Err trade.Down) old new h = by_same old new h.1
+  trade_keeps t (Err (trade.Refused v)) old new h = by_same old new h.3
+  trade_keeps t (Err trade.OutOfMemory) old new h = by_same old new h.2
+  trade_keeps t (Err trade.Device) old new h = by_failed old new (entry.Accept t) (λ a. tt) h.1
+
+  setting_keeps : (u : ClearRecord) (result : Result (Unit {0}) SettingFault) (old new : ClearNode) → (Accord old d orders replies → FitsStock d.records u) → SettingLeaves u result old new → Keeps old new
+  setting_keeps u (Ok x) old new fits h = by_added old new u fits h
+  setting_keeps u (Err setting.Down) old new fits h = by_same old new h.1
+  setting_keeps u (Err setting.OutOfMemory) old new fits h = by_same old new h.1
+  setting_keeps u (Err setting.Device) old new fits h = by_failed old new u fits h
+
+  cycle_keeps : (id : CycleId) (result : Result Cycled CycleFault) (old new : ClearNode) → CycleLeaves id result old new → Keeps old new
+  cycle_keeps id (Ok done) old new h = by_added old new (entry.Cycle id) (λ a. tt) h.3
+  cycle_keeps id (Err cycle.Down) old new h = by_same old new h.1
+  cycle_keeps id (Err cycle.CycleOrder) old new h = by_same old new h.2
+  cycle_keeps id (Err cycle.LotsOpen) old new h = by_same old new h.3
+  cycle_keeps id (Err cycle.NumbersSpent) old new h = by_same old new h.4
+  cycle_keeps id (Err cycle.OutOfMemory) old new h = by_same old new h.3
+  cycle_keeps id (Err cycle.Device) old new h = by_failed old new (entry.Cycle id) (λ a. tt) h.2
+
+  reply_keeps : (r : Reply) (result : Result Taken ReplyFault) (old new : ClearNode) → (Accord old d orders replies → IsExecuted d.records r) → ReplyLeaves r result old new → Keeps old new
+  reply_keeps r (Ok taken.Done) old new done h = by_added old new (entry.Confirm r) done h.1
+  reply_keeps r (Ok taken.Again) old new done h = by_same old new h.2
+  reply_keeps r (Err reply.Down) old new done h = by_same old new h.1
+  reply_keeps r (Err reply.UnknownMove) old new done h = by_same old new h.2
+  reply_keeps r (Err reply.Conflict) old new done h = by_same old new h.2
+  reply_keeps r (Err reply.TooMuch) old new done h = by_same old new h.2
+  reply_keeps r (Err reply.OutOfMemory) old new done h = by_same old new h.2
+  reply_keeps r (Err reply.Device) old new done h = by_failed old new (entry.Confirm r) done h.1
+
+  -- a restart that reads what an honest keeper kept
+  restarted : (kept_too : Bool) (old new : ClearNode) → Restarts kept_too old new → new.tried ≡ None → Accord old d orders replies → Accord new d orders replies
+  restarted true old new h none a = grown old new d orders replies h.0 a (a.clear_tried h.0 h.1) h.2 none
+  restarted false old new h none a = kept old new d orders replies a h (λ u tried. absurd (none-some u (sym none ∙ tried))) (λ up. none)
+
+  -- and one that is refused
+  refused : (old new : ClearNode) → new.records ≡ old.records → new.tried ≡ old.tried → new.down ≡ true → Accord old d orders replies → Accord new d orders replies
+  refused old new same tried down a =
+      kept old new d orders replies a same (λ u is. a.clear_tried u (sym tried ∙ is)) (λ up. cc (up, down))
+
+  restart_keeps : (result : Result Restarted ReplayFault) (old new : ClearNode) → RestartLeaves result old new → Keeps old new
+  restart_keeps (Ok r) old new h = (ap (λ (n : ClearNode). n.honest) h.0, λ honest a. restarted r.kept old new (h.4 honest) (ap (λ (n : ClearNode). n.tried) h.0) a)
+  restart_keeps (Err replay.OutOfMemory) old new h = (
+    ap (λ (n : ClearNode). n.honest) h.0,
+    λ honest a. refused old new (ap (λ (n : ClearNode). n.records) h.0) (ap (λ (n : ClearNode). n.tried) h.0) (ap (λ (n : ClearNode). n.down) h.0) a,
+  )
+  restart_keeps (Err (replay.BadJournal place)) old new h = (
+    ap (λ (n : ClearNode). n.honest) h.0,
+    λ honest a. refused old new (ap (λ (n : ClearNode). n.records) h.0) (ap (λ (n : ClearNode). n.tried) h.0) (ap (λ (n : ClearNode). n.down) h.0) a,
+  )
+  restart_keeps (Err replay.Device) old new h = (
+    ap (λ (n : ClearNode). n.honest) h.0,
+    λ honest a. refused old new (ap (λ (n : ClearNode). n.records) h.0) (ap (λ (n : ClearNode). n.tried) h.0) (ap (λ (n : ClearNode). n.down) h.0) a,
+  )
+
+  -- the calls that know lots by number
+  by_same_lots : (old new : NumberedNode) → new ≡ old → Keeps old.clear new.clear
+  by_same_lots old new e = by_same old.clear new.clear (ap (λ (n : NumberedNode). n.clear) e)
+
+  open_keeps : (issue : ℕ) (result : Result Opened OpenFault) (old new : NumberedNode) → OpenLeaves issue result old new → Keeps old.clear new.clear
+  open_keeps issue (Ok opened) old new h = by_lots old.clear new.clear _ h.2.3
+  open_keeps issue (Err opening.Down) old new h = by_same_lots old new h.1
+  open_keeps issue (Err opening.LotAlready) old new h = by_same_lots old new h.2
+  open_keeps issue (Err opening.LotsSpent) old new h = by_same_lots old new h.3
+  open_keeps issue (Err opening.OutOfMemory) old new h = by_same_lots old new h.3
+
+  pour_keeps : (number : ℕ) (result : Result ℕ PourFault) (old new : NumberedNode) → PourLeaves number result old new → Keeps old.clear new.clear
+  pour_keeps number (Ok shares) old new h =
+      let lot = some_and (lot_at old.lots number) _ h in
+      by_lots old.clear new.clear _ lot.1.1.0.2
+  pour_keeps number (Err pouring.NoLot) old new h = by_same_lots old new h.1
+  pour_keeps number (Err pouring.StaleLot) old new h = by_same_lots old new h.1
+  pour_keeps number (Err pouring.Down) old new h = by_same_lots old new h.1
+
+  close_keeps : (number : ℕ) (result : Result Closed CloseFault) (old new : NumberedNode) → CloseLeaves number result old new → Keeps old.clear new.clear
+  close_keeps number (Ok done) old new h =
+      let lot = some_and (lot_at old.lots number) _ h in
+      let closes = lot.1.1.1 in
+      by_added old.clear new.clear (entry.Allocate closes.0) (λ a. tt) closes.4
+  close_keeps number (Err close.NoLot) old new h = by_same_lots old new h.1
+  close_keeps number (Err close.StaleLot) old new h = by_same_lots old new h.1
+  close_keeps number (Err close.Down) old new h = by_same_lots old new h.1
+  close_keeps number (Err close.Unserved) old new h = by_same_lots old new h.1
+  close_keeps number (Err close.NumbersSpent) old new h = by_same_lots old new h.1
+  close_keeps number (Err close.OutOfMemory) old new h = by_same_lots old new h.1
+  close_keeps number (Err close.Device) old new h =
+      let lot = some_and (lot_at old.lots number) _ h.0 in
+      let closes = lot.1.1.1 in
+      by_failed old.clear new.clear (entry.Allocate closes.0) (λ a. tt) closes.3
+
+-- ---- the calls of the depository
+
+module _ (c : ClearNode) (orders replies : List (List ℕ)) where
+  -- a call of the depository keeps the accord, where its keeper is honest
+  abbrev pub StockKeeps : DepNode → DepNode → Type 0
+  StockKeeps old new = (new.honest ≡ old.honest) × (old.honest ≡ true → Accord c old orders replies → Accord c new orders replies)
+
+  stock_same : (old new : DepNode) → new ≡ old → StockKeeps old new
+  stock_same old new e = (ap (λ (n : DepNode). n.honest) e, λ honest a. subst (λ (n : DepNode). Accord c n orders replies) (sym e) a)
+
+  -- a movement moves no more than is asked for
+  within : (node : DepNode) (o : Order) → moved_by (next_record node o) ≤ o.asked
+  within node o = min-le_left o.asked _
+
+  -- an order that the clearing node has
+  order_keeps : (o : Order) (result : Result Answer DepFault) (old new : DepNode)
+      → (Accord c old orders replies → order_of (orders_of c.records).orders o.number ≡ Some o) → OrderLeaves o result old new → StockKeeps old new
+  order_keeps o (Ok (answer.Done r)) old new found h =
+      (h.2.4, λ honest a. executed_more c old new orders replies (next_record old o) a h.0 (found a, within old o) h.2.1 (h.2.3 ∙ a.depot_up h.2.0))
+  order_keeps o (Ok (answer.Again r)) old new found h = stock_same old new h.3
+  order_keeps o (Err fault.Down) old new found h = stock_same old new h.1
+  order_keeps o (Err fault.Conflict) old new found h = stock_same old new h.2
+  order_keeps o (Err fault.OutOfMemory) old new found h = stock_same old new h.2
+  order_keeps o (Err fault.Device) old new found h = (
+    h.1.4,
+    λ honest a. stock_kept c old new orders replies a h.1.1
+        (λ e tried. subst (λ (e : DepRecord). IsKnown (orders_of c.records).orders e × (record_of old.records (order_in e).number ≡ None))
+        (same_Some (next_record old o) e (sym h.1.3 ∙ tried)) ((found a, within old o), h.0))
+        (λ up. cc (up, h.1.5)),
+  )
+
+  stock_restarted : (kept_too : Bool) (old new : DepNode) → DepotRestarts kept_too old new → new.tried ≡ None → Accord c old orders replies → Accord c new orders replies
+  stock_restarted true old new h none a =
+      let before = a.depot_tried h.0 h.1 in
+      executed_more c old new orders replies h.0 a before.1 before.0 h.2 none
+  stock_restarted false old new h none a = stock_kept c old new orders replies a h (λ e tried. absurd (none-some e (sym none ∙ tried))) (λ up. none)
+
+  stock_refused : (old new : DepNode) → new.records ≡ old.records → new.tried ≡ old.tried → new.down ≡ true → Accord c old orders replies → Accord c new orders replies
+  stock_refused old new same tried down a =
+      stock_kept c old new orders replies a same (λ e is. a.depot_tried e (sym tried ∙ is)) (λ up. cc (up, down))
+
+  depot_restart_keeps : (result : Result DepotRestarted DepotReplayFault) (old new : DepNode) → DepotRestartLeaves result old new → StockKeeps old new
+  depot_restart_keeps (Ok r) old new h =
+      (ap (λ (n : DepNode). n.honest) h.0, λ honest a. stock_restarted r.kept old new (h.4 honest) (ap (λ (n : DepNode). n.tried) h.0) a)
+  depot_restart_keeps (Err depot_replay.OutOfMemory) old new h = (
+    ap (λ (n : DepNode). n.honest) h.0,
+    λ honest a. stock_refused old new (ap (λ (n : DepNode). n.records) h.0) (ap (λ (n : DepNode). n.tried) h.0) (ap (λ (n : DepNode). n.down) h.0) a,
+  )
+  depot_restart_keeps (Err (depot_replay.BadJournal place)) old new h = (
+    ap (λ (n : DepNode). n.honest) h.0,
+    λ honest a. stock_refused old new (ap (λ (n : DepNode). n.records) h.0) (ap (λ (n : DepNode). n.tried) h.0) (ap (λ (n : DepNode). n.down) h.0) a,
+  )
+  depot_restart_keeps (Err depot_replay.Device) old new h = (
+    ap (λ (n : DepNode). n.honest) h.0,
+    λ honest a. stock_refused old new (ap (λ (n : DepNode). n.records) h.0) (ap (λ (n : DepNode). n.tried) h.0) (ap (λ (n : DepNode). n.down) h.0) a,
+  )
+
+-- a movement that was just executed, or was executed before, is one that the reply tells of
+done_executed : (o : Order) (r : Reply) (old new : DepNode) → OrderLeaves o (Ok (answer.Done r)) old new → IsExecuted new.records r
+done_executed o r old new h =
+    let e = next_record old o in
+    subst (λ (l : List DepRecord). IsExecuted l r) (sym h.2.1)
+    (subst (IsExecuted (e ∷ old.records)) (sym h.1)
+    (e, ap (λ b. cond b (Some e) (record_of old.records o.number)) (eq-eqb o.number o.number refl), refl))
+
+again_executed : (o : Order) (r : Reply) (old new : DepNode) → OrderLeaves o (Ok (answer.Again r)) old new → IsExecuted new.records r
+again_executed o r old new h =
+    subst (λ (n : DepNode). IsExecuted n.records r) (sym h.3) (Exec o r.moved, ap (record_of old.records) h.2 ∙ h.1, refl)
+
+-- ---- events
+
+-- an event at the clearing node
+clear_step : {R : Type 0} (told : R → Outcome) (Leaves : R → NumberedNode → NumberedNode → Type 0) (outcome : Outcome) (old new : World)
+    → ((result : R) → Leaves result old.clear new.clear → Keeps old.depot old.orders old.replies old.clear.clear new.clear.clear)
+    → AtClear told Leaves outcome old new → IsInAccord old → IsInAccord new
+clear_step told Leaves outcome old new keeps h accord = λ clear_honest depot_honest.
+    let now = keeps h.3.0 h.3.2 in
+    let was_honest = sym now.0 ∙ clear_honest in
+    let before = accord was_honest (sym (ap (λ (n : DepNode). n.honest) h.0) ∙ depot_honest) in
+    subst (λ (n : DepNode). Accord new.clear.clear n new.orders new.replies) (sym h.0)
+    (subst (λ (l : List (List ℕ)). Accord new.clear.clear old.depot l new.replies) (sym h.1)
+    (subst (λ (l : List (List ℕ)). Accord new.clear.clear old.depot old.orders l) (sym h.2) (now.1 was_honest before)))
+
+-- one that leaves the node itself as it was
+same_step : {R : Type 0} (told : R → Outcome) (Leaves : R → List LotState → List LotState → Type 0) (outcome : Outcome) (old new : World)
+    → AtClear told (ByLots Leaves) outcome old new → IsInAccord old → IsInAccord new
+same_step told Leaves outcome old new = clear_step told (ByLots Leaves) outcome old new (λ result h. by_same old.depot old.orders old.replies old.clear.clear new.clear.clear h.1)
+
+-- an order is sent
+send_step : (number : ℕ) (outcome : Outcome) (old new : World) → SendStep number outcome old new → IsInAccord old → IsInAccord new
+send_step number outcome old new (inl h) accord =
+    let sent = h.2 in
+    subst IsInAccord (sym sent.put)
+    (λ clear_honest depot_honest.
+    order_put old.clear.clear old.depot old.orders old.replies sent.order (order_frame sent.order) (accord clear_honest depot_honest)
+    (subst (λ (n : ℕ). order_of (orders_of old.clear.clear.records).orders n ≡ Some sent.order)
+    (sym (order_of_number (orders_of old.clear.clear.records).orders number sent.order sent.found)) sent.found)
+    sent.reads)
+send_step number outcome old new (inr h) accord = subst IsInAccord (sym h.3) accord
+
+-- what the depository's answer puts on the link
+puts_keep : (c : ClearNode) (o : Order) (result : Result Answer DepFault) (old new : World) → OrderLeaves o result old.depot new.depot → Puts result old new
+    → Accord c new.depot old.orders old.replies → Accord c new.depot old.orders new.replies
+puts_keep c o (Ok (answer.Done r)) old new h p a =
+    subst (λ (l : List (List ℕ)). Accord c new.depot old.orders l) (sym p.put)
+    (reply_put c new.depot old.orders old.replies r (reply_frame r) a (done_executed o r old.depot new.depot h) p.reads)
+puts_keep c o (Ok (answer.Again r)) old new h p a =
+    subst (λ (l : List (List ℕ)). Accord c new.depot old.orders l) (sym p.put)
+    (reply_put c new.depot old.orders old.replies r (reply_frame r) a (again_executed o r old.depot new.depot h) p.reads)
+puts_keep c o (Err fault) old new h p a = subst (λ (l : List (List ℕ)). Accord c new.depot old.orders l) (sym p) a
+
+-- an order arrives: it is one that the clearing node sent
+order_taken : (k : ℕ) (bytes : List ℕ) (o : Order) (outcome : Outcome) (old new : World) → slice_get old.orders k ≡ Some bytes → order_in_packet (Some bytes) ≡ Some o
+    → new.clear ≡ old.clear → new.orders ≡ old.orders → OrderTaken o outcome old new → IsInAccord old → IsInAccord new
+order_taken k bytes o outcome old new at reads clear orders (inl t) accord = λ clear_honest depot_honest.
+    let found = λ (a : Accord old.clear.clear old.depot old.orders old.replies). a.sent k bytes o at reads in
+    let now = order_keeps old.clear.clear old.orders old.replies o t.0 old.depot new.depot found t.2 in
+    let was_honest = sym now.0 ∙ depot_honest in
+    let before = accord (sym (ap (λ (n : NumberedNode). n.clear.honest) clear) ∙ clear_honest) was_honest in
+    subst (λ (n : NumberedNode). Accord n.clear new.depot new.orders new.replies) (sym clear)
+    (subst (λ (l : List (List ℕ)). Accord old.clear.clear new.depot l new.replies) (sym orders)
+    (puts_keep old.clear.clear o t.0 old new t.2 t.3 (now.1 was_honest before)))
+order_taken k bytes o outcome old new at reads clear orders (inr t) accord = λ clear_honest depot_honest.
+    let before = accord (sym (ap (λ (n : NumberedNode). n.clear.honest) clear) ∙ clear_honest) (sym (ap (λ (n : DepNode). n.honest) t.1) ∙ depot_honest) in
+    subst (λ (n : NumberedNode). Accord n.clear new.depot new.orders new.replies) (sym clear)
+    (subst (λ (l : List (List ℕ)). Accord old.clear.clear new.depot l new.replies) (sym orders)
+    (subst (λ (n : DepNode). Accord old.clear.clear n old.orders new.replies) (sym t.1)
+    (subst (λ (l : List (List ℕ)). Accord old.clear.clear old.depot old.orders l) (sym t.2) before)))
+
+-- a packet at a place, where there is one
+packet_place : (packets : List (List ℕ)) (number : ℕ) (bytes : List ℕ) → packet_at packets number ≡ Some bytes → (k : ℕ) × (slice_get packets k ≡ Some bytes)
+packet_place packets number bytes at = by (number == 0) at
+  where
+    by : (b : Bool) → (if b then None else slice_get packets (number - 1)) ≡ Some bytes → (k : ℕ) × (slice_get packets k ≡ Some bytes)
+    by true e = absurd (none-some bytes e)
+    by false e = (number - 1, e)
+
+order_arrives : (packet : Option (List ℕ)) (held : Option Order) (outcome : Outcome) (old new : World)
+    → ((bytes : List ℕ) → packet ≡ Some bytes → (k : ℕ) × (slice_get old.orders k ≡ Some bytes)) → order_in_packet packet ≡ held
+    → OrderInStep held outcome old new → IsInAccord old → IsInAccord new
+order_arrives packet None outcome old new place is h accord = subst IsInAccord (sym h.1) accord
+order_arrives None (Some o) outcome old new place is h accord = absurd (none-some o is)
+order_arrives (Some bytes) (Some o) outcome old new place is h accord =
+    let at = place bytes refl in
+    order_taken at.0 bytes o outcome old new at.1 is h.0 h.1 h.2 accord
+
+-- a reply arrives: it is of a movement that the depository executed
+reply_arrives : (packet : Option (List ℕ)) (held : Option Reply) (outcome : Outcome) (old new : World)
+    → ((bytes : List ℕ) → packet ≡ Some bytes → (k : ℕ) × (slice_get old.replies k ≡ Some bytes)) → reply_in_packet packet ≡ held
+    → ReplyInStep held outcome old new → IsInAccord old → IsInAccord new
+reply_arrives packet None outcome old new place is h accord = subst IsInAccord (sym h.1) accord
+reply_arrives None (Some r) outcome old new place is h accord = absurd (none-some r is)
+reply_arrives (Some bytes) (Some r) outcome old new place is h accord =
+    let at = place bytes refl in
+    clear_step (reply_outcome r) (ByNode (ReplyLeaves r)) outcome old new
+    (λ result leaves. reply_keeps old.depot old.orders old.replies r result old.clear.clear new.clear.clear (λ a. a.answered at.0 bytes r at.1 is) leaves.0) h accord
+
+-- the depository restarts
+depot_restart_step : (outcome : Outcome) (old new : World) → DepotRestartStep outcome old new → IsInAccord old → IsInAccord new
+depot_restart_step outcome old new h accord = λ clear_honest depot_honest.
+    let now = depot_restart_keeps old.clear.clear old.orders old.replies h.3.0 old.depot new.depot h.3.2 in
+    let was_honest = sym now.0 ∙ depot_honest in
+    let before = accord (sym (ap (λ (n : NumberedNode). n.clear.honest) h.0) ∙ clear_honest) was_honest in
+    subst (λ (n : NumberedNode). Accord n.clear new.depot new.orders new.replies) (sym h.0)
+    (subst (λ (l : List (List ℕ)). Accord old.clear.clear new.depot l new.replies) (sym h.1)
+    (subst (λ (l : List (List ℕ)). Accord old.clear.clear new.depot old.orders l) (sym h.2) (now.1 was_honest before)))
+
+-- each event keeps both nodes and the link in accord
+pub step_keeps : (e : Event) (outcome : Outcome) (old new : World) → Step e outcome old new → IsInAccord old → IsInAccord new
+step_keeps (event.Trade t) outcome old new =
+    clear_step trade_outcome (ByNode (TradeLeaves t)) outcome old new (λ result h. trade_keeps old.depot old.orders old.replies t result old.clear.clear new.clear.clear h.0)
+step_keeps (event.Exempt m i s) outcome old new =
+    clear_step setting_outcome (ByNode (SettingLeaves (entry.Exempt m i s))) outcome old new
+    (λ result h. setting_keeps old.depot old.orders old.replies (entry.Exempt m i s) result old.clear.clear new.clear.clear (λ a. tt) h.0)
+step_keeps (event.Priority m i on) outcome old new =
+    clear_step setting_outcome (ByNode (SettingLeaves (entry.Priority m i on))) outcome old new
+    (λ result h. setting_keeps old.depot old.orders old.replies (entry.Priority m i on) result old.clear.clear new.clear.clear (λ a. tt) h.0)
+step_keeps (event.Cycle id) outcome old new =
+    clear_step cycle_outcome (ByNode (CycleLeaves id)) outcome old new (λ result h. cycle_keeps old.depot old.orders old.replies id result old.clear.clear new.clear.clear h.0)
+step_keeps (event.LotOpen issue) outcome old new =
+    clear_step open_outcome (OpenLeaves issue) outcome old new (λ result h. open_keeps old.depot old.orders old.replies issue result old.clear new.clear h)
+step_keeps (event.LotPour lot) outcome old new =
+    clear_step pour_outcome (PourLeaves lot) outcome old new (λ result h. pour_keeps old.depot old.orders old.replies lot result old.clear new.clear h)
+step_keeps (event.Reserve lot member) outcome old new = same_step reserve_outcome (ReserveLeaves lot member) outcome old new
+step_keeps (event.LookPoured lot) outcome old new =
+    clear_step poured_outcome (Looks lot) outcome old new (λ result h. by_same_lots old.depot old.orders old.replies old.clear new.clear h.1)
+step_keeps (event.LookAsked lot) outcome old new =
+    clear_step asked_outcome (Looks lot) outcome old new (λ result h. by_same_lots old.depot old.orders old.replies old.clear new.clear h.1)
+step_keeps (event.Seal lot) outcome old new = same_step seal_outcome (LotLeaves with_seal lot) outcome old new
+step_keeps (event.LotClose lot) outcome old new =
+    clear_step close_outcome (CloseLeaves lot) outcome old new (λ result h. close_keeps old.depot old.orders old.replies lot result old.clear new.clear h)
+step_keeps (event.Send number) outcome old new = send_step number outcome old new
+step_keeps (event.OrderIn packet) outcome old new =
+    order_arrives (packet_at old.orders packet) (order_in_packet (packet_at old.orders packet)) outcome old new (packet_place old.orders packet) refl
+step_keeps (event.ReplyIn packet) outcome old new =
+    reply_arrives (packet_at old.replies packet) (reply_in_packet (packet_at old.replies packet)) outcome old new (packet_place old.replies packet) refl
+step_keeps (event.Restart node.Clear) outcome old new =
+    clear_step clear_restart_outcome ClearRestarts outcome old new (λ result h. restart_keeps old.depot old.orders old.replies result old.clear.clear new.clear.clear h.0)
+step_keeps (event.Restart node.Depot) outcome old new = depot_restart_step outcome old new

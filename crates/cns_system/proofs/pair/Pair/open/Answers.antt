@@ -1,0 +1,34 @@
+use Rattle.std.proofs.Common.{◌≡◌, subst, sym}
+use Rattle.cns_clearing.specs.Node.{ClearNode, KeeperState}
+use Rattle.cns_clearing.specs.Replay.{IsOpened}
+use Rattle.cns_system.specs.Agreement.{Agree}
+use Rattle.cns_system.proofs.pair.Pair.open.Goals as goal
+
+pub returns-in-Err-open : goal.returns-in-Err-open
+returns-in-Err-open g c =
+    let keeper = c.in-Err-open.refused.keeper in
+    let after : KeeperState = record {
+      honest = g.D.Keeper.honest keeper;
+      run = g.D.Keeper.run keeper;
+      journal = g.D.Keeper.journal keeper;
+      foresight = g.D.Keeper.foresight keeper;
+    } in
+    (c.in-Ok.node, c.in-Ok.ensures.ok, (after, c.in-Err-open.ensures.err))
+
+pub returns : goal.returns
+returns g c =
+    let clear : KeeperState = record {
+      honest = g.C.Keeper.honest c.args.clear;
+      run = g.C.Keeper.run c.args.clear;
+      journal = g.C.Keeper.journal c.args.clear;
+      foresight = g.C.Keeper.foresight c.args.clear;
+    } in
+    let agree : Agree c.in-Ok.node.records c.in-Ok-open.node.records = c.agree.ensures.0 c.if-not-agree.false in
+    record {
+      clear_opens = subst (IsOpened clear) (sym c.new.ensures.clear) c.in-Ok.ensures.ok;
+      depot_opens = c.in-Ok-open.ensures.ok;
+      agree = subst (λ (n : ClearNode). Agree n.records c.in-Ok-open.node.records) (sym c.new.ensures.clear) agree;
+      lots = c.new.ensures.lots;
+      orders = c.new-2.ensures;
+      replies = c.new-3.ensures;
+    }

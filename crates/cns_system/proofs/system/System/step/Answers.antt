@@ -1,0 +1,8 @@
+use Rattle.cns_system.proofs.KeepsLemmas.{step_keeps}
+use Rattle.cns_system.proofs.system.System.step.Goals as goal
+
+pub invariant_of-self : goal.invariant_of-self
+invariant_of-self g c = step_keeps c.args.event c.step.result c.self.inside.pair c.step.new.self c.step.ensures c.self.invariant
+
+pub returns-clause-accord : goal.returns-clause-accord
+returns-clause-accord g c = step_keeps c.args.event c.step.result c.self.inside.pair c.step.new.self c.step.ensures c.self.invariant

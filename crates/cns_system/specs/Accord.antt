@@ -1,0 +1,64 @@
+-- What is so of both nodes and the link after any events, where both keepers are honest.
+use Rattle.std.specs.Prelude.{◌≡◌, ◌≢◌, ◌≤◌, ℕ, Bool, true, false, List, All, Some, None, slice_get}
+use Rattle.cns_movements.specs.Order.{order_of}
+use Rattle.cns_movements.specs.declared.order.Order.{Order}
+use Rattle.cns_movements.specs.declared.order.Reply.{Reply}
+use Rattle.cns_records.specs.declared.clear_record.ClearRecord.{ClearRecord}
+use Rattle.cns_records.specs.declared.clear_record.ClearRecord.TheVariants as entry
+use Rattle.cns_records.specs.declared.dep_record.DepRecord.{DepRecord}
+use Rattle.cns_clearing.specs.Books.{orders_of}
+use Rattle.cns_clearing.specs.Node.{ClearNode}
+use Rattle.cns_depository.specs.Node.{DepNode}
+use Rattle.cns_depository.specs.Stock.{moved_by, order_in, record_of}
+use Rattle.cns_system.specs.Agreement.{IsExecuted}
+use Rattle.cns_system.specs.World.{World, order_in_packet, reply_in_packet}
+use Rattle.cns_system.specs.declared.event.Event.{Event}
+use Rattle.cns_system.specs.declared.event.Event.TheVariants as event
+use Rattle.cns_system.specs.declared.outcome.Outcome.{Outcome}
+use Rattle.cns_system.specs.declared.outcome.Outcome.TheVariants as outcomes
+use Rattle.cns_system.specs.declared.outcome.Refusal.TheVariants as refusal
+
+-- an executed movement is that of the order of its number, so its member, issue, kind and quantity asked for are the same in both
+-- nodes; and it moved no more than that
+abbrev pub IsKnown : List Order → DepRecord → Type 0
+IsKnown orders e = (order_of orders (order_in e).number ≡ Some (order_in e)) × (moved_by e ≤ (order_in e).asked)
+
+-- a record of the clearing node fits what was executed: a confirmation is of a movement that was executed, and moved so much
+abbrev pub FitsStock : List DepRecord → ClearRecord → Type 0
+FitsStock p (entry.Accept t) = Unit {0}
+FitsStock p (entry.Exempt m i s) = Unit {0}
+FitsStock p (entry.Priority m i on) = Unit {0}
+FitsStock p (entry.Cycle id) = Unit {0}
+FitsStock p (entry.Allocate a) = Unit {0}
+FitsStock p (entry.Confirm r) = IsExecuted p r
+
+-- the two nodes' records agree, each packet of an order is the order of its number and each packet of a reply a movement that was
+-- executed, and so it stays where a record whose commit failed comes back; a node that is up has no such record
+pub record Accord (clear : ClearNode) (depot : DepNode) (orders replies : List (List ℕ)) : Type 0 where
+  pub known : All (IsKnown (orders_of clear.records).orders) depot.records
+  pub executed : All (IsExecuted depot.records) (orders_of clear.records).replies
+  pub sent : (k : ℕ) (bytes : List ℕ) (o : Order) → slice_get orders k ≡ Some bytes → order_in_packet (Some bytes) ≡ Some o
+      → order_of (orders_of clear.records).orders o.number ≡ Some o
+  pub answered : (k : ℕ) (bytes : List ℕ) (r : Reply) → slice_get replies k ≡ Some bytes → reply_in_packet (Some bytes) ≡ Some r
+      → IsExecuted depot.records r
+  pub clear_tried : (u : ClearRecord) → clear.tried ≡ Some u → FitsStock depot.records u
+  pub depot_tried : (e : DepRecord) → depot.tried ≡ Some e
+      → IsKnown (orders_of clear.records).orders e × (record_of depot.records (order_in e).number ≡ None)
+  pub clear_up : clear.down ≡ false → clear.tried ≡ None
+  pub depot_up : depot.down ≡ false → depot.tried ≡ None
+
+abbrev pub IsInAccord : World → Type 0
+IsInAccord w = w.clear.clear.honest ≡ true → w.depot.honest ≡ true → Accord w.clear.clear w.depot w.orders w.replies
+
+-- what no event comes to where both keepers are honest: no order meets another one under its number, no reply is of a movement that
+-- is unknown, moved another quantity or more than was asked for, and no journal is bad
+abbrev pub IsSound : Event → Outcome → Type 0
+IsSound (event.OrderIn packet) outcome = outcome ≢ outcomes.Refused refusal.Conflict
+IsSound (event.ReplyIn packet) outcome =
+    (outcome ≢ outcomes.Refused refusal.UnknownMove) × (outcome ≢ outcomes.Refused refusal.Conflict) × (outcome ≢ outcomes.Refused refusal.TooMuch)
+IsSound (event.Restart name) outcome = (place : ℕ) → outcome ≢ outcomes.Refused (refusal.BadJournal place)
+IsSound _ outcome = Unit {0}
+
+-- so it is where both keepers were honest
+abbrev pub StaysSound : World → Event → Outcome → Type 0
+StaysSound w e outcome = w.clear.clear.honest ≡ true → w.depot.honest ≡ true → IsSound e outcome

@@ -1,0 +1,232 @@
+ghost use Rattle.std.specs.Prelude.{◌≡◌, ◌<◌, ◌+◌, ◌++◌, ◌∷◌, [], length, Some, IfOk, OnErr};
+ghost use Rattle.cns_clearing.specs.Answers.{CycleLeaves, ReplyLeaves, SettingLeaves, TradeLeaves};
+ghost use Rattle.cns_wire.specs.Frame.{reply_frame};
+ghost use Rattle.cns_wire.specs.Packet.{packet_at};
+ghost use Rattle.cns_system.specs.Step.{order_at, AtClear, ByLots, ByNode, ClearRestarts, DepotRestartStep, Looks, OrderInStep, OrderTaken, ReplyInStep, SendStep, Step};
+ghost use Rattle.cns_system.specs.Start.{Opens};
+ghost use Rattle.cns_system.specs.World.{order_in_packet, reply_in_packet};
+
+use crate::agreement::agree;
+use crate::event::{Event, NodeName};
+use crate::fault::StartFault;
+use crate::numbered::NumberedClearing;
+use crate::outcome::{Outcome, Refusal};
+use cns_clearing::Clearing;
+use cns_depository::{Answer, DepFault, Depository, Openings};
+use cns_journal::Keeper;
+use cns_movements::{Order, Reply};
+use cns_wire::{Frame, Wire, read_frame, write_order, write_reply};
+use std::alloc::Global;
+use std::marker::Model;
+
+/// Both nodes and the link between them, in any state.
+#[derive(Drop)]
+pub(crate) struct Pair<C: Keeper, D: Keeper> {
+    clear: NumberedClearing<C>,
+    depot: Depository<D>,
+    orders: Wire,
+    replies: Wire,
+}
+
+impl<C: Keeper, D: Keeper> Model for Pair<C, D> {
+    ghost use Rattle.cns_system.specs.World.{World};
+
+    ghost Value = { World };
+
+    ghost view = { λ p. record {
+      clear = p.clear;
+      depot = p.depot;
+      orders = p.orders.packets;
+      replies = p.replies.packets;
+    } };
+}
+
+impl<C: Keeper + Drop, D: Keeper + Drop> Pair<C, D> {
+    /// Opens both nodes, as `System::open` does.
+    pub(crate) fn open(
+        alloc: Global,
+        clear: C,
+        depot: D,
+        openings: Openings,
+    ) -> Result<Pair<C, D>, StartFault>
+        ensures { Opens openings (record {
+          honest = C.honest clear;
+          run = C.run clear;
+          journal = C.journal clear;
+          foresight = C.foresight clear;
+        }) (record {
+          honest = D.honest depot;
+          run = D.run depot;
+          journal = D.journal depot;
+          foresight = D.foresight depot;
+        }) result }
+    {
+        let clear = match Clearing::open(alloc, clear) {
+            Ok(node) => node,
+            Err(refused) => return Err(StartFault::Clear(refused.fault)),
+        };
+        let depot = match Depository::open(alloc, depot, openings) {
+            Ok(node) => node,
+            Err(refused) => return Err(StartFault::Depot(refused.fault)),
+        };
+        if !agree(&clear, &depot) {
+            return Err(StartFault::Disagree);
+        }
+        Ok(Pair {
+            clear: NumberedClearing::new(alloc, clear),
+            depot,
+            orders: Wire::new(alloc),
+            replies: Wire::new(alloc),
+        })
+    }
+}
+
+impl<C: Keeper, D: Keeper> Pair<C, D> {
+    /// The clearing node.
+    pub(crate) fn clearing(&self) -> &Clearing<C>
+        ensures { result.now ≡ self.now.clear.clear }
+    {
+        self.clear.node()
+    }
+
+    /// The depository.
+    pub(crate) fn depository(&self) -> &Depository<D>
+        ensures { result.now ≡ self.now.depot }
+    {
+        &self.depot
+    }
+
+    /// Lets an event happen, as `System::step` does.
+    pub(crate) fn step(&mut self, event: Event) -> Outcome
+        ensures { Step event result self.old self.new }
+    {
+        match &event {
+            Event::Trade(trade) => Outcome::of_trade(self.clear.take_trade(trade)),
+            Event::Exempt {
+                member,
+                issue,
+                shares,
+            } => Outcome::of_setting(self.clear.exempt(*member, *issue, *shares)),
+            Event::Priority { member, issue, on } => {
+                Outcome::of_setting(self.clear.priority(*member, *issue, *on))
+            }
+            Event::Cycle(id) => Outcome::of_cycle(self.clear.cycle(*id)),
+            Event::LotOpen { issue } => Outcome::of_lot_open(self.clear.lot_open(*issue)),
+            Event::LotPour { lot } => Outcome::of_lot_pour(self.clear.lot_pour(*lot)),
+            Event::Reserve { lot, member } => {
+                Outcome::of_reserve(self.clear.reserve(*lot, *member))
+            }
+            Event::LookPoured { lot } => Outcome::of_look_poured(self.clear.look(*lot)),
+            Event::LookAsked { lot } => Outcome::of_look_asked(self.clear.look(*lot)),
+            Event::Seal { lot } => Outcome::of_seal(self.clear.seal(*lot)),
+            Event::LotClose { lot } => Outcome::of_lot_close(self.clear.lot_close(*lot)),
+            Event::Send { number } => self.send(*number),
+            Event::OrderIn { packet } => self.order_in(*packet),
+            Event::ReplyIn { packet } => self.reply_in(*packet),
+            Event::Restart(NodeName::Clear) => Outcome::of_clear_restart(self.clear.restart()),
+            Event::Restart(NodeName::Depot) => Outcome::of_depot_restart(self.depot.restart()),
+        }
+    }
+
+    // The order of a number.
+    fn order_at(&self, number: u64) -> Option<Order>
+        ensures { result ≡ order_at self.now number }
+    {
+        let orders = self.clear.node().orders().orders();
+        let place = number.checked_sub(1)?;
+        orders.get(place as usize).copied()
+    }
+
+    // Puts an order on the link.
+    fn send(&mut self, number: u64) -> Outcome
+        ensures { SendStep number result self.old self.new }
+    {
+        if self.clear.node().is_down() {
+            return Outcome::Refused(Refusal::Down);
+        }
+        let Some(order) = self.order_at(number) else {
+            return Outcome::Refused(Refusal::UnknownMove);
+        };
+        match self.orders.put(&write_order(&order)) {
+            Ok(packet) => Outcome::Sent { packet },
+            Err(_) => Outcome::Refused(Refusal::OutOfMemory),
+        }
+    }
+
+    // The order that a packet holds.
+    fn order_in_packet(&self, packet: u64) -> Option<Order>
+        ensures { result ≡ order_in_packet (packet_at self.now.orders packet) }
+    {
+        match read_frame(self.orders.packet(packet)?) {
+            Ok(Frame::Order(order)) => Some(order),
+            Ok(Frame::Reply(_)) | Err(_) => None,
+        }
+    }
+
+    // The reply that a packet holds.
+    fn reply_in_packet(&self, packet: u64) -> Option<Reply>
+        ensures { result ≡ reply_in_packet (packet_at self.now.replies packet) }
+    {
+        match read_frame(self.replies.packet(packet)?) {
+            Ok(Frame::Reply(reply)) => Some(reply),
+            Ok(Frame::Order(_)) | Err(_) => None,
+        }
+    }
+
+    // Lets a packet arrive at the depository.
+    fn order_in(&mut self, packet: u64) -> Outcome
+        ensures { OrderInStep (order_in_packet (packet_at self.old.orders packet)) result self.old self.new }
+    {
+        let Some(order) = self.order_in_packet(packet) else {
+            return Outcome::Refused(Refusal::NoPacket);
+        };
+        self.take_order(&order)
+    }
+
+    // Hands an order to the depository, and puts its reply on the link. The room for the reply's packet
+    // is taken first, so that no order is executed without one.
+    fn take_order(&mut self, order: &Order) -> Outcome
+        ensures { OrderInStep (Some order.now) result self.old self.new }
+    {
+        if self.replies.put_room().is_err() {
+            return Outcome::Refused(Refusal::OutOfMemory);
+        }
+        match self.depot.take_order(order) {
+            Ok(Answer::Done(reply)) => {
+                let packet = put_reply(&mut self.replies, &reply);
+                Outcome::Executed { reply, packet }
+            }
+            Ok(Answer::Again(reply)) => {
+                let packet = put_reply(&mut self.replies, &reply);
+                Outcome::ExecutedAgain { reply, packet }
+            }
+            Err(DepFault::Down) => Outcome::Refused(Refusal::Down),
+            Err(DepFault::Conflict) => Outcome::Refused(Refusal::Conflict),
+            Err(DepFault::OutOfMemory) => Outcome::Refused(Refusal::OutOfMemory),
+            Err(DepFault::Device) => Outcome::Refused(Refusal::Device),
+        }
+    }
+
+    // Lets a packet arrive at the clearing node.
+    fn reply_in(&mut self, packet: u64) -> Outcome
+        ensures { ReplyInStep (reply_in_packet (packet_at self.old.replies packet)) result self.old self.new }
+    {
+        let Some(reply) = self.reply_in_packet(packet) else {
+            return Outcome::Refused(Refusal::NoPacket);
+        };
+        Outcome::of_reply(reply, self.clear.take_reply(&reply))
+    }
+}
+
+// Puts a reply on the link, in room that was taken before, and answers its packet.
+fn put_reply(replies: &mut Wire, reply: &Reply) -> u64
+    requires { 0 < replies.old.room }
+    ensures packets { replies.new.packets ≡ replies.old.packets ++ reply_frame reply.now ∷ [] }
+    ensures number { result ≡ length replies.old.packets + 1 }
+    ensures back { reply_in_packet (Some (reply_frame reply.now)) ≡ Some reply.now }
+{
+    let Ok(packet) = replies.put(&write_reply(reply)) else {
+        unreachable!()
+    };
+    packet
+}
