@@ -13,3 +13,4 @@ pub mod PlanLemmas
 pub mod AllocationLemmas
 pub mod PouredLemmas
 pub mod LeavesLemmas
+pub mod BalanceLemmas

@@ -1,7 +1,7 @@
-ghost use Rattle.std.specs.Prelude.{◌≡◌, ◌≤◌, ◌^◌, ◌+◌, ◌==◌, false, [], length, option_map, Some, None, Err, IfOk, IfErr, if◌then◌else◌};
+ghost use Rattle.std.specs.Prelude.{◌≡◌, ℕ, ◌≤◌, ◌^◌, ◌+◌, ◌==◌, false, [], length, option_map, Some, None, Err, IfOk, IfErr, if◌then◌else◌};
 ghost use Rattle.cns_records.specs.declared.clear_record.ClearRecord.TheVariants.{Exempt, Priority};
 ghost use Rattle.cns_records.specs.Clear.{AreWritable};
-ghost use Rattle.cns_netting.specs.History.{due};
+ghost use Rattle.cns_netting.specs.History.{due, longs_of, shorts_of};
 ghost use Rattle.cns_clearing.specs.Books.{AreEffects, AreSound, IsAllowed, IsLawful, are_spent, asks_of, books_of, history_of, latest_of, orders_of, rows_after};
 ghost use Rattle.cns_clearing.specs.Lots.{AreLots, DoesNotDisturb, avail_in, plan_in};
 ghost use Rattle.cns_clearing.specs.Position.{IsBetween, due_in, position_in};
@@ -462,6 +462,11 @@ impl<K: Keeper> Clearing<K> {
 
         // The due trades, as the book has them.
         ensures due { due result.now.history ≡ due_in self.now.records }
+
+        // In each issue longs less shorts are the shares that confirmed covers brought, less those that
+        // confirmed deliveries took.
+        ensures balanced { (issue : ℕ) → longs_of (history_of self.now.records) issue + delivered_in (orders_of self.now.records) issue
+            ≡ shorts_of (history_of self.now.records) issue + covered_in (orders_of self.now.records) issue }
         ensures lawful { IsLawful self.now.records }
     {
         self.books().book()

@@ -2,3 +2,4 @@ pub mod TallyLemmas
 pub mod BookLemmas
 pub mod HoldingLemmas
 pub mod IssueLemmas
+pub mod BalanceLemmas

@@ -323,7 +323,7 @@ order_taken k bytes o outcome old new at reads clear orders (inr t) accord = λ 
     (subst (λ (l : List (List ℕ)). Accord old.clear.clear old.depot old.orders l) (sym t.2) before)))
 
 -- a packet at a place, where there is one
-packet_place : (packets : List (List ℕ)) (number : ℕ) (bytes : List ℕ) → packet_at packets number ≡ Some bytes → (k : ℕ) × (slice_get packets k ≡ Some bytes)
+pub packet_place : (packets : List (List ℕ)) (number : ℕ) (bytes : List ℕ) → packet_at packets number ≡ Some bytes → (k : ℕ) × (slice_get packets k ≡ Some bytes)
 packet_place packets number bytes at = by (number == 0) at
   where
     by : (b : Bool) → (if b then None else slice_get packets (number - 1)) ≡ Some bytes → (k : ℕ) × (slice_get packets k ≡ Some bytes)

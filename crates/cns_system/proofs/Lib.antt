@@ -6,3 +6,4 @@ pub mod RunLemmas
 pub mod AgreementLemmas
 pub mod AccordLemmas
 pub mod KeepsLemmas
+pub mod SoundLemmas

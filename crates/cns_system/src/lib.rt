@@ -1,7 +1,8 @@
-//! The book of lots by number, and the clearing node with its lots by number.
+//! Both nodes and the link between them as one system, run by events; the clearing node with its lots by
+//! number, and the book of those lots.
 //!
 //! A lot gives the shares of an issue that are poured into it to the members of a plan, who draw
-//! tickets from it in turn.
+//! tickets from it in turn. `System` keeps the two nodes in accord, whatever events happen.
 #![tactic(auto)]
 
 mod agreement;

@@ -1,5 +1,5 @@
 ghost use Rattle.std.specs.Prelude.{◌≡◌, IfOk, OnErr};
-ghost use Rattle.cns_system.specs.Accord.{IsInAccord};
+ghost use Rattle.cns_system.specs.Accord.{IsInAccord, StaysSound};
 ghost use Rattle.cns_system.specs.Start.{Opens};
 ghost use Rattle.cns_system.specs.Step.{Run, Step};
 
@@ -92,6 +92,9 @@ impl<C: Keeper, D: Keeper> System<C, D> {
     pub fn step(&mut self, event: Event) -> Outcome
         ensures step { Step event result self.old self.new }
         ensures accord { IsInAccord self.new }
+
+        // No packet is refused as one that the other node never sent, and no journal as bad.
+        ensures sound { StaysSound self.old event result }
     {
         self.pair.step(event)
     }

@@ -14,6 +14,9 @@ use std::alloc::Global;
 use std::test::Fail;
 
 mod numbered;
+mod start;
+mod story;
+mod system;
 
 fn member(number: u16) -> Result<MemberNo, Fail> {
     Ok(MemberNo::new(number).ok_or("member")?)

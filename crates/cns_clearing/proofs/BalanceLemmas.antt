@@ -1,0 +1,100 @@
+-- In each issue longs less shorts are the shares that confirmed covers brought, less those that confirmed deliveries took.
+use Rattle.std.proofs.Common.{◌≡◌, ◌+◌, ℕ, List, [], ◌∷◌, Option, Some, None, Bool, true, false, refl, ◌∙◌, arith}
+use Rattle.std.specs.Prelude.{◌&&◌, ◌==◌, if◌then◌else◌}
+use Rattle.std.proofs.lemmas.List.Sums.{sum_by-cons}
+use Rattle.cns_netting.specs.History.{longs_of, settled_in, settled_out, shorts_of}
+use Rattle.cns_netting.specs.declared.entry.NetEntry.{NetEntry}
+use Rattle.cns_netting.proofs.BalanceLemmas.{AreMembers, IsUpTo, bought-members, longs_balance, part_of, parts_total, sold-members, total, total-same, upto_less}
+use Rattle.cns_movements.specs.Order.{is_of, moved_part, moved_sum, order_of, same_kind}
+use Rattle.cns_movements.specs.declared.order.MoveKind.{MoveKind}
+use Rattle.cns_movements.specs.declared.order.MoveKind.TheVariants.{Cover, Delivery}
+use Rattle.cns_movements.specs.declared.order.Order.{Order}
+use Rattle.cns_movements.specs.declared.order.Reply.{Reply}
+use Rattle.cns_records.specs.Clear.{AreWritable}
+use Rattle.cns_records.specs.declared.clear_record.ClearRecord.{ClearRecord}
+use Rattle.cns_records.specs.declared.clear_record.ClearRecord.TheVariants.{Accept, Exempt, Priority, Cycle, Allocate, Confirm}
+use Rattle.cns_clearing.specs.Books.{Books, IsLawful, books_of, history_of, orders_of, settled_by}
+use Rattle.cns_clearing.specs.Pools.{covered_of, delivered_of}
+use Rattle.cns_clearing.proofs.BooksLemmas.{lawful_bounded}
+use Rattle.cns_clearing.proofs.PositionLemmas.{lawful_moved}
+
+-- a settlement is no trade
+members_settled : (o : Option Order) (moved : ℕ) (h : List NetEntry) → AreMembers 9999 h → AreMembers 9999 (settled_by o moved h)
+members_settled None moved h members = members
+members_settled (Some o) moved h members = members
+
+-- the trades of records are between members
+writable_members : (c : List ClearRecord) → AreWritable c → AreMembers 9999 (history_of c)
+unfolding books_of
+writable_members [] fits = tt
+writable_members (Accept t ∷ c) fits = (fits.0.buyer.from, fits.0.buyer.to, fits.0.seller.from, fits.0.seller.to, writable_members c fits.2)
+writable_members (Exempt m i s ∷ c) fits = writable_members c fits.2
+writable_members (Priority m i is_on ∷ c) fits = writable_members c fits.2
+writable_members (Cycle id ∷ c) fits = writable_members c fits.2
+writable_members (Allocate a ∷ c) fits = writable_members c fits.2
+writable_members (Confirm r ∷ c) fits = members_settled (order_of (orders_of c).orders r.number) r.moved (history_of c) (writable_members c fits.2)
+
+-- what an order of a kind and an issue moved
+abbrev moved_by_order : MoveKind → List Reply → ℕ → Order → ℕ
+moved_by_order kind rs issue o = if same_kind kind o.kind && (o.issue == issue) then moved_part rs o else 0
+
+-- what orders of a kind moved for a member in an issue is its part of what they moved in the issue
+member_part : (kind : MoveKind) (rs : List Reply) (orders : List Order) (member issue : ℕ)
+    → moved_sum orders rs kind member issue ≡ part_of (λ (o : Order). o.member) (moved_by_order kind rs issue) orders member
+unfolding moved_sum
+member_part kind rs [] member issue = refl
+member_part kind rs (o ∷ orders) member issue =
+    omega (
+      arith,
+      sum_by-cons (λ (x : Order). if x.member == member then moved_by_order kind rs issue x else 0) o orders,
+      sum_by-cons (λ (x : Order). if is_of kind member issue x then moved_part rs x else 0) o orders,
+      by (same_kind kind o.kind) (o.member == member) (o.issue == issue),
+      member_part kind rs orders member issue,
+    )
+  where
+    by : (its mine here : Bool) → (if mine then (if its && here then moved_part rs o else 0) else 0) ≡ (if its && (mine && here) then moved_part rs o else 0)
+    by true true here = refl
+    by true false here = refl
+    by false true here = refl
+    by false false here = refl
+
+-- what settlements brought the members is what covers brought
+brought_total : (c : List ClearRecord) (issue : ℕ) → IsLawful c → AreWritable c
+    → total 9999 (λ m. settled_in (history_of c) m issue) ≡ covered_of (orders_of c) issue
+unfolding covered_of
+brought_total c issue lawful fits =
+    let b : Books = books_of c in
+    let bounded = (lawful_bounded c lawful).bounded in
+    let f = moved_by_order Cover b.orders.replies issue in
+    let part : (m : ℕ) → settled_in b.history m issue ≡ part_of (λ (o : Order). o.member) f b.orders.orders m =
+    λ m. (lawful_moved c m issue lawful).brought ∙ member_part Cover b.orders.replies b.orders.orders m issue in
+    let upto : IsUpTo 9999 (part_of (λ (o : Order). o.member) f b.orders.orders) =
+    upto_less 9999 _ _ (λ m. let is = part m in let most = bounded.covered m issue in omega arith)
+    (sold-members 9999 issue b.history (writable_members c fits)) in
+    total-same 9999 _ _ part ∙ parts_total 9999 (λ (o : Order). o.member) f b.orders.orders upto
+
+-- what settlements took from them is what deliveries took
+took_total : (c : List ClearRecord) (issue : ℕ) → IsLawful c → AreWritable c
+    → total 9999 (λ m. settled_out (history_of c) m issue) ≡ delivered_of (orders_of c) issue
+unfolding delivered_of
+took_total c issue lawful fits =
+    let b : Books = books_of c in
+    let bounded = (lawful_bounded c lawful).bounded in
+    let f = moved_by_order Delivery b.orders.replies issue in
+    let part : (m : ℕ) → settled_out b.history m issue ≡ part_of (λ (o : Order). o.member) f b.orders.orders m =
+    λ m. (lawful_moved c m issue lawful).took ∙ member_part Delivery b.orders.replies b.orders.orders m issue in
+    let upto : IsUpTo 9999 (part_of (λ (o : Order). o.member) f b.orders.orders) =
+    upto_less 9999 _ _ (λ m. let is = part m in let most = bounded.delivered m issue in omega arith)
+    (bought-members 9999 issue b.history (writable_members c fits)) in
+    total-same 9999 _ _ part ∙ parts_total 9999 (λ (o : Order). o.member) f b.orders.orders upto
+
+-- in each issue longs less shorts are the shares that covers brought less those that deliveries took
+pub balanced : (c : List ClearRecord) (issue : ℕ) → IsLawful c → AreWritable c
+    → longs_of (history_of c) issue + delivered_of (orders_of c) issue ≡ shorts_of (history_of c) issue + covered_of (orders_of c) issue
+balanced c issue lawful fits =
+    omega (
+      arith,
+      longs_balance 9999 issue (history_of c) (writable_members c fits),
+      brought_total c issue lawful fits,
+      took_total c issue lawful fits,
+    )

@@ -1,0 +1,205 @@
+-- What no event comes to while both nodes and the link are in accord.
+use Rattle.std.proofs.Common.{◌≡◌, ◌≤◌, ◌∙◌, ◌⊎◌, inl, inr, ℕ, Bool, true, false, List, [], ◌∷◌, Option, Some, None, Result, Ok, Err, ap, cond, refl, subst, sym, arith}
+use Rattle.std.specs.Prelude.{◌≢◌, ◌==◌, All, find, nat_lt, option_map, slice_get, if◌then◌else◌}
+use Rattle.std.proofs.lemmas.Bool.{eqb-true, eq-eqb, ltb-true}
+use Rattle.std.proofs.lemmas.List.Elements.{All-head, All-tail}
+use Rattle.std.proofs.lemmas.Option.{none-some, same_Some}
+use Rattle.cns_movements.specs.Book.{Orders}
+use Rattle.cns_movements.specs.Confirm.{answer_by, confirm_answer}
+use Rattle.cns_movements.specs.Order.{moved_of, order_of}
+use Rattle.cns_movements.specs.declared.book.Confirm.{Confirm}
+use Rattle.cns_movements.specs.declared.book.Confirm.TheVariants as confirm
+use Rattle.cns_movements.specs.declared.order.Order.{Order}
+use Rattle.cns_movements.specs.declared.order.Reply.{Reply}
+use Rattle.cns_records.specs.declared.dep_record.DepRecord.{DepRecord}
+use Rattle.cns_records.specs.declared.dep_record.DepRecord.TheVariants.{Exec}
+use Rattle.cns_depository.specs.Stock.{moved_by, order_in, record_of}
+use Rattle.cns_clearing.specs.Answers.{ReplyLeaves}
+use Rattle.cns_clearing.specs.Books.{orders_of}
+use Rattle.cns_clearing.specs.Node.{ClearNode}
+use Rattle.cns_clearing.specs.Replay.{RestartLeaves}
+use Rattle.cns_clearing.specs.declared.fault.ReplyFault.{ReplyFault}
+use Rattle.cns_clearing.specs.declared.fault.ReplyFault.TheVariants as reply
+use Rattle.cns_clearing.specs.declared.fault.Taken.{Taken}
+use Rattle.cns_clearing.specs.declared.fault.Taken.TheVariants as taken
+use Rattle.cns_clearing.specs.declared.replay.ReplayFault.{ReplayFault}
+use Rattle.cns_clearing.specs.declared.replay.ReplayFault.TheVariants as replay
+use Rattle.cns_clearing.specs.declared.replay.Restarted.{Restarted}
+use Rattle.cns_depository.specs.Answers.{OrderLeaves}
+use Rattle.cns_depository.specs.Node.{DepNode}
+use Rattle.cns_depository.specs.Replay.{RestartLeaves as DepotRestartLeaves}
+use Rattle.cns_depository.specs.declared.fault.Answer.{Answer}
+use Rattle.cns_depository.specs.declared.fault.Answer.TheVariants as answer
+use Rattle.cns_depository.specs.declared.fault.DepFault.{DepFault}
+use Rattle.cns_depository.specs.declared.fault.DepFault.TheVariants as fault
+use Rattle.cns_depository.specs.declared.replay.ReplayFault.{ReplayFault as DepotReplayFault}
+use Rattle.cns_depository.specs.declared.replay.ReplayFault.TheVariants as depot_replay
+use Rattle.cns_depository.specs.declared.depository.Restarted.{Restarted as DepotRestarted}
+use Rattle.cns_system.specs.Accord.{Accord, IsInAccord, IsKnown, IsSound, StaysSound}
+use Rattle.cns_system.specs.Outcomes.{clear_restart_outcome, depot_restart_outcome, order_outcome, reply_outcome}
+use Rattle.cns_wire.specs.Packet.{packet_at}
+use Rattle.cns_system.specs.Step.{OrderInStep, OrderTaken, ReplyInStep, Step}
+use Rattle.cns_system.specs.World.{World, order_in_packet, reply_in_packet}
+use Rattle.cns_system.specs.declared.event.Event.{Event}
+use Rattle.cns_system.specs.declared.event.Event.TheVariants as event
+use Rattle.cns_system.specs.declared.event.NodeName.TheVariants as node
+use Rattle.cns_system.proofs.KeepsLemmas.{packet_place}
+use Rattle.cns_system.specs.declared.outcome.Outcome.{Outcome}
+use Rattle.cns_system.specs.declared.outcome.Outcome.TheVariants as outcomes
+use Rattle.cns_system.specs.declared.outcome.Refusal.TheVariants as refusal
+use Rattle.cns_system.specs.Agreement.{IsExecuted}
+
+-- the record of a number is of that number, and known
+pub record_known : (orders : List Order) (p : List DepRecord) (n : ℕ) (e : DepRecord) → All (IsKnown orders) p → record_of p n ≡ Some e
+    → IsKnown orders e × ((order_in e).number ≡ n)
+record_known orders [] n e all found = absurd (none-some e found)
+record_known orders (x ∷ p) n e all found =
+    by ((order_in x).number == n) refl found (record_known orders p n e (All-tail (IsKnown orders) x p all))
+  where
+    by : (b : Bool) → ((order_in x).number == n) ≡ b → cond b (Some x) (record_of p n) ≡ Some e
+        → (record_of p n ≡ Some e → IsKnown orders e × ((order_in e).number ≡ n)) → IsKnown orders e × ((order_in e).number ≡ n)
+    by true same is rest =
+        let here = same_Some x e is in
+        subst (λ (y : DepRecord). IsKnown orders y × ((order_in y).number ≡ n)) here (All-head (IsKnown orders) x p all, eqb-true (order_in x).number n same)
+    by false other is rest = rest is
+
+-- an executed order of a number is the order of that number
+pub same_order : (orders : List Order) (p : List DepRecord) (o other : Order) (moved : ℕ) → All (IsKnown orders) p → order_of orders o.number ≡ Some o
+    → record_of p o.number ≡ Some (Exec other moved) → other ≡ o
+same_order orders p o other moved all found executed =
+    let known = record_known orders p o.number (Exec other moved) all executed in
+    sym (same_Some o other (sym found ∙ ap (order_of orders) (sym known.1) ∙ known.0.0))
+
+-- what is confirmed of a movement is what was executed of it
+pub confirmed_as : (p : List DepRecord) (replies : List Reply) (n m : ℕ) → All (IsExecuted p) replies → moved_of replies n ≡ Some m
+    → (e : DepRecord) × (record_of p n ≡ Some e) × (moved_by e ≡ m)
+confirmed_as p [] n m all found = absurd (none-some m found)
+confirmed_as p (r ∷ rs) n m all found = by (r.number == n) refl found (confirmed_as p rs n m (All-tail (IsExecuted p) r rs all))
+  where
+    by : (b : Bool) → (r.number == n) ≡ b → option_map (λ (r : Reply). r.moved) (cond b (Some r) (find (λ (r : Reply). r.number == n) rs)) ≡ Some m
+        → (moved_of rs n ≡ Some m → (e : DepRecord) × (record_of p n ≡ Some e) × (moved_by e ≡ m)) → (e : DepRecord) × (record_of p n ≡ Some e) × (moved_by e ≡ m)
+    by true same is rest =
+        let here = All-head (IsExecuted p) r rs all in
+        (here.0, subst (λ (k : ℕ). record_of p k ≡ Some here.0) (eqb-true r.number n same) here.1, here.2 ∙ same_Some r.moved m is)
+    by false other is rest = rest is
+
+-- a reply of an executed movement is a first or a repeated confirmation
+pub answer_known : (book : Orders) (p : List DepRecord) (r : Reply) → All (IsKnown book.orders) p → All (IsExecuted p) book.replies → IsExecuted p r
+    → (confirm_answer book r ≡ confirm.Done) ⊎ (confirm_answer book r ≡ confirm.Again)
+answer_known book p r known executed done =
+    let order = record_known book.orders p r.number done.0 known done.1 in
+    let found = ap (order_of book.orders) (sym order.1) ∙ order.0.0 in
+    let most = subst (λ (n : ℕ). n ≤ (order_in done.0).asked) done.2 order.0.1 in
+    subst (λ (o : Option Order). (answer_by o (moved_of book.replies r.number) r.moved ≡ confirm.Done) ⊎ (answer_by o (moved_of book.replies r.number) r.moved ≡ confirm.Again))
+    (sym found) (by (moved_of book.replies r.number) refl most)
+  where
+    not_more : (b : Bool) → nat_lt (order_in done.0).asked r.moved ≡ b → r.moved ≤ (order_in done.0).asked
+        → ((if b then confirm.TooMuch else confirm.Done) ≡ confirm.Done) ⊎ ((if b then confirm.TooMuch else confirm.Done) ≡ confirm.Again)
+    not_more true less most = let more = ltb-true (order_in done.0).asked r.moved less in absurd (omega (arith, more, most))
+    not_more false less most = inl refl
+
+    by : (m : Option ℕ) → moved_of book.replies r.number ≡ m → r.moved ≤ (order_in done.0).asked
+        → (answer_by (Some (order_in done.0)) m r.moved ≡ confirm.Done) ⊎ (answer_by (Some (order_in done.0)) m r.moved ≡ confirm.Again)
+    by None is most = not_more (nat_lt (order_in done.0).asked r.moved) refl most
+    by (Some m) is most =
+        let before = confirmed_as p book.replies r.number m executed is in
+        let same : m ≡ r.moved = sym before.2 ∙ ap moved_by (same_Some before.0 done.0 (sym before.1 ∙ done.1)) ∙ done.2 in
+        inr (ap (λ b. if b then confirm.Again else confirm.Conflict) (eq-eqb m r.moved same))
+
+-- ---- events
+
+-- an order that came is not another one than was executed under its number
+order_sound : (o : Order) (packet : ℕ) (result : Result Answer DepFault) (old new : DepNode) (orders : List Order) → All (IsKnown orders) old.records
+    → order_of orders o.number ≡ Some o → OrderLeaves o result old new → order_outcome packet result ≢ outcomes.Refused refusal.Conflict
+order_sound o packet (Ok (answer.Done r)) old new orders all found h = λ e. cc e
+order_sound o packet (Ok (answer.Again r)) old new orders all found h = λ e. cc e
+order_sound o packet (Err fault.Down) old new orders all found h = λ e. cc e
+order_sound o packet (Err fault.Conflict) old new orders all found h = λ e. h.1.3 (same_order orders old.records o h.1.0 h.1.1 all found h.1.2)
+order_sound o packet (Err fault.OutOfMemory) old new orders all found h = λ e. cc e
+order_sound o packet (Err fault.Device) old new orders all found h = λ e. cc e
+
+-- what a reply that came comes to
+abbrev IsSoundReply : Outcome → Type 0
+IsSoundReply outcome =
+    (outcome ≢ outcomes.Refused refusal.UnknownMove) × (outcome ≢ outcomes.Refused refusal.Conflict) × (outcome ≢ outcomes.Refused refusal.TooMuch)
+
+-- a first or a repeated confirmation is no refusal
+not_refused : (a : Confirm) → (a ≡ confirm.Done) ⊎ (a ≡ confirm.Again) → (a ≢ confirm.UnknownMove) × (a ≢ confirm.Conflict) × (a ≢ confirm.TooMuch)
+not_refused a (inl done) = (λ e. cc (done, e), λ e. cc (done, e), λ e. cc (done, e))
+not_refused a (inr again) = (λ e. cc (again, e), λ e. cc (again, e), λ e. cc (again, e))
+
+reply_sound : (r : Reply) (result : Result Taken ReplyFault) (old new : ClearNode)
+    → (confirm_answer (orders_of old.records) r ≢ confirm.UnknownMove) × (confirm_answer (orders_of old.records) r ≢ confirm.Conflict)
+    × (confirm_answer (orders_of old.records) r ≢ confirm.TooMuch)
+    → ReplyLeaves r result old new → IsSoundReply (reply_outcome r result)
+reply_sound r (Ok taken.Done) old new sound h = (λ e. cc e, λ e. cc e, λ e. cc e)
+reply_sound r (Ok taken.Again) old new sound h = (λ e. cc e, λ e. cc e, λ e. cc e)
+reply_sound r (Err reply.Down) old new sound h = (λ e. cc e, λ e. cc e, λ e. cc e)
+reply_sound r (Err reply.UnknownMove) old new sound h = absurd (sound.0 h.1)
+reply_sound r (Err reply.Conflict) old new sound h = absurd (sound.1 h.1)
+reply_sound r (Err reply.TooMuch) old new sound h = absurd (sound.2 h.1)
+reply_sound r (Err reply.OutOfMemory) old new sound h = (λ e. cc e, λ e. cc e, λ e. cc e)
+reply_sound r (Err reply.Device) old new sound h = (λ e. cc e, λ e. cc e, λ e. cc e)
+
+clear_restart_sound : (result : Result Restarted ReplayFault) (old new : ClearNode) (place : ℕ) → old.honest ≡ true → RestartLeaves result old new
+    → clear_restart_outcome result ≢ outcomes.Refused (refusal.BadJournal place)
+clear_restart_sound (Ok r) old new place honest h = λ e. cc e
+clear_restart_sound (Err replay.OutOfMemory) old new place honest h = λ e. cc e
+clear_restart_sound (Err (replay.BadJournal at)) old new place honest h = absurd (h.1 honest)
+clear_restart_sound (Err replay.Device) old new place honest h = λ e. cc e
+
+depot_restart_sound : (result : Result DepotRestarted DepotReplayFault) (old new : DepNode) (place : ℕ) → old.honest ≡ true → DepotRestartLeaves result old new
+    → depot_restart_outcome result ≢ outcomes.Refused (refusal.BadJournal place)
+depot_restart_sound (Ok r) old new place honest h = λ e. cc e
+depot_restart_sound (Err depot_replay.OutOfMemory) old new place honest h = λ e. cc e
+depot_restart_sound (Err (depot_replay.BadJournal at)) old new place honest h = absurd (h.2 honest)
+depot_restart_sound (Err depot_replay.Device) old new place honest h = λ e. cc e
+
+order_in_sound : (packet : Option (List ℕ)) (held : Option Order) (outcome : Outcome) (old new : World)
+    → ((bytes : List ℕ) → packet ≡ Some bytes → (k : ℕ) × (slice_get old.orders k ≡ Some bytes)) → order_in_packet packet ≡ held
+    → OrderInStep held outcome old new → Accord old.clear.clear old.depot old.orders old.replies → outcome ≢ outcomes.Refused refusal.Conflict
+order_in_sound packet None outcome old new place is h a = λ e. cc (h.0, e)
+order_in_sound None (Some o) outcome old new place is h a = absurd (none-some o is)
+order_in_sound (Some bytes) (Some o) outcome old new place is h a = taken_sound h.2
+  where
+    at : (k : ℕ) × (slice_get old.orders k ≡ Some bytes)
+    at = place bytes refl
+
+    taken_sound : OrderTaken o outcome old new → outcome ≢ outcomes.Refused refusal.Conflict
+    taken_sound (inl t) = λ e.
+        order_sound o _ t.0 old.depot new.depot (orders_of old.clear.clear.records).orders a.known (a.sent at.0 bytes o at.1 is) t.2 (sym t.1 ∙ e)
+    taken_sound (inr t) = λ e. cc (t.0, e)
+
+reply_in_sound : (packet : Option (List ℕ)) (held : Option Reply) (outcome : Outcome) (old new : World)
+    → ((bytes : List ℕ) → packet ≡ Some bytes → (k : ℕ) × (slice_get old.replies k ≡ Some bytes)) → reply_in_packet packet ≡ held
+    → ReplyInStep held outcome old new → Accord old.clear.clear old.depot old.orders old.replies → IsSoundReply outcome
+reply_in_sound packet None outcome old new place is h a = (λ e. cc (h.0, e), λ e. cc (h.0, e), λ e. cc (h.0, e))
+reply_in_sound None (Some r) outcome old new place is h a = absurd (none-some r is)
+reply_in_sound (Some bytes) (Some r) outcome old new place is h a =
+    let at = place bytes refl in
+    let known = answer_known (orders_of old.clear.clear.records) old.depot.records r a.known a.executed (a.answered at.0 bytes r at.1 is) in
+    subst IsSoundReply (sym h.3.1)
+    (reply_sound r h.3.0 old.clear.clear new.clear.clear (not_refused (confirm_answer (orders_of old.clear.clear.records) r) known) h.3.2.0)
+
+-- what no event comes to
+pub step_sound : (e : Event) (outcome : Outcome) (old new : World) → Step e outcome old new → IsInAccord old → StaysSound old e outcome
+step_sound (event.Trade t) outcome old new h accord = λ c d. tt
+step_sound (event.Exempt m i s) outcome old new h accord = λ c d. tt
+step_sound (event.Priority m i on) outcome old new h accord = λ c d. tt
+step_sound (event.Cycle id) outcome old new h accord = λ c d. tt
+step_sound (event.LotOpen issue) outcome old new h accord = λ c d. tt
+step_sound (event.LotPour lot) outcome old new h accord = λ c d. tt
+step_sound (event.Reserve lot member) outcome old new h accord = λ c d. tt
+step_sound (event.LookPoured lot) outcome old new h accord = λ c d. tt
+step_sound (event.LookAsked lot) outcome old new h accord = λ c d. tt
+step_sound (event.Seal lot) outcome old new h accord = λ c d. tt
+step_sound (event.LotClose lot) outcome old new h accord = λ c d. tt
+step_sound (event.Send number) outcome old new h accord = λ c d. tt
+step_sound (event.OrderIn packet) outcome old new h accord = λ c d.
+    order_in_sound (packet_at old.orders packet) (order_in_packet (packet_at old.orders packet)) outcome old new (packet_place old.orders packet) refl h (accord c d)
+step_sound (event.ReplyIn packet) outcome old new h accord = λ c d.
+    reply_in_sound (packet_at old.replies packet) (reply_in_packet (packet_at old.replies packet)) outcome old new (packet_place old.replies packet) refl h (accord c d)
+step_sound (event.Restart node.Clear) outcome old new h accord = λ c d. λ place e.
+    clear_restart_sound h.3.0 old.clear.clear new.clear.clear place c h.3.2.0 (sym h.3.1 ∙ e)
+step_sound (event.Restart node.Depot) outcome old new h accord = λ c d. λ place e.
+    depot_restart_sound h.3.0 old.depot new.depot place d h.3.2 (sym h.3.1 ∙ e)
