@@ -1,7 +1,7 @@
 -- Each call of a node keeps the two nodes and the link in accord, and so does each event.
-use Rattle.std.proofs.Common.{◌≡◌, ◌≤◌, ◌∙◌, ◌⊎◌, inl, inr, ℕ, Bool, true, false, List, [], ◌∷◌, ◌++◌, Option, Some, None, Result, Ok, Err, ap, cond, refl, subst, sym}
+use Rattle.std.proofs.Common.{◌≡◌, ◌≤◌, ◌∙◌, inl, inr, ℕ, Bool, true, false, List, ◌∷◌, Option, Some, None, Result, Ok, Err, ap, cond, refl, subst, sym}
 use Rattle.std.proofs.Math.Nat.{min-le_left}
-use Rattle.std.specs.Prelude.{◌==◌, ◌-◌, All, slice_get, IsSomeAnd, if◌then◌else◌}
+use Rattle.std.specs.Prelude.{◌==◌, ◌-◌, slice_get, IsSomeAnd, if◌then◌else◌}
 use Rattle.std.proofs.lemmas.Bool.{eq-eqb}
 use Rattle.std.proofs.lemmas.Option.{none-some, same_Some}
 use Rattle.cns_ids.specs.declared.cycle.CycleId.{CycleId}
@@ -10,7 +10,6 @@ use Rattle.cns_movements.specs.Order.{order_of}
 use Rattle.cns_movements.specs.declared.order.Order.{Order}
 use Rattle.cns_movements.specs.declared.order.Reply.{Reply}
 use Rattle.cns_movements.proofs.OrderLemmas.{order_of_number}
-use Rattle.cns_pool.specs.declared.ticket.Ticket.{Ticket}
 use Rattle.cns_records.specs.declared.clear_record.ClearRecord.{ClearRecord}
 use Rattle.cns_records.specs.declared.clear_record.ClearRecord.TheVariants as entry
 use Rattle.cns_records.specs.declared.dep_record.DepRecord.{DepRecord}
@@ -54,7 +53,7 @@ use Rattle.cns_system.specs.Outcomes.{asked_outcome, clear_restart_outcome, clos
 use Rattle.cns_system.specs.Numbered.{NumberedNode, CloseLeaves, OpenLeaves, PourLeaves}
 use Rattle.cns_wire.specs.Frame.{order_frame, reply_frame}
 use Rattle.cns_wire.specs.Packet.{packet_at}
-use Rattle.cns_system.specs.Step.{AtClear, ByLots, ByNode, ClearRestarts, DepotRestartStep, IsPut, Looks, OrderInStep, OrderTaken, Puts, ReplyInStep, Run, SendStep, Step}
+use Rattle.cns_system.specs.Step.{AtClear, ByLots, ByNode, ClearRestarts, DepotRestartStep, Looks, OrderInStep, OrderTaken, Puts, ReplyInStep, SendStep, Step}
 use Rattle.cns_system.specs.World.{World, order_in_packet, reply_in_packet}
 use Rattle.cns_system.specs.declared.event.Event.{Event}
 use Rattle.cns_system.specs.declared.event.Event.TheVariants as event
@@ -67,7 +66,7 @@ use Rattle.cns_system.specs.declared.fault.PourFault.{PourFault}
 use Rattle.cns_system.specs.declared.fault.PourFault.TheVariants as pouring
 use Rattle.cns_system.specs.declared.numbered.Opened.{Opened}
 use Rattle.cns_system.specs.declared.outcome.Outcome.{Outcome}
-use Rattle.cns_system.proofs.AccordLemmas.{executed_more, executed_stays, grown, kept, order_put, reply_put, stock_kept}
+use Rattle.cns_system.proofs.AccordLemmas.{executed_more, grown, kept, order_put, reply_put, stock_kept}
 
 -- what is found in an option
 some_and : {X : Type 0} (o : Option X) (P : X → Type 0) → IsSomeAnd o P → (x : X) × P x

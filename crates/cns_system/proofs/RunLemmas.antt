@@ -1,5 +1,5 @@
 -- A run of events goes on by one more.
-use Rattle.std.proofs.Common.{◌≡◌, List, [], ◌∷◌, ◌++◌, refl, subst, sym}
+use Rattle.std.proofs.Common.{List, [], ◌∷◌, ◌++◌, refl, subst}
 use Rattle.cns_system.specs.World.{World}
 use Rattle.cns_system.specs.Step.{Run, Step}
 use Rattle.cns_system.specs.declared.event.Event.{Event}

@@ -35,7 +35,7 @@ use Rattle.cns_depository.specs.declared.fault.DepFault.TheVariants as fault
 use Rattle.cns_depository.specs.declared.replay.ReplayFault.{ReplayFault as DepotReplayFault}
 use Rattle.cns_depository.specs.declared.replay.ReplayFault.TheVariants as depot_replay
 use Rattle.cns_depository.specs.declared.depository.Restarted.{Restarted as DepotRestarted}
-use Rattle.cns_system.specs.Accord.{Accord, IsInAccord, IsKnown, IsSound, StaysSound}
+use Rattle.cns_system.specs.Accord.{Accord, IsInAccord, IsKnown, StaysSound}
 use Rattle.cns_system.specs.Outcomes.{clear_restart_outcome, depot_restart_outcome, order_outcome, reply_outcome}
 use Rattle.cns_wire.specs.Packet.{packet_at}
 use Rattle.cns_system.specs.Step.{OrderInStep, OrderTaken, ReplyInStep, Step}

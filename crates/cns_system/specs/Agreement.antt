@@ -1,5 +1,5 @@
 -- When the records of the two nodes agree (this project's own rule).
-use Rattle.std.specs.Prelude.{◌≡◌, ℕ, List, All, Option, Some, None}
+use Rattle.std.specs.Prelude.{◌≡◌, List, All, Some}
 use Rattle.cns_movements.specs.Order.{order_of}
 use Rattle.cns_movements.specs.declared.order.MoveKind.TheVariants.{Delivery}
 use Rattle.cns_movements.specs.declared.order.Order.{Order}

@@ -1,5 +1,5 @@
 -- What the opening of both nodes gives (this project's own rule).
-use Rattle.std.specs.Prelude.{◌≡◌, ℕ, List, [], Result, Ok, Err}
+use Rattle.std.specs.Prelude.{◌≡◌, List, [], Result, Ok, Err}
 use Rattle.cns_trades.specs.declared.opening.Opening.{Opening}
 use Rattle.cns_clearing.specs.Node.{ClearNode, KeeperState}
 use Rattle.cns_clearing.specs.Replay.{IsOpened, Reread}

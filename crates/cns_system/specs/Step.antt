@@ -8,7 +8,6 @@ use Rattle.cns_records.specs.declared.clear_record.ClearRecord.TheVariants as en
 use Rattle.cns_wire.specs.Frame.{order_frame, reply_frame}
 use Rattle.cns_wire.specs.Packet.{packet_at}
 use Rattle.cns_depository.specs.Answers.{OrderLeaves}
-use Rattle.cns_depository.specs.Node.{DepNode}
 use Rattle.cns_depository.specs.Replay.{RestartLeaves as DepotRestartLeaves}
 use Rattle.cns_depository.specs.declared.depository.Restarted.{Restarted as DepotRestarted}
 use Rattle.cns_depository.specs.declared.replay.ReplayFault.{ReplayFault as DepotReplayFault}

@@ -1,4 +1,4 @@
-use Rattle.std.proofs.Common.{◌≡◌, reverse}
+use Rattle.std.proofs.Common.{reverse}
 use Rattle.std.proofs.lemmas.List.{reverse-reverse}
 use Rattle.cns_system.proofs.AgreementLemmas.{agree_from, executed_from, ordered_from}
 use Rattle.cns_system.proofs.agreement.agree.Goals as goal

@@ -1,4 +1,4 @@
-use Rattle.std.proofs.Common.{◌≡◌, subst, sym}
+use Rattle.std.proofs.Common.{subst, sym}
 use Rattle.cns_clearing.specs.Node.{ClearNode, KeeperState}
 use Rattle.cns_clearing.specs.Replay.{IsOpened}
 use Rattle.cns_system.specs.Agreement.{Agree}

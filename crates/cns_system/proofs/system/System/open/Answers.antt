@@ -1,4 +1,3 @@
-use Rattle.cns_clearing.specs.Node.{KeeperState}
 use Rattle.cns_system.proofs.AccordLemmas.{started}
 use Rattle.cns_system.proofs.system.System.open.Goals as goal
 
