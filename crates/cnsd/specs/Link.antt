@@ -5,10 +5,6 @@ use Rattle.cns_movements.specs.declared.order.Order.{Order}
 use Rattle.cns_movements.specs.declared.order.Reply.{Reply}
 use Rattle.cns_wire.specs.Frame.{order_frame, reply_frame}
 use Rattle.cns_wire.specs.Packet.{packet_at}
-use Rattle.cns_wire.specs.ReadFrame.{read_frame_of}
-use Rattle.cns_wire.specs.declared.frame.Frame.{Frame}
-use Rattle.cns_wire.specs.declared.frame.Frame.TheVariants as frame
-use Rattle.cns_wire.specs.declared.frame.FrameFault.{FrameFault}
 use Rattle.cns_depository.specs.declared.fault.Answer.{Answer}
 use Rattle.cns_depository.specs.declared.fault.Answer.TheVariants as answer
 use Rattle.cns_depository.specs.declared.fault.DepFault.{DepFault}
@@ -22,6 +18,7 @@ use Rattle.cns_journal.specs.Keeper.{Foresight, Succeeds}
 use Rattle.cns_clearing.specs.Books.{orders_of}
 use Rattle.cns_clearing.specs.declared.fault.OrderFault.{OrderFault}
 use Rattle.cns_clearing.specs.declared.fault.OrderFault.TheVariants as fault
+use Rattle.cns_system.specs.World.{order_in_packet, reply_in_packet}
 use Rattle.cnsd.specs.Clear.{order_at, told_reply, unconfirmed}
 use Rattle.cnsd.specs.Depot.{order_reached}
 use Rattle.cnsd.specs.States.{ClearState, DepotState, clear_restarted, depot_restarted, is_returned, planned}
@@ -65,25 +62,6 @@ order_sent w (Ok o) =
 
 unfoldable pub sent : World → ℕ → Told
 sent w number = order_sent w (order_at w.clear number)
-
--- the order that a packet holds, and the reply that one holds
-abbrev pub order_in_frame : Result Frame FrameFault → Option Order
-order_in_frame (Ok (frame.Order o)) = Some o
-order_in_frame (Ok (frame.Reply r)) = None
-order_in_frame (Err fault) = None
-
-abbrev pub reply_in_frame : Result Frame FrameFault → Option Reply
-reply_in_frame (Ok (frame.Order o)) = None
-reply_in_frame (Ok (frame.Reply r)) = Some r
-reply_in_frame (Err fault) = None
-
-abbrev pub order_in_packet : Option (List ℕ) → Option Order
-order_in_packet None = None
-order_in_packet (Some bytes) = order_in_frame (read_frame_of bytes)
-
-abbrev pub reply_in_packet : Option (List ℕ) → Option Reply
-reply_in_packet None = None
-reply_in_packet (Some bytes) = reply_in_frame (read_frame_of bytes)
 
 -- a reply is put on the link of replies
 abbrev pub reply_put : World → Reply → (ℕ → ℕ → ℕ → List ℕ) → Told

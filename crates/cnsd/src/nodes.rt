@@ -1,6 +1,7 @@
 ghost use Rattle.std.specs.Prelude.{◌≡◌, ◌++◌, ℕ, Option, IfOk, OnOk, string_bytes};
 ghost use Rattle.cns_wire.specs.Packet.{packet_at};
-ghost use Rattle.cnsd.specs.Link.{Told, first_world, failing, restarted, sent, order_arrives, order_handed, order_in_packet, reply_in_packet, reply_put, reply_arrives, pumped_one, pumped_all, pumped};
+ghost use Rattle.cns_system.specs.World.{order_in_packet, reply_in_packet};
+ghost use Rattle.cnsd.specs.Link.{Told, first_world, failing, restarted, sent, order_arrives, order_handed, reply_put, reply_arrives, pumped_one, pumped_all, pumped};
 ghost use Rattle.cnsd.specs.Run.{report_text};
 
 use crate::clear_side::ClearSide;
