@@ -1,11 +1,16 @@
 # The proved program, where `make build` and `make test` leave it.
 program := crates/cnsd/out/cnsd
 
-.PHONY: demo test build fuzz bench format
+.PHONY: demo run test build fuzz bench wrong limits format
 
-# Builds the program unproved and runs the worked example: a minute or two on a fresh machine.
+# Runs the worked example, by the built program where it is up to date, else unproved: a minute or two.
 demo:
 	@tests/demo.sh $(program)
+
+# Runs an input of your own, as `make run INPUT=FILE`, by the built program or unproved as well.
+export INPUT
+run:
+	@if [ -z "$$INPUT" ]; then echo 'usage: make run INPUT=FILE' >&2; exit 2; fi; tests/run.sh $(program) "$$INPUT"
 
 # Everything: each proof from nothing, the edits that must fail, the tests, the folders of cases.
 test:
@@ -15,14 +20,23 @@ test:
 build:
 	cd crates/cnsd && rt run -- --version
 
-# Random inputs, good and hostile, against a second reading of the rules.
+# Random inputs, good and hostile, against a second reading of the rules; SEED and COUNT may be given.
 fuzz: build
-	oracle/fuzz.py $(program) --stage $(shell cat oracle/stage) --seed $${SEED:-1} --count $${COUNT:-2000}
+	oracle/fuzz.py $(program) --seed $${SEED:-1} --count $${COUNT:-2000}
 
 # Times and memory on large inputs.
 bench: build
 	bench/run.sh $(program)
 
+# Wrong bodies beside those of the gate, each of which the proofs must refuse; of one crate by CRATE=NAME.
+wrong:
+	tests/wrong.py $(CRATE)
+
+# Inputs at the limits of what the program takes.
+limits: build
+	tests/limits.sh $(program)
+
 # Lays out all source, definitions and proofs.
 format:
-	for crate in crates/*/; do (cd $$crate && rt fmt); done
+	@failed=''; for crate in crates/*/; do (cd "$$crate" && rt fmt) || failed="$$failed $$crate"; done; \
+	if [ -n "$$failed" ]; then echo "rt fmt failed in$$failed" >&2; exit 1; fi

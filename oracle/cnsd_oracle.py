@@ -1,22 +1,17 @@
 #!/usr/bin/env python3
 """A second, slow reading of the rules, to compare the program with.
 
-    cnsd_oracle.py [--stage S] [run] < input
+    cnsd_oracle.py [run] < input
+    cnsd_oracle.py cusip TEXT
+    cnsd_oracle.py cusip -- TEXT
 
 It keeps the two nodes' records as lists, oldest first, and everything else is a sum
-over a whole list, computed anew at each question. It knows `run` without workers,
+over a whole list. Most sums are computed anew at each question; a plan and what is
+available are kept until the next record, and orders, accepted trades and open lots as
+they come, so that a million of each can be asked for. It knows `run` without workers,
 without shaking and without journal files, with ample memory.
-
-The stage says which commands exist (the environment variable CNSD_STAGE where the
-option is not given; else 5):
-
-    1  TAKE, CYCLE, REPORT; no order lines, openings unread
-    2  EXEMPT, PRIORITY, the cover orders of a cycle, faulty openings
-    3  SEND, ORDER, REPLY, PUMP, pools and balances in reports
-    4  FAIL, RESTART
-    5  LOT, POUR, RESERVE, LOOK, SEAL, CLOSE, ALLOCATE, BESIDE
-    6  DEPOSIT, WITHDRAW
 """
+import functools
 import os
 import sys
 from collections import namedtuple
@@ -45,7 +40,7 @@ class Refused(Exception):
 # ---------------------------------------------------------------- texts
 
 def read_number(text, low, high):
-    if text == b'' or any(byte not in b'0123456789' for byte in text):
+    if not text.isdigit():
         raise Fault('BadNumber')
     digits = text.lstrip(b'0') or b'0'
     number = int(digits) if len(digits) <= 20 else 10 ** 20
@@ -54,10 +49,12 @@ def read_number(text, low, high):
     return number
 
 
+@functools.lru_cache(maxsize=None)
 def read_member(text):
     return read_number(text, 1, 9999)
 
 
+@functools.lru_cache(maxsize=None)
 def read_date(text):
     """A date as a triple, so that dates are ordered as triples are."""
     parts = text.split(b'-')
@@ -72,7 +69,7 @@ def read_date(text):
 
 
 def read_id(text):
-    if not 1 <= len(text) <= 16 or any(byte not in b'ABCDEFGHIJKLMNOPQRSTUVWXYZ0123456789' for byte in text):
+    if not 1 <= len(text) <= 16 or text.translate(None, b'ABCDEFGHIJKLMNOPQRSTUVWXYZ0123456789') != b'':
         raise Fault('Id')
     return text
 
@@ -90,6 +87,7 @@ def check_digit(eight):
     return (10 - total % 10) % 10
 
 
+@functools.lru_cache(maxsize=None)
 def read_cusip(text):
     if len(text) != 9:
         raise Fault('Length')
@@ -137,6 +135,8 @@ def csv_records(text):
     """The records of a text as the `csv` crate reads them."""
     if text.startswith(b'\xef\xbb\xbf'):
         text = text[3:]
+    if b'"' not in text and b'\r' not in text:
+        return [line.split(b',') for line in text.split(b'\n') if line]
     records, fields, field = [], [], bytearray()
     state = 'record'          # before a record's first byte
     for byte in text:
@@ -214,7 +214,6 @@ Cycle = namedtuple('Cycle', 'date kind')
 Allocate = namedtuple('Allocate', 'issue poured tickets')
 Confirm = namedtuple('Confirm', 'number moved')
 Exec = namedtuple('Exec', 'order moved')
-Own = namedtuple('Own', 'sort member number issue shares')
 
 Order = namedtuple('Order', 'number kind member issue asked')
 Ticket = namedtuple('Ticket', 'member start asked')
@@ -227,8 +226,13 @@ def of_kind(kind, records):
 
 def due(records):
     """The accepted trades behind which a cycle stands on or after their date."""
-    return [record.trade for place, record in enumerate(records) if isinstance(record, Accept)
-            and any(cycle.date >= record.trade.settle for cycle in of_kind(Cycle, records[place:]))]
+    trades, latest = [], (0, 0, 0)    # of the cycles behind a place
+    for record in reversed(records):
+        if isinstance(record, Cycle):
+            latest = max(latest, record.date)
+        elif isinstance(record, Accept) and latest >= record.trade.settle:
+            trades.append(record.trade)
+    return trades[::-1]
 
 
 def confirmed(records):
@@ -249,21 +253,27 @@ def positions(records, orders):
     return position
 
 
-def open_asked(records, orders, kind, member, issue):
-    """What the unconfirmed orders of a kind, member and issue ask."""
-    moved = confirmed(records)
-    return sum(order.asked for order in orders if order.number not in moved
-               and (order.kind, order.member, order.issue) == (kind, member, issue))
+def open_asked(records, orders, kind):
+    """What the unconfirmed orders of a kind ask, for each issue and member that has one."""
+    moved, asked = confirmed(records), {}
+    for order in orders:
+        if order.kind == kind and order.number not in moved:
+            asked[order.issue, order.member] = asked.get((order.issue, order.member), 0) + order.asked
+    return asked
+
+
+def last_set(kind, records):
+    """The last setting of this kind, for each issue and member that has one."""
+    return {(record.issue, record.member): record for record in of_kind(kind, records)}
 
 
 def covers(records, orders):
     """(member, issue, asked) for each cover that a cycle makes, in their order."""
-    asked = []
-    for (issue, member), position in sorted(positions(records, orders).items()):
-        exempt = [record.shares for record in of_kind(Exempt, records) if (record.member, record.issue) == (member, issue)]
-        short = -position - open_asked(records, orders, 'COVER', member, issue) - (exempt or [0])[-1]
+    still, exempt, asked = open_asked(records, orders, 'COVER'), last_set(Exempt, records), []
+    for place, position in sorted(positions(records, orders).items()):
+        short = -position - still.get(place, 0) - (exempt[place].shares if place in exempt else 0)
         if short > 0:
-            asked.append(('COVER', member, issue, short))
+            asked.append(('COVER', place[1], place[0], short))
     return asked
 
 
@@ -283,10 +293,10 @@ def made_by(records, orders):
     return []
 
 
-def orders_of(records):
-    """All orders, numbered from 1."""
-    orders = []
-    for count in range(1, len(records) + 1):
+def orders_of(records, orders=(), upto=0):
+    """All orders, numbered from 1, where the given ones are those of the first `upto` records."""
+    orders = list(orders)
+    for count in range(upto + 1, len(records) + 1):
         if isinstance(records[count - 1], (Cycle, Allocate)):
             for ask in made_by(records[:count], orders):
                 orders.append(Order(len(orders) + 1, *ask))
@@ -312,13 +322,13 @@ def plan(records, orders, issue):
     if len(cycles) >= 2:
         earlier = records[:cycles[-2] + 1]
         before = positions(earlier, orders_of(earlier))
-    planned = []
-    for (held, member), position in positions(records, orders).items():
-        asked = position - open_asked(records, orders, 'DELIVERY', member, issue)
+    still, priority, planned = open_asked(records, orders, 'DELIVERY'), last_set(Priority, records), []
+    for place, position in positions(records, orders).items():
+        held, member = place
+        asked = position - still.get(place, 0)
         if held != issue or asked <= 0:
             continue
-        priority = [record.on for record in of_kind(Priority, records) if (record.member, record.issue) == (member, issue)]
-        group = 0 if priority and priority[-1] else 1 if before.get((issue, member), 0) > 0 else 2
+        group = 0 if place in priority and priority[place].on else 1 if before.get(place, 0) > 0 else 2
         planned.append(Planned(member, asked, group))
     return sorted(planned, key=lambda one: (one.group, one.member))
 
@@ -329,8 +339,6 @@ def balance(openings, records, account, issue):
         if isinstance(record, Exec) and record.order.issue == issue:
             giver, taker = parties(record.order)
             total += record.moved * ((taker == account) - (giver == account))
-        if isinstance(record, Own) and (record.issue, record.member) == (issue, account):
-            total += record.shares if record.sort == 'deposit' else -record.shares
     return total
 
 
@@ -392,17 +400,48 @@ class Book:
         self.order_packets = []
         self.reply_packets = []
         self.lots = []
+        self.open_lots = {}       # those of `lots` that have not ended, by issue
+        self.trades = {}          # the accepted trades of the first `trades_upto` records, by id
+        self.trades_upto = 0
+        self.made = []            # the orders of the first `made_upto` records
+        self.made_upto = 0
+        self.kept = {}            # what the first `kept_upto` records say, by the question
+        self.kept_upto = 0
 
     # What the lists say.
 
+    def keep(self, question, answer):
+        """What a function answers of the records; asked again only where there are more of them."""
+        if self.kept_upto != len(self.clear.records):
+            self.kept, self.kept_upto = {}, len(self.clear.records)
+        if question not in self.kept:
+            self.kept[question] = answer()
+        return self.kept[question]
+
+    def accepted(self):
+        for record in self.clear.records[self.trades_upto:]:
+            if isinstance(record, Accept):
+                self.trades[record.trade.id] = record.trade
+        self.trades_upto = len(self.clear.records)
+        return self.trades
+
     def orders(self):
-        return orders_of(self.clear.records)
+        if self.made_upto != len(self.clear.records):
+            self.made = orders_of(self.clear.records, self.made, self.made_upto)
+            self.made_upto = len(self.clear.records)
+        return self.made
+
+    def plan(self, issue):
+        return self.keep(('plan', issue), lambda: plan(self.clear.records, self.orders(), issue))
+
+    def available(self, issue):
+        return self.keep(('available', issue), lambda: available(self.clear.records, self.orders(), issue))
 
     def lent(self, issue):
-        return sum(lot.poured for lot in self.lots if lot.issue == issue and not lot.ended)
+        return self.open_lots[issue].poured if issue in self.open_lots else 0
 
     def free(self, issue):
-        return available(self.clear.records, self.orders(), issue) - self.lent(issue)
+        return self.available(issue) - self.lent(issue)
 
     def lot(self, number):
         if not 1 <= number <= len(self.lots):
@@ -415,12 +454,11 @@ class Book:
 
     def take(self, trade):
         self.clear.check_up()
-        accepted = [record.trade for record in of_kind(Accept, self.clear.records)]
-        known = [other for other in accepted if other.id == trade.id]
+        accepted = self.accepted()
         if trade.buyer == trade.seller:
             raise Refused('SameMember')
-        if known:
-            raise Refused('Same' if known == [trade] else 'Conflict')
+        if trade.id in accepted:
+            raise Refused('Same' if accepted[trade.id] == trade else 'Conflict')
         if len(accepted) >= NUMBER_LIMIT:
             raise Refused('Full')
         self.clear.commit(Accept(trade))
@@ -445,7 +483,7 @@ class Book:
         records = self.clear.records
         if any((date, kind) <= (cycle.date, cycle.kind) for cycle in of_kind(Cycle, records)):
             raise Refused('CycleOrder')
-        if any(not lot.ended for lot in self.lots):
+        if self.open_lots:
             raise Refused('LotsOpen')
         count = len(due(records + [Cycle(date, kind)])) - len(due(records))
         return count, self.commit_with_orders(Cycle(date, kind))
@@ -453,12 +491,17 @@ class Book:
     def lot_open(self, issue):
         """The new lot's number."""
         self.clear.check_up()
-        if any(lot.issue == issue and not lot.ended for lot in self.lots):
+        if issue in self.open_lots:
             raise Refused('LotAlready')
         if len(self.lots) >= NUMBER_LIMIT:
             raise Refused('LotsSpent')
-        self.lots.append(Lot(issue, plan(self.clear.records, self.orders(), issue), self.free(issue)))
+        self.open_lots[issue] = Lot(issue, self.plan(issue), self.free(issue))
+        self.lots.append(self.open_lots[issue])
         return len(self.lots)
+
+    def end(self, lot):
+        lot.ended = True
+        del self.open_lots[lot.issue]
 
     def lot_pour(self, number):
         lot = self.lot(number)
@@ -496,7 +539,7 @@ class Book:
         if not lot.sealed and len(lot.tickets) < len(lot.plan):
             raise Refused('Unserved')
         orders = self.commit_with_orders(Allocate(lot.issue, lot.poured, list(lot.tickets)))
-        lot.ended = True
+        self.end(lot)
         return sum(order.asked for order in orders), orders
 
     def send(self, number):
@@ -527,8 +570,8 @@ class Book:
         return number, moved, 'done'
 
     def restart_clear(self):
-        for lot in self.lots:
-            lot.ended = True
+        for lot in list(self.open_lots.values()):
+            self.end(lot)
         return self.clear.restart()
 
     # Events of the depository.
@@ -552,27 +595,6 @@ class Book:
             self.depot.commit(Exec(order, moved))
         self.reply_packets.append((order.number, moved))
         return word, order.number, moved, len(self.reply_packets)
-
-    def instruct(self, own):
-        """`done` or `again`."""
-        self.depot.check_up()
-        known = [record for record in of_kind(Own, self.depot.records)
-                 if (record.member, record.number) == (own.member, own.number)]
-        if known:
-            if known != [own]:
-                raise Refused('Conflict')
-            return 'again'
-        if own.sort == 'deposit':
-            total = sum(shares for (issue, _), shares in self.openings.items() if issue == own.issue)
-            for record in of_kind(Own, self.depot.records):
-                if record.issue == own.issue:
-                    total += record.shares if record.sort == 'deposit' else -record.shares
-            if total + own.shares > SHARES_LIMIT:
-                raise Refused('IssueSum')
-        elif self.balance(own.member, own.issue) < own.shares:
-            raise Refused('TooFew')
-        self.depot.commit(own)
-        return 'done'
 
 
 # ---------------------------------------------------------------- commands
@@ -599,43 +621,39 @@ def read_take(text):
 
 
 SHARES = numbers(0, SHARES_LIMIT)
-SOME_SHARES = numbers(1, SHARES_LIMIT)
 ANY = numbers(0, COUNT_LIMIT)
 
-# Each command: the stage that brings it, and the readers of its words.
+# Each command, and the readers of its words.
 COMMANDS = {
-    b'TAKE': (1, [read_take]),
-    b'CYCLE': (1, [choice(KINDS), read_date]),
-    b'REPORT': (1, []),
-    b'EXEMPT': (2, [read_member, read_cusip, SHARES]),
-    b'PRIORITY': (2, [read_member, read_cusip, choice(SWITCH)]),
-    b'SEND': (3, [ANY]),
-    b'ORDER': (3, [ANY]),
-    b'REPLY': (3, [ANY]),
-    b'PUMP': (3, []),
-    b'FAIL': (4, [choice(SIDES), choice(FATE)]),
-    b'RESTART': (4, [choice(SIDES)]),
-    b'LOT': (5, [read_cusip]),
-    b'POUR': (5, [ANY]),
-    b'RESERVE': (5, [ANY, read_member]),
-    b'LOOK': (5, [ANY]),
-    b'SEAL': (5, [ANY]),
-    b'CLOSE': (5, [ANY]),
-    b'ALLOCATE': (5, [read_cusip]),
-    b'BESIDE': (5, [read_cusip, numbers(0, 1000)]),
-    b'DEPOSIT': (6, [read_member, numbers(1, NUMBER_LIMIT), read_cusip, SOME_SHARES]),
-    b'WITHDRAW': (6, [read_member, numbers(1, NUMBER_LIMIT), read_cusip, SOME_SHARES]),
+    b'TAKE': [read_take],
+    b'CYCLE': [choice(KINDS), read_date],
+    b'REPORT': [],
+    b'EXEMPT': [read_member, read_cusip, SHARES],
+    b'PRIORITY': [read_member, read_cusip, choice(SWITCH)],
+    b'SEND': [ANY],
+    b'ORDER': [ANY],
+    b'REPLY': [ANY],
+    b'PUMP': [],
+    b'FAIL': [choice(SIDES), choice(FATE)],
+    b'RESTART': [choice(SIDES)],
+    b'LOT': [read_cusip],
+    b'POUR': [ANY],
+    b'RESERVE': [ANY, read_member],
+    b'LOOK': [ANY],
+    b'SEAL': [ANY],
+    b'CLOSE': [ANY],
+    b'ALLOCATE': [read_cusip],
+    b'BESIDE': [read_cusip, numbers(0, 1000)],
 }
 
 
-def read_command(stage, line):
+def read_command(line):
     """The command's name and what it names, or None for a bad command."""
     words = line.split(b' ')
-    since, readers = COMMANDS.get(words[0], (99, []))
-    if since > stage or len(words) != len(readers) + 1:
+    if words[0] not in COMMANDS or len(words) != len(COMMANDS[words[0]]) + 1:
         return None
     try:
-        return words[0].decode(), [read(word) for read, word in zip(readers, words[1:])]
+        return words[0].decode(), [read(word) for read, word in zip(COMMANDS[words[0]], words[1:])]
     except Fault:
         return None
 
@@ -643,8 +661,7 @@ def read_command(stage, line):
 class Run:
     """One run of a script: the lines that it prints are in `out`."""
 
-    def __init__(self, stage, rows, openings, script):
-        self.stage = stage
+    def __init__(self, rows, openings, script):
         self.rows = rows
         self.taken = 0
         self.book = Book(openings)
@@ -664,7 +681,7 @@ class Run:
         """The next line."""
         number, line = self.script[self.place]
         self.place += 1
-        command = read_command(self.stage, line)
+        command = read_command(line)
         if command is None or (beside and command[0] == 'BESIDE'):
             self.say('line %d bad command', number)
             return
@@ -680,9 +697,9 @@ class Run:
             return None
 
     def say_orders(self, orders):
-        if self.stage >= 2:
-            for order in orders:
-                self.say('order %d %s %04d %s %d', order.number, order.kind, order.member, order.issue.decode(), order.asked)
+        for order in orders:
+            self.say('order %d %s %04d %s %d', order.number, order.kind, order.member, order.issue.decode(),
+                     order.asked)
 
     # One method for each command.
 
@@ -821,17 +838,6 @@ class Run:
             self.book.lots[number - 1].busy = False
             self.serve(number)
 
-    def DEPOSIT(self, *given):
-        self.own('deposit', *given)
-
-    def WITHDRAW(self, *given):
-        self.own('withdraw', *given)
-
-    def own(self, sort, member, number, issue, shares):
-        done = self.event(sort, self.book.instruct, Own(sort, member, number, issue, shares))
-        if done:
-            self.say('%s %04d number %d %s', sort, member, number, done)
-
     def REPORT(self):
         book = self.book
         records, orders = book.clear.records, book.orders()
@@ -843,26 +849,28 @@ class Run:
         for (issue, member), position in sorted(positions(records, orders).items()):
             if position != 0:
                 self.say('POS %s %04d %20d', issue.decode(), member, position)
-        if self.stage >= 3:
-            self.say_stock()
+        self.say_pools()
+        self.say_balances()
         self.say('END')
 
-    def say_stock(self):
+    def say_pools(self):
         book = self.book
         records, orders = book.clear.records, book.orders()
         moved = confirmed(records)
-        for issue in sorted({order.issue for order in orders} | {lot.issue for lot in book.lots}):
-            out = sum(order.asked for order in orders
-                      if order.issue == issue and order.kind == 'DELIVERY' and order.number not in moved)
-            numbers = (book.free(issue), book.lent(issue), out)
+        out = {}
+        for order in orders:
+            asked = order.asked if order.kind == 'DELIVERY' and order.number not in moved else 0
+            out[order.issue] = out.get(order.issue, 0) + asked
+        for issue in sorted(out):
+            numbers = (book.free(issue), book.lent(issue), out[issue])
             if any(numbers):
                 self.say('POOL %s free %d lent %d out %d', issue.decode(), *numbers)
+
+    def say_balances(self):
+        book = self.book
         accounts = set(book.openings)
         for record in book.depot.records:
-            if isinstance(record, Exec):
-                accounts |= {(record.order.issue, account) for account in parties(record.order)}
-            else:
-                accounts.add((record.issue, record.member))
+            accounts |= {(record.order.issue, account) for account in parties(record.order)}
         for issue, account in sorted(accounts):
             shares = book.balance(account, issue)
             if shares != 0:
@@ -871,46 +879,56 @@ class Run:
 
 def good_openings(rows, say):
     """The openings that hold, by issue and member; a line for each that doesn't."""
-    openings = {}
+    openings, sums = {}, {}
     for number, row in enumerate(rows, 1):
         try:
             member, issue, shares = read_opening(row)
             if (issue, member) in openings:
                 raise Fault('Double')
-            if sum(held for (other, _), held in openings.items() if other == issue) + shares > SHARES_LIMIT:
+            if sums.get(issue, 0) + shares > SHARES_LIMIT:
                 raise Fault('IssueSum')
             openings[issue, member] = shares
+            sums[issue] = sums.get(issue, 0) + shares
         except Fault as fault:
             say('opening row %d fault %s' % (number, fault))
     return openings
 
 
-def answer(text, stage):
+def answer(text):
     """(exit status, standard output, standard error) of a run with this input."""
     try:
         if len(text) > INPUT_LIMIT:
             raise BadInput('input too long')
         opening_text, trade_text, script = split_sections(text)
-        opening_rows = rows_under(b'account,cusip,shares', opening_text) if stage >= 2 else []
+        opening_rows = rows_under(b'account,cusip,shares', opening_text)
         rows = rows_under(b'trade,settle,buyer,seller,cusip,quantity', trade_text)
     except BadInput as fault:
         return 2, b'', b'cnsd: %s\n' % str(fault).encode()
     lines = []
-    run = Run(stage, rows, good_openings(opening_rows, lines.append), script)
+    run = Run(rows, good_openings(opening_rows, lines.append), script)
     run.out = lines
     run.run()
     return 0, ''.join(line + '\n' for line in lines).encode(), b''
 
 
+def answer_cusip(text):
+    """The same of `cnsd cusip` with this text."""
+    try:
+        read_cusip(text)
+    except Fault as fault:
+        return 1, b'%s\n' % str(fault).encode(), b''
+    return 0, b'ok\n', b''
+
+
 def main(words):
-    stage = int(os.environ.get('CNSD_STAGE', '5'))
-    while words and words[0] == '--stage' and words[1:]:
-        stage = int(words[1])
-        words = words[2:]
-    if words not in ([], ['run']):
-        sys.stderr.write('cnsd_oracle: only `run` without options\n')
-        return 1
-    status, out, err = answer(sys.stdin.buffer.read(), stage)
+    if words in ([], [b'run']):
+        status, out, err = answer(sys.stdin.buffer.read())
+    elif words[:2] == [b'cusip', b'--'] and len(words) == 3:
+        status, out, err = answer_cusip(words[2])
+    elif words[:1] == [b'cusip'] and len(words) == 2 and not words[1].startswith(b'-'):
+        status, out, err = answer_cusip(words[1])
+    else:
+        status, out, err = 1, b'', b'cnsd_oracle: only `run`, `cusip TEXT` and `cusip -- TEXT`\n'
     sys.stdout.buffer.write(out)
     sys.stdout.buffer.flush()
     sys.stderr.buffer.write(err)
@@ -918,4 +936,4 @@ def main(words):
 
 
 if __name__ == '__main__':
-    sys.exit(main(sys.argv[1:]))
+    sys.exit(main([os.fsencode(word) for word in sys.argv[1:]]))

@@ -1,22 +1,32 @@
 #!/usr/bin/env python3
 """Compares a program with the oracle on random inputs.
 
-    fuzz.py PROGRAM --stage S --seed N --count K [--from F] [--no-shrink]
+    fuzz.py PROGRAM --seed N --count K [--from F] [--no-shrink]
+    fuzz.py PROGRAM --seed N --limits
 
-Input number i of a seed and a stage is always the same text, so a difference is found
-again with `--seed N --from i --count 1`. At the first difference the input is told in
-full, then with as many lines left out as still make a difference; that smaller one is
-left in the file fuzz-difference.in of the working folder, and the exit status is 1.
-Without a difference it is told how often each kind of line was met, and the exit status
-is 0. What a program is to do at each stage is told at the head of cnsd_oracle.py.
+Most inputs are texts for `run`; one in twelve is a text for `cusip`, one in twenty another
+command line, and one in two hundred has about as many bytes as an input may have. Input
+number i of a seed is always the same, so a difference is found again with `--seed N
+--from i --count 1`. At the first difference the input is told in full, then with as many
+lines left out as still make a difference; that smaller one is left in the file
+fuzz-difference.in of the working folder. Without a difference it is told how often each
+kind of line was met.
+
+With --limits there are three inputs: one of a million trades, one of a million orders, and
+one of a million lots, with random lines where the next is one too many.
+
+The last line is `N passed, M failed`, where N are the inputs without a difference. The exit
+status is 0 where M is 0 and N is not.
 """
 import argparse
 import collections
 import difflib
 import os
 import random
+import shutil
 import subprocess
 import sys
+import time
 
 sys.path.insert(0, os.path.dirname(os.path.abspath(__file__)))
 import cnsd_oracle  # noqa: E402
@@ -28,18 +38,23 @@ DATES = [b'2025-03-03', b'2025-03-04', b'2025-03-05', b'2025-03-06', b'2025-03-0
 RARE_DATES = [b'1900-01-01', b'2199-12-31', b'2024-02-29', b'2000-02-29', b'2025-12-31']
 BAD_DATES = [b'2025-02-29', b'1900-02-29', b'2100-02-29', b'1899-12-31', b'2200-01-01', b'2025-3-4', b'2025-13-01',
              b'2025-00-01', b'2025-01-00', b'2025-04-31', b'2025-03-04 ', b' 2025-03-04', b'20250304', b'2025/03/04',
-             b'+025-03-04', b'-001-03-04', b'02025-03-04', b'', b'today', b'2025-03-0x', b'2025-03-32', b'2025-03-04T00:00']
-NOT_NUMBERS = [b'', b'x', b'1x', b'-1', b'+1', b' 1', b'1 ', b'1.0', b'1e3', b'0x1', b'1,0', b'\xd9\xa1', b'99999999999999999999999x']
-HUGE = [b'18446744073709551615', b'18446744073709551616', b'18446744073709551617', b'99999999999999999999999999', b'1' + b'0' * 60]
+             b'+025-03-04', b'-001-03-04', b'02025-03-04', b'', b'today', b'2025-03-0x', b'2025-03-32',
+             b'2025-03-04T00:00']
+NOT_NUMBERS = [b'', b'x', b'1x', b'-1', b'+1', b' 1', b'1 ', b'1.0', b'1e3', b'0x1', b'1,0', b'\xd9\xa1',
+               b'99999999999999999999999x']
+HUGE = [b'18446744073709551615', b'18446744073709551616', b'18446744073709551617', b'99999999999999999999999999',
+        b'1' + b'0' * 60]
 MARK = b'\xef\xbb\xbf'
+SECONDS = 60                # that a run may take
+LIMIT_SECONDS = 600         # the same, at the limits
+LONGEST_TOLD = 1000000      # bytes of a text that is told in full
 
 
 class Maker:
     """Makes one input."""
 
-    def __init__(self, rng, stage):
+    def __init__(self, rng):
         self.rng = rng
-        self.stage = stage
         self.members = rng.sample([1, 2, 3, 4, 12, 345, 9999], rng.randint(2, 5))
         self.issues = rng.sample(ISSUES, rng.choice([1, 1, 1, 2, 3, 6]))
         self.row_fault = rng.choice([0, 0, 0, 0.02, 0.1, 0.4])  # how often a field or row is made bad
@@ -47,7 +62,7 @@ class Maker:
         self.fault = self.row_fault
         self.odd = rng.choice([0, 0, 0.02, 0.2])              # how often csv is written in an odd way
         # A market: few members sell what they hold to the others, in one or two issues.
-        self.market = stage >= 3 and rng.random() < 0.5
+        self.market = rng.random() < 0.5
         if self.market:
             self.members = rng.sample([1, 2, 3, 4, 5, 12, 345, 9999], rng.randint(4, 8))
             self.sellers = self.members[:rng.choice([1, 1, 2])]
@@ -91,11 +106,13 @@ class Maker:
         if self.chance(self.fault):
             return self.rng.choice(NOT_NUMBERS + HUGE + [b'1000000000000000001'])
         return self.zeros(b'%d' % self.rng.choice([0, 10, 25, 40, 60, 100, 150, 300, 1000]
-                                                  + ([10 ** 18, 10 ** 18 - 40, 5 * 10 ** 17] if self.chance(0.2) else [])))
+                                                  + ([10 ** 18, 10 ** 18 - 40, 5 * 10 ** 17]
+                                                     if self.chance(0.2) else [])))
 
     def identifier(self):
         if self.chance(self.fault):
-            return self.rng.choice([b'', b'a1', b'A' * 17, b'A 1', b'A-1', b'\xff', b'A\x00', b'A"1', MARK + b'A1', b' A1'])
+            return self.rng.choice([b'', b'a1', b'A' * 17, b'A 1', b'A-1', b'\xff', b'A\x00', b'A"1', MARK + b'A1',
+                                    b' A1'])
         if self.chance(0.1):
             return self.rng.choice([b'A' * 16, b'0', b'01', b'Z9'])
         return b'%s%d' % (self.rng.choice([b'A', b'B', b'C']), self.rng.randint(1, 12))
@@ -125,7 +142,8 @@ class Maker:
     def opening(self):
         row = [self.member(), self.issue(), self.shares()]
         if self.market and self.chance(0.7):
-            row = [b'%d' % self.rng.choice(self.sellers), self.issue(), b'%d' % self.rng.choice([30, 50, 90, 100, 150, 400])]
+            row = [b'%d' % self.rng.choice(self.sellers), self.issue(),
+                   b'%d' % self.rng.choice([30, 50, 90, 100, 150, 400])]
         if self.chance(self.fault / 4):
             row = row[:self.rng.randint(0, 2)] if self.chance(0.5) else row + [b''] * self.rng.randint(1, 2)
         return row
@@ -153,17 +171,20 @@ class Maker:
 
     def row_end(self):
         if self.chance(self.odd):
-            return self.rng.choice([b'\r\n', b'\r', b'\n\n', b'\r\n\r\n', b'\n\r', b'\r\r\n', b'\n \n', b'\n""\n', b'\n,\n', b'\n#\n'])
+            return self.rng.choice([b'\r\n', b'\r', b'\n\n', b'\r\n\r\n', b'\n\r', b'\r\r\n', b'\n \n', b'\n""\n',
+                                    b'\n,\n', b'\n#\n'])
         return b'\n'
 
     def section(self, header, make, count):
         if count == 0 and self.chance(0.7):
             return self.rng.choice([b'', b'', header + b'\n', b'\n', b'\r\n'])
         if self.chance(self.odd):
-            header = self.rng.choice([MARK + header, b'"' + header.replace(b',', b'","') + b'"', b'\n\r\n' + header, header + b'\r',
+            header = self.rng.choice([MARK + header, b'"' + header.replace(b',', b'","') + b'"', b'\n\r\n' + header,
+                                      header + b'\r',
                                       MARK + b'"' + header.replace(b',', b'","') + b'"'])
         if self.chance(self.fault / 10):
-            header = self.rng.choice([header.upper(), header + b',', header[:-1], header.replace(b',', b';'), b' ' + header,
+            header = self.rng.choice([header.upper(), header + b',', header[:-1], header.replace(b',', b';'),
+                                      b' ' + header,
                                       MARK + MARK + header, b'', header.replace(b',', b', '), b'[trades]'])
         rows = [b','.join(self.field(text) for text in make()) + self.row_end() for _ in range(count)]
         return header + b'\n' + b''.join(rows)
@@ -172,7 +193,7 @@ class Maker:
     # far, so that most commands have something to do.
 
     def look_at(self, lines):
-        run = cnsd_oracle.Run(self.stage, self.trade_rows, dict(self.openings), lines)
+        run = cnsd_oracle.Run(self.trade_rows, dict(self.openings), lines)
         run.run()
         self.book = run.book
 
@@ -212,7 +233,8 @@ class Maker:
         """A member and an issue, mostly a pair with a position or an exemption."""
         records = self.book.clear.records
         known = [(member, issue) for issue, member in cnsd_oracle.positions(records, self.book.orders())]
-        known += [(record.member, record.issue) for record in records if isinstance(record, (cnsd_oracle.Exempt, cnsd_oracle.Priority))]
+        known += [(record.member, record.issue) for record in records
+                  if isinstance(record, (cnsd_oracle.Exempt, cnsd_oracle.Priority))]
         if known and self.chance(0.8) and not self.chance(self.fault):
             member, issue = self.rng.choice(known)
             return [b'%d' % member, issue]
@@ -227,20 +249,14 @@ class Maker:
                 return b'%d' % self.rng.choice(left)
         return self.member()
 
-    def command(self, stage, *wanted):
-        """One good command of a stage, or of one before it; of the wanted names where there are some."""
+    def command(self, *wanted):
+        """One good command; of the wanted names where there are some."""
         rng = self.rng
-        known = [b'TAKE', b'TAKE', b'CYCLE', b'CYCLE', b'REPORT']
-        if stage >= 2:
-            known += [b'EXEMPT', b'PRIORITY', b'CYCLE']
-        if stage >= 3:
-            known += [b'SEND', b'ORDER', b'REPLY', b'PUMP', b'PUMP', b'ORDER', b'REPLY']
-        if stage >= 4:
-            known += [b'FAIL', b'RESTART'] if self.chance(0.4) else []
-        if stage >= 5:
-            known += [b'LOT', b'POUR', b'RESERVE', b'RESERVE', b'LOOK', b'SEAL', b'CLOSE', b'ALLOCATE', b'ALLOCATE', b'BESIDE', b'BESIDE']
-        if stage >= 6:
-            known += [b'DEPOSIT', b'WITHDRAW', b'WITHDRAW']
+        known = [b'TAKE', b'TAKE', b'CYCLE', b'CYCLE', b'CYCLE', b'REPORT', b'EXEMPT', b'PRIORITY']
+        known += [b'SEND', b'ORDER', b'ORDER', b'REPLY', b'REPLY', b'PUMP', b'PUMP']
+        known += [b'FAIL', b'RESTART'] if self.chance(0.4) else []
+        known += [b'LOT', b'POUR', b'RESERVE', b'RESERVE', b'LOOK', b'SEAL', b'CLOSE', b'ALLOCATE', b'ALLOCATE',
+                  b'BESIDE', b'BESIDE']
         name = rng.choice(wanted or known)
         if name == b'TAKE':
             words = [rng.choice([b'ALL', self.number(4), self.number(4), b'1'])]
@@ -251,7 +267,8 @@ class Maker:
         elif name == b'PRIORITY':
             words = self.place() + [rng.choice([b'ON', b'OFF'])]
         elif name in (b'SEND', b'ORDER', b'REPLY'):
-            known = {b'SEND': len(self.book.orders()), b'ORDER': len(self.book.order_packets), b'REPLY': len(self.book.reply_packets)}
+            known = {b'SEND': len(self.book.orders()), b'ORDER': len(self.book.order_packets),
+                     b'REPLY': len(self.book.reply_packets)}
             words = [self.known_number(known[name])]
         elif name == b'FAIL':
             words = [rng.choice([b'CLEAR', b'CLEAR', b'DEPOT']), rng.choice([b'KEEP', b'DROP'])]
@@ -266,8 +283,6 @@ class Maker:
             words = [number, self.planned_member(number)]
         elif name in (b'POUR', b'LOOK', b'SEAL', b'CLOSE'):
             words = [self.lot_number()]
-        elif name in (b'DEPOSIT', b'WITHDRAW'):
-            words = [self.member(), self.number(4), self.issue(), self.shares()]
         else:
             words = []
         return b' '.join([name] + words)
@@ -293,9 +308,11 @@ class Maker:
         if kind == 6:
             return line.replace(b' ', b'\t')
         if kind == 7:
-            return rng.choice([b' ', b' # x', b'[trades]', b'[script]', b'FOO', b'TAKE', b'CYCLE', b'"REPORT"', b'\x00'])
+            return rng.choice([b' ', b' # x', b'[trades]', b'[script]', b'FOO', b'TAKE', b'CYCLE', b'"REPORT"',
+                               b'\x00'])
         if kind == 8:
-            return self.command(6)                             # perhaps of a later stage
+            return b' '.join([rng.choice([b'DEPOSIT', b'WITHDRAW', b'GRANT', b'TAKEN']), self.member(), self.number(4),
+                              self.issue(), self.shares()])    # formed like a command
         if kind == 9:
             at = rng.randrange(len(line) + 1)
             return line[:at] + bytes([rng.choice([x for x in range(256) if x != 10])]) + line[at + 1:]
@@ -306,12 +323,12 @@ class Maker:
         lines = [b'TAKE ALL']
         self.day = 1
         for _ in range(self.rng.choice([1, 1, 2, 3])):
-            if self.stage >= 2 and self.chance(0.2):
+            if self.chance(0.2):
                 self.look_at(lines)
-                lines += [self.command(2, b'EXEMPT') for _ in range(self.rng.randint(1, 3))]
+                lines += [self.command(b'EXEMPT') for _ in range(self.rng.randint(1, 3))]
             lines.append(self.cycle() if self.day > 1 else b'CYCLE NIGHT 2025-03-04')
             self.day = max(2, self.day)
-            if self.stage >= 3 and self.chance(0.7):
+            if self.chance(0.7):
                 lines.append(b'PUMP')
         return lines
 
@@ -321,7 +338,7 @@ class Maker:
         lines = [b'FAIL %s %s' % (side, self.rng.choice([b'KEEP', b'DROP']))]
         if side == b'DEPOT' and self.chance(0.7):
             lines += [self.cycle(), b'PUMP']
-        lines += [self.command(self.stage) for _ in range(self.rng.randint(1, 5))]
+        lines += [self.command() for _ in range(self.rng.randint(1, 5))]
         if self.chance(0.5):
             packets = len(self.book.order_packets if side == b'DEPOT' else self.book.reply_packets)
             lines += [b'%s %d' % (b'ORDER' if side == b'DEPOT' else b'REPLY', packets + extra) for extra in (0, 1, 5)]
@@ -343,11 +360,11 @@ class Maker:
             self.rng.shuffle(inner)
         else:
             inner.sort(key=lambda line: self.chance(0.1))      # the plan's own order, with few exceptions
-        kinds = [b'LOOK', b'LOOK', b'POUR', b'PUMP', b'SEAL', b'REPORT', b'CLOSE', b'LOT', b'CYCLE', b'TAKE', b'ALLOCATE', b'BESIDE',
-                 b'RESERVE', b'EXEMPT', b'PRIORITY']
+        kinds = [b'LOOK', b'LOOK', b'POUR', b'PUMP', b'SEAL', b'REPORT', b'CLOSE', b'LOT', b'CYCLE', b'TAKE',
+                 b'ALLOCATE', b'BESIDE', b'RESERVE', b'EXEMPT', b'PRIORITY']
         kinds += [b'RESTART', b'FAIL'] if self.chance(0.3) else []
         for _ in range(self.rng.randint(0, 4)):
-            line = self.command(self.stage, self.rng.choice(kinds))
+            line = self.command(self.rng.choice(kinds))
             words = line.split(b' ')
             if words[0] in (b'RESERVE', b'LOOK', b'POUR', b'SEAL', b'CLOSE') and self.chance(0.8):
                 line = b' '.join([words[0], number] + words[2:])
@@ -360,7 +377,8 @@ class Maker:
             return lines + [b'BESIDE %s %d' % (issue, max(0, len(inner) - self.rng.choice([0, 0, 0, 1, -1])))] + inner
         if kind == 1:
             return lines + [b'ALLOCATE ' + issue] + inner
-        return lines + [b'LOT ' + issue] + inner + [b'SEAL ' + number] * self.rng.choice([0, 0, 1]) + [b'CLOSE ' + number] * self.rng.choice([0, 1, 1])
+        sealed, closed = self.rng.choice([0, 0, 1]), self.rng.choice([0, 1, 1])
+        return lines + [b'LOT ' + issue] + inner + [b'SEAL ' + number] * sealed + [b'CLOSE ' + number] * closed
 
     def lines(self):
         """The lines of a script."""
@@ -370,18 +388,18 @@ class Maker:
         if self.chance(0.7):
             lines = self.start()
         end = len(lines) + rng.choice([3, 8, 15, 30])
-        stories = [self.failing_story] * (self.stage >= 4) + [self.lot_story] * (4 * (self.stage >= 5))
+        stories = [self.failing_story] + [self.lot_story] * 4
         while len(lines) < end:
             self.look_at(lines)
-            if stories and self.chance(0.15):
+            if self.chance(0.15):
                 lines += rng.choice(stories)()
             elif self.chance(0.06):
                 lines.append(rng.choice([b'', b'# a comment', b'#', b'#TAKE ALL']))
-            elif self.stage >= 5 and self.chance(0.15):
+            elif self.chance(0.15):
                 still = [number for number, lot in enumerate(self.book.lots, 1) if not lot.ended]
                 lines += [b'CLOSE %d' % number for number in still]
             else:
-                line = self.command(self.stage)
+                line = self.command()
                 lines.append(self.spoilt(line) if self.chance(self.fault) else line)
         return lines + [b'REPORT']
 
@@ -398,8 +416,8 @@ class Maker:
         trades = self.section(b'trade,settle,buyer,seller,cusip,quantity', self.trade, rng.choice([0, 2, 5, 12, 25]))
         try:
             self.trade_rows = cnsd_oracle.rows_under(b'trade,settle,buyer,seller,cusip,quantity', trades)
-            if self.stage >= 3:
-                self.openings = cnsd_oracle.good_openings(cnsd_oracle.rows_under(b'account,cusip,shares', openings), lambda line: None)
+            self.openings = cnsd_oracle.good_openings(cnsd_oracle.rows_under(b'account,cusip,shares', openings),
+                                                      lambda line: None)
         except cnsd_oracle.BadInput:
             pass
         parts = [b'[openings]\n', openings, b'[trades]\n', trades, b'[script]\n', self.script()]
@@ -434,33 +452,228 @@ class Maker:
         return text
 
 
-def input_number(seed, number, stage):
+# Command lines. What is wanted of a run is its exit status, standard output and standard error;
+# None for a text that is not told here, and must not be empty.
+
+Input = collections.namedtuple('Input', 'words text want')
+FAULTY = (1, b'', None)
+HELP = (0, None, b'')
+HELPS = [[b'--help'], [b'-h'], [b'help'], [b'help', b'run'], [b'help', b'cusip'], [b'run', b'--help'], [b'run', b'-h'],
+         [b'cusip', b'--help'], [b'cusip', b'-h'], [b'--version'], [b'-V']]
+NO_COMMANDS = [b'ru', b'RUN', b'Run', b'runs', b'run ', b' run', b'cusi', b'CUSIP', b'cusips', b'cusip=037833100',
+               b'', b' ', b'-', b'x', b'037833100', b'r\xc3\xbcn', b'\xff', b'run\xff', b'version', b'start', b'\n',
+               b'run\n', b'[openings]', b'plain.in']
+NO_OPTIONS = [b'--run', b'-r', b'-x', b'--stage', b'--stage=5', b'--workers', b'--workers=4', b'--journal',
+              b'--shake', b'--quiet', b'-q', b'-1', b'---', b'--=', b'--\xff', b'-\xc3\xa9', b'--versio', b'--hel',
+              b'--cusip=037833100', b'--text=037833100']
+FOREIGN = ['\u00e9', '\u03a9', '\u0663', '\u4e2d', '\U0001f600', '\u00df', '\u0130', '\ufeff', '\u200b', 'e\u0301',
+           '\uff11']
+
+
+def cusip_text(rng):
+    """A text for `cusip`, good or bad, without a byte 0."""
+    eight = bytes(rng.choice(cnsd_oracle.CUSIP_CHARACTERS) for _ in range(8))
+    digit = cnsd_oracle.check_digit(eight)
+    text = eight + b'%d' % digit
+    kind = rng.randrange(12)
+    if kind == 0:
+        return eight + b'%d' % rng.randrange(10)
+    if kind == 1:
+        return text[:rng.randrange(9)]
+    if kind == 2:
+        return text + bytes(rng.choice(cnsd_oracle.CUSIP_CHARACTERS)
+                            for _ in range(rng.choice([1, 1, 2, 100, 5000, 100000])))
+    if kind == 3:
+        return text.lower()
+    if kind == 4:                                              # some other bytes, of ASCII
+        changed = bytearray(text)
+        for _ in range(rng.choice([1, 1, 2, 9])):
+            changed[rng.randrange(9)] = rng.randrange(1, 128)
+        return bytes(changed)
+    if kind == 5:                                              # other characters, in nine characters or in nine bytes
+        place, other = rng.randrange(9), rng.choice(FOREIGN).encode()
+        return text[:place] + other + text[place + rng.choice([1, len(other)]):]
+    if kind == 6:
+        return ''.join(rng.choice(FOREIGN) for _ in range(rng.choice([1, 3, 4, 9, 3000]))).encode()
+    if kind == 7:
+        return rng.choice([b'-', b'--', b'---', b'-h', b'--help', b'-1',
+                           b'-\xc3\xa9']) + text[:rng.choice([0, 1, 7, 8, 9])]
+    if kind == 8:
+        return rng.choice([b'', b' ', b' ' + text, text + b' ', text + b'\n', text + b'\r', b'"' + text + b'"',
+                           eight + b'A', b'help'])
+    return text
+
+
+def cusip_input(rng):
+    text = cusip_text(rng)
+    dashes = [b'--'] if text.startswith(b'-') or rng.random() < 0.3 else []
+    return Input([b'cusip'] + dashes + [text], b'', cnsd_oracle.answer_cusip(text))
+
+
+def command_line(rng):
+    """A command line that asks for no work: help, the version, or a fault."""
+    if rng.random() < 0.2:
+        return Input(rng.choice(HELPS), b'', HELP)
+    text = cusip_text(rng)
+    plain, word, option = b'x' + text, rng.choice(NO_COMMANDS), rng.choice(NO_OPTIONS)
+    faulty = [[], [word], [option], [word] * 50, [word, b'run'], [option, b'run'],
+              [b'run', word], [b'run', option], [b'run', b'run'], [b'run', b'--', plain], [b'run', option, b'4'],
+              [b'cusip'], [b'cusip', b'--'], [b'cusip', plain, plain], [b'cusip', b'--', text, text],
+              [b'cusip', option], [b'cusip', plain, option], [b'cusip', option, plain],
+              [b'cusip', plain + b'\xff'], [b'cusip', b'--', b'\xc3' + plain]]
+    return Input(rng.choice(faulty), b'', FAULTY)
+
+
+def long_input(rng):
+    """A text with about as many bytes as an input may have."""
+    text = Maker(rng).text() + b'\n#'
+    size = cnsd_oracle.INPUT_LIMIT + rng.choice([-1, 0, 1, 1, 1, 2, 100000])
+    text += rng.choice([b'#', b' ', b'x', b'\xff']) * (size - len(text))
+    return Input([b'run'], text, cnsd_oracle.answer(text))
+
+
+def input_number(seed, number):
+    kind = random.Random('%d/%d/kind' % (seed, number)).random()
     rng = random.Random('%d/%d' % (seed, number))
-    return Maker(rng, stage).text()
+    if kind < 0.08:
+        return cusip_input(rng)
+    if kind < 0.13:
+        return command_line(rng)
+    if kind < 0.135:
+        return long_input(rng)
+    text = Maker(rng).text()
+    return Input([b'run'], text, cnsd_oracle.answer(text))
 
 
-def run_program(program, text):
+# Inputs at the limits: what fills the program up to some places, and random lines behind it.
+
+def any_cusip(number):
+    """A CUSIP with a right check digit, another one for each number."""
+    eight = b'%08d' % number
+    return eight + b'%d' % cnsd_oracle.check_digit(eight)
+
+
+def full_input(rng):
+    """As many accepted trades as there may be, less a few, and then some more."""
+    fill = cnsd_oracle.NUMBER_LIMIT - rng.choice([0, 1, 2, 5])
+    maker = Maker(rng)
+    maker.fault = 0.03
+    members, dates = [b'%d' % member for member in maker.members], DATES[:3] + [b'2199-12-31']
+    rows = []
+    for number in range(fill):
+        buyer, seller = rng.sample(members, 2)
+        rows.append(b'F%d,%s,%s,%s,%s,%d' % (number, rng.choice(dates), buyer, seller, rng.choice(maker.issues),
+                                             1 + number % 900))
+    for number in range(40):
+        kind = rng.randrange(4)
+        if kind == 0:
+            rows.append(rng.choice(rows[:fill]))               # the same again
+        elif kind == 1:
+            rows.append(rng.choice(rows[:fill]) + b'0')        # a conflict
+        elif kind == 2:
+            rows.append(b','.join(maker.trade()).replace(b'\n', b' ').replace(b'"', b''))
+        else:
+            rows.append(b'G%d,%s,7,8,%s,10' % (rng.randrange(8), rng.choice(dates), maker.issues[0]))
+    first = rng.randrange(1, fill)
+    lines = [b'TAKE %d' % first, b'TAKE %d' % (fill - first)]
+    for line in rng.sample([b'TAKE 1', b'TAKE 2', b'TAKE 3', b'TAKE 5', b'EXEMPT 7 %s 3' % maker.issues[0],
+                            b'CYCLE NIGHT 2025-03-03', b'SEND 1',
+                            b'CYCLE DAY 2025-03-04', b'FAIL CLEAR KEEP', b'FAIL CLEAR DROP', b'RESTART CLEAR',
+                            b'LOT %s' % maker.issues[0]], 9):
+        lines += [line, b'TAKE 2']
+    lines += [b'RESTART CLEAR', b'TAKE ALL', b'REPORT']
+    return [], rows, lines
+
+
+def numbers_input(rng):
+    """As many orders as there may be, less a few, and then deliveries: one too many, some, and the rest."""
+    left = rng.randint(2, 5)                                   # numbers that the covers leave
+    longs = left + 1
+    pairs = cnsd_oracle.NUMBER_LIMIT - left - 1
+    rows = [b'A%d,2025-03-03,%d,1,000000000,10' % (member, member) for member in range(2, longs + 2)]
+    for number in range(pairs):
+        rows.append(b'B%d,2025-03-03,9999,%d,%s,%d' % (number, 1 + number % 1000, any_cusip(1 + number // 1000),
+                                                       1 + number % 77))
+    openings = [b'1,000000000,%d' % (10 * longs - rng.choice([0, 0, 5, 9, 10, 15]))]
+    lines = [b'TAKE ALL', b'CYCLE NIGHT 2025-03-03', b'SEND 1', b'SEND 1000000', b'SEND %d' % (pairs + 1),
+             b'SEND %d' % (pairs + 2), b'ORDER 1',
+             b'REPLY 1', b'LOT 000000000']
+    lines += [b'RESERVE 1 %d' % member for member in range(2, longs + 3)]
+    lines += [b'CLOSE 1', b'LOOK 1', b'RESTART CLEAR', b'LOT 000000000']
+    lines += [b'RESERVE 2 %d' % member for member in rng.sample(range(2, longs + 2), rng.randint(0, left))]
+    lines += [b'SEAL 2', b'CLOSE 2', b'LOOK 2', b'ALLOCATE 000000000', b'SEND 1000000', b'SEND 1000001']
+    return openings, rows, lines
+
+
+def lots_input(rng):
+    """As many lots as there may be, less a few, and then some more; a restart ends those of a round."""
+    issues = [any_cusip(number) for number in range(2000)]
+    rows = [b'A1,2025-03-03,2,1,000000000,10', b'A2,2025-03-03,3,1,000000000,20',
+            b'A3,2025-03-03,3,4,%s,5' % issues[7]]
+    openings = [b'1,000000000,25', b'4,%s,5' % issues[7]]
+    fill = cnsd_oracle.NUMBER_LIMIT - rng.choice([0, 1, 3, 4])
+    lines = [b'TAKE ALL', b'CYCLE NIGHT 2025-03-03', b'PUMP']
+    opened = 0
+    while opened < fill:
+        opening = issues[:fill - opened]
+        lines += [b'LOT ' + issue for issue in opening]
+        opened += len(opening)
+        lines += [b'RESTART CLEAR']
+    for _ in range(40):
+        number, issue = rng.randint(999995, 1000001), rng.choice(issues[:9])
+        line = rng.choice([b'LOT %s' % issue, b'CLOSE %d' % number, b'LOOK %d' % number, b'SEAL %d' % number,
+                           b'POUR %d' % number,
+                           b'RESERVE %d %d' % (number, rng.randint(2, 3)), b'ALLOCATE %s' % issue,
+                           b'BESIDE %s 1' % issue, b'PUMP'])
+        lines.append(line)
+    return openings, rows, lines + [b'RESTART CLEAR', b'LOT 000000000', b'CYCLE DAY 2025-03-03', b'REPORT']
+
+
+def limit_inputs(seed):
+    for make in (full_input, numbers_input, lots_input):
+        openings, rows, lines = make(random.Random('%d/%s' % (seed, make.__name__)))
+        heads = [b'[openings]', b'account,cusip,shares'], [b'[trades]',
+                                                           b'trade,settle,buyer,seller,cusip,quantity'], [b'[script]']
+        text = b'\n'.join(heads[0] + openings + heads[1] + rows + heads[2] + lines + [b''])
+        began = time.monotonic()
+        one = Input([b'run'], text, cnsd_oracle.answer(text))
+        spent = time.monotonic() - began
+        print('%s: %d lines in %d bytes, the oracle took %.1f seconds' % (make.__name__, text.count(b'\n'), len(text),
+                                                                          spent))
+        yield one
+
+
+# Runs.
+
+def run_program(program, one, seconds=SECONDS):
     """(exit status, standard output, standard error)."""
     try:
-        done = subprocess.run([program, 'run'], input=text, capture_output=True, timeout=60)
+        done = subprocess.run([program] + one.words, input=one.text, capture_output=True, timeout=seconds)
     except subprocess.TimeoutExpired:
-        return 'no end within 60 seconds', b'', b''
+        return 'no end within %d seconds' % seconds, b'', b''
+    except OSError as error:
+        return str(error), b'', b''
     return done.returncode, done.stdout, done.stderr
 
 
-def differs(program, stage, text):
-    return run_program(program, text) != cnsd_oracle.answer(text, stage)
+def agree(want, got):
+    return all(len(written) > 0 if wanted is None else wanted == written for wanted, written in zip(want, got))
 
 
-def smaller(program, stage, text):
-    """The input with as many lines left out as still makes a difference."""
+def differs(program, text):
+    one = Input([b'run'], text, cnsd_oracle.answer(text))
+    return not agree(one.want, run_program(program, one))
+
+
+def smaller(program, text):
+    """The text with as many lines left out as still makes a difference."""
     lines = text.splitlines(True)
     size = max(1, len(lines) // 2)
     while True:
         place, changed = 0, False
         while place < len(lines):
             fewer = lines[:place] + lines[place + size:]
-            if differs(program, stage, b''.join(fewer)):
+            if differs(program, b''.join(fewer)):
                 lines, changed = fewer, True
             else:
                 place += size
@@ -473,15 +686,22 @@ def shown(data):
     return data.decode('utf-8', 'backslashreplace').replace('\r', '\\r').replace('\0', '\\0')
 
 
-def tell(program, stage, text):
-    want, got = cnsd_oracle.answer(text, stage), run_program(program, text)
-    print('---- input (%d bytes)' % len(text))
+def tell(one, got):
+    """Tells a difference; a long text by its first and its last bytes."""
+    text = one.text if len(one.text) <= LONGEST_TOLD else one.text[:1000] + b'\n..\n' + one.text[-1000:]
+    print('---- words: %s' % ' '.join(shown(word[:2000]) for word in one.words))
+    print('---- input (%d bytes)' % len(one.text))
     print(shown(text))
-    for name, wanted, written in (('exit status', str(want[0]).encode(), str(got[0]).encode()),
-                                  ('standard output', want[1], got[1]), ('standard error', want[2], got[2])):
-        if wanted != written:
+    for name, wanted, written in zip(('exit status', 'standard output', 'standard error'), one.want, got):
+        if wanted is None and written == b'':
+            print('---- %s is empty' % name)
+        elif wanted is not None and wanted != written:
             print('---- %s (- oracle, + program)' % name)
-            for line in difflib.unified_diff(shown(wanted).split('\n'), shown(written).split('\n'), lineterm='', n=2):
+            told = [shown(part if isinstance(part, bytes) else str(part).encode()).split('\n')
+                    for part in (wanted, written)]
+            same = len(os.path.commonprefix(told))
+            place = max(0, same - 2)
+            for line in difflib.unified_diff(told[0][place:same + 60], told[1][place:same + 60], lineterm='', n=2):
                 print(line)
 
 
@@ -494,38 +714,63 @@ def kind_of(line):
     return words[0] + (' ' + words[2] if words[0] == 'order' else '')
 
 
+def kinds(one):
+    """What is counted of an input that made no difference."""
+    if one.want == HELP:
+        return ['command line: help or version']
+    if one.want == FAULTY:
+        return ['command line: fault']
+    lines = one.want[1].decode('ascii').splitlines()
+    if one.words[0] == b'cusip':
+        return ['cusip: %s' % line.split(' ')[0] for line in lines]
+    ended = 'exit status %d %s' % (one.want[0], one.want[2].decode('ascii'))
+    return [ended.strip()] + [kind_of(line) for line in lines]
+
+
 def main():
     parser = argparse.ArgumentParser(description='Compares a program with the oracle on random inputs.')
     parser.add_argument('program')
-    parser.add_argument('--stage', type=int, default=5)
     parser.add_argument('--seed', type=int, default=1)
     parser.add_argument('--count', type=int, default=1000)
     parser.add_argument('--from', type=int, default=0, dest='first')
     parser.add_argument('--no-shrink', action='store_true')
+    parser.add_argument('--limits', action='store_true')
     given = parser.parse_args()
-    program = os.path.abspath(given.program) if os.sep in given.program else given.program
-    met = collections.Counter()
-    for number in range(given.first, given.first + given.count):
-        text = input_number(given.seed, number, given.stage)
-        want, got = cnsd_oracle.answer(text, given.stage), run_program(program, text)
-        met['exit status %d' % want[0]] += 1
-        met.update(kind_of(line) for line in want[1].decode('ascii').splitlines())
-        if want != got:
-            print('input %d of seed %d (stage %d): program and oracle differ' % (number, given.seed, given.stage))
-            tell(program, given.stage, text)
-            if not given.no_shrink:
-                text = smaller(program, given.stage, text)
-                print('==== the same difference, or another one, with fewer lines')
-                tell(program, given.stage, text)
-            with open('fuzz-difference.in', 'wb') as out:
-                out.write(text)
-            print('left in %s' % os.path.abspath('fuzz-difference.in'))
-            print('again: fuzz.py %s --stage %d --seed %d --from %d --count 1' % (given.program, given.stage, given.seed, number))
-            return 1
+    program = shutil.which(given.program)
+    if program is None:
+        print('no program %s' % given.program)
+        print('0 passed, 1 failed')
+        return 1
+    program = os.path.abspath(program)
+    met, passed = collections.Counter(), 0
+    numbers = range(given.first, given.first + given.count)
+    inputs = limit_inputs(given.seed) if given.limits else (input_number(given.seed, number) for number in numbers)
+    for one in inputs:
+        got = run_program(program, one, LIMIT_SECONDS if given.limits else SECONDS)
+        if agree(one.want, got):
+            met.update(kinds(one))
+            passed += 1
+            continue
+        print('input %d of seed %d: program and oracle differ' % (given.first + passed, given.seed))
+        tell(one, got)
+        if one.words == [b'run'] and len(one.text) <= LONGEST_TOLD and not given.no_shrink:
+            text = smaller(program, one.text)
+            one = Input([b'run'], text, cnsd_oracle.answer(text))
+            print('==== the same difference, or another one, with fewer lines')
+            tell(one, run_program(program, one))
+        with open('fuzz-difference.in', 'wb') as out:
+            out.write(one.text)
+        print('left in %s' % os.path.abspath('fuzz-difference.in'))
+        print('again: fuzz.py %s --seed %d %s' % (given.program, given.seed,
+                                                  '--limits'
+                                                  if given.limits else '--from %d --count 1' % (given.first + passed)))
+        print('%d passed, 1 failed' % passed)
+        return 1
     for kind, count in sorted(met.items()):
         print('%8d %s' % (count, kind))
-    print('%d inputs of seed %d (stage %d): no difference' % (given.count, given.seed, given.stage))
-    return 0
+    print('%d inputs of seed %d%s: no difference' % (passed, given.seed, ' at the limits' if given.limits else ''))
+    print('%d passed, 0 failed' % passed)
+    return 0 if passed > 0 else 1
 
 
 if __name__ == '__main__':

@@ -1,44 +1,121 @@
 #!/usr/bin/env bash
-# tests/all.sh PROGRAM: the gate, then the folders of cases and some random inputs with the program
-# that the gate built. Its last line is `N passed, M failed`; the exit status is 0 where M is 0.
-set -u
-cd "$(dirname "$0")/.."
+# tests/all.sh PROGRAM: every check that there is, one part after another. PROGRAM is where `rt ci` leaves
+# the program, as a path from the top of the repository.
+#
+# A part passes where its exit status is 0 and its last line is `N passed, 0 failed` with N above 0. Any
+# other part is a failure, which is named at the end with the lines that say what failed. What runs the
+# program is run only where `rt ci` has made the program in this run.
+# The last line of all is `N passed, M failed`: the sums of the parts, where each part that failed counts
+# 1 in M at least. The exit status is 0 where M is 0 and N is not.
+# tests/check_all.sh tests this file with stubs in place of the parts.
 
-program=$1
-log=$(mktemp)
-trap 'rm -f "$log"' EXIT
+set -u -o pipefail
+cd "$(dirname "$0")/.." || exit 1
+export PYTHONDONTWRITEBYTECODE=1
+
+# The lines that say what failed, and how many of them are shown again at the end.
+telling='^FAIL |^WRONG |FAILED|NOT PROVED|NOT REFUSED|BAD EDIT|program and oracle differ|^again: '
+most=40
+
 passed=0
 failed=0
+times=()
+failures=()
+reasons=()
+logs=()
+work=$(mktemp -d) || exit 1
+trap 'rm -rf "$work"' EXIT
 
-# add_result NAME: adds the counts of the last line of the log, or one failure where it has none.
-add_result() {
-    local counts
-    counts=$(tail -n 1 "$log" | sed -nE 's/^([0-9]+) passed, ([0-9]+) failed$/\1 \2/p')
-    if [ -z "$counts" ]; then
-        echo "$1: no result"
-        failed=$((failed + 1))
-        return
-    fi
-    passed=$((passed + ${counts% *}))
-    failed=$((failed + ${counts#* }))
+# add_failure NAME WHY LOG: one part that failed.
+add_failure() {
+    printf '%s: %s\n' "$1" "$2"
+    failures+=("$1")
+    reasons+=("$2")
+    logs+=("$3")
 }
 
-echo "== the gate"
-rt ci 2>&1 | tee "$log"
-add_result "the gate"
+# part NAME COMMAND..: one part. Its output comes live, and into a log.
+part() {
+    local name=$1 log=$work/log-${#times[@]} began=$SECONDS last good=0 bad=0 why='' statuses
+    shift
+    printf '== %s\n' "$name"
+    "$@" </dev/null 2>&1 | tee "$log"
+    statuses=("${PIPESTATUS[@]}")
+    last=$(tail -n 1 "$log" | tr '\0' '?')
+    if [[ $last =~ ^([0-9]{1,9})\ passed,\ ([0-9]{1,9})\ failed$ ]]; then
+        good=$((10#${BASH_REMATCH[1]}))
+        bad=$((10#${BASH_REMATCH[2]}))
+        ((bad == 0)) || why="$bad failed"
+        ((bad > 0 || good > 0)) || why='nothing passed'
+    else
+        why='no last line N passed, M failed'
+    fi
+    if ((statuses[0] != 0)); then
+        why="${why:+$why, }exit status ${statuses[0]}"
+    elif ((statuses[1] != 0)); then
+        why="${why:+$why, }its log was not written"
+    fi
+    [[ -z $why ]] || ((bad > 0)) || bad=1
+    passed=$((passed + good))
+    failed=$((failed + bad))
+    times+=("$(printf '%7d  %s' "$((SECONDS - began))" "$name")")
+    [[ -z $why ]] || add_failure "$name" "$why" "$log"
+}
 
-for folder in examples tests/cases; do
-    echo "== $folder"
-    tests/run_cases.sh "$program" "$folder" 2>&1 | tee "$log"
-    add_result "$folder"
-done
-
-echo "== random inputs against the second reading of the rules"
-if oracle/fuzz.py "$program" --stage "$(cat oracle/stage)" --seed 1 --count 500 2>&1 | tail -n 40 | tee "$log" && tail -n 1 "$log" | grep -q 'no difference'; then
-    passed=$((passed + 1))
-else
+# part_of_program NAME COMMAND..: one part that runs the program, where this run has made it.
+part_of_program() {
+    if [[ -f $program && -x $program && $program -nt $work/start ]]; then
+        part "$@"
+        return
+    fi
+    printf '== %s\n' "$1"
     failed=$((failed + 1))
-fi
+    add_failure "$1" "no program: rt ci did not make $program in this run" /dev/null
+}
 
-echo "$passed passed, $failed failed"
-[ "$failed" -eq 0 ] && [ "$passed" -gt 0 ]
+# lines_of LOG: the lines of a log that say what failed, those that sum up first; its end where none does.
+lines_of() {
+    local lines count
+    lines=$(tr '\0' '?' <"$1" | LC_ALL=C grep -a '^rt: FAILED:'
+        tr '\0' '?' <"$1" | LC_ALL=C grep -a -E "$telling" | LC_ALL=C grep -a -v '^rt: FAILED:')
+    [[ -n $lines ]] || lines=$(tail -n 10 "$1" | tr '\0' '?')
+    [[ -n $lines ]] || return 0
+    count=$(wc -l <<<"$lines")
+    head -n "$most" <<<"$lines"
+    ((count <= most)) || printf '(%d more)\n' "$((count - most))"
+}
+
+# say_end: the times, what failed, the last line and the exit status.
+say_end() {
+    local i
+    printf '== seconds\n'
+    ((${#times[@]} == 0)) || printf '%s\n' "${times[@]}"
+    if ((${#failures[@]} > 0)); then
+        printf '== failed\n'
+        for ((i = 0; i < ${#failures[@]}; i++)); do
+            printf -- '-- %s: %s\n' "${failures[i]}" "${reasons[i]}"
+            lines_of "${logs[i]}" | sed 's/^/    /'
+        done
+    fi
+    printf '%d passed, %d failed\n' "$passed" "$failed"
+    ((failed == 0 && passed > 0)) && exit 0
+    exit 1
+}
+
+if (($# != 1)); then
+    printf 'usage: tests/all.sh PROGRAM\n'
+    failed=1
+    say_end
+fi
+program=$1
+: >"$work/start" || exit 1
+
+part 'self-test of all.sh' tests/check_all.sh
+part 'self-test of run_cases.sh' tests/check_run_cases.sh
+part 'texts of the wrong bodies' tests/check_wrong_bodies.py
+part 'rt ci' rt ci
+part_of_program 'examples' tests/run_cases.sh "$program" examples
+part_of_program 'tests/cases' tests/run_cases.sh "$program" tests/cases
+part_of_program 'refused memory' tests/refuse_memory.sh "$program"
+part_of_program 'random inputs' oracle/fuzz.py "$program" --seed 1 --count 500
+say_end

@@ -1,27 +1,28 @@
 #!/usr/bin/env bash
-# tests/demo.sh PROGRAM: runs the worked example, by PROGRAM where it is built, and else by a
-# build that proves nothing.
+# tests/demo.sh PROGRAM: runs the worked example, by PROGRAM where it is built and no source is newer
+# than it, and else by a build that proves nothing.
 set -eu
 cd "$(dirname "$0")/.."
+. tests/program.sh
 
 program=$1
 input=examples/plain-night.in
 want=examples/plain-night.out
-got=$(mktemp)
-trap 'rm -f "$got"' EXIT
+work=$(mktemp -d)
+trap 'rm -rf "$work"' EXIT
 
 echo "--- $input"
 cat "$input"
-echo "--- what cnsd run writes for it"
-if [ -x "$program" ]; then
-    "$program" run < "$input" > "$got"
+if is_up_to_date "$program"; then
+    echo "--- what cnsd run writes for it (the proved program)"
+    "$program" run < "$input" > "$work/got"
 else
-    (cd crates/cnsd && rt try -- run < "../../$input") > "$got" 2> "$got.err" || { cat "$got.err"; rm -f "$got.err"; exit 1; }
-    rm -f "$got.err"
+    echo "--- what cnsd run writes for it (an unproved build, which takes a minute or two)"
+    run_unproved "$work/said" 60 < "$input" > "$work/got" || { cat "$work/said" >&2; exit 1; }
 fi
-cat "$got"
+cat "$work/got"
 echo "---"
-if ! cmp -s "$got" "$want"; then
+if ! cmp -s "$work/got" "$want"; then
     echo "this is not what $want has" >&2
     exit 1
 fi

@@ -101,8 +101,7 @@ digits_of() {
 
 # bytes_of DIGITS: the bytes that hexadecimal digits stand for.
 bytes_of() {
-    local i
-    for ((i = 0; i < ${#1}; i += 2)); do printf "\\x${1:i:2}"; done
+    printf '%b' "$(sed 's/../\\x&/g' <<<"$1")"
 }
 
 # hex_of FILE: the bytes of a file as hexadecimal digits.

@@ -121,3 +121,12 @@ fn faults_print(rt: HostRuntime) -> Result<(), Fail> {
     );
     Ok(())
 }
+
+#[test]
+fn the_longest_payload_is_kept(rt: HostRuntime) -> Result<(), Fail> {
+    let payload = Vec::from_elem(rt.alloc(), 0xa5_u8, 1_048_576)?;
+    let mut keeper = ListKeeper::new(rt.alloc());
+    keeper.commit(payload.as_slice())?;
+    assert_records(&rt, keeper.reopen()?.as_slice(), &[payload.as_slice()]);
+    Ok(())
+}

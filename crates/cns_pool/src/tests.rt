@@ -117,3 +117,20 @@ fn a_list_of_tickets(rt: HostRuntime) -> Result<(), Fail> {
     assert_eq!(rt; tickets.into_vec().pop(), Some(ticket(3, 30, 5)?));
     Ok(())
 }
+
+#[test]
+fn the_most_shares_are_poured_and_drawn(rt: HostRuntime) -> Result<(), Fail> {
+    let most = 1_u64 << 62;
+    let mut pool = PlainPool::open(rt.alloc(), most, most, 2)?;
+    pool.pour(most);
+    assert_eq!(rt;
+        pool.reserve(member(1)?, most - 1),
+        Reserved::Ticket(ticket(1, 0, most - 1)?)
+    );
+    assert_eq!(rt;
+        pool.reserve(member(2)?, 1),
+        Reserved::Ticket(ticket(2, most - 1, 1)?)
+    );
+    assert_looks(&rt, &mut pool, most, most, false);
+    Ok(())
+}

@@ -2,6 +2,8 @@ ghost use Rattle.std.specs.Prelude.{◌≡◌, IfOk, map};
 ghost use Rattle.clap.specs.Words.{FailsBy, app_of, fault_of, subcommand_of, subcommand_rows_of};
 ghost use Rattle.cnsd.specs.CommandLine.{AsksFor, asked_text, cnsd_app};
 
+use crate::fault::BatchFault;
+use clap::error::ErrorKind;
 use clap::{Arg, ArgAction, ArgMatches, Command, Error};
 use std::alloc::{AllocError, Global};
 use std::rt::Env;
@@ -81,25 +83,41 @@ fn texts(alloc: Global, words: &[String]) -> Result<Vec<&str>, AllocError> {
     Ok(texts)
 }
 
+// What a command line that was not parsed comes to: its text is printed, as the library words it.
+fn told<R: AllocGlobal + Print + Eprint>(rt: &R, error: &Error) -> Result<Request, BatchFault> {
+    if error.kind() == ErrorKind::OutOfMemory {
+        return Err(BatchFault::Memory);
+    }
+    let printed = error.print(rt);
+    if error.use_stderr() {
+        return Ok(Request::Faulty);
+    }
+    match printed {
+        Ok(()) => Ok(Request::Told),
+        Err(_) => Err(BatchFault::Write),
+    }
+}
+
 /// Reads the command line, and prints help, the version or the fault where it asks for nothing else.
-pub(crate) fn read_request<R: Env + AllocGlobal + Print + Eprint>(rt: &R) -> Request {
-    let Ok(words) = words(rt) else {
-        let _ = rt.eprintln("cnsd: the command line cannot be read");
-        return Request::Faulty;
+///
+/// Refuses `Memory` where there was none for it, and `Write` where help or the version could not be
+/// printed.
+pub(crate) fn read_request<R: Env + AllocGlobal + Print + Eprint>(
+    rt: &R,
+) -> Result<Request, BatchFault> {
+    let words = match words(rt) {
+        Ok(words) => words,
+        Err(error) if error.kind() == io::ErrorKind::OutOfMemory => return Err(BatchFault::Memory),
+        Err(_) => {
+            let _ = rt.eprintln("cnsd: the command line cannot be read");
+            return Ok(Request::Faulty);
+        }
     };
     let Ok(texts) = texts(rt.alloc(), words.as_slice()) else {
-        let _ = rt.eprintln("cnsd: out of memory");
-        return Request::Faulty;
+        return Err(BatchFault::Memory);
     };
     match parse(rt.alloc(), texts.as_slice()) {
-        Ok(request) => request,
-        Err(error) => {
-            let _ = error.print(rt);
-            if error.use_stderr() {
-                Request::Faulty
-            } else {
-                Request::Told
-            }
-        }
+        Ok(request) => Ok(request),
+        Err(error) => told(rt, &error),
     }
 }

@@ -271,10 +271,16 @@ impl ClearSide {
             ++ restart_line node.Clear (length (clear_restarted self).records) (is_returned self.tried self.foresight.stands)) }
     {
         let Ok(restarted) = self.node.restart() else {
+            drop(self.node);
             return Err(AllocError);
         };
-        write_restart(out, NodeName::Clear, restarted.records, restarted.kept)?;
-        Ok(self)
+        match write_restart(out, NodeName::Clear, restarted.records, restarted.kept) {
+            Ok(()) => Ok(self),
+            Err(error) => {
+                drop(self);
+                Err(error)
+            }
+        }
     }
 
     /// Tells the latest cycle, the positions and the pools.

@@ -39,9 +39,16 @@ fn begin(course: Course, issue: Cusip, lines: u64, out: &mut String) -> Result<C
     ensures text { OnOk result (string_bytes out.new ≡ string_bytes out.old ++ (begun course issue lines).1) }
 {
     let mut nodes = course.nodes;
-    let lot = nodes.clear.lot_open(issue, out)?;
-    let beside = Some(Beside { lot, lines });
-    end_when_due(Course { nodes, beside }, out)
+    match nodes.clear.lot_open(issue, out) {
+        Ok(lot) => {
+            let beside = Some(Beside { lot, lines });
+            end_when_due(Course { nodes, beside }, out)
+        }
+        Err(error) => {
+            drop(nodes);
+            Err(error)
+        }
+    }
 }
 
 /// Runs the line, by its number, of a command that opens a lot beside the next lines. One of these
@@ -58,10 +65,13 @@ pub(crate) fn run_beside(
 {
     match &course.beside {
         None => begin(course, issue, lines, out),
-        Some(_) => {
-            write_bad_command(out, number)?;
-            count_line(course, out)
-        }
+        Some(_) => match write_bad_command(out, number) {
+            Ok(()) => count_line(course, out),
+            Err(error) => {
+                drop(course);
+                Err(error)
+            }
+        },
     }
 }
 
@@ -119,8 +129,11 @@ pub(crate) fn end(course: Course, out: &mut String) -> Result<Course, AllocError
     ensures text { OnOk result (string_bytes out.new ≡ string_bytes out.old ++ (ended course).1) }
 {
     let Course { mut nodes, beside } = course;
-    if let Some(Beside { lot: Some(lot), .. }) = beside {
-        nodes.clear.serve(&lot, out)?;
+    if let Some(Beside { lot: Some(lot), .. }) = beside
+        && let Err(error) = nodes.clear.serve(&lot, out)
+    {
+        drop(nodes);
+        return Err(error);
     }
     Ok(Course {
         nodes,

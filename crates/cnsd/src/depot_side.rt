@@ -68,10 +68,16 @@ impl DepotSide {
             ++ restart_line node.Depot (length (depot_restarted self).records) (is_returned self.tried self.foresight.stands)) }
     {
         let Ok(restarted) = self.node.restart() else {
+            drop(self.node);
             return Err(AllocError);
         };
-        write_restart(out, NodeName::Depot, restarted.records, restarted.kept)?;
-        Ok(self)
+        match write_restart(out, NodeName::Depot, restarted.records, restarted.kept) {
+            Ok(()) => Ok(self),
+            Err(error) => {
+                drop(self);
+                Err(error)
+            }
+        }
     }
 
     /// Tells the balances.

@@ -2,7 +2,8 @@ ghost use Rattle.std.specs.Prelude.{◌≡◌};
 
 use thiserror::Error;
 
-/// Why a batch ended before its text was written. A check of a CUSIP ends by `Memory` or `Write` alone.
+/// Why a batch ended before its text was written. A check of a CUSIP, help and the version end by
+/// `Memory` or `Write` alone.
 #[derive(Clone, Copy, PartialEq, Eq, Debug, Error)]
 pub enum BatchFault {
     /// The reader failed.

@@ -148,10 +148,15 @@ fn take(course: Course, left: &[Row], count: usize, out: &mut String) -> Result<
 {
     let Course { mut nodes, beside } = course;
     let (rows, _) = left.split_at(count);
-    take_rows(&mut nodes.clear, rows, out)?;
-    let course = Course { nodes, beside };
-    Ok(Ran {
-        course,
-        taken: count,
-    })
+    match take_rows(&mut nodes.clear, rows, out) {
+        Ok(()) => Ok(Ran {
+            course: Course { nodes, beside },
+            taken: count,
+        }),
+        Err(error) => {
+            drop(nodes);
+            drop(beside);
+            Err(error)
+        }
+    }
 }

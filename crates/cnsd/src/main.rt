@@ -59,10 +59,11 @@ fn cusip(rt: &HostRuntime, text: &[u8]) -> ExitCode {
 
 fn main(rt: HostRuntime) -> ExitCode {
     match read_request(&rt) {
-        Request::Run => run(&rt),
-        Request::Cusip(text) => cusip(&rt, text.as_bytes()),
-        Request::Told => ExitCode::SUCCESS,
-        Request::Faulty => ExitCode::from(1),
+        Ok(Request::Run) => run(&rt),
+        Ok(Request::Cusip(text)) => cusip(&rt, text.as_bytes()),
+        Ok(Request::Told) => ExitCode::SUCCESS,
+        Ok(Request::Faulty) => ExitCode::from(1),
+        Err(fault) => tell_fault(&rt, fault),
     }
 }
 

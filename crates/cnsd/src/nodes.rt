@@ -45,12 +45,25 @@ impl Nodes {
     pub(crate) fn new(alloc: Global, openings: Openings) -> Result<Nodes, AllocError>
         ensures { IfOk result (λ nodes. nodes ≡ first_world openings) }
     {
-        Ok(Nodes {
-            clear: ClearSide::new(alloc)?,
-            depot: DepotSide::new(alloc, openings)?,
-            orders: Wire::new(alloc),
-            replies: Wire::new(alloc),
-        })
+        let clear = match ClearSide::new(alloc) {
+            Ok(clear) => clear,
+            Err(error) => {
+                drop(openings);
+                return Err(error);
+            }
+        };
+        match DepotSide::new(alloc, openings) {
+            Ok(depot) => Ok(Nodes {
+                clear,
+                depot,
+                orders: Wire::new(alloc),
+                replies: Wire::new(alloc),
+            }),
+            Err(error) => {
+                drop(clear);
+                Err(error)
+            }
+        }
     }
 
     /// Puts the order of this number on the link, tells it, and answers the packet.
@@ -207,18 +220,30 @@ impl Nodes {
             replies,
         } = self;
         match node {
-            NodeName::Clear => Ok(Nodes {
-                clear: clear.restart(out)?,
-                depot,
-                orders,
-                replies,
-            }),
-            NodeName::Depot => Ok(Nodes {
-                clear,
-                depot: depot.restart(out)?,
-                orders,
-                replies,
-            }),
+            NodeName::Clear => match clear.restart(out) {
+                Ok(clear) => Ok(Nodes {
+                    clear,
+                    depot,
+                    orders,
+                    replies,
+                }),
+                Err(error) => {
+                    drop((depot, orders, replies));
+                    Err(error)
+                }
+            },
+            NodeName::Depot => match depot.restart(out) {
+                Ok(depot) => Ok(Nodes {
+                    clear,
+                    depot,
+                    orders,
+                    replies,
+                }),
+                Err(error) => {
+                    drop((clear, orders, replies));
+                    Err(error)
+                }
+            },
         }
     }
 

@@ -10,14 +10,14 @@ returns-in-None-clause-after c = rw c.in-None.is c.begin.ensures.after
 pub returns-in-None-clause-text : goal.returns-in-None-clause-text
 returns-in-None-clause-text c = rw c.in-None.is c.begin.ensures.text
 
-pub returns-in_ok-write_bad_command-in-Some-clause-after : goal.returns-in_ok-write_bad_command-in-Some-clause-after
-returns-in_ok-write_bad_command-in-Some-clause-after c = rw c.in-Some.is c.count_line.ensures.after
+pub returns-in-Ok-clause-after : goal.returns-in-Ok-clause-after
+returns-in-Ok-clause-after c = rw c.in-Some.is c.count_line.ensures.after
 
-pub returns-in_ok-write_bad_command-in-Some-clause-text : goal.returns-in_ok-write_bad_command-in-Some-clause-text
-returns-in_ok-write_bad_command-in-Some-clause-text c =
+pub returns-in-Ok-clause-text : goal.returns-in-Ok-clause-text
+returns-in-Ok-clause-text c =
     rw c.in-Some.is
     (on_ok c.count_line.result _ _
     (λ told.
-    told ∙ ap (λ l. l ++ (line_counted c.args.course).1) c.in_ok-write_bad_command-in-Some.ensures
+    told ∙ ap (λ l. l ++ (line_counted c.args.course).1) c.in-Ok.ensures
     ∙ append_assoc (string_bytes c.args.out.now) (bad_command_line c.args.number) (line_counted c.args.course).1)
     c.count_line.ensures.text)

@@ -1,0 +1,172 @@
+#!/usr/bin/env bash
+# Tests all.sh: a copy of it stands in a folder of its own beside stubs of its parts and of `rt`. All is
+# well there once; then one thing or another is wrong, and all.sh must fail and name the part.
+#
+#   tests/check_all.sh
+#
+# No real part is run. The last line is `N passed, M failed`. The exit status is 0 where nothing failed
+# and something passed, else 1.
+
+set -u
+here=$(cd "$(dirname "$0")" && pwd)
+work=$(mktemp -d) || exit 1
+trap 'rm -rf "$work"' EXIT
+tree=$work/tree
+program=crates/cnsd/out/cnsd
+passed=0
+wrong=0
+
+# The parts that are one file each, as FILE|NAME, and the names of all.
+stubs=('tests/check_all.sh|self-test of all.sh' 'tests/check_run_cases.sh|self-test of run_cases.sh'
+    'tests/check_wrong_bodies.py|texts of the wrong bodies' 'bin/rt|rt ci'
+    'tests/refuse_memory.sh|refused memory' 'oracle/fuzz.py|random inputs')
+of_program=('examples' 'tests/cases' 'refused memory' 'random inputs')
+
+# What `rt ci` does besides: it makes the program, which answers with its input.
+make_program="mkdir -p crates/cnsd/out && sleep 0.05 && printf '#!/bin/sh\ncat\n' >$program && chmod +x $program"
+
+# stub FILE LINE..: a script of these lines.
+stub() {
+    local file=$tree/$1
+    shift
+    rm -f "$file"
+    printf '%s\n' '#!/usr/bin/env bash' "$@" >"$file"
+    chmod +x "$file"
+}
+
+# stub_rt LINE..: an `rt` that answers to `ci` alone, by these lines.
+stub_rt() {
+    stub bin/rt '[[ $* == ci ]] || exit 9' "$@"
+}
+
+# fresh: the folder with all.sh and run_cases.sh, two cases, and stubs; 15 things pass in it.
+fresh() {
+    rm -rf "$tree"
+    mkdir -p "$tree/tests/cases" "$tree/oracle" "$tree/bin" "$tree/examples"
+    cp "$here/all.sh" "$here/run_cases.sh" "$tree/tests/"
+    stub tests/check_all.sh "echo '2 passed, 0 failed'"
+    stub tests/check_run_cases.sh "echo '2 passed, 0 failed'"
+    stub tests/check_wrong_bodies.py "echo '2 passed, 0 failed'"
+    stub tests/refuse_memory.sh "[[ \$* == $program ]] && echo well | \$1 && echo '2 passed, 0 failed'"
+    stub oracle/fuzz.py "[[ \$* == '$program --seed 1 --count 500' ]] && echo '2 passed, 0 failed'"
+    stub_rt "$make_program" "echo '3 passed, 0 failed'"
+    printf 'one\n' | tee "$tree/examples/one.in" >"$tree/examples/one.out"
+    printf 'two\n' | tee "$tree/tests/cases/two.in" >"$tree/tests/cases/two.out"
+}
+
+# old_program: a program of an earlier run.
+old_program() {
+    mkdir -p "$tree/crates/cnsd/out"
+    printf '#!/bin/sh\ncat\n' >"$tree/$program"
+    chmod +x "$tree/$program"
+    touch -d '1 minute ago' "$tree/$program"
+}
+
+# expect WHAT LAST LINE..: what all.sh says: its last line, with the exit status that goes with it, and
+# these whole lines behind the line `== failed`; no such line, where none is given.
+expect() {
+    local what=$1 last=$2 line got status=1 why=''
+    shift 2
+    [[ $last == *', 0 failed' ]] && status=0
+    PATH=$tree/bin:$PATH "$tree/tests/all.sh" "$program" >"$work/said" 2>&1
+    got=$?
+    sed -n '/^== failed$/,$p' "$work/said" >"$work/end"
+    ((got == status)) || why+="status $got, expected $status; "
+    [[ $(tail -n 1 "$work/said") == "$last" ]] || why+="last line, expected $last; "
+    [[ $# -gt 0 || ! -s $work/end ]] || why+='failures, expected none; '
+    for line in "$@"; do
+        grep -q -x -F -e "$line" "$work/end" || why+="no line $line; "
+    done
+    if [[ -z $why ]]; then
+        passed=$((passed + 1))
+        return
+    fi
+    wrong=$((wrong + 1))
+    printf 'WRONG %s: %s\n' "$what" "${why%; }"
+    sed 's/^/    /' "$work/said"
+}
+
+fresh
+expect 'all is well' '15 passed, 0 failed'
+for name in "${stubs[@]#*|}" "${of_program[@]}"; do
+    if grep -q -x -F "== $name" "$work/said" &&
+        sed '1,/^== seconds$/d' "$work/said" | grep -q -E "^ +[0-9]+  $name\$"; then
+        passed=$((passed + 1))
+    else
+        wrong=$((wrong + 1))
+        printf 'WRONG all is well: no part %s, or no time of it\n' "$name"
+    fi
+done
+
+# The folders of cases.
+fresh
+rm "$tree"/examples/*
+expect 'examples are emptied' '14 passed, 1 failed' '-- examples: nothing passed, exit status 1'
+fresh
+rm -r "$tree/tests/cases"
+expect 'a folder of cases is gone' '14 passed, 1 failed' '-- tests/cases: 1 failed, exit status 1' \
+    '    FAIL tests/cases: no such folder'
+fresh
+echo three >"$tree/examples/one.out"
+expect 'a case fails' '14 passed, 1 failed' '-- examples: 1 failed, exit status 1' \
+    '    FAIL examples/one: standard output'
+
+# The program: only what this run has made is run.
+no_program=()
+for name in "${of_program[@]}"; do
+    no_program+=("-- $name: no program: rt ci did not make $program in this run")
+done
+fresh
+stub_rt "echo '3 passed, 0 failed'"
+expect 'no program' '9 passed, 4 failed' "${no_program[@]}"
+old_program
+expect 'an old program' '9 passed, 4 failed' "${no_program[@]}"
+stub_rt "echo 'rt: cns_pool NOT PROVED'" "echo 'rt: FAILED: cns_pool'" "echo '2 passed, 1 failed'" 'exit 1'
+expect 'an old program, and rt ci fails' '8 passed, 5 failed' '-- rt ci: 1 failed, exit status 1' \
+    '    rt: FAILED: cns_pool' '    rt: cns_pool NOT PROVED' "${no_program[@]}"
+stub_rt 'kill -9 $$'
+expect 'an old program, and rt ci is killed' '6 passed, 5 failed' "${no_program[@]}" \
+    '-- rt ci: no last line N passed, M failed, exit status 137'
+fresh
+stub_rt "$make_program" "echo 'rt: FAILED: cns_pool/a.edit'" "echo '2 passed, 1 failed'" 'exit 1'
+expect 'rt ci fails, but makes the program' '14 passed, 1 failed' '-- rt ci: 1 failed, exit status 1' \
+    '    rt: FAILED: cns_pool/a.edit'
+
+# Each part by itself: its counts are good, its exit status is not.
+for one in "${stubs[@]}"; do
+    fresh
+    echo 'exit 1' >>"$tree/${one%%|*}"
+    expect "${one#*|} has status 1" '15 passed, 1 failed' "-- ${one#*|}: exit status 1"
+done
+
+# all_parts WHAT LAST WHY LINE..: each part that is a file of its own ends by these lines, and must be
+# named with this reason; the two folders of cases pass.
+all_parts() {
+    local what=$1 last=$2 why=$3 one lines=()
+    shift 3
+    fresh
+    for one in "${stubs[@]}"; do
+        stub "${one%%|*}" "$@"
+        lines+=("-- ${one#*|}: $why")
+    done
+    stub_rt "$make_program" "$@"
+    expect "$what" "$last" "${lines[@]}"
+}
+all_parts 'ended early' '2 passed, 6 failed' 'no last line N passed, M failed' 'echo begun'
+all_parts 'killed' '2 passed, 6 failed' 'no last line N passed, M failed, exit status 137' 'echo begun' 'kill -9 $$'
+all_parts 'silent' '2 passed, 6 failed' 'no last line N passed, M failed' ':'
+all_parts 'nothing passed' '2 passed, 6 failed' 'nothing passed' "echo '0 passed, 0 failed'"
+all_parts 'two failures each' '8 passed, 12 failed' '2 failed' "echo '1 passed, 2 failed'"
+fresh
+rm "$tree/tests/refuse_memory.sh"
+expect 'a part is gone' '13 passed, 1 failed' \
+    '-- refused memory: no last line N passed, M failed, exit status 127'
+fresh
+stub oracle/fuzz.py "echo '2 passed, 0 failed'" "echo 'and then'"
+expect 'counts that are not the last line' '13 passed, 1 failed' '-- random inputs: no last line N passed, M failed'
+fresh
+stub oracle/fuzz.py "printf 'FAIL %d\n' {1..50}" "printf 'a\\0b\\n'" "echo '2 passed, 50 failed'" 'exit 1'
+expect 'many failures' '15 passed, 50 failed' '    FAIL 40' '    (10 more)'
+
+printf '%d passed, %d failed\n' "$passed" "$wrong"
+((wrong == 0 && passed > 0))

@@ -1,0 +1,64 @@
+"""What stands in wrong-bodies/: edits of a crate's code that its contracts must refuse.
+
+An edit has a line `file: src/lib.rt` and pairs of lines `old: TEXT` and `new: TEXT`, as those of
+crates/*/must-fail have. Each old text stands just once in its file, after the pairs before it.
+"""
+import os
+
+TOP = os.path.dirname(os.path.dirname(os.path.abspath(__file__)))
+FOLDER = os.path.join(TOP, "wrong-bodies")
+
+
+def crates():
+    """The names of the crates, lowest first as crates.txt has them."""
+    with open(os.path.join(TOP, "crates.txt"), encoding="utf-8") as lines:
+        named = [line.split("#")[0].partition(":")[0].split() for line in lines]
+    return [words[0] for words in named if words]
+
+
+def below():
+    """For each crate the crates of this repository that it stands on by its line of crates.txt."""
+    known, found = set(crates()), {}
+    with open(os.path.join(TOP, "crates.txt"), encoding="utf-8") as lines:
+        for line in lines:
+            name, _, used = line.split("#")[0].partition(":")
+            if name.split():
+                found[name.split()[0]] = [word for word in used.split() if word in known]
+    return found
+
+
+def edits(folder):
+    """The paths of the edits of a folder, by name; nothing where there is no such folder."""
+    names = sorted(os.listdir(folder)) if os.path.isdir(folder) else []
+    return [os.path.join(folder, name) for name in names if name.endswith(".edit")]
+
+
+def fault_of(edit, crate):
+    """Why an edit does not fit its crate, or None."""
+    path, old, pairs, texts = None, None, 0, {}
+    with open(edit, encoding="utf-8") as lines:
+        text = lines.read()
+    for line in text.split("\n"):
+        if line.startswith("file: "):
+            path, old = line[len("file: "):].strip(), None
+            if not path.startswith("src/") or os.path.normpath(path) != path:
+                return f"{path} is no file of src/"
+        elif line.startswith("old: "):
+            old = line[len("old: "):]
+        elif line.startswith("new:"):
+            if path is None or old is None:
+                return "a new text stands before its file or its old text"
+            if path not in texts:
+                try:
+                    with open(os.path.join(TOP, "crates", crate, path), encoding="utf-8") as source:
+                        texts[path] = source.read()
+                except OSError:
+                    return f"there is no file {path}"
+            times = texts[path].count(old)
+            if times != 1:
+                return f"an old text stands {times} times in {path}"
+            texts[path] = texts[path].replace(old, line[len("new:"):].removeprefix(" "))
+            old, pairs = None, pairs + 1
+        elif line.strip():
+            return f"a line that is no part of an edit: {line[:60]}"
+    return None if pairs else "it has no pair of an old and a new text"
