@@ -113,6 +113,7 @@ program=$1
 part 'self-test of all.sh' tests/check_all.sh
 part 'self-test of run_cases.sh' tests/check_run_cases.sh
 part 'texts of the wrong bodies' tests/check_wrong_bodies.py
+part 'names of the book' tests/check_book.py
 part 'rt ci' rt ci
 part_of_program 'examples' tests/run_cases.sh "$program" examples
 part_of_program 'tests/cases' tests/run_cases.sh "$program" tests/cases

@@ -18,7 +18,7 @@ wrong=0
 
 # The parts that are one file each, as FILE|NAME, and the names of all.
 stubs=('tests/check_all.sh|self-test of all.sh' 'tests/check_run_cases.sh|self-test of run_cases.sh'
-    'tests/check_wrong_bodies.py|texts of the wrong bodies' 'bin/rt|rt ci'
+    'tests/check_wrong_bodies.py|texts of the wrong bodies' 'tests/check_book.py|names of the book' 'bin/rt|rt ci'
     'tests/refuse_memory.sh|refused memory' 'oracle/fuzz.py|random inputs')
 of_program=('examples' 'tests/cases' 'refused memory' 'random inputs')
 
@@ -46,7 +46,8 @@ fresh() {
     cp "$here/all.sh" "$here/run_cases.sh" "$tree/tests/"
     stub tests/check_all.sh "echo '2 passed, 0 failed'"
     stub tests/check_run_cases.sh "echo '2 passed, 0 failed'"
-    stub tests/check_wrong_bodies.py "echo '2 passed, 0 failed'"
+    stub tests/check_wrong_bodies.py "echo '1 passed, 0 failed'"
+    stub tests/check_book.py "echo '1 passed, 0 failed'"
     stub tests/refuse_memory.sh "[[ \$* == $program ]] && echo well | \$1 && echo '2 passed, 0 failed'"
     stub oracle/fuzz.py "[[ \$* == '$program --seed 1 --count 500' ]] && echo '2 passed, 0 failed'"
     stub_rt "$make_program" "echo '3 passed, 0 failed'"
@@ -152,11 +153,11 @@ all_parts() {
     stub_rt "$make_program" "$@"
     expect "$what" "$last" "${lines[@]}"
 }
-all_parts 'ended early' '2 passed, 6 failed' 'no last line N passed, M failed' 'echo begun'
-all_parts 'killed' '2 passed, 6 failed' 'no last line N passed, M failed, exit status 137' 'echo begun' 'kill -9 $$'
-all_parts 'silent' '2 passed, 6 failed' 'no last line N passed, M failed' ':'
-all_parts 'nothing passed' '2 passed, 6 failed' 'nothing passed' "echo '0 passed, 0 failed'"
-all_parts 'two failures each' '8 passed, 12 failed' '2 failed' "echo '1 passed, 2 failed'"
+all_parts 'ended early' '2 passed, 7 failed' 'no last line N passed, M failed' 'echo begun'
+all_parts 'killed' '2 passed, 7 failed' 'no last line N passed, M failed, exit status 137' 'echo begun' 'kill -9 $$'
+all_parts 'silent' '2 passed, 7 failed' 'no last line N passed, M failed' ':'
+all_parts 'nothing passed' '2 passed, 7 failed' 'nothing passed' "echo '0 passed, 0 failed'"
+all_parts 'two failures each' '9 passed, 14 failed' '2 failed' "echo '1 passed, 2 failed'"
 fresh
 rm "$tree/tests/refuse_memory.sh"
 expect 'a part is gone' '13 passed, 1 failed' \
