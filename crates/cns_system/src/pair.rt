@@ -61,15 +61,22 @@ impl<C: Keeper + Drop, D: Keeper + Drop> Pair<C, D> {
           foresight = D.foresight depot;
         }) result }
     {
+        // The nodes are dropped by name at an exit: the check takes a call of `drop` as one step, and
+        // walks through each field of a value that leaves its scope.
         let clear = match Clearing::open(alloc, clear) {
             Ok(node) => node,
             Err(refused) => return Err(StartFault::Clear(refused.fault)),
         };
         let depot = match Depository::open(alloc, depot, openings) {
             Ok(node) => node,
-            Err(refused) => return Err(StartFault::Depot(refused.fault)),
+            Err(refused) => {
+                drop(clear);
+                return Err(StartFault::Depot(refused.fault));
+            }
         };
         if !agree(&clear, &depot) {
+            drop(clear);
+            drop(depot);
             return Err(StartFault::Disagree);
         }
         Ok(Pair {

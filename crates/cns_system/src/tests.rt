@@ -11,7 +11,9 @@ use cns_netting::NetBook;
 use cns_pool::Ticket;
 use cns_trades::{Trade, TradeId};
 use std::alloc::Global;
+use std::process::Abort;
 use std::test::Fail;
+use story::assert_same;
 
 mod numbered;
 mod start;
@@ -72,102 +74,239 @@ fn is_of_two(plan: &[Planned]) -> bool
     }
 }
 
+// Member 3 has priority.
+fn third_first(alloc: Global) -> Result<Priorities, Fail> {
+    let (member, issue) = (member(3)?, issue()?);
+    let mut priorities = Priorities::new(alloc);
+    priorities.set(member, issue, true)?;
+    Ok(priorities)
+}
+
+// The plan of the book, where nothing was ordered.
+fn plan_of(alloc: Global, book: &NetBook, priorities: &Priorities) -> Result<Plan, Fail>
+    requires { LongsFit book.now.history }
+{
+    let issue = issue()?;
+    let orders = OrderBook::new(alloc);
+    Ok(Plan::of(alloc, issue, book, &orders, priorities, &[])?)
+}
+
 // Member 3 has priority and is planned first, then member 2 in a later group.
 fn two_groups(alloc: Global) -> Result<Plan, Fail>
     ensures { IfOk result (λ plan. planned_sum plan ≤ 10 ^ 18) }
 {
-    let book = two_longs(alloc)?;
-    let mut priorities = Priorities::new(alloc);
-    priorities.set(member(3)?, issue()?, true)?;
-    let orders = OrderBook::new(alloc);
-    let plan = Plan::of(alloc, issue()?, &book, &orders, &priorities, &[])?;
-    if !is_of_two(plan.as_slice()) {
-        Err("the plan")?;
+    let plan = plan_of(alloc, &two_longs(alloc)?, &third_first(alloc)?)?;
+    if is_of_two(plan.as_slice()) {
+        Ok(plan)
+    } else {
+        Err(Fail::from("the plan"))
     }
-    Ok(plan)
 }
+
+// A member's ticket: its first share, and how many shares it asks for.
+type Place = (u64, u64);
+
+// A call of a book of lots, and its answer. A lot goes by its number.
+#[derive(Clone, Copy)]
+enum Step {
+    // Opens a lot of the two groups, and answers its number.
+    Open(u64),
+    Count(u64),
+    // Whether the lot is of the issue.
+    Issue(u64, Result<(), LotFault>),
+    // The lot has the plan of the two groups.
+    Planned(u64),
+    // The member draws a ticket of the lot.
+    Reserve(u64, u16, Result<Place, ReserveFault>),
+    // The tickets of the lot, each with its member.
+    Tickets(u64, &'static [(u16, Place)]),
+    Look(u64, Look),
+    Seal(u64),
+    Sealed(u64, bool),
+    Served(u64, bool),
+    End(u64, Result<(), LotFault>),
+    EndAll,
+}
+
+fn open(rt: &impl Abort, alloc: Global, book: &mut LotBook, wanted: u64) -> Result<(), Fail> {
+    let issue = issue()?;
+    let number = book.open(issue, &two_groups(alloc)?, 0);
+    assert_same(rt, &number, &Ok(wanted));
+    Ok(())
+}
+
+fn see_issue(
+    rt: &impl Abort,
+    book: &LotBook,
+    number: u64,
+    wanted: Result<(), LotFault>,
+) -> Result<(), Fail> {
+    let issue = issue()?;
+    assert_same(rt, &book.issue(number), &wanted.map(|()| issue));
+    Ok(())
+}
+
+fn see_plan(rt: &impl Abort, alloc: Global, book: &LotBook, number: u64) -> Result<(), Fail> {
+    let plan = two_groups(alloc)?;
+    assert_same(rt, &book.planned(number), &Ok(plan.as_slice()));
+    Ok(())
+}
+
+// What a draw has to answer to this member.
+fn wanted_ticket(
+    of: u16,
+    wanted: Result<Place, ReserveFault>,
+) -> Result<Result<Ticket, ReserveFault>, Fail> {
+    match wanted {
+        Ok((start, asked)) => Ok(Ok(ticket(of, start, asked)?)),
+        Err(fault) => Ok(Err(fault)),
+    }
+}
+
+fn reserve(
+    rt: &impl Abort,
+    book: &mut LotBook,
+    number: u64,
+    of: u16,
+    wanted: Result<Place, ReserveFault>,
+) -> Result<(), Fail> {
+    let (member, wanted) = (member(of)?, wanted_ticket(of, wanted)?);
+    assert_same(rt, &book.reserve(number, member), &wanted);
+    Ok(())
+}
+
+fn see_tickets(rt: &impl Abort, tickets: &[Ticket], wanted: &[(u16, Place)]) -> Result<(), Fail> {
+    assert_same(rt, &tickets.len(), &wanted.len());
+    for (drawn, (of, (start, asked))) in tickets.iter().zip(wanted) {
+        assert_same(rt, drawn, &ticket(*of, *start, *asked)?);
+    }
+    Ok(())
+}
+
+fn take_step(rt: &impl Abort, alloc: Global, book: &mut LotBook, step: &Step) -> Result<(), Fail> {
+    match *step {
+        Step::Open(wanted) => open(rt, alloc, book, wanted)?,
+        Step::Count(wanted) => assert_same(rt, &book.len(), &wanted),
+        Step::Issue(number, wanted) => see_issue(rt, book, number, wanted)?,
+        Step::Planned(number) => see_plan(rt, alloc, book, number)?,
+        Step::Reserve(number, of, wanted) => reserve(rt, book, number, of, wanted)?,
+        Step::Tickets(number, wanted) => see_tickets(rt, book.tickets(number)?, wanted)?,
+        Step::Look(number, wanted) => assert_same(rt, &book.look(number), &Ok(wanted)),
+        Step::Seal(number) => assert_same(rt, &book.seal(number), &Ok(())),
+        Step::Sealed(number, wanted) => assert_same(rt, &book.is_sealed(number), &Ok(wanted)),
+        Step::Served(number, wanted) => assert_same(rt, &book.is_served(number), &Ok(wanted)),
+        Step::End(number, wanted) => assert_same(rt, &book.end(number), &wanted),
+        Step::EndAll => book.end_all(),
+    }
+    Ok(())
+}
+
+fn take_steps(
+    rt: &impl Abort,
+    alloc: Global,
+    book: &mut LotBook,
+    steps: &[Step],
+) -> Result<(), Fail> {
+    for step in steps {
+        take_step(rt, alloc, book, step)?;
+    }
+    Ok(())
+}
+
+// The story of a book that has no lots.
+fn tell(rt: &impl Abort, alloc: Global, steps: &[Step]) -> Result<(), Fail> {
+    let mut book = LotBook::new(alloc);
+    assert_same(rt, &book.is_empty(), &true);
+    take_steps(rt, alloc, &mut book, steps)
+}
+
+const IN_TURN: [Step; 9] = [
+    Step::Open(1),
+    Step::Reserve(1, 2, Err(ReserveFault::EarlierGroup)),
+    Step::Reserve(1, 4, Err(ReserveFault::NotLong)),
+    Step::Reserve(1, 3, Ok((0, 30))),
+    Step::Reserve(1, 3, Err(ReserveFault::NotLong)),
+    Step::Served(1, false),
+    Step::Reserve(1, 2, Ok((30, 30))),
+    Step::Served(1, true),
+    Step::Tickets(1, &[(3, (0, 30)), (2, (30, 30))]),
+];
 
 #[test]
 fn tickets_are_drawn_in_turn(rt: HostRuntime) -> Result<(), Fail> {
-    let mut book = LotBook::new(rt.alloc());
-    assert!(rt; book.is_empty());
-    assert_eq!(rt; book.open(issue()?, &two_groups(rt.alloc())?, 0)?, 1);
-    assert_eq!(rt;
-        book.reserve(1, member(2)?),
-        Err(ReserveFault::EarlierGroup)
-    );
-    assert_eq!(rt; book.reserve(1, member(4)?), Err(ReserveFault::NotLong));
-    assert_eq!(rt; book.reserve(1, member(3)?), Ok(ticket(3, 0, 30)?));
-    assert_eq!(rt; book.reserve(1, member(3)?), Err(ReserveFault::NotLong));
-    assert_eq!(rt; book.is_served(1), Ok(false));
-    assert_eq!(rt; book.reserve(1, member(2)?), Ok(ticket(2, 30, 30)?));
-    assert_eq!(rt; book.is_served(1), Ok(true));
-    assert_eq!(rt;
-        book.tickets(1)?,
-        [ticket(3, 0, 30)?, ticket(2, 30, 30)?].as_slice()
-    );
-    Ok(())
+    tell(&rt, rt.alloc(), &IN_TURN)
+}
+
+const SEALED: [Step; 9] = [
+    Step::Look(
+        1,
+        Look {
+            poured: 45,
+            asked: 0,
+            sealed: false,
+        },
+    ),
+    Step::Sealed(1, false),
+    Step::Seal(1),
+    Step::Seal(1),
+    Step::Look(
+        1,
+        Look {
+            poured: 45,
+            asked: 0,
+            sealed: true,
+        },
+    ),
+    Step::Sealed(1, true),
+    Step::Served(1, true),
+    Step::Reserve(1, 2, Err(ReserveFault::EarlierGroup)),
+    Step::Reserve(1, 3, Err(ReserveFault::Sealed)),
+];
+
+// A book with one lot: 40 shares were poured into it as it was opened, and 5 after that.
+fn poured(alloc: Global) -> Result<LotBook, Fail> {
+    let (issue, plan) = (issue()?, two_groups(alloc)?);
+    let mut book = LotBook::new(alloc);
+    book.open(issue, &plan, 40)?;
+    book.pour(1, 5);
+    Ok(book)
 }
 
 #[test]
 fn a_sealed_lot_draws_no_ticket(rt: HostRuntime) -> Result<(), Fail> {
-    let mut book = LotBook::new(rt.alloc());
-    book.open(issue()?, &two_groups(rt.alloc())?, 40)?;
-    book.pour(1, 5);
-    assert_eq!(rt;
-        book.look(1),
-        Ok(Look {
-            poured: 45,
-            asked: 0,
-            sealed: false
-        })
-    );
-    assert_eq!(rt; book.is_sealed(1), Ok(false));
-    assert_eq!(rt; book.seal(1), Ok(()));
-    assert_eq!(rt; book.seal(1), Ok(()));
-    assert_eq!(rt;
-        book.look(1),
-        Ok(Look {
-            poured: 45,
-            asked: 0,
-            sealed: true
-        })
-    );
-    assert_eq!(rt; book.is_sealed(1), Ok(true));
-    assert_eq!(rt; book.is_served(1), Ok(true));
-    assert_eq!(rt;
-        book.reserve(1, member(2)?),
-        Err(ReserveFault::EarlierGroup)
-    );
-    assert_eq!(rt; book.reserve(1, member(3)?), Err(ReserveFault::Sealed));
-    Ok(())
+    let mut book = poured(rt.alloc())?;
+    take_steps(&rt, rt.alloc(), &mut book, &SEALED)
 }
+
+const NOT_GIVEN: [Step; 9] = [
+    Step::Open(1),
+    Step::Count(1),
+    Step::Issue(0, Err(LotFault::NoLot)),
+    Step::Reserve(0, 3, Err(ReserveFault::NoLot)),
+    Step::End(0, Err(LotFault::NoLot)),
+    Step::Issue(2, Err(LotFault::NoLot)),
+    Step::Reserve(2, 3, Err(ReserveFault::NoLot)),
+    Step::End(2, Err(LotFault::NoLot)),
+    Step::Issue(1, Ok(())),
+];
 
 #[test]
 fn a_number_that_was_not_given_has_no_lot(rt: HostRuntime) -> Result<(), Fail> {
-    let mut book = LotBook::new(rt.alloc());
-    book.open(issue()?, &two_groups(rt.alloc())?, 0)?;
-    assert_eq!(rt; book.len(), 1);
-    for number in [0, 2] {
-        assert_eq!(rt; book.issue(number), Err(LotFault::NoLot));
-        assert_eq!(rt; book.reserve(number, member(3)?), Err(ReserveFault::NoLot));
-        assert_eq!(rt; book.end(number), Err(LotFault::NoLot));
-    }
-    assert_eq!(rt; book.issue(1), Ok(issue()?));
-    Ok(())
+    tell(&rt, rt.alloc(), &NOT_GIVEN)
 }
+
+const ENDED: [Step; 8] = [
+    Step::Open(1),
+    Step::Open(2),
+    Step::End(1, Ok(())),
+    Step::Issue(1, Err(LotFault::StaleLot)),
+    Step::Planned(2),
+    Step::EndAll,
+    Step::Reserve(2, 3, Err(ReserveFault::StaleLot)),
+    Step::Open(3),
+];
 
 #[test]
 fn a_lot_that_has_ended_is_stale(rt: HostRuntime) -> Result<(), Fail> {
-    let plan = two_groups(rt.alloc())?;
-    let mut book = LotBook::new(rt.alloc());
-    book.open(issue()?, &plan, 0)?;
-    book.open(issue()?, &plan, 0)?;
-    assert_eq!(rt; book.end(1), Ok(()));
-    assert_eq!(rt; book.issue(1), Err(LotFault::StaleLot));
-    assert_eq!(rt; book.planned(2)?, plan.as_slice());
-    book.end_all();
-    assert_eq!(rt; book.reserve(2, member(3)?), Err(ReserveFault::StaleLot));
-    assert_eq!(rt; book.open(issue()?, &plan, 0)?, 3);
-    Ok(())
+    tell(&rt, rt.alloc(), &ENDED)
 }

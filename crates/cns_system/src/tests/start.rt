@@ -51,12 +51,13 @@ fn confirm(moved: u64) -> Result<ClearRecord, Fail> {
 }
 
 fn drawn(alloc: Global) -> Result<DrawnList, Fail> {
-    let mut list = Vec::new(alloc);
-    list.push(Drawn {
+    let ticket = Drawn {
         member: member(2)?,
         start: shares(0)?,
         asked: asked(30)?,
-    })?;
+    };
+    let mut list = Vec::new(alloc);
+    list.push(ticket)?;
     Ok(DrawnList::from_vec(list).ok_or("a list of tickets")?)
 }
 
@@ -161,7 +162,10 @@ fn fault_of(alloc: Global, (past, depot_past): Journals) -> Result<StartFault, F
     let depot = depot_keeper_of(alloc, depot_past)?;
     match System::open(alloc, clear, depot, openings(alloc, 20)?) {
         Err(fault) => Ok(fault),
-        Ok(_) => Err(Fail::from("the journals were opened")),
+        Ok(both) => {
+            drop(both);
+            Err(Fail::from("the journals were opened"))
+        }
     }
 }
 

@@ -318,7 +318,10 @@ pub(super) fn tell_of(
     steps: &[Step],
 ) -> Result<(), Fail> {
     let mut both = both(alloc, clear, depot, count)?;
-    take_steps(rt, &mut both, steps)
+    let told = take_steps(rt, &mut both, steps);
+    // The check takes a call of `drop` as one step, and walks through each field of what leaves its scope.
+    drop(both);
+    told
 }
 
 // The story of nodes with no records, where member 1 has this many shares.

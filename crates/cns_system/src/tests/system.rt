@@ -256,12 +256,16 @@ fn fresh(alloc: Global) -> Result<Both, Fail> {
 
 fn tell_at_once(rt: &impl Abort, alloc: Global) -> Result<(), Fail> {
     let mut both = fresh(alloc)?;
-    run_list(rt, alloc, &mut both)
+    let told = run_list(rt, alloc, &mut both);
+    drop(both);
+    told
 }
 
 fn tell_one_by_one(rt: &impl Abort, alloc: Global) -> Result<(), Fail> {
     let mut both = fresh(alloc)?;
-    step_list(rt, &mut both)
+    let told = step_list(rt, &mut both);
+    drop(both);
+    told
 }
 
 #[test]
