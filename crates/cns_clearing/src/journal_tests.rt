@@ -1,6 +1,6 @@
 use crate::lot_tests::{DELIVERIES, LATE, SECOND, THIRD};
 use crate::test_support::{
-    Draw, SALE, Sale, Start, TO_SECOND, TO_THIRD, asked, assert_same, cycle, issue, member, reply,
+    Draw, SALE, Sale, Step, TO_SECOND, TO_THIRD, asked, assert_same, cycle, issue, member, reply,
     shares, tell_of, trade,
 };
 use crate::tests::OPENED;
@@ -92,74 +92,40 @@ fn add_past(alloc: Global, keeper: &mut ListKeeper, past: &[Past]) -> Result<(),
     Ok(())
 }
 
-// A keeper with the payloads of these records.
-fn keeper_of(alloc: Global, past: &[Past]) -> Result<ListKeeper, Fail> {
+// A keeper with the payloads of these records, and of a last one.
+fn keeper_of(alloc: Global, past: &[Past], last: Past) -> Result<ListKeeper, Fail> {
     let mut keeper = ListKeeper::new(alloc);
     add_past(alloc, &mut keeper, past)?;
+    add_past(alloc, &mut keeper, &[last])?;
     Ok(keeper)
+}
+
+// The place of the bad record that was found.
+fn place_of(fault: ReplayFault) -> Result<u64, Fail> {
+    match fault {
+        ReplayFault::BadJournal { place } => Ok(place),
+        _ => Err(Fail::from(fault)),
+    }
 }
 
 // The place that a journal's opening finds to be bad.
 fn bad_place(alloc: Global, keeper: ListKeeper) -> Result<u64, Fail> {
     match Clearing::open(alloc, keeper) {
-        Err(refused) => match refused.fault {
-            ReplayFault::BadJournal { place } => Ok(place),
-            fault => Err(Fail::from(fault)),
-        },
-        Ok(_) => Err(Fail::from("a bad journal was opened")),
+        Err(refused) => {
+            let fault = refused.fault;
+            drop(refused);
+            place_of(fault)
+        }
+        Ok(node) => {
+            drop(node);
+            Err(Fail::from("a bad journal was opened"))
+        }
     }
-}
-
-fn assert_bad(rt: &impl Abort, alloc: Global, past: &[Past], place: u64) -> Result<(), Fail> {
-    let keeper = keeper_of(alloc, past)?;
-    assert_same(rt, &bad_place(alloc, keeper)?, &place);
-    Ok(())
 }
 
 const ACCEPT: Past = Past::Accept(SALE);
 
 const RUN: Past = Past::Cycle(2);
-
-// A journal that is bad, and the place of the bad record.
-type Bad = (&'static [Past], u64);
-
-const BAD_JOURNALS: [Bad; 4] = [
-    (&[Past::Confirm(1, 20)], 1),
-    (&[ACCEPT, ACCEPT], 2),
-    (&[ACCEPT, RUN, RUN], 3),
-    (&[ACCEPT, RUN, Past::Confirm(1, 61)], 3),
-];
-
-#[test]
-fn journals_that_are_bad(rt: HostRuntime) -> Result<(), Fail> {
-    for (past, place) in &BAD_JOURNALS {
-        assert_bad(&rt, rt.alloc(), past, *place)?;
-    }
-    Ok(())
-}
-
-#[test]
-fn a_record_of_an_unknown_kind(rt: HostRuntime) -> Result<(), Fail> {
-    let mut keeper = ListKeeper::new(rt.alloc());
-    keeper.commit(&[1, 9])?;
-    assert_same(&rt, &bad_place(rt.alloc(), keeper)?, &1);
-    Ok(())
-}
-
-// A record of each kind but an allocation.
-const EACH: [Past; 5] = [
-    ACCEPT,
-    Past::Exempt,
-    Past::Priority,
-    RUN,
-    Past::Confirm(1, 20),
-];
-
-#[test]
-fn a_journal_that_opens(rt: HostRuntime) -> Result<(), Fail> {
-    let keeper = keeper_of(rt.alloc(), &EACH)?;
-    tell_of(&rt, rt.alloc(), keeper, Start::Nothing, &OPENED)
-}
 
 // The six records of a node whose covers brought 40 shares, to members 2 and 3.
 const GROUPS: [Past; 6] = [
@@ -170,19 +136,6 @@ const GROUPS: [Past; 6] = [
     Past::Confirm(1, 30),
     Past::Confirm(2, 10),
 ];
-
-// A keeper with those and this one.
-fn keeper_of_groups(alloc: Global, last: Past) -> Result<ListKeeper, Fail> {
-    let mut keeper = keeper_of(alloc, &GROUPS)?;
-    add_past(alloc, &mut keeper, &[last])?;
-    Ok(keeper)
-}
-
-#[test]
-fn an_allocation_that_opens(rt: HostRuntime) -> Result<(), Fail> {
-    let keeper = keeper_of_groups(rt.alloc(), Past::Allocate(6, 40, &[SECOND, THIRD]))?;
-    tell_of(&rt, rt.alloc(), keeper, Start::Nothing, &DELIVERIES)
-}
 
 const TEN: Draw = Draw {
     member: 2,
@@ -208,27 +161,71 @@ const NOT_LONG: Draw = Draw {
     asked: 1,
 };
 
-// Two tickets that leave a gap, two of a member, one of too much, and one of a member that is not long;
-// a pour of too much, and a lot that was opened after its last pour.
-const BAD_ALLOCATIONS: [Past; 6] = [
-    Past::Allocate(6, 40, &[SECOND, LATE]),
-    Past::Allocate(6, 40, &[TEN, TEN_MORE]),
-    Past::Allocate(6, 40, &[TOO_MUCH]),
-    Past::Allocate(6, 40, &[SECOND, NOT_LONG]),
-    Past::Allocate(6, 41, &[SECOND]),
-    Past::Allocate(7, 40, &[SECOND]),
+// A journal whose last record is bad: the records before it, that record, and its place.
+type Bad = (&'static [Past], Past, u64);
+
+static BAD_JOURNALS: [Bad; 10] = [
+    (&[], Past::Confirm(1, 20), 1),
+    (&[ACCEPT], ACCEPT, 2),
+    (&[ACCEPT, RUN], RUN, 3),
+    (&[ACCEPT, RUN], Past::Confirm(1, 61), 3),
+    // Two tickets that leave a gap, two of a member, one of too much, and one of a member that is
+    // not long.
+    (&GROUPS, Past::Allocate(6, 40, &[SECOND, LATE]), 7),
+    (&GROUPS, Past::Allocate(6, 40, &[TEN, TEN_MORE]), 7),
+    (&GROUPS, Past::Allocate(6, 40, &[TOO_MUCH]), 7),
+    (&GROUPS, Past::Allocate(6, 40, &[SECOND, NOT_LONG]), 7),
+    // A pour of too much, and a lot that was opened after its last pour.
+    (&GROUPS, Past::Allocate(6, 41, &[SECOND]), 7),
+    (&GROUPS, Past::Allocate(7, 40, &[SECOND]), 7),
 ];
 
-fn assert_bad_last(rt: &impl Abort, alloc: Global, last: Past) -> Result<(), Fail> {
-    let keeper = keeper_of_groups(alloc, last)?;
-    assert_same(rt, &bad_place(alloc, keeper)?, &7);
+fn assert_bad(rt: &impl Abort, alloc: Global, bad: &Bad) -> Result<(), Fail> {
+    let (past, last, place) = *bad;
+    let keeper = keeper_of(alloc, past, last)?;
+    assert_same(rt, &bad_place(alloc, keeper)?, &place);
     Ok(())
 }
 
 #[test]
-fn bad_allocations(rt: HostRuntime) -> Result<(), Fail> {
-    for last in &BAD_ALLOCATIONS {
-        assert_bad_last(&rt, rt.alloc(), *last)?;
+fn journals_that_are_bad(rt: HostRuntime) -> Result<(), Fail> {
+    for bad in &BAD_JOURNALS {
+        assert_bad(&rt, rt.alloc(), bad)?;
     }
     Ok(())
+}
+
+#[test]
+fn a_record_of_an_unknown_kind(rt: HostRuntime) -> Result<(), Fail> {
+    let mut keeper = ListKeeper::new(rt.alloc());
+    keeper.commit(&[1, 9])?;
+    assert_same(&rt, &bad_place(rt.alloc(), keeper)?, &1);
+    Ok(())
+}
+
+// The story of a node whose journal has these records.
+fn tell_journal(
+    rt: &impl Abort,
+    alloc: Global,
+    past: &[Past],
+    last: Past,
+    steps: &[Step],
+) -> Result<(), Fail> {
+    let keeper = keeper_of(alloc, past, last)?;
+    tell_of(rt, alloc, keeper, &[], steps)
+}
+
+// With the last record of the journal, one of each kind but an allocation.
+static EACH: [Past; 4] = [ACCEPT, Past::Exempt, Past::Priority, RUN];
+
+#[test]
+fn a_journal_that_opens(rt: HostRuntime) -> Result<(), Fail> {
+    tell_journal(&rt, rt.alloc(), &EACH, Past::Confirm(1, 20), &OPENED)
+}
+
+const SERVES_BOTH: Past = Past::Allocate(6, 40, &[SECOND, THIRD]);
+
+#[test]
+fn an_allocation_that_opens(rt: HostRuntime) -> Result<(), Fail> {
+    tell_journal(&rt, rt.alloc(), &GROUPS, SERVES_BOTH, &DELIVERIES)
 }

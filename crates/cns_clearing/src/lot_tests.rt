@@ -1,5 +1,6 @@
 use crate::test_support::{
-    Call, Draw, FIRST_REPLY, Look, LotCall, OPEN, SECOND_REPLY, Start, Step, tell,
+    COVERED, Call, Draw, FIRST_REPLY, GROUPED, LENT, LOST, Look, LotCall, OPEN, SECOND_REPLY, Step,
+    tell,
 };
 use crate::{CycleFault, LotCloseFault, LotOpenFault, LotPourFault, OrderFault};
 use cns_ids::CycleKind;
@@ -10,7 +11,7 @@ const ALL_FREE: Step = Step::See(Look::Shares(40, 0, 0));
 
 const ALL_LENT: Step = Step::See(Look::Shares(0, 40, 0));
 
-const OPENS: [Step; 7] = [
+static OPENS: [Step; 7] = [
     ALL_FREE,
     OPEN,
     ALL_LENT,
@@ -22,17 +23,17 @@ const OPENS: [Step; 7] = [
 
 #[test]
 fn a_lot_that_opens(rt: HostRuntime) -> Result<(), Fail> {
-    tell(&rt, rt.alloc(), Start::Covered, &OPENS)
+    tell(&rt, rt.alloc(), &COVERED, &OPENS)
 }
 
-const IS_OPEN: [Step; 2] = [
+static IS_OPEN: [Step; 2] = [
     Step::Lot(LotCall::Holds(6, 6, 40)),
     Step::See(Look::Pool(0, 40, 0)),
 ];
 
 #[test]
 fn a_lot_that_is_open(rt: HostRuntime) -> Result<(), Fail> {
-    tell(&rt, rt.alloc(), Start::Lent, &IS_OPEN)
+    tell(&rt, rt.alloc(), &LENT, &IS_OPEN)
 }
 
 pub(crate) const SECOND: Draw = Draw {
@@ -68,7 +69,7 @@ const SECOND_AT_LAST: Draw = Draw {
 
 const BAD: Result<(u64, u64, usize), LotCloseFault> = Err(LotCloseFault::BadTickets);
 
-const UNSERVED: [Step; 6] = [
+static UNSERVED: [Step; 6] = [
     Step::Lot(LotCall::Close(&[THIRD_AT_FIRST, SECOND_AT_LAST], false, BAD)),
     ALL_LENT,
     Step::Lot(LotCall::Close(&[SECOND], false, BAD)),
@@ -79,21 +80,21 @@ const UNSERVED: [Step; 6] = [
 
 #[test]
 fn tickets_that_do_not_serve(rt: HostRuntime) -> Result<(), Fail> {
-    tell(&rt, rt.alloc(), Start::Lent, &UNSERVED)
+    tell(&rt, rt.alloc(), &LENT, &UNSERVED)
 }
 
-const FIRST_DELIVERY: Step = Step::See(Look::Order(3, Ok((MoveKind::Delivery, 2, 30))));
+const FIRST_DELIVERY: Step = Step::See(Look::Order(3, MoveKind::Delivery, 2, 30));
 
-const SECOND_DELIVERY: Step = Step::See(Look::Order(4, Ok((MoveKind::Delivery, 3, 10))));
+const SECOND_DELIVERY: Step = Step::See(Look::Order(4, MoveKind::Delivery, 3, 10));
 
-const NO_OTHER: Step = Step::See(Look::Order(5, Err(OrderFault::UnknownMove)));
+const NO_OTHER: Step = Step::See(Look::NoOrder(5, OrderFault::UnknownMove));
 
 const ALL_OUT: Step = Step::See(Look::Shares(0, 0, 40));
 
 // The orders of a lot that served both members.
-pub(crate) const DELIVERIES: [Step; 4] = [FIRST_DELIVERY, SECOND_DELIVERY, NO_OTHER, ALL_OUT];
+pub(crate) static DELIVERIES: [Step; 4] = [FIRST_DELIVERY, SECOND_DELIVERY, NO_OTHER, ALL_OUT];
 
-const SERVES: [Step; 6] = [
+static SERVES: [Step; 6] = [
     Step::Lot(LotCall::Close(&[SECOND, THIRD], false, Ok((40, 3, 2)))),
     Step::Lot(LotCall::NoLot),
     FIRST_DELIVERY,
@@ -104,10 +105,10 @@ const SERVES: [Step; 6] = [
 
 #[test]
 fn a_lot_that_serves_all(rt: HostRuntime) -> Result<(), Fail> {
-    tell(&rt, rt.alloc(), Start::Lent, &SERVES)
+    tell(&rt, rt.alloc(), &LENT, &SERVES)
 }
 
-const SEALS: [Step; 3] = [
+static SEALS: [Step; 3] = [
     Step::Lot(LotCall::Close(&[SECOND], true, Ok((30, 3, 1)))),
     Step::Lot(LotCall::NoLot),
     Step::See(Look::Shares(10, 0, 30)),
@@ -115,10 +116,10 @@ const SEALS: [Step; 3] = [
 
 #[test]
 fn a_lot_that_was_sealed(rt: HostRuntime) -> Result<(), Fail> {
-    tell(&rt, rt.alloc(), Start::Lent, &SEALS)
+    tell(&rt, rt.alloc(), &LENT, &SEALS)
 }
 
-const POURS: [Step; 9] = [
+static POURS: [Step; 9] = [
     OPEN,
     Step::See(Look::Shares(0, 0, 0)),
     FIRST_REPLY,
@@ -132,21 +133,21 @@ const POURS: [Step; 9] = [
 
 #[test]
 fn a_lot_that_is_poured_into(rt: HostRuntime) -> Result<(), Fail> {
-    tell(&rt, rt.alloc(), Start::Grouped, &POURS)
+    tell(&rt, rt.alloc(), &GROUPED, &POURS)
 }
 
 const NO_POUR: Step = Step::Lot(LotCall::Pour(Err(LotPourFault::NoLot)));
 
 const NO_CLOSE: Step = Step::Lot(LotCall::Close(&[SECOND], true, Err(LotCloseFault::NoLot)));
 
-const NO_LOT: [Step; 3] = [NO_POUR, NO_CLOSE, ALL_FREE];
+static NO_LOT: [Step; 3] = [NO_POUR, NO_CLOSE, ALL_FREE];
 
 #[test]
 fn a_node_without_a_lot(rt: HostRuntime) -> Result<(), Fail> {
-    tell(&rt, rt.alloc(), Start::Covered, &NO_LOT)
+    tell(&rt, rt.alloc(), &COVERED, &NO_LOT)
 }
 
-const LOTS_DOWN: [Step; 3] = [
+static LOTS_DOWN: [Step; 3] = [
     Step::Lot(LotCall::NotOpened(LotOpenFault::Down)),
     Step::Lot(LotCall::Pour(Err(LotPourFault::Down))),
     Step::Lot(LotCall::Close(&[], true, Err(LotCloseFault::Down))),
@@ -154,7 +155,7 @@ const LOTS_DOWN: [Step; 3] = [
 
 #[test]
 fn lots_of_a_node_that_is_down(rt: HostRuntime) -> Result<(), Fail> {
-    tell(&rt, rt.alloc(), Start::Lost, &LOTS_DOWN)
+    tell(&rt, rt.alloc(), &LOST, &LOTS_DOWN)
 }
 
 // A close that the device fails leaves the lot open, until a restart ends it.
@@ -164,7 +165,7 @@ const CLOSE_FAILS: Step = Step::Lot(LotCall::Close(
     Err(LotCloseFault::Device),
 ));
 
-const CLOSE_STANDS: [Step; 10] = [
+static CLOSE_STANDS: [Step; 10] = [
     Step::Do(Call::Plan(true)),
     CLOSE_FAILS,
     ALL_LENT,
@@ -179,24 +180,24 @@ const CLOSE_STANDS: [Step; 10] = [
 
 #[test]
 fn a_failed_close_stands(rt: HostRuntime) -> Result<(), Fail> {
-    tell(&rt, rt.alloc(), Start::Lent, &CLOSE_STANDS)
+    tell(&rt, rt.alloc(), &LENT, &CLOSE_STANDS)
 }
 
-const CLOSE_IS_LOST: [Step; 6] = [
+static CLOSE_IS_LOST: [Step; 6] = [
     Step::Do(Call::Plan(false)),
     CLOSE_FAILS,
     ALL_LENT,
     Step::Do(Call::Restart(6, false)),
-    Step::See(Look::Order(3, Err(OrderFault::UnknownMove))),
+    Step::See(Look::NoOrder(3, OrderFault::UnknownMove)),
     ALL_FREE,
 ];
 
 #[test]
 fn a_failed_close_does_not_stand(rt: HostRuntime) -> Result<(), Fail> {
-    tell(&rt, rt.alloc(), Start::Lent, &CLOSE_IS_LOST)
+    tell(&rt, rt.alloc(), &LENT, &CLOSE_IS_LOST)
 }
 
-const RESTART_ENDS: [Step; 4] = [
+static RESTART_ENDS: [Step; 4] = [
     Step::Do(Call::Restart(6, false)),
     ALL_FREE,
     NO_POUR,
@@ -205,5 +206,5 @@ const RESTART_ENDS: [Step; 4] = [
 
 #[test]
 fn a_restart_ends_the_lot(rt: HostRuntime) -> Result<(), Fail> {
-    tell(&rt, rt.alloc(), Start::Lent, &RESTART_ENDS)
+    tell(&rt, rt.alloc(), &LENT, &RESTART_ENDS)
 }

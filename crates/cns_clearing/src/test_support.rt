@@ -80,7 +80,9 @@ pub(crate) enum Look {
     // The shares that are free, lent and out.
     Shares(u128, u128, u128),
     // The order of this number: its kind, its member, and what it asks for.
-    Order(u64, Result<(MoveKind, u16, u64), OrderFault>),
+    Order(u64, MoveKind, u16, u64),
+    // Why the order of this number is not shown.
+    NoOrder(u64, OrderFault),
     // The shares that are free, lent and out in the one pool.
     Pool(u128, u128, u128),
     NoPool,
@@ -149,16 +151,6 @@ pub(crate) fn reply(of: u64, moved: u64) -> Result<Reply, Fail> {
     })
 }
 
-fn order(of: u64, kind: MoveKind, by: u16, shares: u64) -> Result<Order, Fail> {
-    Ok(Order {
-        number: number(of)?,
-        kind,
-        member: member(by)?,
-        issue: issue()?,
-        asked: asked(shares)?,
-    })
-}
-
 // The number of a first order, 0 where there is none.
 fn first(number: Option<MoveNo>) -> u64 {
     match number {
@@ -179,8 +171,26 @@ fn tickets(alloc: Global, draws: &[Draw]) -> Result<Vec<Ticket>, Fail> {
     Ok(tickets)
 }
 
+// The issue, and the members that trade in it.
+#[derive(Clone, Copy)]
+struct Cast {
+    issue: Cusip,
+    first: MemberNo,
+    second: MemberNo,
+    third: MemberNo,
+}
+
+fn fixed_cast() -> Result<Cast, Fail> {
+    Ok(Cast {
+        issue: issue()?,
+        first: member(1)?,
+        second: member(2)?,
+        third: member(3)?,
+    })
+}
+
 pub(crate) fn assert_same<T: PartialEq + fmt::Debug>(rt: &impl Abort, answer: &T, wanted: &T) {
-    assert_eq!(rt; answer, wanted);
+    assert!(rt; answer == wanted, "{answer:?} and not {wanted:?}");
 }
 
 // ---- The steps that change a node.
@@ -201,22 +211,24 @@ fn take_trade(
 fn exempt(
     rt: &impl Abort,
     node: &mut Node,
+    cast: &Cast,
     count: u64,
     wanted: Result<(), SettingFault>,
 ) -> Result<(), Fail> {
-    let (member, issue, shares) = (member(1)?, issue()?, shares(count)?);
-    assert_same(rt, &node.exempt(member, issue, shares), &wanted);
+    let shares = shares(count)?;
+    assert_same(rt, &node.exempt(cast.first, cast.issue, shares), &wanted);
     Ok(())
 }
 
 fn prioritize(
     rt: &impl Abort,
     node: &mut Node,
+    cast: &Cast,
     of: u16,
     wanted: Result<(), SettingFault>,
 ) -> Result<(), Fail> {
-    let (member, issue) = (member(of)?, issue()?);
-    assert_same(rt, &node.priority(member, issue, true), &wanted);
+    let member = member(of)?;
+    assert_same(rt, &node.priority(member, cast.issue, true), &wanted);
     Ok(())
 }
 
@@ -237,9 +249,11 @@ fn cycled(node: &mut Node, id: CycleId) -> Result<Ordered, CycleFault> {
 fn run_cycle(
     rt: &impl Abort,
     node: &mut Node,
-    id: CycleId,
+    day: u8,
+    kind: CycleKind,
     wanted: Result<Ordered, CycleFault>,
 ) -> Result<(), Fail> {
+    let id = cycle(day, kind)?;
     assert_same(rt, &cycled(node, id), &wanted);
     Ok(())
 }
@@ -247,10 +261,12 @@ fn run_cycle(
 fn take_reply(
     rt: &impl Abort,
     node: &mut Node,
-    reply: &Reply,
+    of: u64,
+    moved: u64,
     wanted: Result<Taken, ReplyFault>,
 ) -> Result<(), Fail> {
-    assert_same(rt, &node.take_reply(reply), &wanted);
+    let reply = reply(of, moved)?;
+    assert_same(rt, &node.take_reply(&reply), &wanted);
     Ok(())
 }
 
@@ -265,13 +281,13 @@ fn restart(rt: &impl Abort, node: &mut Node, records: u64, kept: bool) -> Result
     Ok(())
 }
 
-fn take_call(rt: &impl Abort, node: &mut Node, call: &Call) -> Result<(), Fail> {
+fn take_call(rt: &impl Abort, node: &mut Node, cast: &Cast, call: &Call) -> Result<(), Fail> {
     match *call {
         Call::Trade(sale, wanted) => take_trade(rt, node, &sale, wanted),
-        Call::Exempt(count, wanted) => exempt(rt, node, count, wanted),
-        Call::Priority(of, wanted) => prioritize(rt, node, of, wanted),
-        Call::Cycle(day, kind, wanted) => run_cycle(rt, node, cycle(day, kind)?, wanted),
-        Call::Reply(of, moved, wanted) => take_reply(rt, node, &reply(of, moved)?, wanted),
+        Call::Exempt(count, wanted) => exempt(rt, node, cast, count, wanted),
+        Call::Priority(of, wanted) => prioritize(rt, node, cast, of, wanted),
+        Call::Cycle(day, kind, wanted) => run_cycle(rt, node, day, kind, wanted),
+        Call::Reply(of, moved, wanted) => take_reply(rt, node, of, moved, wanted),
         Call::Plan(stands) => plan(node, stands),
         Call::Restart(records, kept) => restart(rt, node, records, kept),
     }
@@ -280,29 +296,42 @@ fn take_call(rt: &impl Abort, node: &mut Node, call: &Call) -> Result<(), Fail> 
 // ---- The steps of lots.
 
 // Opens a lot with the plan of members 2, which was long before, and 3.
-fn open_lot(rt: &impl Abort, node: &mut Node) -> Result<(), Fail> {
-    let plan = node.lot_open(issue()?)?;
-    let wanted = [planned(2, Group::WasLong)?, planned(3, Group::Other)?];
+fn open_lot(rt: &impl Abort, node: &mut Node, cast: &Cast) -> Result<(), Fail> {
+    let wanted = [
+        planned(cast.second, Group::WasLong),
+        planned(cast.third, Group::Other),
+    ];
+    let plan = node.lot_open(cast.issue)?;
     assert_same(rt, &plan.as_slice(), &wanted.as_slice());
+    drop(plan);
     Ok(())
 }
 
-fn planned(of: u16, group: Group) -> Result<Planned, Fail> {
-    Ok(Planned {
-        member: member(of)?,
+fn planned(member: MemberNo, group: Group) -> Planned {
+    Planned {
+        member,
         asked: 30,
         group,
-    })
+    }
 }
 
-fn open_no_lot(rt: &impl Abort, node: &mut Node, fault: LotOpenFault) -> Result<(), Fail> {
-    assert_same(rt, &node.lot_open(issue()?).err(), &Some(fault));
+fn open_no_lot(
+    rt: &impl Abort,
+    node: &mut Node,
+    cast: &Cast,
+    fault: LotOpenFault,
+) -> Result<(), Fail> {
+    assert_same(rt, &node.lot_open(cast.issue).err(), &Some(fault));
     Ok(())
 }
 
-fn pour(rt: &impl Abort, node: &mut Node, wanted: Result<u64, LotPourFault>) -> Result<(), Fail> {
-    let issue = issue()?;
-    assert_same(rt, &node.lot_pour(issue), &wanted);
+fn pour(
+    rt: &impl Abort,
+    node: &mut Node,
+    cast: &Cast,
+    wanted: Result<u64, LotPourFault>,
+) -> Result<(), Fail> {
+    assert_same(rt, &node.lot_pour(cast.issue), &wanted);
     Ok(())
 }
 
@@ -329,31 +358,36 @@ fn close(
     rt: &impl Abort,
     alloc: Global,
     node: &mut Node,
+    cast: &Cast,
     draws: &[Draw],
     sealed: bool,
     wanted: Result<Ordered, LotCloseFault>,
 ) -> Result<(), Fail> {
     let tickets = tickets(alloc, draws)?;
-    assert_same(
-        rt,
-        &closed(node, issue()?, tickets.as_slice(), sealed),
-        &wanted,
-    );
+    let answer = closed(node, cast.issue, tickets.as_slice(), sealed);
+    drop(tickets);
+    assert_same(rt, &answer, &wanted);
     Ok(())
 }
 
-fn see_lot(rt: &impl Abort, node: &Node, opened: u64, upto: u64, poured: u64) -> Result<(), Fail> {
-    let lot = node.lot(issue()?).ok_or("a lot")?;
-    assert_same(
-        rt,
-        &(lot.opened, lot.upto, lot.poured.count()),
-        &(opened, upto, poured),
-    );
+fn see_lot(
+    rt: &impl Abort,
+    node: &Node,
+    cast: &Cast,
+    opened: u64,
+    upto: u64,
+    poured: u64,
+) -> Result<(), Fail> {
+    let Some(lot) = node.lot(cast.issue) else {
+        return Err(Fail::from("a lot"));
+    };
+    let answer = (lot.opened, lot.upto, lot.poured.count());
+    assert_same(rt, &answer, &(opened, upto, poured));
     Ok(())
 }
 
-fn see_no_lot(rt: &impl Abort, node: &Node) -> Result<(), Fail> {
-    assert_same(rt, &node.lot(issue()?).is_some(), &false);
+fn see_no_lot(rt: &impl Abort, node: &Node, cast: &Cast) -> Result<(), Fail> {
+    assert_same(rt, &node.lot(cast.issue).is_some(), &false);
     Ok(())
 }
 
@@ -361,32 +395,44 @@ fn take_lot_call(
     rt: &impl Abort,
     alloc: Global,
     node: &mut Node,
+    cast: &Cast,
     call: &LotCall,
 ) -> Result<(), Fail> {
     match *call {
-        LotCall::Open => open_lot(rt, node),
-        LotCall::NotOpened(fault) => open_no_lot(rt, node, fault),
-        LotCall::Pour(wanted) => pour(rt, node, wanted),
-        LotCall::Close(draws, sealed, wanted) => close(rt, alloc, node, draws, sealed, wanted),
-        LotCall::Holds(opened, upto, poured) => see_lot(rt, node, opened, upto, poured),
-        LotCall::NoLot => see_no_lot(rt, node),
+        LotCall::Open => open_lot(rt, node, cast),
+        LotCall::NotOpened(fault) => open_no_lot(rt, node, cast, fault),
+        LotCall::Pour(wanted) => pour(rt, node, cast, wanted),
+        LotCall::Close(draws, sealed, wanted) => {
+            close(rt, alloc, node, cast, draws, sealed, wanted)
+        }
+        LotCall::Holds(opened, upto, poured) => see_lot(rt, node, cast, opened, upto, poured),
+        LotCall::NoLot => see_no_lot(rt, node, cast),
     }
 }
 
 // ---- The steps that read a node.
 
-fn see_position(rt: &impl Abort, node: &Node, position: i128, free: u128) -> Result<(), Fail> {
-    let (member, issue) = (member(1)?, issue()?);
-    assert_same(
-        rt,
-        &(node.position(member, issue), node.free(issue)),
-        &(position, free),
-    );
+fn see_position(
+    rt: &impl Abort,
+    node: &Node,
+    cast: &Cast,
+    position: i128,
+    free: u128,
+) -> Result<(), Fail> {
+    let answer = (node.position(cast.first, cast.issue), node.free(cast.issue));
+    assert_same(rt, &answer, &(position, free));
     Ok(())
 }
 
-fn see_shares(rt: &impl Abort, node: &Node, free: u128, lent: u128, out: u128) -> Result<(), Fail> {
-    let issue = issue()?;
+fn see_shares(
+    rt: &impl Abort,
+    node: &Node,
+    cast: &Cast,
+    free: u128,
+    lent: u128,
+    out: u128,
+) -> Result<(), Fail> {
+    let issue = cast.issue;
     let answer = (node.free(issue), node.lent(issue), node.out(issue));
     assert_same(rt, &answer, &(free, lent, out));
     Ok(())
@@ -395,25 +441,26 @@ fn see_shares(rt: &impl Abort, node: &Node, free: u128, lent: u128, out: u128) -
 fn see_order(
     rt: &impl Abort,
     node: &Node,
+    cast: &Cast,
     of: u64,
-    wanted: Result<Order, OrderFault>,
+    kind: MoveKind,
+    by: u16,
+    count: u64,
 ) -> Result<(), Fail> {
-    assert_same(rt, &node.order(number(of)?), &wanted);
+    let order = Order {
+        number: number(of)?,
+        kind,
+        member: member(by)?,
+        issue: cast.issue,
+        asked: asked(count)?,
+    };
+    assert_same(rt, &node.order(order.number), &Ok(order));
     Ok(())
 }
 
-fn wanted_order(
-    of: u64,
-    wanted: Result<(MoveKind, u16, u64), OrderFault>,
-) -> Result<Result<Order, OrderFault>, Fail> {
-    match wanted {
-        Ok((kind, by, asked)) => Ok(Ok(order(of, kind, by, asked)?)),
-        Err(fault) => Ok(Err(fault)),
-    }
-}
-
-fn see_pools(rt: &impl Abort, alloc: Global, node: &Node, wanted: &[PoolRow]) -> Result<(), Fail> {
-    assert_same(rt, &node.pools(alloc)?.as_slice(), &wanted);
+fn see_no_order(rt: &impl Abort, node: &Node, of: u64, fault: OrderFault) -> Result<(), Fail> {
+    let number = number(of)?;
+    assert_same(rt, &node.order(number), &Err(fault));
     Ok(())
 }
 
@@ -426,7 +473,15 @@ pub(crate) fn pool(issue: Cusip, free: u128, lent: u128, out: u128) -> PoolRow {
     }
 }
 
-fn see_latest(rt: &impl Abort, node: &Node, wanted: CycleId) -> Result<(), Fail> {
+fn see_pools(rt: &impl Abort, alloc: Global, node: &Node, wanted: &[PoolRow]) -> Result<(), Fail> {
+    let rows = node.pools(alloc)?;
+    assert_same(rt, &rows.as_slice(), &wanted);
+    drop(rows);
+    Ok(())
+}
+
+fn see_latest(rt: &impl Abort, node: &Node, day: u8, kind: CycleKind) -> Result<(), Fail> {
+    let wanted = cycle(day, kind)?;
     assert_same(rt, &node.latest(), &Some(wanted));
     Ok(())
 }
@@ -436,49 +491,42 @@ fn see_down(rt: &impl Abort, node: &Node) -> Result<(), Fail> {
     Ok(())
 }
 
-fn see_books(rt: &impl Abort, node: &Node, orders: usize, position: i128) -> Result<(), Fail> {
-    let (member, issue) = (member(2)?, issue()?);
-    let answer = (node.orders().len(), node.book().position(member, issue));
+fn see_books(
+    rt: &impl Abort,
+    node: &Node,
+    cast: &Cast,
+    orders: usize,
+    position: i128,
+) -> Result<(), Fail> {
+    let book = node.book();
+    let answer = (node.orders().len(), book.position(cast.second, cast.issue));
     assert_same(rt, &answer, &(orders, position));
     Ok(())
 }
 
-fn take_look(rt: &impl Abort, alloc: Global, node: &Node, look: &Look) -> Result<(), Fail> {
+fn take_look(
+    rt: &impl Abort,
+    alloc: Global,
+    node: &Node,
+    cast: &Cast,
+    look: &Look,
+) -> Result<(), Fail> {
     match *look {
-        Look::Shows(position, free) => see_position(rt, node, position, free),
-        Look::Shares(free, lent, out) => see_shares(rt, node, free, lent, out),
-        Look::Order(of, wanted) => see_order(rt, node, of, wanted_order(of, wanted)?),
+        Look::Shows(position, free) => see_position(rt, node, cast, position, free),
+        Look::Shares(free, lent, out) => see_shares(rt, node, cast, free, lent, out),
+        Look::Order(of, kind, by, count) => see_order(rt, node, cast, of, kind, by, count),
+        Look::NoOrder(of, fault) => see_no_order(rt, node, of, fault),
         Look::Pool(free, lent, out) => {
-            see_pools(rt, alloc, node, &[pool(issue()?, free, lent, out)])
+            see_pools(rt, alloc, node, &[pool(cast.issue, free, lent, out)])
         }
         Look::NoPool => see_pools(rt, alloc, node, &[]),
-        Look::Latest(day, kind) => see_latest(rt, node, cycle(day, kind)?),
+        Look::Latest(day, kind) => see_latest(rt, node, day, kind),
         Look::Down => see_down(rt, node),
-        Look::Books(orders, position) => see_books(rt, node, orders, position),
+        Look::Books(orders, position) => see_books(rt, node, cast, orders, position),
     }
 }
 
 // ---- Stories.
-
-// What was done before a story begins.
-#[derive(Clone, Copy)]
-pub(crate) enum Start {
-    Nothing,
-    // A trade was accepted, and 25 of its shares are exempt.
-    Filled,
-    // The same after the night cycle.
-    Cycled,
-    // The same where the commit of the cycle failed, and its record stands.
-    Failed,
-    // The same where it does not stand.
-    Lost,
-    // Member 2 is long of 30 shares after the first cycle, and member 3 of as many after the second.
-    Grouped,
-    // The same once the covers brought 40 shares.
-    Covered,
-    // The same with a lot of the issue.
-    Lent,
-}
 
 // A trade of 60 shares, on the 2nd.
 pub(crate) const SALE: Sale = Sale {
@@ -512,20 +560,13 @@ const TRADE: Step = Step::Do(Call::Trade(SALE, Ok(())));
 
 const EXEMPT: Step = Step::Do(Call::Exempt(25, Ok(())));
 
-const FILLED: [Step; 2] = [TRADE, EXEMPT];
+const SELL_TO_SECOND: Step = Step::Do(Call::Trade(TO_SECOND, Ok(())));
 
-const CYCLED: [Step; 3] = [TRADE, EXEMPT, NIGHT];
+const SELL_TO_THIRD: Step = Step::Do(Call::Trade(TO_THIRD, Ok(())));
 
-const FAILED: [Step; 4] = [TRADE, EXEMPT, Step::Do(Call::Plan(true)), NIGHT_FAILS];
+const COVER_SECOND: Step = Step::Do(Call::Cycle(4, CycleKind::Night, Ok((1, 1, 1))));
 
-const LOST: [Step; 4] = [TRADE, EXEMPT, Step::Do(Call::Plan(false)), NIGHT_FAILS];
-
-const GROUPED: [Step; 4] = [
-    Step::Do(Call::Trade(TO_SECOND, Ok(()))),
-    Step::Do(Call::Trade(TO_THIRD, Ok(()))),
-    Step::Do(Call::Cycle(4, CycleKind::Night, Ok((1, 1, 1)))),
-    Step::Do(Call::Cycle(5, CycleKind::Night, Ok((1, 2, 1)))),
-];
+const COVER_THIRD: Step = Step::Do(Call::Cycle(5, CycleKind::Night, Ok((1, 2, 1))));
 
 pub(crate) const FIRST_REPLY: Step = Step::Do(Call::Reply(1, 30, Ok(Taken::Done)));
 
@@ -533,79 +574,109 @@ pub(crate) const SECOND_REPLY: Step = Step::Do(Call::Reply(2, 10, Ok(Taken::Done
 
 pub(crate) const OPEN: Step = Step::Lot(LotCall::Open);
 
-const COVER: [Step; 2] = [FIRST_REPLY, SECOND_REPLY];
+// What was done before a story begins: a trade was accepted, and 25 of its shares are exempt.
+pub(crate) static FILLED: [Step; 2] = [TRADE, EXEMPT];
 
-const COVER_AND_OPEN: [Step; 3] = [FIRST_REPLY, SECOND_REPLY, OPEN];
+// The same after the night cycle.
+pub(crate) static CYCLED: [Step; 3] = [TRADE, EXEMPT, NIGHT];
 
-fn take_steps(rt: &impl Abort, alloc: Global, node: &mut Node, steps: &[Step]) -> Result<(), Fail> {
+// The same where the commit of the cycle failed, and its record stands.
+pub(crate) static FAILED: [Step; 4] = [TRADE, EXEMPT, Step::Do(Call::Plan(true)), NIGHT_FAILS];
+
+// The same where it does not stand.
+pub(crate) static LOST: [Step; 4] = [TRADE, EXEMPT, Step::Do(Call::Plan(false)), NIGHT_FAILS];
+
+// Member 2 is long of 30 shares after the first cycle, and member 3 of as many after the second.
+pub(crate) static GROUPED: [Step; 4] = [SELL_TO_SECOND, SELL_TO_THIRD, COVER_SECOND, COVER_THIRD];
+
+// The same once the covers brought 40 shares.
+pub(crate) static COVERED: [Step; 6] = [
+    SELL_TO_SECOND,
+    SELL_TO_THIRD,
+    COVER_SECOND,
+    COVER_THIRD,
+    FIRST_REPLY,
+    SECOND_REPLY,
+];
+
+// The same with a lot of the issue.
+pub(crate) static LENT: [Step; 7] = [
+    SELL_TO_SECOND,
+    SELL_TO_THIRD,
+    COVER_SECOND,
+    COVER_THIRD,
+    FIRST_REPLY,
+    SECOND_REPLY,
+    OPEN,
+];
+
+fn take_step(
+    rt: &impl Abort,
+    alloc: Global,
+    node: &mut Node,
+    cast: &Cast,
+    step: &Step,
+) -> Result<(), Fail> {
+    match step {
+        Step::Do(call) => take_call(rt, node, cast, call),
+        Step::Lot(call) => take_lot_call(rt, alloc, node, cast, call),
+        Step::See(look) => take_look(rt, alloc, node, cast, look),
+    }
+}
+
+fn take_steps(
+    rt: &impl Abort,
+    alloc: Global,
+    node: &mut Node,
+    cast: &Cast,
+    steps: &[Step],
+) -> Result<(), Fail> {
     for step in steps {
-        take_step(rt, alloc, node, step)?;
+        take_step(rt, alloc, node, cast, step)?;
     }
     Ok(())
-}
-
-fn take_step(rt: &impl Abort, alloc: Global, node: &mut Node, step: &Step) -> Result<(), Fail> {
-    match step {
-        Step::Do(call) => take_call(rt, node, call),
-        Step::Lot(call) => take_lot_call(rt, alloc, node, call),
-        Step::See(look) => take_look(rt, alloc, node, look),
-    }
-}
-
-fn group(rt: &impl Abort, alloc: Global, node: &mut Node, more: &[Step]) -> Result<(), Fail> {
-    take_steps(rt, alloc, node, &GROUPED)?;
-    take_steps(rt, alloc, node, more)
-}
-
-fn begin(rt: &impl Abort, alloc: Global, node: &mut Node, start: Start) -> Result<(), Fail> {
-    match start {
-        Start::Nothing => Ok(()),
-        Start::Filled => take_steps(rt, alloc, node, &FILLED),
-        Start::Cycled => take_steps(rt, alloc, node, &CYCLED),
-        Start::Failed => take_steps(rt, alloc, node, &FAILED),
-        Start::Lost => take_steps(rt, alloc, node, &LOST),
-        Start::Grouped => group(rt, alloc, node, &[]),
-        Start::Covered => group(rt, alloc, node, &COVER),
-        Start::Lent => group(rt, alloc, node, &COVER_AND_OPEN),
-    }
 }
 
 fn play(
     rt: &impl Abort,
     alloc: Global,
     node: &mut Node,
-    start: Start,
+    before: &[Step],
     steps: &[Step],
 ) -> Result<(), Fail> {
-    begin(rt, alloc, node, start)?;
-    take_steps(rt, alloc, node, steps)
+    let cast = fixed_cast()?;
+    take_steps(rt, alloc, node, &cast, before)?;
+    take_steps(rt, alloc, node, &cast, steps)
 }
 
-fn opened(alloc: Global, keeper: ListKeeper) -> Result<Node, Fail> {
-    match Clearing::open(alloc, keeper) {
-        Ok(node) => Ok(node),
-        Err(refused) => Err(Fail::from(refused.fault)),
-    }
-}
-
-// The story of the node that a keeper's journal opens.
+// The story of the node that a keeper's journal opens, after these steps.
 pub(crate) fn tell_of(
     rt: &impl Abort,
     alloc: Global,
     keeper: ListKeeper,
-    start: Start,
+    before: &[Step],
     steps: &[Step],
 ) -> Result<(), Fail> {
-    let mut node = opened(alloc, keeper)?;
-    play(rt, alloc, &mut node, start, steps)
+    match Clearing::open(alloc, keeper) {
+        Ok(mut node) => {
+            let told = play(rt, alloc, &mut node, before, steps);
+            drop(node);
+            told
+        }
+        Err(refused) => {
+            let fault = refused.fault;
+            drop(refused);
+            Err(Fail::from(fault))
+        }
+    }
 }
 
-// The story of a node after a start.
+// The story of a node after these steps.
 pub(crate) fn tell(
     rt: &impl Abort,
     alloc: Global,
-    start: Start,
+    before: &[Step],
     steps: &[Step],
 ) -> Result<(), Fail> {
-    tell_of(rt, alloc, ListKeeper::new(alloc), start, steps)
+    tell_of(rt, alloc, ListKeeper::new(alloc), before, steps)
 }

@@ -1,12 +1,12 @@
 use crate::lot::Lots;
 use crate::pools::pool_rows;
 use crate::test_support::{
-    Call, Look, NIGHT, SALE, Sale, Start, Step, asked, assert_same, issue, member, pool, shares,
-    tell,
+    CYCLED, Call, FAILED, FILLED, LOST, Look, NIGHT, SALE, Sale, Step, asked, assert_same, issue,
+    member, pool, shares, tell,
 };
-use crate::{CycleFault, OrderFault, ReplyFault, SettingFault, Taken, TradeFault};
+use crate::{CycleFault, OrderFault, PoolRow, ReplyFault, SettingFault, Taken, TradeFault};
 use cns_ids::{Cusip, CycleKind};
-use cns_movements::{Ask, Confirm, MoveKind, OrderBook, Reply};
+use cns_movements::{Ask, Confirm, MoveKind, MoveNo, OrderBook, Reply};
 use cns_trades::Verdict;
 use std::alloc::Global;
 use std::process::Abort;
@@ -33,11 +33,11 @@ const NEXT: Sale = Sale {
     shares: 5,
 };
 
-const FIRST_ORDER: Step = Step::See(Look::Order(1, Ok((MoveKind::Cover, 1, 35))));
+const FIRST_ORDER: Step = Step::See(Look::Order(1, MoveKind::Cover, 1, 35));
 
-const NO_OTHER: Step = Step::See(Look::Order(2, Err(OrderFault::UnknownMove)));
+const NO_OTHER: Step = Step::See(Look::NoOrder(2, OrderFault::UnknownMove));
 
-const CYCLES: [Step; 8] = [
+static CYCLES: [Step; 8] = [
     Step::See(Look::Shows(0, 0)),
     NIGHT,
     Step::Do(Call::Cycle(2, CycleKind::Night, Err(CycleFault::CycleOrder))),
@@ -50,10 +50,10 @@ const CYCLES: [Step; 8] = [
 
 #[test]
 fn cycles_in_turn(rt: HostRuntime) -> Result<(), Fail> {
-    tell(&rt, rt.alloc(), Start::Filled, &CYCLES)
+    tell(&rt, rt.alloc(), &FILLED, &CYCLES)
 }
 
-const REPLIES: [Step; 12] = [
+static REPLIES: [Step; 12] = [
     Step::Do(Call::Reply(2, 20, Err(ReplyFault::UnknownMove))),
     Step::See(Look::Shows(-60, 0)),
     Step::Do(Call::Reply(1, 36, Err(ReplyFault::TooMuch))),
@@ -65,12 +65,12 @@ const REPLIES: [Step; 12] = [
     Step::Do(Call::Reply(1, 35, Err(ReplyFault::Conflict))),
     Step::See(Look::Shows(-40, 20)),
     Step::Do(Call::Cycle(2, CycleKind::Day, Ok((0, 2, 1)))),
-    Step::See(Look::Order(2, Ok((MoveKind::Cover, 1, 15)))),
+    Step::See(Look::Order(2, MoveKind::Cover, 1, 15)),
 ];
 
 #[test]
 fn replies_in_turn(rt: HostRuntime) -> Result<(), Fail> {
-    tell(&rt, rt.alloc(), Start::Cycled, &REPLIES)
+    tell(&rt, rt.alloc(), &CYCLED, &REPLIES)
 }
 
 const SAME: Step = Step::Do(Call::Trade(SALE, Err(TradeFault::Refused(Verdict::Same))));
@@ -84,14 +84,14 @@ const SAME_MEMBER: Step = Step::Do(Call::Trade(
 
 const ACCEPTED: Step = Step::Do(Call::Trade(NEXT, Ok(())));
 
-const TRADES: [Step; 4] = [SAME, CONFLICT, SAME_MEMBER, ACCEPTED];
+static TRADES: [Step; 4] = [SAME, CONFLICT, SAME_MEMBER, ACCEPTED];
 
 #[test]
 fn trades_in_turn(rt: HostRuntime) -> Result<(), Fail> {
-    tell(&rt, rt.alloc(), Start::Filled, &TRADES)
+    tell(&rt, rt.alloc(), &FILLED, &TRADES)
 }
 
-const READERS: [Step; 3] = [
+static READERS: [Step; 3] = [
     Step::Do(Call::Priority(2, Ok(()))),
     Step::See(Look::Shares(0, 0, 0)),
     Step::See(Look::Books(1, 60)),
@@ -99,14 +99,14 @@ const READERS: [Step; 3] = [
 
 #[test]
 fn readers_of_a_node(rt: HostRuntime) -> Result<(), Fail> {
-    tell(&rt, rt.alloc(), Start::Cycled, &READERS)
+    tell(&rt, rt.alloc(), &CYCLED, &READERS)
 }
 
 // An order: its kind, its member, whether it is of the issue or of another one, the shares that it asks
 // for, and those that were moved.
 type Placed = (MoveKind, u16, bool, u64, Option<u64>);
 
-const PLACED: [Placed; 6] = [
+static PLACED: [Placed; 6] = [
     (MoveKind::Cover, 1, false, 100, Some(90)),
     (MoveKind::Cover, 1, true, 40, Some(30)),
     (MoveKind::Delivery, 2, true, 12, Some(11)),
@@ -117,52 +117,67 @@ const PLACED: [Placed; 6] = [
 
 fn ask(placed: &Placed) -> Result<Ask, Fail> {
     let (kind, of, here, count, _) = *placed;
-    let issue = if here {
-        issue()?
-    } else {
-        Cusip::read(b"594918104")?
-    };
+    let text = if here { b"037833100" } else { b"594918104" };
     Ok(Ask {
         kind,
         member: member(of)?,
-        issue,
+        issue: Cusip::read(text)?,
         asked: asked(count)?,
     })
 }
 
+fn confirm(rt: &impl Abort, book: &mut OrderBook, number: MoveNo, moved: u64) -> Result<(), Fail> {
+    let moved = shares(moved)?;
+    assert_same(
+        rt,
+        &book.confirm(Reply { number, moved }),
+        &Ok(Confirm::Done),
+    );
+    Ok(())
+}
+
 fn place(rt: &impl Abort, book: &mut OrderBook, placed: &Placed) -> Result<(), Fail> {
-    let number = book.issue(&[ask(placed)?])?;
-    if let Some(moved) = placed.4 {
-        let moved = shares(moved)?;
-        assert_same(rt, &book.confirm(Reply { number, moved })?, &Confirm::Done);
+    let asked = ask(placed)?;
+    let number = book.issue(&[asked])?;
+    match placed.4 {
+        Some(moved) => confirm(rt, book, number, moved),
+        None => Ok(()),
     }
+}
+
+fn assert_pools(
+    rt: &impl Abort,
+    alloc: Global,
+    book: &OrderBook,
+    wanted: &[PoolRow],
+) -> Result<(), Fail> {
+    let lots = Lots::new(alloc);
+    let rows = pool_rows(alloc, book, &lots);
+    drop(lots);
+    let rows = rows?;
+    assert_same(rt, &rows.as_slice(), &wanted);
+    drop(rows);
     Ok(())
 }
 
-fn assert_pools(rt: &impl Abort, alloc: Global, book: &OrderBook) -> Result<(), Fail> {
-    let wanted = [pool(issue()?, 12, 0, 7)];
-    let rows = pool_rows(alloc, book, &Lots::new(alloc))?;
-    assert_same(rt, &rows.as_slice(), &wanted.as_slice());
-    Ok(())
-}
-
-fn assert_no_pools(rt: &impl Abort, alloc: Global, book: &OrderBook) -> Result<(), Fail> {
-    let rows = pool_rows(alloc, book, &Lots::new(alloc))?;
-    assert_same(rt, &rows.as_slice().len(), &0);
-    Ok(())
+fn place_all(rt: &impl Abort, alloc: Global, book: &mut OrderBook) -> Result<(), Fail> {
+    let wanted = pool(issue()?, 12, 0, 7);
+    assert_pools(rt, alloc, book, &[])?;
+    for placed in &PLACED {
+        place(rt, book, placed)?;
+    }
+    assert_pools(rt, alloc, book, &[wanted])
 }
 
 #[test]
 fn pools_of_an_order_book(rt: HostRuntime) -> Result<(), Fail> {
     let mut book = OrderBook::new(rt.alloc());
-    assert_no_pools(&rt, rt.alloc(), &book)?;
-    for placed in &PLACED {
-        place(&rt, &mut book, placed)?;
-    }
-    assert_pools(&rt, rt.alloc(), &book)
+    let placed = place_all(&rt, rt.alloc(), &mut book);
+    drop(book);
+    placed
 }
 
-const POOLS: [Step; 3] = [
+static POOLS: [Step; 3] = [
     Step::See(Look::NoPool),
     Step::Do(Call::Reply(1, 20, Ok(Taken::Done))),
     Step::See(Look::Pool(20, 0, 0)),
@@ -170,12 +185,12 @@ const POOLS: [Step; 3] = [
 
 #[test]
 fn pools_of_a_node(rt: HostRuntime) -> Result<(), Fail> {
-    tell(&rt, rt.alloc(), Start::Cycled, &POOLS)
+    tell(&rt, rt.alloc(), &CYCLED, &POOLS)
 }
 
-const ALL_DOWN: [Step; 8] = [
+static ALL_DOWN: [Step; 8] = [
     Step::See(Look::Down),
-    Step::See(Look::Order(1, Err(OrderFault::Down))),
+    Step::See(Look::NoOrder(1, OrderFault::Down)),
     Step::Do(Call::Cycle(2, CycleKind::Night, Err(CycleFault::Down))),
     Step::Do(Call::Reply(1, 20, Err(ReplyFault::Down))),
     Step::Do(Call::Trade(NEXT, Err(TradeFault::Down))),
@@ -186,10 +201,10 @@ const ALL_DOWN: [Step; 8] = [
 
 #[test]
 fn a_node_that_is_down(rt: HostRuntime) -> Result<(), Fail> {
-    tell(&rt, rt.alloc(), Start::Failed, &ALL_DOWN)
+    tell(&rt, rt.alloc(), &FAILED, &ALL_DOWN)
 }
 
-const STANDS: [Step; 5] = [
+static STANDS: [Step; 5] = [
     Step::Do(Call::Restart(3, true)),
     Step::See(Look::Shows(-60, 0)),
     FIRST_ORDER,
@@ -199,10 +214,10 @@ const STANDS: [Step; 5] = [
 
 #[test]
 fn a_failed_cycle_stands(rt: HostRuntime) -> Result<(), Fail> {
-    tell(&rt, rt.alloc(), Start::Failed, &STANDS)
+    tell(&rt, rt.alloc(), &FAILED, &STANDS)
 }
 
-const DOES_NOT_STAND: [Step; 5] = [
+static DOES_NOT_STAND: [Step; 5] = [
     Step::Do(Call::Restart(2, false)),
     Step::See(Look::Shows(0, 0)),
     NIGHT,
@@ -212,12 +227,12 @@ const DOES_NOT_STAND: [Step; 5] = [
 
 #[test]
 fn a_failed_cycle_does_not_stand(rt: HostRuntime) -> Result<(), Fail> {
-    tell(&rt, rt.alloc(), Start::Lost, &DOES_NOT_STAND)
+    tell(&rt, rt.alloc(), &LOST, &DOES_NOT_STAND)
 }
 
 const REPLY_FAILS: Step = Step::Do(Call::Reply(1, 20, Err(ReplyFault::Device)));
 
-const REPLY_STANDS: [Step; 6] = [
+static REPLY_STANDS: [Step; 6] = [
     Step::Do(Call::Plan(true)),
     REPLY_FAILS,
     Step::See(Look::Shows(-60, 0)),
@@ -226,7 +241,7 @@ const REPLY_STANDS: [Step; 6] = [
     Step::See(Look::Shows(-40, 20)),
 ];
 
-const REPLY_IS_LOST: [Step; 6] = [
+static REPLY_IS_LOST: [Step; 6] = [
     Step::Do(Call::Plan(false)),
     REPLY_FAILS,
     Step::See(Look::Shows(-60, 0)),
@@ -237,12 +252,12 @@ const REPLY_IS_LOST: [Step; 6] = [
 
 #[test]
 fn a_failed_reply_stands_or_does_not(rt: HostRuntime) -> Result<(), Fail> {
-    tell(&rt, rt.alloc(), Start::Cycled, &REPLY_STANDS)?;
-    tell(&rt, rt.alloc(), Start::Cycled, &REPLY_IS_LOST)
+    tell(&rt, rt.alloc(), &CYCLED, &REPLY_STANDS)?;
+    tell(&rt, rt.alloc(), &CYCLED, &REPLY_IS_LOST)
 }
 
 // What the node of a journal with a record of each kind but an allocation has to show.
-pub(crate) const OPENED: [Step; 8] = [
+pub(crate) static OPENED: [Step; 8] = [
     Step::See(Look::Shows(-40, 20)),
     FIRST_ORDER,
     NO_OTHER,

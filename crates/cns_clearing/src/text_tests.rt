@@ -33,20 +33,20 @@ const UNKNOWN: &str = "no order has this number";
 
 const NO_LOT: &str = "no lot of the issue is open";
 
-const SETTINGS: [(SettingFault, &str); 3] = [
+static SETTINGS: [(SettingFault, &str); 3] = [
     (SettingFault::Down, DOWN),
     (SettingFault::OutOfMemory, MEMORY),
     (SettingFault::Device, DEVICE),
 ];
 
-const TRADES: [(TradeFault, &str); 4] = [
+static TRADES: [(TradeFault, &str); 4] = [
     (TradeFault::Down, DOWN),
     (TradeFault::Refused(Verdict::Full), "the trade is not new"),
     (TradeFault::OutOfMemory, MEMORY),
     (TradeFault::Device, DEVICE),
 ];
 
-const CYCLES: [(CycleFault, &str); 6] = [
+static CYCLES: [(CycleFault, &str); 6] = [
     (CycleFault::Down, DOWN),
     (
         CycleFault::CycleOrder,
@@ -58,12 +58,12 @@ const CYCLES: [(CycleFault, &str); 6] = [
     (CycleFault::Device, DEVICE),
 ];
 
-const ORDERS: [(OrderFault, &str); 2] = [
+static ORDERS: [(OrderFault, &str); 2] = [
     (OrderFault::Down, DOWN),
     (OrderFault::UnknownMove, UNKNOWN),
 ];
 
-const REPLIES: [(ReplyFault, &str); 6] = [
+static REPLIES: [(ReplyFault, &str); 6] = [
     (ReplyFault::Down, DOWN),
     (ReplyFault::UnknownMove, UNKNOWN),
     (
@@ -78,7 +78,7 @@ const REPLIES: [(ReplyFault, &str); 6] = [
     (ReplyFault::Device, DEVICE),
 ];
 
-const REPLAYS: [(ReplayFault, &str); 3] = [
+static REPLAYS: [(ReplayFault, &str); 3] = [
     (ReplayFault::OutOfMemory, MEMORY),
     (
         ReplayFault::BadJournal { place: 2 },
@@ -87,18 +87,18 @@ const REPLAYS: [(ReplayFault, &str); 3] = [
     (ReplayFault::Device, DEVICE),
 ];
 
-const OPENINGS: [(LotOpenFault, &str); 3] = [
+static OPENINGS: [(LotOpenFault, &str); 3] = [
     (LotOpenFault::Down, DOWN),
     (LotOpenFault::LotAlready, "a lot of the issue is open"),
     (LotOpenFault::OutOfMemory, MEMORY),
 ];
 
-const POURS: [(LotPourFault, &str); 2] = [
+static POURS: [(LotPourFault, &str); 2] = [
     (LotPourFault::Down, DOWN),
     (LotPourFault::NoLot, NO_LOT),
 ];
 
-const CLOSES: [(LotCloseFault, &str); 6] = [
+static CLOSES: [(LotCloseFault, &str); 6] = [
     (LotCloseFault::Down, DOWN),
     (LotCloseFault::NoLot, NO_LOT),
     (

@@ -7,76 +7,80 @@ use cns_movements::MoveKind;
 use cns_records::DepRecord;
 use std::alloc::Global;
 use std::process::Abort;
-use std::test::Fail;
 
 // The execution of the one order, by the shares that it moved.
-fn execution(moved: u64) -> Result<DepRecord, Fail> {
-    Ok(DepRecord::Exec {
-        order: order((1, MoveKind::Cover, 1, APPLE, 60))?,
-        moved: shares(moved)?,
-    })
+fn execution(rt: &impl Abort, moved: u64) -> DepRecord {
+    DepRecord::Exec {
+        order: order(rt, &(1, MoveKind::Cover, 1, APPLE, 60)),
+        moved: shares(rt, moved),
+    }
 }
 
-fn add_execution(alloc: Global, keeper: &mut ListKeeper, moved: u64) -> Result<(), Fail> {
-    let payload = execution(moved)?.write(alloc)?;
-    keeper.commit(payload.as_slice())?;
-    Ok(())
+fn add_execution(rt: &impl Abort, alloc: Global, keeper: &mut ListKeeper, moved: u64) {
+    let payload = execution(rt, moved).write(alloc).expect(rt, "memory");
+    keeper.commit(payload.as_slice()).expect(rt, "a record");
 }
 
 // A keeper with the payloads of these executions of one order, by the shares that each moved.
-fn keeper_of(alloc: Global, executed: &[u64]) -> Result<ListKeeper, Fail> {
+fn keeper_of(rt: &impl Abort, alloc: Global, executed: &[u64]) -> ListKeeper {
     let mut keeper = ListKeeper::new(alloc);
     for moved in executed {
-        add_execution(alloc, &mut keeper, *moved)?;
+        add_execution(rt, alloc, &mut keeper, *moved);
     }
-    Ok(keeper)
+    keeper
 }
 
 // Why a journal's opening is refused, and how many records the keeper has that it hands back.
-fn refusal(alloc: Global, keeper: ListKeeper, of: &[Opened]) -> Result<(ReplayFault, u64), Fail> {
-    match Depository::open(alloc, keeper, openings(alloc, of)?) {
-        Err(refused) => Ok((refused.fault, refused.keeper.count())),
-        Ok(_) => Err(Fail::from("a bad journal was opened")),
+fn refusal(
+    rt: &impl Abort,
+    alloc: Global,
+    keeper: ListKeeper,
+    of: &[Opened],
+) -> (ReplayFault, u64) {
+    match Depository::open(alloc, keeper, openings(rt, alloc, of)) {
+        Err(refused) => {
+            let told = (refused.fault, refused.keeper.count());
+            drop(refused);
+            told
+        }
+        Ok(_) => panic!(rt; "a bad journal was opened"),
     }
 }
 
 // Executions whose journal is bad, and the place of the bad record.
 type Bad = (&'static [u64], u64);
 
-const BAD_JOURNALS: [Bad; 3] = [(&[19], 1), (&[20, 20], 2), (&[60], 1)];
+static BAD_JOURNALS: [Bad; 3] = [(&[19], 1), (&[20, 20], 2), (&[60], 1)];
 
-fn assert_bad(rt: &impl Abort, alloc: Global, executed: &[u64], place: u64) -> Result<(), Fail> {
-    let keeper = keeper_of(alloc, executed)?;
+fn assert_bad(rt: &impl Abort, alloc: Global, executed: &[u64], place: u64) {
+    let keeper = keeper_of(rt, alloc, executed);
     let wanted = (ReplayFault::BadJournal { place }, executed.len() as u64);
-    assert_same(rt, &refusal(alloc, keeper, &TWENTY)?, &wanted);
-    Ok(())
+    assert_same(rt, &refusal(rt, alloc, keeper, &TWENTY), &wanted);
 }
 
 #[test]
-fn journals_that_are_bad(rt: HostRuntime) -> Result<(), Fail> {
+fn journals_that_are_bad(rt: HostRuntime) {
     for (executed, place) in &BAD_JOURNALS {
-        assert_bad(&rt, rt.alloc(), executed, *place)?;
+        assert_bad(&rt, rt.alloc(), executed, *place);
     }
-    Ok(())
 }
 
 #[test]
-fn a_payload_that_is_no_record(rt: HostRuntime) -> Result<(), Fail> {
+fn a_payload_that_is_no_record(rt: HostRuntime) {
     let mut keeper = ListKeeper::new(rt.alloc());
-    keeper.commit(b"no record")?;
+    keeper.commit(b"no record").expect(&rt, "a record");
     let wanted = (ReplayFault::BadJournal { place: 1 }, 1);
-    assert_same(&rt, &refusal(rt.alloc(), keeper, &[])?, &wanted);
-    Ok(())
+    assert_same(&rt, &refusal(&rt, rt.alloc(), keeper, &[]), &wanted);
 }
 
-const OPENED: [Step; 3] = [
+static OPENED: [Step; 3] = [
     Step::Balance((APPLE, Holder::Member(1), 0)),
     Step::Balance((APPLE, Holder::Cns, 20)),
     Step::Down(false),
 ];
 
 #[test]
-fn a_journal_that_opens(rt: HostRuntime) -> Result<(), Fail> {
-    let keeper = keeper_of(rt.alloc(), &[20])?;
-    tell_of(&rt, rt.alloc(), keeper, &TWENTY, &OPENED)
+fn a_journal_that_opens(rt: HostRuntime) {
+    let keeper = keeper_of(&rt, rt.alloc(), &[20]);
+    tell_of(&rt, rt.alloc(), keeper, &TWENTY, &OPENED);
 }

@@ -11,7 +11,6 @@ use cns_trades::Opening;
 use std::alloc::Global;
 use std::fmt;
 use std::process::Abort;
-use std::test::Fail;
 
 // The CUSIP of an issue.
 pub(crate) type Code = &'static [u8];
@@ -25,7 +24,7 @@ pub(crate) const MICROSOFT: Code = b"594918104";
 pub(crate) type Opened = (u16, Code, u64);
 
 // 20 shares of member 1.
-pub(crate) const TWENTY: [Opened; 1] = [(1, APPLE, 20)];
+pub(crate) static TWENTY: [Opened; 1] = [(1, APPLE, 20)];
 
 // An order: its number, its kind, its member, its issue, and the shares that it asks for.
 pub(crate) type Placed = (u64, MoveKind, u16, Code, u64);
@@ -63,179 +62,152 @@ pub(crate) enum Step {
     Balances(&'static [Held]),
 }
 
-fn issue(code: Code) -> Result<Cusip, Fail> {
-    Ok(Cusip::read(code)?)
+fn issue(rt: &impl Abort, code: Code) -> Cusip {
+    Cusip::read(code).expect(rt, "an issue")
 }
 
-fn member(number: u16) -> Result<MemberNo, Fail> {
-    Ok(MemberNo::new(number).ok_or("a member's number")?)
+fn member(rt: &impl Abort, number: u16) -> MemberNo {
+    MemberNo::new(number).expect(rt, "a member's number")
 }
 
-pub(crate) fn shares(count: u64) -> Result<Shares, Fail> {
-    Ok(Shares::new(count).ok_or("a count of shares")?)
+pub(crate) fn shares(rt: &impl Abort, count: u64) -> Shares {
+    Shares::new(count).expect(rt, "a count of shares")
 }
 
-fn number(number: u64) -> Result<MoveNo, Fail> {
-    Ok(MoveNo::new(number).ok_or("a movement's number")?)
+fn number(rt: &impl Abort, number: u64) -> MoveNo {
+    MoveNo::new(number).expect(rt, "a movement's number")
 }
 
-fn account(holder: Holder) -> Result<Account, Fail> {
+fn account(rt: &impl Abort, holder: Holder) -> Account {
     match holder {
-        Holder::Cns => Ok(Account::Cns),
-        Holder::Member(of) => Ok(Account::Member(member(of)?)),
+        Holder::Cns => Account::Cns,
+        Holder::Member(of) => Account::Member(member(rt, of)),
     }
 }
 
-pub(crate) fn opening((of, code, count): Opened) -> Result<Opening, Fail> {
-    Ok(Opening {
-        member: member(of)?,
-        issue: issue(code)?,
-        shares: shares(count)?,
-    })
+pub(crate) fn opening(rt: &impl Abort, (of, code, count): Opened) -> Opening {
+    Opening {
+        member: member(rt, of),
+        issue: issue(rt, code),
+        shares: shares(rt, count),
+    }
 }
 
-pub(crate) fn openings(alloc: Global, of: &[Opened]) -> Result<Openings, Fail> {
+pub(crate) fn openings(rt: &impl Abort, alloc: Global, of: &[Opened]) -> Openings {
     let mut list = Openings::new(alloc);
     for opened in of {
-        list.add(&opening(*opened)?)?;
+        let opening = opening(rt, *opened);
+        list.add(&opening).expect(rt, "an opening");
     }
-    Ok(list)
+    list
 }
 
-pub(crate) fn order((of, kind, by, code, asked): Placed) -> Result<Order, Fail> {
-    Ok(Order {
-        number: number(of)?,
+pub(crate) fn order(rt: &impl Abort, placed: &Placed) -> Order {
+    let (of, kind, by, code, asked) = *placed;
+    Order {
+        number: number(rt, of),
         kind,
-        member: member(by)?,
-        issue: issue(code)?,
-        asked: Asked::new(asked).ok_or("shares that are asked for")?,
-    })
+        member: member(rt, by),
+        issue: issue(rt, code),
+        asked: Asked::new(asked).expect(rt, "shares that are asked for"),
+    }
 }
 
-fn reply(of: MoveNo, moved: u64) -> Result<Reply, Fail> {
-    Ok(Reply {
+fn reply(rt: &impl Abort, of: MoveNo, moved: u64) -> Reply {
+    Reply {
         number: of,
-        moved: shares(moved)?,
-    })
+        moved: shares(rt, moved),
+    }
 }
 
-fn row((code, holder, count): Held) -> Result<BalanceRow, Fail> {
-    Ok(BalanceRow {
-        issue: issue(code)?,
-        account: account(holder)?,
+fn row(rt: &impl Abort, held: &Held) -> BalanceRow {
+    let (code, holder, count) = *held;
+    BalanceRow {
+        issue: issue(rt, code),
+        account: account(rt, holder),
         shares: count,
-    })
+    }
 }
 
 pub(crate) fn assert_same<T: PartialEq + fmt::Debug>(rt: &impl Abort, answer: &T, wanted: &T) {
-    assert_eq!(rt; answer, wanted);
+    assert!(rt; answer == wanted, "{answer:?} and not {wanted:?}");
 }
 
 // ---- The steps that change a depository.
 
 type Node = Depository<ListKeeper>;
 
-fn plan(rt: &impl Abort, node: &mut Node, stands: bool) -> Result<(), Fail> {
-    assert_same(rt, &node.plan(stands), &Ok(()));
-    Ok(())
-}
-
 // What the order of this number has to be answered.
 fn wanted_answer(
+    rt: &impl Abort,
     of: MoveNo,
-    wanted: Result<Moved, DepFault>,
-) -> Result<Result<Answer, DepFault>, Fail> {
+    wanted: &Result<Moved, DepFault>,
+) -> Result<Answer, DepFault> {
     match wanted {
-        Ok(Moved::Done(moved)) => Ok(Ok(Answer::Done(reply(of, moved)?))),
-        Ok(Moved::Again(moved)) => Ok(Ok(Answer::Again(reply(of, moved)?))),
-        Err(fault) => Ok(Err(fault)),
+        Ok(Moved::Done(moved)) => Ok(Answer::Done(reply(rt, of, *moved))),
+        Ok(Moved::Again(moved)) => Ok(Answer::Again(reply(rt, of, *moved))),
+        Err(fault) => Err(*fault),
     }
 }
 
-fn take_order(
-    rt: &impl Abort,
-    node: &mut Node,
-    order: &Order,
-    wanted: Result<Moved, DepFault>,
-) -> Result<(), Fail> {
-    let wanted = wanted_answer(order.number, wanted)?;
-    assert_same(rt, &node.take_order(order), &wanted);
-    Ok(())
+fn take_order(rt: &impl Abort, node: &mut Node, placed: &Placed, wanted: &Result<Moved, DepFault>) {
+    let order = order(rt, placed);
+    let wanted = wanted_answer(rt, order.number, wanted);
+    assert_same(rt, &node.take_order(&order), &wanted);
 }
 
-fn restart(rt: &impl Abort, node: &mut Node, records: u64, kept: bool) -> Result<(), Fail> {
+fn restart(rt: &impl Abort, node: &mut Node, records: u64, kept: bool) {
     assert_same(rt, &node.restart(), &Ok(Restarted { records, kept }));
-    Ok(())
 }
 
 // ---- The steps that read a depository.
 
-fn see_down(rt: &impl Abort, node: &Node, wanted: bool) -> Result<(), Fail> {
-    assert_same(rt, &node.is_down(), &wanted);
-    Ok(())
-}
-
-fn see_executed(
-    rt: &impl Abort,
-    node: &Node,
-    of: MoveNo,
-    wanted: Option<(Order, Shares)>,
-) -> Result<(), Fail> {
-    assert_same(rt, &node.executed(of), &wanted);
-    Ok(())
-}
-
 // The order was executed, and moved these shares.
-fn see_execution(rt: &impl Abort, node: &Node, order: Order, moved: u64) -> Result<(), Fail> {
-    see_executed(rt, node, order.number, Some((order, shares(moved)?)))
+fn see_executed(rt: &impl Abort, node: &Node, placed: &Placed, moved: u64) {
+    let (order, moved) = (order(rt, placed), shares(rt, moved));
+    assert_same(rt, &node.executed(order.number), &Some((order, moved)));
 }
 
-fn see_balance(rt: &impl Abort, node: &Node, wanted: &BalanceRow) -> Result<(), Fail> {
+fn see_balance(rt: &impl Abort, node: &Node, held: &Held) {
+    let wanted = row(rt, held);
     let held = node.balance(wanted.account, wanted.issue);
     assert_same(rt, &held, &wanted.shares);
-    Ok(())
 }
 
 // The rows are these balances and no others.
-fn assert_rows(rt: &impl Abort, rows: &[BalanceRow], of: &[Held]) -> Result<(), Fail> {
+fn assert_rows(rt: &impl Abort, rows: &[BalanceRow], of: &[Held]) {
     assert_same(rt, &rows.len(), &of.len());
     for (answer, held) in rows.iter().zip(of) {
-        assert_same(rt, answer, &row(*held)?);
+        assert_same(rt, answer, &row(rt, held));
     }
-    Ok(())
 }
 
-fn see_balances(rt: &impl Abort, alloc: Global, node: &Node, of: &[Held]) -> Result<(), Fail> {
-    assert_rows(rt, node.balances(alloc)?.as_slice(), of)
+fn see_balances(rt: &impl Abort, alloc: Global, node: &Node, of: &[Held]) {
+    let rows = node.balances(alloc).expect(rt, "memory");
+    assert_rows(rt, rows.as_slice(), of);
+    drop(rows);
 }
 
 // ---- Stories.
 
-fn take_step(rt: &impl Abort, alloc: Global, node: &mut Node, step: &Step) -> Result<(), Fail> {
-    match *step {
-        Step::Plan(stands) => plan(rt, node, stands),
-        Step::Take(placed, wanted) => take_order(rt, node, &order(placed)?, wanted),
-        Step::Restart(records, kept) => restart(rt, node, records, kept),
-        Step::Down(down) => see_down(rt, node, down),
-        Step::NotExecuted(of) => see_executed(rt, node, number(of)?, None),
-        Step::Executed(placed, moved) => see_execution(rt, node, order(placed)?, moved),
-        Step::Balance(held) => see_balance(rt, node, &row(held)?),
+fn take_step(rt: &impl Abort, alloc: Global, node: &mut Node, step: &Step) {
+    match step {
+        Step::Plan(stands) => assert_same(rt, &node.plan(*stands), &Ok(())),
+        Step::Take(placed, wanted) => take_order(rt, node, placed, wanted),
+        Step::Restart(records, kept) => restart(rt, node, *records, *kept),
+        Step::Down(down) => assert_same(rt, &node.is_down(), down),
+        Step::NotExecuted(of) => assert_same(rt, &node.executed(number(rt, *of)), &None),
+        Step::Executed(placed, moved) => see_executed(rt, node, placed, *moved),
+        Step::Balance(held) => see_balance(rt, node, held),
         Step::Balances(held) => see_balances(rt, alloc, node, held),
     }
 }
 
-fn take_steps(rt: &impl Abort, alloc: Global, node: &mut Node, steps: &[Step]) -> Result<(), Fail> {
-    for step in steps {
-        take_step(rt, alloc, node, step)?;
-    }
-    Ok(())
-}
-
 // The depository that a keeper's journal opens, with these openings.
-fn depository(alloc: Global, keeper: ListKeeper, of: &[Opened]) -> Result<Node, Fail> {
-    match Depository::open(alloc, keeper, openings(alloc, of)?) {
-        Ok(node) => Ok(node),
-        Err(refused) => Err(Fail::from(refused.fault)),
+fn depository(rt: &impl Abort, alloc: Global, keeper: ListKeeper, of: &[Opened]) -> Node {
+    match Depository::open(alloc, keeper, openings(rt, alloc, of)) {
+        Ok(node) => node,
+        Err(refused) => panic!(rt; "no depository: {}", refused.fault),
     }
 }
 
@@ -246,17 +218,15 @@ pub(crate) fn tell_of(
     keeper: ListKeeper,
     of: &[Opened],
     steps: &[Step],
-) -> Result<(), Fail> {
-    let mut node = depository(alloc, keeper, of)?;
-    take_steps(rt, alloc, &mut node, steps)
+) {
+    let mut node = depository(rt, alloc, keeper, of);
+    for step in steps {
+        take_step(rt, alloc, &mut node, step);
+    }
+    drop(node);
 }
 
 // The story of a depository with nothing executed.
-pub(crate) fn tell(
-    rt: &impl Abort,
-    alloc: Global,
-    of: &[Opened],
-    steps: &[Step],
-) -> Result<(), Fail> {
-    tell_of(rt, alloc, ListKeeper::new(alloc), of, steps)
+pub(crate) fn tell(rt: &impl Abort, alloc: Global, of: &[Opened], steps: &[Step]) {
+    tell_of(rt, alloc, ListKeeper::new(alloc), of, steps);
 }

@@ -5,12 +5,11 @@ use crate::{DepFault, OpeningFault, Openings};
 use cns_ids::Shares;
 use cns_movements::MoveKind;
 use std::process::Abort;
-use std::test::Fail;
 
 // An opening, and the answer to its addition.
 type Added = (Opened, Result<(), OpeningFault>);
 
-const ADDED: [Added; 5] = [
+static ADDED: [Added; 5] = [
     ((1, APPLE, Shares::MAX), Ok(())),
     ((2, APPLE, 1), Err(OpeningFault::IssueSum)),
     ((1, APPLE, 5), Err(OpeningFault::Double)),
@@ -18,27 +17,25 @@ const ADDED: [Added; 5] = [
     ((1, MICROSOFT, Shares::MAX), Ok(())),
 ];
 
-fn add(rt: &impl Abort, list: &mut Openings, added: &Added) -> Result<(), Fail> {
+fn add(rt: &impl Abort, list: &mut Openings, added: &Added) {
     let (opened, wanted) = *added;
-    let opening = opening(opened)?;
+    let opening = opening(rt, opened);
     assert_same(rt, &list.add(&opening), &wanted);
-    Ok(())
 }
 
 #[test]
-fn openings_of_one_issue(rt: HostRuntime) -> Result<(), Fail> {
+fn openings_of_one_issue(rt: HostRuntime) {
     let mut list = Openings::new(rt.alloc());
     for added in &ADDED {
-        add(&rt, &mut list, added)?;
+        add(&rt, &mut list, added);
     }
-    Ok(())
 }
 
 const COVER: Placed = (1, MoveKind::Cover, 1, APPLE, 60);
 
 const OTHER: Placed = (1, MoveKind::Cover, 1, APPLE, 61);
 
-const A_COVER: [Step; 8] = [
+static A_COVER: [Step; 8] = [
     Step::NotExecuted(1),
     Step::Take(COVER, Ok(Moved::Done(20))),
     Step::Balance((APPLE, Holder::Member(1), 0)),
@@ -50,15 +47,15 @@ const A_COVER: [Step; 8] = [
 ];
 
 #[test]
-fn a_cover_moves_what_is_there(rt: HostRuntime) -> Result<(), Fail> {
-    tell(&rt, rt.alloc(), &TWENTY, &A_COVER)
+fn a_cover_moves_what_is_there(rt: HostRuntime) {
+    tell(&rt, rt.alloc(), &TWENTY, &A_COVER);
 }
 
-const LONG_AND_EMPTY: [Opened; 2] = [(1, APPLE, 100), (3, APPLE, 0)];
+static LONG_AND_EMPTY: [Opened; 2] = [(1, APPLE, 100), (3, APPLE, 0)];
 
 const FOURTH: Placed = (4, MoveKind::Delivery, 3, APPLE, 60);
 
-const ORDERS: [Step; 11] = [
+static ORDERS: [Step; 11] = [
     Step::Take((1, MoveKind::Cover, 1, APPLE, 100), Ok(Moved::Done(100))),
     Step::Take((2, MoveKind::Cover, 3, APPLE, 60), Ok(Moved::Done(0))),
     Step::Take((3, MoveKind::Delivery, 2, APPLE, 60), Ok(Moved::Done(60))),
@@ -73,22 +70,22 @@ const ORDERS: [Step; 11] = [
 ];
 
 #[test]
-fn orders_in_turn(rt: HostRuntime) -> Result<(), Fail> {
-    tell(&rt, rt.alloc(), &LONG_AND_EMPTY, &ORDERS)
+fn orders_in_turn(rt: HostRuntime) {
+    tell(&rt, rt.alloc(), &LONG_AND_EMPTY, &ORDERS);
 }
 
-const BALANCES: [Step; 3] = [
+static BALANCES: [Step; 3] = [
     Step::Balances(&[(APPLE, Holder::Member(1), 20)]),
     Step::Take((1, MoveKind::Cover, 1, APPLE, 35), Ok(Moved::Done(20))),
     Step::Balances(&[(APPLE, Holder::Cns, 20)]),
 ];
 
 #[test]
-fn balances_after_a_cover(rt: HostRuntime) -> Result<(), Fail> {
-    tell(&rt, rt.alloc(), &TWENTY, &BALANCES)
+fn balances_after_a_cover(rt: HostRuntime) {
+    tell(&rt, rt.alloc(), &TWENTY, &BALANCES);
 }
 
-const TWO_ISSUES: [Opened; 5] = [
+static TWO_ISSUES: [Opened; 5] = [
     (1, MICROSOFT, 7),
     (9, APPLE, 3),
     (2, APPLE, 10),
@@ -96,7 +93,7 @@ const TWO_ISSUES: [Opened; 5] = [
     (1, APPLE, 5),
 ];
 
-const IN_TWO_ISSUES: [Step; 5] = [
+static IN_TWO_ISSUES: [Step; 5] = [
     Step::Take((1, MoveKind::Cover, 2, APPLE, 4), Ok(Moved::Done(4))),
     Step::Take((2, MoveKind::Cover, 1, MICROSOFT, 7), Ok(Moved::Done(7))),
     Step::Take((3, MoveKind::Delivery, 4, APPLE, 1), Ok(Moved::Done(1))),
@@ -111,13 +108,13 @@ const IN_TWO_ISSUES: [Step; 5] = [
 ];
 
 #[test]
-fn balances_by_issue_and_account(rt: HostRuntime) -> Result<(), Fail> {
-    tell(&rt, rt.alloc(), &TWO_ISSUES, &IN_TWO_ISSUES)
+fn balances_by_issue_and_account(rt: HostRuntime) {
+    tell(&rt, rt.alloc(), &TWO_ISSUES, &IN_TWO_ISSUES);
 }
 
 const PART: Placed = (1, MoveKind::Cover, 1, APPLE, 15);
 
-const PLANS: [Step; 6] = [
+static PLANS: [Step; 6] = [
     Step::Plan(true),
     Step::Plan(false),
     Step::Down(false),
@@ -127,11 +124,11 @@ const PLANS: [Step; 6] = [
 ];
 
 #[test]
-fn the_last_plan_counts(rt: HostRuntime) -> Result<(), Fail> {
-    tell(&rt, rt.alloc(), &TWENTY, &PLANS)
+fn the_last_plan_counts(rt: HostRuntime) {
+    tell(&rt, rt.alloc(), &TWENTY, &PLANS);
 }
 
-const STANDS: [Step; 10] = [
+static STANDS: [Step; 10] = [
     Step::Plan(true),
     Step::Take(PART, Err(DepFault::Device)),
     Step::Down(true),
@@ -144,7 +141,7 @@ const STANDS: [Step; 10] = [
     Step::Balance((APPLE, Holder::Cns, 15)),
 ];
 
-const IS_LOST: [Step; 10] = [
+static IS_LOST: [Step; 10] = [
     Step::Plan(false),
     Step::Take(PART, Err(DepFault::Device)),
     Step::Down(true),
@@ -158,7 +155,7 @@ const IS_LOST: [Step; 10] = [
 ];
 
 #[test]
-fn a_failed_commit_stands_or_does_not(rt: HostRuntime) -> Result<(), Fail> {
-    tell(&rt, rt.alloc(), &TWENTY, &STANDS)?;
-    tell(&rt, rt.alloc(), &TWENTY, &IS_LOST)
+fn a_failed_commit_stands_or_does_not(rt: HostRuntime) {
+    tell(&rt, rt.alloc(), &TWENTY, &STANDS);
+    tell(&rt, rt.alloc(), &TWENTY, &IS_LOST);
 }

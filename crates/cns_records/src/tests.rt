@@ -5,12 +5,13 @@ use cns_ids::{Cusip, CycleId, CycleKind, Day, MemberNo, Quantity, Shares};
 use cns_movements::{Asked, MoveKind, MoveNo, Order, Reply};
 use cns_trades::{Trade, TradeId};
 use std::alloc::{AllocError, Global};
-use std::test::Fail;
+use std::fmt::{Debug, Display};
+use std::process::Abort;
 
 const CONFIRM: [u8; 18] = [1, 6, 0, 0, 0, 0, 0, 0, 0, 1, 0, 0, 0, 0, 0, 0, 0, 20];
 
 // Order 7, a cover of member 1 in 037833100, asks 60; 20 are moved.
-const EXEC: [u8; 38] = [
+static EXEC: [u8; 38] = [
     1, 7, 1, 0, 0, 0, 0, 0, 0, 0, 7, 0, 1, 0x30, 0x33, 0x37, 0x38, 0x33, 0x33, 0x31, 0x30, 0x30, 0,
     0, 0, 0, 0, 0, 0, 60, 0, 0, 0, 0, 0, 0, 0, 20,
 ];
@@ -33,7 +34,7 @@ const CYCLE: [u8; 7] = [1, 4, 0x07, 0xe9, 3, 4, 1];
 
 // The lot of 037833100 that was opened after 3 records and poured into until 5 stood: 100 shares,
 // sealed. Member 1 drew 60 shares from 0 on, member 2 drew 40 from 60 on.
-const ALLOCATE: [u8; 76] = [
+static ALLOCATE: [u8; 76] = [
     1, 5, 0x30, 0x33, 0x37, 0x38, 0x33, 0x33, 0x31, 0x30, 0x30, 0, 0, 0, 0, 0, 0, 0, 3, 0, 0, 0, 0,
     0, 0, 0, 5, 0, 0, 0, 0, 0, 0, 0, 100, 1, 0, 0, 0, 2, 0, 1, 0, 0, 0, 0, 0, 0, 0, 0, 0, 0, 0, 0,
     0, 0, 0, 60, 0, 2, 0, 0, 0, 0, 0, 0, 0, 60, 0, 0, 0, 0, 0, 0, 0, 40,
@@ -44,323 +45,358 @@ const TICKETS: usize = 40;
 
 const TICKET_LEN: usize = 18;
 
-fn issue() -> Result<Cusip, Fail> {
-    Ok(Cusip::read(b"037833100")?)
+fn assert_same<T: PartialEq + Debug>(rt: &impl Abort, got: &T, wanted: &T) {
+    assert!(rt; got == wanted, "{got:?} and not {wanted:?}");
 }
 
-fn member(number: u16) -> Result<MemberNo, Fail> {
-    Ok(MemberNo::new(number).ok_or("a member's number")?)
+fn assert_prints(rt: &impl Abort, alloc: Global, fault: &impl Display, wanted: &str) {
+    let text = fault.to_string(alloc).expect(rt, "memory");
+    assert_same(rt, &text.as_str(), &wanted);
 }
 
-fn trade() -> Result<Trade, Fail> {
-    Ok(Trade {
-        id: TradeId::read(b"A1")?,
-        settle: Day::read(b"2025-03-04")?,
-        buyer: member(2)?,
-        seller: member(1)?,
-        issue: issue()?,
-        quantity: Quantity::new(100).ok_or("a quantity")?,
-    })
+// The payload is no record of the clearing node.
+fn assert_bad(rt: &impl Abort, alloc: Global, payload: &[u8]) {
+    let fault = ClearRecord::read(alloc, payload).err();
+    assert_same(rt, &fault, &Some(RecordFault::BadRecord));
 }
 
-fn reply() -> Result<Reply, Fail> {
-    Ok(Reply {
-        number: MoveNo::new(1).ok_or("a movement's number")?,
-        moved: Shares::new(20).ok_or("a count of shares")?,
-    })
-}
-
-fn order() -> Result<Order, Fail> {
-    Ok(Order {
-        number: MoveNo::new(7).ok_or("a movement's number")?,
-        kind: MoveKind::Cover,
-        member: member(1)?,
-        issue: issue()?,
-        asked: Asked::new(60).ok_or("shares that are asked for")?,
-    })
-}
-
-#[test]
-fn clearing_records_both_ways(rt: HostRuntime) -> Result<(), Fail> {
-    let day = Day::read(b"2025-03-04")?;
-    let cases: [(ClearRecord, &[u8]); 5] = [
-        (ClearRecord::Accept(trade()?), &ACCEPT),
-        (
-            ClearRecord::Exempt {
-                member: member(1)?,
-                issue: issue()?,
-                shares: Shares::new(25).ok_or("a count of shares")?,
-            },
-            &EXEMPT,
-        ),
-        (
-            ClearRecord::Priority {
-                member: member(9999)?,
-                issue: issue()?,
-                on: true,
-            },
-            &PRIORITY,
-        ),
-        (
-            ClearRecord::Cycle(CycleId {
-                day,
-                kind: CycleKind::Day,
-            }),
-            &CYCLE,
-        ),
-        (ClearRecord::Confirm(reply()?), &CONFIRM),
-    ];
-    for (entry, payload) in cases {
-        assert_eq!(rt; entry.write(rt.alloc())?.as_slice(), payload);
-        assert_eq!(rt; ClearRecord::read(rt.alloc(), payload), Ok(entry));
-        for len in 0..payload.len() {
-            assert_eq!(rt;
-                ClearRecord::read(rt.alloc(), &payload[..len]),
-                Err(RecordFault::BadRecord)
-            );
-        }
-    }
-    Ok(())
-}
-
-// A ticket's member, start and shares.
-fn ticket(number: u16, start: u64, asked: u64) -> Result<Drawn, Fail> {
-    Ok(Drawn {
-        member: member(number)?,
-        start: Shares::new(start).ok_or("a count of shares")?,
-        asked: Asked::new(asked).ok_or("shares that are asked for")?,
-    })
-}
-
-// The first tickets of the lot, so many of them.
-fn drawn(alloc: Global, count: usize) -> Result<DrawnList, Fail> {
-    let tickets = [ticket(1, 0, 60)?, ticket(2, 60, 40)?];
-    let tickets = Vec::from_slice(alloc, &tickets[..count.min(2)])?;
-    Ok(DrawnList::from_vec(tickets).ok_or("a list of tickets")?)
-}
-
-#[test]
-fn allocations_both_ways(rt: HostRuntime) -> Result<(), Fail> {
-    for count in 0..3 {
-        let entry = ClearRecord::Allocate(Allocation {
-            issue: issue()?,
-            opened: 3,
-            upto: 5,
-            poured: Shares::new(100).ok_or("a count of shares")?,
-            sealed: true,
-            drawn: drawn(rt.alloc(), count)?,
-        });
-        let whole = &ALLOCATE[..TICKETS + count * TICKET_LEN];
-        let payload = changed(rt.alloc(), whole, TICKETS - 1, count as u8)?;
-        assert_eq!(rt; entry.write(rt.alloc())?.as_slice(), payload.as_slice());
-        assert_eq!(rt; ClearRecord::read(rt.alloc(), &payload), Ok(entry));
-    }
-    Ok(())
-}
-
-#[test]
-fn bad_allocations(rt: HostRuntime) -> Result<(), Fail> {
-    // A place in the payload, and a byte that is bad there.
-    let cases: [(usize, u8); 14] = [
-        (2, 0x31),
-        (18, 6),
-        (26, 2),
-        (27, 14),
-        (35, 2),
-        (36, 0xff),
-        (39, 1),
-        (39, 3),
-        (41, 0),
-        (40, 0x28),
-        (49, 61),
-        (50, 14),
-        (57, 0),
-        (60, 14),
-    ];
-    for (place, byte) in cases {
-        let bytes = changed(rt.alloc(), &ALLOCATE, place, byte)?;
-        assert_eq!(rt;
-            ClearRecord::read(rt.alloc(), &bytes),
-            Err(RecordFault::BadRecord)
-        );
-    }
-    for len in 0..ALLOCATE.len() {
-        assert_eq!(rt;
-            ClearRecord::read(rt.alloc(), &ALLOCATE[..len]),
-            Err(RecordFault::BadRecord)
-        );
-    }
-    let longer = [ALLOCATE.as_slice(), [0].as_slice()].concat(rt.alloc())?;
-    assert_eq!(rt;
-        ClearRecord::read(rt.alloc(), &longer),
-        Err(RecordFault::BadRecord)
-    );
-    Ok(())
-}
-
-// An allocation with a ticket of one share so many times.
-fn many(alloc: Global, count: u16) -> Result<Vec<u8>, AllocError> {
-    let mut payload = Vec::from_slice(alloc, &ALLOCATE[..TICKETS - 2])?;
-    payload.extend_from_slice(&count.to_be_bytes())?;
-    for _ in 0..count {
-        payload.extend_from_slice(&[0, 1, 0, 0, 0, 0, 0, 0, 0, 0, 0, 0, 0, 0, 0, 0, 0, 1])?;
-    }
-    Ok(payload)
-}
-
-#[test]
-fn most_tickets(rt: HostRuntime) -> Result<(), Fail> {
-    let tickets = Vec::from_elem(rt.alloc(), ticket(1, 0, 1)?, MAX_DRAWN)?;
-    let most = DrawnList::from_vec(tickets).ok_or("9,999 tickets")?;
-    let payload = many(rt.alloc(), 9_999)?;
-    let Ok(ClearRecord::Allocate(allocation)) = ClearRecord::read(rt.alloc(), &payload) else {
-        return Err("an allocation")?;
-    };
-    assert_eq!(rt; allocation.drawn, most);
-    assert_eq!(rt; most.len(), 9_999);
-    Ok(())
-}
-
-#[test]
-fn too_many_tickets(rt: HostRuntime) -> Result<(), Fail> {
-    let payload = many(rt.alloc(), 10_000)?;
-    assert_eq!(rt;
-        ClearRecord::read(rt.alloc(), &payload),
-        Err(RecordFault::BadRecord)
-    );
-    let tickets = Vec::from_elem(rt.alloc(), ticket(1, 0, 1)?, 10_000)?;
-    assert_eq!(rt; DrawnList::from_vec(tickets), None);
-    Ok(())
-}
-
-#[test]
-fn depository_records_both_ways(rt: HostRuntime) -> Result<(), Fail> {
-    let exec = DepRecord::Exec {
-        order: order()?,
-        moved: Shares::new(20).ok_or("a count of shares")?,
-    };
-    assert_eq!(rt; exec.write(rt.alloc())?.as_slice(), EXEC.as_slice());
-    assert_eq!(rt; DepRecord::read(&EXEC), Ok(exec));
-    for len in 0..EXEC.len() {
-        assert_eq!(rt; DepRecord::read(&EXEC[..len]), Err(BadRecord));
-    }
-    Ok(())
+// The payload is no record of the depository.
+fn assert_exec_bad(rt: &impl Abort, payload: &[u8]) {
+    assert_same(rt, &DepRecord::read(payload), &Err(BadRecord));
 }
 
 // The payload with another byte in this place.
-fn changed(alloc: Global, payload: &[u8], place: usize, byte: u8) -> Result<Vec<u8>, AllocError> {
-    let mut bytes = Vec::from_slice(alloc, payload)?;
+fn changed(rt: &impl Abort, alloc: Global, payload: &[u8], place: usize, byte: u8) -> Vec<u8> {
+    let mut bytes = Vec::from_slice(alloc, payload).expect(rt, "memory");
     if let Some(slot) = bytes.get_mut(place) {
         *slot = byte;
     }
-    Ok(bytes)
+    bytes
 }
 
-#[test]
-fn bad_clearing_payloads(rt: HostRuntime) -> Result<(), Fail> {
-    // A payload, a place in it, and a byte that is bad there.
-    let cases: [(&[u8], usize, u8); 21] = [
-        (&CONFIRM, 0, 2),
-        (&CONFIRM, 1, 5),
-        (&CONFIRM, 1, 7),
-        (&CONFIRM, 1, 9),
-        (&CONFIRM, 9, 0),
-        (&CONFIRM, 6, 1),
-        (&CONFIRM, 10, 14),
-        (&ACCEPT, 2, 0),
-        (&ACCEPT, 2, 17),
-        (&ACCEPT, 3, 0x61),
-        (&ACCEPT, 6, 0x6b),
-        (&ACCEPT, 7, 13),
-        (&ACCEPT, 8, 32),
-        (&ACCEPT, 10, 1),
-        (&ACCEPT, 11, 0x28),
-        (&ACCEPT, 21, 0x31),
-        (&ACCEPT, 29, 0),
-        (&EXEMPT, 3, 0),
-        (&EXEMPT, 13, 14),
-        (&PRIORITY, 13, 2),
-        (&CYCLE, 6, 2),
-    ];
-    for (payload, place, byte) in cases {
-        let bytes = changed(rt.alloc(), payload, place, byte)?;
-        assert_eq!(rt;
-            ClearRecord::read(rt.alloc(), &bytes),
-            Err(RecordFault::BadRecord)
-        );
+// The payload with one more byte.
+fn longer(rt: &impl Abort, alloc: Global, payload: &[u8]) -> Vec<u8> {
+    [payload, [0].as_slice()].concat(alloc).expect(rt, "memory")
+}
+
+// The payload is bad with this byte in this place.
+fn assert_change_bad(rt: &impl Abort, alloc: Global, payload: &[u8], place: usize, byte: u8) {
+    assert_bad(rt, alloc, &changed(rt, alloc, payload, place, byte));
+}
+
+fn assert_longer_bad(rt: &impl Abort, alloc: Global, payload: &[u8]) {
+    assert_bad(rt, alloc, &longer(rt, alloc, payload));
+}
+
+fn payload_of(rt: &impl Abort, alloc: Global, entry: &ClearRecord) -> Vec<u8> {
+    entry.write(alloc).expect(rt, "memory")
+}
+
+// The payload is read as this record.
+fn assert_reads(rt: &impl Abort, alloc: Global, payload: &[u8], wanted: &ClearRecord) {
+    let entry = ClearRecord::read(alloc, payload).expect(rt, "a record");
+    assert_same(rt, &entry, wanted);
+}
+
+// The record has this payload, and nothing shorter is a record.
+fn assert_both_ways(rt: &impl Abort, alloc: Global, entry: &ClearRecord, payload: &[u8]) {
+    let written = payload_of(rt, alloc, entry);
+    assert_same(rt, &written.as_slice(), &payload);
+    assert_reads(rt, alloc, payload, entry);
+    for len in 0..payload.len() {
+        assert_bad(rt, alloc, &payload[..len]);
     }
-    let longer = [CONFIRM.as_slice(), [0].as_slice()].concat(rt.alloc())?;
-    for payload in [[1, 9].as_slice(), EXEC.as_slice(), longer.as_slice()] {
-        assert_eq!(rt;
-            ClearRecord::read(rt.alloc(), payload),
-            Err(RecordFault::BadRecord)
-        );
+}
+
+// What is written of the record is not read.
+fn assert_not_read(rt: &impl Abort, alloc: Global, entry: &ClearRecord) {
+    assert_bad(rt, alloc, &payload_of(rt, alloc, entry));
+}
+
+fn issue(rt: &impl Abort) -> Cusip {
+    Cusip::read(b"037833100").expect(rt, "an issue")
+}
+
+fn member(rt: &impl Abort, number: u16) -> MemberNo {
+    MemberNo::new(number).expect(rt, "a member's number")
+}
+
+fn shares(rt: &impl Abort, count: u64) -> Shares {
+    Shares::new(count).expect(rt, "a count of shares")
+}
+
+fn asked(rt: &impl Abort, count: u64) -> Asked {
+    Asked::new(count).expect(rt, "shares that are asked for")
+}
+
+fn number(rt: &impl Abort, number: u64) -> MoveNo {
+    MoveNo::new(number).expect(rt, "a movement's number")
+}
+
+fn day(rt: &impl Abort) -> Day {
+    Day::read(b"2025-03-04").expect(rt, "a day")
+}
+
+fn trade(rt: &impl Abort) -> Trade {
+    Trade {
+        id: TradeId::read(b"A1").expect(rt, "a trade's name"),
+        settle: day(rt),
+        buyer: member(rt, 2),
+        seller: member(rt, 1),
+        issue: issue(rt),
+        quantity: Quantity::new(100).expect(rt, "a quantity"),
     }
-    Ok(())
 }
 
-#[test]
-fn bad_depository_payloads(rt: HostRuntime) -> Result<(), Fail> {
-    let cases: [(usize, u8); 7] = [(0, 2), (1, 6), (2, 0), (2, 3), (10, 0), (29, 0), (37, 61)];
-    for (place, byte) in cases {
-        let bytes = changed(rt.alloc(), &EXEC, place, byte)?;
-        assert_eq!(rt; DepRecord::read(&bytes), Err(BadRecord));
+// A record of the clearing node.
+enum Entry {
+    Accept,
+    Exempt,
+    Priority,
+    Cycle,
+    Confirm,
+}
+
+fn record(rt: &impl Abort, of: &Entry) -> ClearRecord {
+    match of {
+        Entry::Accept => ClearRecord::Accept(trade(rt)),
+        Entry::Exempt => ClearRecord::Exempt {
+            member: member(rt, 1),
+            issue: issue(rt),
+            shares: shares(rt, 25),
+        },
+        Entry::Priority => ClearRecord::Priority {
+            member: member(rt, 9999),
+            issue: issue(rt),
+            on: true,
+        },
+        Entry::Cycle => ClearRecord::Cycle(CycleId {
+            day: day(rt),
+            kind: CycleKind::Day,
+        }),
+        Entry::Confirm => ClearRecord::Confirm(Reply {
+            number: number(rt, 1),
+            moved: shares(rt, 20),
+        }),
     }
-    assert_eq!(rt; DepRecord::read(&CONFIRM), Err(BadRecord));
-    let longer = [EXEC.as_slice(), [0].as_slice()].concat(rt.alloc())?;
-    assert_eq!(rt; DepRecord::read(&longer), Err(BadRecord));
-    Ok(())
 }
 
-#[test]
-fn what_is_written_and_not_read(rt: HostRuntime) -> Result<(), Fail> {
-    let mut own = trade()?;
-    own.seller = own.buyer;
-    let payload = ClearRecord::Accept(own).write(rt.alloc())?;
-    assert_eq!(rt;
-        ClearRecord::read(rt.alloc(), &payload),
-        Err(RecordFault::BadRecord)
-    );
-    let exec = DepRecord::Exec {
-        order: order()?,
-        moved: Shares::new(61).ok_or("a count of shares")?,
-    };
-    let payload = exec.write(rt.alloc())?;
-    assert_eq!(rt; DepRecord::read(&payload), Err(BadRecord));
-    assert_eq!(rt;
-        BadRecord.to_string(rt.alloc())?.as_str(),
-        "not a journal record"
-    );
-    Ok(())
-}
+static SPELLINGS: [(Entry, &[u8]); 5] = [
+    (Entry::Accept, &ACCEPT),
+    (Entry::Exempt, &EXEMPT),
+    (Entry::Priority, &PRIORITY),
+    (Entry::Cycle, &CYCLE),
+    (Entry::Confirm, &CONFIRM),
+];
 
 #[test]
-fn lot_opened_after_its_last_pour(rt: HostRuntime) -> Result<(), Fail> {
-    let early = ClearRecord::Allocate(Allocation {
-        issue: issue()?,
+fn clearing_records_both_ways(rt: HostRuntime) {
+    for (entry, payload) in &SPELLINGS {
+        assert_both_ways(&rt, rt.alloc(), &record(&rt, entry), payload);
+    }
+}
+
+// A ticket's member, start and shares.
+fn ticket(rt: &impl Abort, number: u16, start: u64, count: u64) -> Drawn {
+    Drawn {
+        member: member(rt, number),
+        start: shares(rt, start),
+        asked: asked(rt, count),
+    }
+}
+
+// The first tickets of the lot, so many of them.
+fn drawn(rt: &impl Abort, alloc: Global, count: usize) -> DrawnList {
+    let tickets = [ticket(rt, 1, 0, 60), ticket(rt, 2, 60, 40)];
+    let first = &tickets[..count.min(2)];
+    let first = Vec::from_slice(alloc, first).expect(rt, "memory");
+    DrawnList::from_vec(first).expect(rt, "a list of tickets")
+}
+
+// The lot with these tickets.
+fn allocation(rt: &impl Abort, drawn: DrawnList) -> Allocation {
+    Allocation {
+        issue: issue(rt),
         opened: 3,
-        upto: 2,
-        poured: Shares::new(100).ok_or("a count of shares")?,
-        sealed: false,
-        drawn: drawn(rt.alloc(), 0)?,
-    });
-    let payload = early.write(rt.alloc())?;
-    assert_eq!(rt;
-        ClearRecord::read(rt.alloc(), &payload),
-        Err(RecordFault::BadRecord)
-    );
-    Ok(())
+        upto: 5,
+        poured: shares(rt, 100),
+        sealed: true,
+        drawn,
+    }
+}
+
+// The lot with so many of its tickets has this payload.
+fn assert_allocation(rt: &impl Abort, alloc: Global, count: usize, payload: &[u8]) {
+    let entry = ClearRecord::Allocate(allocation(rt, drawn(rt, alloc, count)));
+    assert_both_ways(rt, alloc, &entry, payload);
 }
 
 #[test]
-fn what_faults_say(rt: HostRuntime) -> Result<(), Fail> {
-    assert_eq!(rt;
-        RecordFault::BadRecord.to_string(rt.alloc())?.as_str(),
-        "not a journal record"
-    );
-    assert_eq!(rt;
-        RecordFault::OutOfMemory.to_string(rt.alloc())?.as_str(),
-        "out of memory"
-    );
-    Ok(())
+fn allocations_both_ways(rt: HostRuntime) {
+    for count in 0..3 {
+        let whole = &ALLOCATE[..TICKETS + count * TICKET_LEN];
+        let payload = changed(&rt, rt.alloc(), whole, TICKETS - 1, count as u8);
+        assert_allocation(&rt, rt.alloc(), count, &payload);
+    }
+}
+
+// A place in the payload, and a byte that is bad there.
+static BAD_IN_ALLOCATE: [(usize, u8); 14] = [
+    (2, 0x31),
+    (18, 6),
+    (26, 2),
+    (27, 14),
+    (35, 2),
+    (36, 0xff),
+    (39, 1),
+    (39, 3),
+    (41, 0),
+    (40, 0x28),
+    (49, 61),
+    (50, 14),
+    (57, 0),
+    (60, 14),
+];
+
+#[test]
+fn bad_allocations(rt: HostRuntime) {
+    for (place, byte) in &BAD_IN_ALLOCATE {
+        assert_change_bad(&rt, rt.alloc(), &ALLOCATE, *place, *byte);
+    }
+    assert_longer_bad(&rt, rt.alloc(), &ALLOCATE);
+}
+
+// An allocation with a ticket of one share so many times.
+fn many(rt: &impl Abort, alloc: Global, count: u16) -> Vec<u8> {
+    let ticket = [0, 1, 0, 0, 0, 0, 0, 0, 0, 0, 0, 0, 0, 0, 0, 0, 0, 1];
+    let tickets = ticket
+        .repeat(alloc, usize::from(count))
+        .expect(rt, "memory");
+    let head = &ALLOCATE[..TICKETS - 2];
+    [head, &count.to_be_bytes(), &tickets]
+        .concat(alloc)
+        .expect(rt, "memory")
+}
+
+// Its tickets.
+fn many_drawn(rt: &impl Abort, alloc: Global, count: usize) -> Option<DrawnList> {
+    let tickets = Vec::from_elem(alloc, ticket(rt, 1, 0, 1), count);
+    DrawnList::from_vec(tickets.expect(rt, "memory"))
+}
+
+#[test]
+fn most_tickets(rt: HostRuntime) {
+    let most = many_drawn(&rt, rt.alloc(), MAX_DRAWN).expect(&rt, "9,999 tickets");
+    assert_same(&rt, &most.len(), &9_999);
+    let entry = ClearRecord::Allocate(allocation(&rt, most));
+    let payload = many(&rt, rt.alloc(), 9_999);
+    assert_reads(&rt, rt.alloc(), &payload, &entry);
+}
+
+#[test]
+fn too_many_tickets(rt: HostRuntime) {
+    assert_bad(&rt, rt.alloc(), &many(&rt, rt.alloc(), 10_000));
+    assert_same(&rt, &many_drawn(&rt, rt.alloc(), 10_000), &None);
+}
+
+// The execution of the order, by the shares that it moved.
+fn execution(rt: &impl Abort, moved: u64) -> DepRecord {
+    let order = Order {
+        number: number(rt, 7),
+        kind: MoveKind::Cover,
+        member: member(rt, 1),
+        issue: issue(rt),
+        asked: asked(rt, 60),
+    };
+    let moved = shares(rt, moved);
+    DepRecord::Exec { order, moved }
+}
+
+fn assert_exec_change_bad(rt: &impl Abort, alloc: Global, place: usize, byte: u8) {
+    assert_exec_bad(rt, &changed(rt, alloc, &EXEC, place, byte));
+}
+
+fn exec_payload(rt: &impl Abort, alloc: Global, moved: u64) -> Vec<u8> {
+    let exec = execution(rt, moved);
+    exec.write(alloc).expect(rt, "memory")
+}
+
+#[test]
+fn depository_records_both_ways(rt: HostRuntime) {
+    let payload = exec_payload(&rt, rt.alloc(), 20);
+    assert_same(&rt, &payload.as_slice(), &EXEC.as_slice());
+    assert_same(&rt, &DepRecord::read(&EXEC), &Ok(execution(&rt, 20)));
+    for len in 0..EXEC.len() {
+        assert_exec_bad(&rt, &EXEC[..len]);
+    }
+}
+
+// A payload, a place in it, and a byte that is bad there.
+static BAD_IN_CLEARING: [(&[u8], usize, u8); 21] = [
+    (&CONFIRM, 0, 2),
+    (&CONFIRM, 1, 5),
+    (&CONFIRM, 1, 7),
+    (&CONFIRM, 1, 9),
+    (&CONFIRM, 9, 0),
+    (&CONFIRM, 6, 1),
+    (&CONFIRM, 10, 14),
+    (&ACCEPT, 2, 0),
+    (&ACCEPT, 2, 17),
+    (&ACCEPT, 3, 0x61),
+    (&ACCEPT, 6, 0x6b),
+    (&ACCEPT, 7, 13),
+    (&ACCEPT, 8, 32),
+    (&ACCEPT, 10, 1),
+    (&ACCEPT, 11, 0x28),
+    (&ACCEPT, 21, 0x31),
+    (&ACCEPT, 29, 0),
+    (&EXEMPT, 3, 0),
+    (&EXEMPT, 13, 14),
+    (&PRIORITY, 13, 2),
+    (&CYCLE, 6, 2),
+];
+
+#[test]
+fn bad_clearing_payloads(rt: HostRuntime) {
+    for (payload, place, byte) in &BAD_IN_CLEARING {
+        assert_change_bad(&rt, rt.alloc(), payload, *place, *byte);
+    }
+    assert_longer_bad(&rt, rt.alloc(), &CONFIRM);
+    assert_bad(&rt, rt.alloc(), &[1, 9]);
+    assert_bad(&rt, rt.alloc(), &EXEC);
+}
+
+static BAD_IN_EXEC: [(usize, u8); 7] = [(0, 2), (1, 6), (2, 0), (2, 3), (10, 0), (29, 0), (37, 61)];
+
+#[test]
+fn bad_depository_payloads(rt: HostRuntime) {
+    for (place, byte) in &BAD_IN_EXEC {
+        assert_exec_change_bad(&rt, rt.alloc(), *place, *byte);
+    }
+    assert_exec_bad(&rt, &longer(&rt, rt.alloc(), &EXEC));
+    assert_exec_bad(&rt, &CONFIRM);
+}
+
+#[test]
+fn what_is_written_and_not_read(rt: HostRuntime) {
+    let mut own = trade(&rt);
+    own.seller = own.buyer;
+    assert_not_read(&rt, rt.alloc(), &ClearRecord::Accept(own));
+    assert_exec_bad(&rt, &exec_payload(&rt, rt.alloc(), 61));
+}
+
+#[test]
+fn lot_opened_after_its_last_pour(rt: HostRuntime) {
+    let mut early = allocation(&rt, drawn(&rt, rt.alloc(), 0));
+    early.upto = 2;
+    early.sealed = false;
+    assert_not_read(&rt, rt.alloc(), &ClearRecord::Allocate(early));
+}
+
+#[test]
+fn what_faults_say(rt: HostRuntime) {
+    let (bad, no_memory) = (RecordFault::BadRecord, RecordFault::OutOfMemory);
+    assert_prints(&rt, rt.alloc(), &BadRecord, "not a journal record");
+    assert_prints(&rt, rt.alloc(), &bad, "not a journal record");
+    assert_prints(&rt, rt.alloc(), &no_memory, "out of memory");
 }
