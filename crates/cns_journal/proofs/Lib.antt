@@ -1,1 +1,2 @@
 pub mod KeeperLemmas
+pub mod LogLemmas

@@ -1,2 +1,4 @@
 pub mod Keeper
 pub mod ListKeeper
+pub mod RecordLog
+pub mod Replay

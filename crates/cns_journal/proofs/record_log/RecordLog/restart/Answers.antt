@@ -1,0 +1,18 @@
+use Rattle.std.proofs.Common.{◌≡◌, rules, length}
+use Rattle.cns_journal.proofs.LogLemmas.{log_unread, restart_accepted_at, restart_refused_at}
+use Rattle.cns_journal.proofs.record_log.RecordLog.restart.Goals as goal
+
+pub invariant_of-self : goal.invariant_of-self
+invariant_of-self g c =
+    log_unread _ (g.L.Ledger.allows c.args.context.now) _ _ _ _ _ _ c.in-Err.fault c.self.invariant c.in-Err.ensures.reread
+
+pub returns-in-Err-clause-leaves : goal.returns-in-Err-clause-leaves
+returns-in-Err-clause-leaves g c =
+    restart_refused_at _ (g.L.Ledger.allows c.args.context.now) _ g.met.R.Record.injective _ _ _ _ _ c.in-Err.fault c.args.self.now c.self.invariant c.requires.allowed c.requires.tried c.in-Err.ensures.reread c.self.view_is
+
+pub returns-clause-leaves : goal.returns-clause-leaves
+returns-clause-leaves g c =
+    let after : c.len.result ≡ length c.in-Ok.records.items = search rules in
+    let before : c.len-2.result ≡ length c.self.inside.records.items = search rules in
+    let count : c.len-3.result ≡ length c.in-Ok.records.items = search rules in
+    restart_accepted_at _ (g.L.Ledger.allows c.args.context.now) _ g.met.R.Record.injective _ _ _ _ _ _ _ _ _ c.args.self.now c.self.invariant c.in-Ok.ensures.reread after before count c.self.view_is

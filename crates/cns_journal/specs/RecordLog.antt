@@ -1,0 +1,98 @@
+-- What contracts see of a log of records: a node's records over its keeper's journal (this project's own rules).
+use Rattle.std.specs.Prelude.{◌≡◌, ◌==◌, ◌⊎◌, ℕ, ◌+◌, Bool, true, false, List, [], ◌∷◌, ◌++◌, map, reverse, length, Option, Some, None, Result, Ok, Err}
+use Rattle.cns_journal.specs.Keeper.{Running, Journal, Foresight, Unforeseen, MaySucceed, HasFailed, HasRisen, IsReopened, PlanLeaves, StandsAsForeseen}
+use Rattle.cns_journal.specs.Replay.{AreAllowed, AreFit, IsBadPlace, KeeperState}
+use Rattle.cns_journal.specs.declared.keeper.NotPlanned.{NotPlanned}
+use Rattle.cns_journal.specs.declared.record_log.Restarted.{Restarted}
+use Rattle.cns_journal.specs.declared.record_log.ReplayFault.{ReplayFault}
+use Rattle.cns_journal.specs.declared.record_log.ReplayFault.TheVariants as replay
+use Rattle.cns_journal.specs.declared.record_log.CommitFault.{CommitFault}
+use Rattle.cns_journal.specs.declared.record_log.CommitFault.TheVariants.{OutOfMemory, Device}
+
+-- the records, the newest first; the record whose commit failed; whether the node is down; how often its keeper's device has
+-- failed, whether its keeper is honest, and what is known beforehand of its keeper
+pub record LogState (R : Type 0) : Type 0 where
+  pub records : List R
+  pub tried : Option R
+  pub down : Bool
+  pub failures : ℕ
+  pub honest : Bool
+  pub foresight : Foresight
+
+-- what a reopening may give: the records, the oldest first, and then at most the one whose commit failed
+abbrev pub GivesBack : {R : Type 0} → (R → List ℕ) → List R → Option R → List (List ℕ) → Type 0
+GivesBack spelling items tried given =
+    (given ≡ map spelling items) ⊎ ((r : _) × (tried ≡ Some r) × (given ≡ map spelling (items ++ r ∷ [])))
+
+abbrev pub FitsTried : {R : Type 0} → (R → Type 0) → Option R → Type 0
+FitsTried fits None = Unit {0}
+FitsTried fits (Some r) = fits r
+
+-- what is so of a log's parts, its records with the oldest first: an honest keeper has just their payloads while the log is up,
+-- and gives back no others while it is down
+pub record IsLog {R : Type 0} (spelling : R → List ℕ) (fits : R → Type 0) (items : List R) (tried : Option R) (down : Bool) (run : Running) (honest : Bool) (journal : Journal) (foresight : Foresight) : Type 0 where
+  pub all_fit : AreFit fits items
+  pub tried_fits : FitsTried fits tried
+  pub up : down ≡ false → (tried ≡ None) × (run.down ≡ false)
+  pub journal_up : down ≡ false → honest ≡ true → journal ≡ record { kept = map spelling items; undecided = None }
+  pub journal_down : honest ≡ true → (given : List (List ℕ)) → IsReopened journal given → GivesBack spelling items tried given
+  pub foreseen : honest ≡ true → (stands : Bool) → foresight.stands ≡ Some stands
+      → (r : R) × (tried ≡ Some r) × (journal ≡ record { kept = map spelling items; undecided = Some (spelling r) })
+
+-- what the commit of a record leaves, by its answer
+abbrev pub LogCommits : {R : Type 0} → R → Result (Unit {0}) CommitFault → LogState R → LogState R → Type 0
+LogCommits r (Ok _) old new = (new ≡ record old { records = r ∷ old.records }) × MaySucceed old.foresight.next
+LogCommits r (Err OutOfMemory) old new = new ≡ old
+LogCommits r (Err Device) old new =
+    (new ≡ record old { tried = Some r; down = true; failures = new.failures; foresight = new.foresight })
+    × HasRisen old.failures new.failures × HasFailed old.foresight new.foresight
+
+-- the record whose commit failed may stand after the others
+abbrev pub MayStand : {R : Type 0} → (List R → R → Type 0) → List R → Option R → Type 0
+MayStand allows c None = Unit {0}
+MayStand allows c (Some r) = allows c r
+
+-- where the keeper is honest: the records are as before, and then the one whose commit failed, where so answered
+abbrev pub Restarts : {R : Type 0} → Bool → LogState R → LogState R → Type 0
+Restarts false old new = new.records ≡ old.records
+Restarts true old new = (r : _) × (old.tried ≡ Some r) × (new.records ≡ r ∷ old.records)
+
+-- what a restart leaves, by its answer: a refused one puts the log down, and changes nothing else that it shows but what is known
+-- beforehand of the record whose commit failed
+abbrev pub LogRestarts : {R : Type 0} → (R → List ℕ) → (List R → R → Type 0) → (R → Type 0) → Result Restarted ReplayFault → LogState R → LogState R → Type 0
+LogRestarts spelling allows fits (Ok r) old new =
+    (new ≡ record old { records = new.records; tried = None; down = false; foresight = record old.foresight { stands = None } })
+    × (r.records ≡ length new.records) × (r.kept ≡ (length new.records == length old.records + 1)) × AreAllowed allows new.records
+    × (old.honest ≡ true → Restarts r.kept old new)
+    × (old.honest ≡ true → (stands : Bool) → old.foresight.stands ≡ Some stands → r.kept ≡ stands)
+LogRestarts spelling allows fits (Err replay.OutOfMemory) old new =
+    (new ≡ record old { down = true; foresight = new.foresight }) × (new.foresight.next ≡ old.foresight.next)
+LogRestarts spelling allows fits (Err (replay.BadJournal place)) old new =
+    (new ≡ record old { down = true; foresight = record old.foresight { stands = None } })
+    × ((given : List (List ℕ)) × IsBadPlace spelling allows fits given place) × (old.honest ≡ true → ⊥)
+LogRestarts spelling allows fits (Err replay.Device) old new =
+    (new ≡ record old { down = true; failures = new.failures }) × HasRisen old.failures new.failures × (old.foresight.next ≡ Unforeseen)
+
+-- what an opening gives: a log that is up, with the records that its keeper gave
+pub record IsOpened {R : Type 0} (spelling : R → List ℕ) (allows : List R → R → Type 0) (keeper : KeeperState) (log : LogState R) : Type 0 where
+  pub value : log ≡ record {
+    records = log.records;
+    tried = None;
+    down = false;
+    failures = keeper.run.failures;
+    honest = keeper.honest;
+    foresight = record keeper.foresight { stands = None };
+  }
+  pub allowed : AreAllowed allows log.records
+  pub given : keeper.honest ≡ true → IsReopened keeper.journal (map spelling (reverse log.records))
+  pub stands : keeper.honest ≡ true → StandsAsForeseen keeper.foresight.stands (Ok (map spelling (reverse log.records))) keeper.journal
+
+-- what a plan leaves, by its answer
+abbrev pub LogPlanned : {R : Type 0} → Bool → Result (Unit {0}) NotPlanned → LogState R → LogState R → Type 0
+LogPlanned stands result old new = PlanLeaves stands result old.foresight new.foresight × (new ≡ record old { foresight = new.foresight })
+
+-- what the keeper of a log has: just its records where the log is up, and at a reopening nothing but these and the record whose
+-- commit failed
+pub record Keeps {R : Type 0} (spelling : R → List ℕ) (log : LogState R) (journal : Journal) : Type 0 where
+  pub up : log.down ≡ false → journal ≡ record { kept = map spelling (reverse log.records); undecided = None }
+  pub any : (given : List (List ℕ)) → IsReopened journal given → GivesBack spelling (reverse log.records) log.tried given

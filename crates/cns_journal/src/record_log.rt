@@ -1,0 +1,337 @@
+//! A node's records over the journal of its keeper.
+
+ghost use Rattle.std.specs.Prelude.{◌≡◌, ◌≤◌, ℕ, List, [], ◌∷◌, true, false, Err, IfErr, IfOk, OnOk, length, map, reverse, vec_items};
+ghost use Rattle.cns_journal.specs.Replay.{AdmitLeaves, AreAllowed, Admits, ReplayGives, Reread, records_by};
+ghost use Rattle.cns_journal.specs.RecordLog.{IsOpened, Keeps, LogCommits, LogPlanned, LogRestarts, MayStand};
+
+use crate::keeper::{KeepFault, Keeper, MAX_PAYLOAD, NotPlanned};
+use std::alloc::{AllocError, Global};
+use std::marker::Model;
+use thiserror::Error;
+
+/// A record that has a payload.
+pub trait Record: Drop {
+    /// The payload.
+    ghost spelling: { Self → List ℕ };
+
+    /// Whether a payload of its own stands for the record.
+    ghost fits: { Self → Type 0 };
+
+    /// The payload of the record.
+    fn write(&self, alloc: Global) -> Result<Vec<u8>, AllocError>
+        requires { fits self.now }
+        ensures bytes { IfOk result (λ payload. payload.items ≡ spelling self.now) }
+        ensures size { length (spelling self.now) ≤ MAX_PAYLOAD };
+
+    /// The record that a payload is.
+    fn read(alloc: Global, payload: &[u8]) -> Result<Self, RecordFault>
+        ensures spelled { IfOk result (λ r. spelling r ≡ payload.now) }
+        ensures fits { IfOk result (λ r. fits r) }
+        ensures none { result ≡ Err RecordFault.BadRecord
+            → (r : Self) → fits r → spelling r ≡ payload.now → ⊥ };
+
+    /// Two records have two payloads.
+    ghost injective: { (a b : Self) → fits a → fits b → spelling a ≡ spelling b → a ≡ b };
+}
+
+/// Why bytes are not read as a record.
+#[derive(Clone, Copy, PartialEq, Eq, Debug, Error)]
+pub enum RecordFault {
+    #[error("bad record")]
+    BadRecord,
+    #[error("out of memory")]
+    OutOfMemory,
+}
+
+/// Why a journal is not read again.
+#[derive(Clone, Copy, PartialEq, Eq, Debug, Error)]
+pub enum ReplayFault {
+    /// There is no memory.
+    #[error("out of memory")]
+    OutOfMemory,
+    /// The payload in this place, counted from 1, is the first one that is no record, or of a record
+    /// that may not stand after those before it.
+    #[error("record {place} of the journal is bad")]
+    BadJournal { place: u64 },
+    /// The device of the journal failed.
+    #[error("the journal's device failed")]
+    Device,
+}
+
+/// What records come to, one after another.
+pub trait Ledger: Drop {
+    type Record: Record;
+
+    type Context;
+
+    /// Whether a record may stand after these, the newest first.
+    ghost allows: { Self.Context → List Self.Record → Self.Record → Type 0 };
+
+    /// Whether this is what the records, the newest first, come to.
+    ghost comes_to: { Self → List Self.Record → Type 0 };
+
+    /// Adds a record where it may stand after these, and says whether it may.
+    fn admit(
+        &mut self,
+        context: &Self::Context,
+        records: &[Self::Record],
+        entry: &Self::Record,
+    ) -> Result<bool, AllocError>
+        requires { comes_to self.old (reverse records.now) }
+        ensures { IfOk result (Admits (allows context.now (reverse records.now) entry.now)
+            (comes_to self.new (entry.now ∷ reverse records.now))) };
+}
+
+// Adds the record that a payload is, where it may stand after these.
+fn admit<L: Ledger>(
+    alloc: Global,
+    context: &L::Context,
+    ledger: &mut L,
+    records: &mut Vec<L::Record>,
+    payload: &[u8],
+) -> Result<(), ReplayFault>
+    requires { L.comes_to ledger.old (reverse records.old.items) }
+    ensures list { AdmitLeaves L.Record.spelling (L.allows context.now) L.Record.fits payload.now result records.old.items records.new.items }
+    ensures comes { OnOk result (L.comes_to ledger.new (reverse records.new.items)) }
+{
+    let place = records.len() as u64 + 1;
+    let entry = match L::Record::read(alloc, payload) {
+        Ok(entry) => entry,
+        Err(RecordFault::BadRecord) => return Err(ReplayFault::BadJournal { place }),
+        Err(RecordFault::OutOfMemory) => return Err(ReplayFault::OutOfMemory),
+    };
+    if records.reserve(1).is_err() {
+        return Err(ReplayFault::OutOfMemory);
+    }
+    match ledger.admit(context, records.as_slice(), &entry) {
+        Ok(true) => {
+            records.push_reserved(entry);
+            Ok(())
+        }
+        Ok(false) => Err(ReplayFault::BadJournal { place }),
+        Err(_) => Err(ReplayFault::OutOfMemory),
+    }
+}
+
+// The records of these payloads.
+fn replay<L: Ledger>(
+    alloc: Global,
+    context: &L::Context,
+    ledger: &mut L,
+    payloads: &[Vec<u8>],
+) -> Result<Vec<L::Record>, ReplayFault>
+    requires { L.comes_to ledger.old [] }
+    ensures gives { ReplayGives L.Record.spelling (L.allows context.now) L.Record.fits (map vec_items payloads.now) (records_by result) }
+    ensures comes { IfOk result (λ records. L.comes_to ledger.new (reverse records.items)) }
+{
+    let mut records = Vec::new(alloc);
+    for payload in payloads {
+        if let Err(fault) = admit(alloc, context, ledger, &mut records, payload.as_slice()) {
+            return Err(fault);
+        }
+    }
+    Ok(records)
+}
+
+// Reads a keeper's journal again.
+fn reread<K: Keeper, L: Ledger>(
+    alloc: Global,
+    keeper: &mut K,
+    context: &L::Context,
+    ledger: &mut L,
+) -> Result<Vec<L::Record>, ReplayFault>
+    requires { L.comes_to ledger.old [] }
+    ensures reread { Reread L.Record.spelling (L.allows context.now) L.Record.fits (records_by result)
+        (record { honest = K.honest keeper.old; run = K.run keeper.old; journal = K.journal keeper.old; foresight = K.foresight keeper.old })
+        (record { honest = K.honest keeper.new; run = K.run keeper.new; journal = K.journal keeper.new; foresight = K.foresight keeper.new }) }
+    ensures comes { IfOk result (λ records. L.comes_to ledger.new (reverse records.items)) }
+{
+    let payloads = match keeper.reopen() {
+        Ok(payloads) => payloads,
+        Err(KeepFault::Device) => return Err(ReplayFault::Device),
+        Err(_) => return Err(ReplayFault::OutOfMemory),
+    };
+    replay(alloc, context, ledger, payloads.as_slice())
+}
+
+/// Why a record is not added.
+#[derive(Clone, Copy, PartialEq, Eq, Debug, Error)]
+pub enum CommitFault {
+    /// There is no memory. Nothing has changed.
+    #[error("out of memory")]
+    OutOfMemory,
+    /// The device of the journal failed. The log is down until it is read again.
+    #[error("the journal's device failed")]
+    Device,
+}
+
+/// A restart that succeeded.
+#[derive(Clone, Copy, PartialEq, Eq, Debug)]
+pub struct Restarted {
+    /// How many records the journal has.
+    pub records: u64,
+    /// Whether one more record came back than the log held: the one whose commit failed.
+    pub kept: bool,
+}
+
+/// Records that a keeper acknowledged, one after another, and the one whose commit failed.
+#[derive(Drop)]
+pub struct RecordLog<K: Keeper, R: Record> {
+    keeper: K,
+    // The oldest first.
+    records: Vec<R>,
+    tried: Option<R>,
+    down: bool,
+    alloc: Global,
+}
+
+impl<K: Keeper, R: Record> Model for RecordLog<K, R> {
+    ghost use Rattle.std.specs.Prelude.{reverse};
+    ghost use Rattle.cns_journal.specs.RecordLog.{LogState, IsLog};
+
+    ghost Value = { LogState R };
+
+    ghost view = { λ l. record {
+      records = reverse l.records.items;
+      tried = l.tried;
+      down = l.down;
+      failures = (K.run l.keeper).failures;
+      honest = K.honest l.keeper;
+      foresight = K.foresight l.keeper;
+    } };
+
+    ghost invariant = { λ l. IsLog R.spelling R.fits l.records.items l.tried l.down
+        (K.run l.keeper) (K.honest l.keeper) (K.journal l.keeper) (K.foresight l.keeper) };
+}
+
+/// A refused opening: why, and the keeper as its reopening left it.
+#[derive(Drop)]
+pub struct Refused<K> {
+    /// The keeper, after its reopening.
+    pub keeper: K,
+    /// Why the log was not opened.
+    pub fault: ReplayFault,
+}
+
+impl<K: Keeper, R: Record> RecordLog<K, R> {
+    /// Reads the keeper's journal again, and opens a log that is up, with the records that it gives; the
+    /// ledger becomes what they come to. A refused opening hands the keeper back.
+    ///
+    /// Refuses `BadJournal` where a payload is no record, or of one that may not stand after those before
+    /// it. (This project's own rule.)
+    pub fn open<L: Ledger<Record = R>>(
+        alloc: Global,
+        mut keeper: K,
+        context: &L::Context,
+        ledger: &mut L,
+    ) -> Result<RecordLog<K, R>, Refused<K>>
+        requires { L.comes_to ledger.old [] }
+        ensures ok { IfOk result (IsOpened R.spelling (L.allows context.now)
+            (record { honest = K.honest keeper; run = K.run keeper; journal = K.journal keeper; foresight = K.foresight keeper })) }
+        ensures err { IfErr result (λ refused. Reread R.spelling (L.allows context.now) R.fits (Err refused.fault)
+            (record { honest = K.honest keeper; run = K.run keeper; journal = K.journal keeper; foresight = K.foresight keeper })
+            (record { honest = K.honest refused.keeper; run = K.run refused.keeper; journal = K.journal refused.keeper; foresight = K.foresight refused.keeper })) }
+        ensures comes { IfOk result (λ log. L.comes_to ledger.new log.records) }
+    {
+        let records = match reread(alloc, &mut keeper, context, ledger) {
+            Ok(records) => records,
+            Err(fault) => return Err(Refused { keeper, fault }),
+        };
+        Ok(RecordLog {
+            keeper,
+            records,
+            tried: None,
+            down: false,
+            alloc,
+        })
+    }
+
+    /// Whether the log is down: from a failure of the device, or a refused restart, until a restart
+    /// succeeds.
+    pub fn is_down(&self) -> bool
+        ensures { result ≡ self.now.down }
+    {
+        self.down
+    }
+
+    /// The records, the first one first.
+    pub fn records(&self) -> &[R]
+        ensures { reverse result.now ≡ self.now.records }
+    {
+        self.records.as_slice()
+    }
+
+    /// Makes the next commit of the keeper fail. Its record stands at the restart, or does not.
+    ///
+    /// Answers `NotPlanned` exactly where the keeper plans no failures. (This project's own rule.)
+    pub fn plan(&mut self, stands: bool) -> Result<(), NotPlanned>
+        ensures { LogPlanned stands result self.old self.new }
+    {
+        self.keeper.plan(stands)
+    }
+
+    /// Gives the keeper up.
+    pub fn into_keeper(self) -> K
+        ensures honest { K.honest result ≡ self.honest }
+        ensures keeps { self.honest ≡ true → Keeps R.spelling self (K.journal result) }
+        ensures run { self.down ≡ false → (K.run result).down ≡ false }
+        ensures failures { (K.run result).failures ≡ self.failures }
+    {
+        self.keeper
+    }
+
+    /// Commits a record, and adds it once it is acknowledged.
+    pub fn commit(&mut self, entry: R) -> Result<(), CommitFault>
+        requires up { self.old.down ≡ false }
+        requires fits { R.fits entry }
+        ensures { LogCommits entry result self.old self.new }
+    {
+        let written = entry.write(self.alloc);
+        let Ok(payload) = written else {
+            return Err(CommitFault::OutOfMemory);
+        };
+        if self.records.reserve(1).is_err() {
+            return Err(CommitFault::OutOfMemory);
+        }
+        match self.keeper.commit(payload.as_slice()) {
+            Ok(()) => {
+                self.records.push_reserved(entry);
+                Ok(())
+            }
+            Err(KeepFault::Memory) => Err(CommitFault::OutOfMemory),
+            Err(KeepFault::Down) => unreachable!(),
+            Err(KeepFault::Device) => {
+                self.tried = Some(entry);
+                self.down = true;
+                Err(CommitFault::Device)
+            }
+        }
+    }
+
+    /// Reads the journal again, and puts the log up.
+    pub fn restart<L: Ledger<Record = R>>(
+        &mut self,
+        context: &L::Context,
+        ledger: &mut L,
+    ) -> Result<Restarted, ReplayFault>
+        requires empty { L.comes_to ledger.old [] }
+        requires allowed { AreAllowed (L.allows context.now) self.old.records }
+        requires tried { MayStand (L.allows context.now) self.old.records self.old.tried }
+        ensures leaves { LogRestarts R.spelling (L.allows context.now) R.fits result self.old self.new }
+        ensures comes { OnOk result (L.comes_to ledger.new self.new.records) }
+    {
+        self.down = true;
+        let records = match reread(self.alloc, &mut self.keeper, context, ledger) {
+            Ok(records) => records,
+            Err(fault) => return Err(fault),
+        };
+        let kept = records.len() == self.records.len() + 1;
+        self.records = records;
+        self.tried = None;
+        self.down = false;
+        Ok(Restarted {
+            records: self.records.len() as u64,
+            kept,
+        })
+    }
+}
