@@ -94,7 +94,10 @@ def split(found, lanes):
 
 
 def try_edits(job):
-    """Tries some edits of a crate in a tree of their own; answers passed, failed names, seconds and processor seconds."""
+    """Tries some edits of a crate in a tree of their own.
+
+    Answers the crate, how many were refused, the names of the others, seconds and processor seconds.
+    """
     name, found, tree = job
     began = time.monotonic()
     with tempfile.TemporaryDirectory(prefix="wrong-") as room:
@@ -148,7 +151,8 @@ def main():
     with tempfile.TemporaryDirectory(prefix="wrong-tree-") as tree, ThreadPoolExecutor(asked.lanes) as pool:
         build_libraries(list(tried), tree, asked.lanes)
         # the highest crates first: their checks are the longest
-        jobs = [(name, part, tree) for name in reversed(crates()) for part in split(tried.get(name, []), asked.lanes) if part]
+        jobs = [(name, part, tree) for name in reversed(crates()) for part in split(tried.get(name, []), asked.lanes)]
+        jobs = [job for job in jobs if job[1]]
         for name, good, bad, seconds, used in pool.map(try_edits, jobs):
             row = rows.setdefault(name, [0, 0, 0.0, 0.0])
             row[0], row[1], row[2], row[3] = row[0] + good, row[1] + len(bad), row[2] + seconds, row[3] + used
