@@ -27,12 +27,12 @@ members_settled (Some o) moved h members = members
 writable_members : (c : List ClearRecord) → AreWritable c → AreMembers 9999 (history_of c)
 unfolding books_of
 writable_members [] fits = tt
-writable_members (Accept t ∷ c) fits = (fits.0.buyer.from, fits.0.buyer.to, fits.0.seller.from, fits.0.seller.to, writable_members c fits.2)
-writable_members (Exempt m i s ∷ c) fits = writable_members c fits.2
-writable_members (Priority m i is_on ∷ c) fits = writable_members c fits.2
-writable_members (Cycle id ∷ c) fits = writable_members c fits.2
-writable_members (Allocate a ∷ c) fits = writable_members c fits.2
-writable_members (Confirm r ∷ c) fits = members_settled (order_of (orders_of c).orders r.number) r.moved (history_of c) (writable_members c fits.2)
+writable_members (Accept t ∷ c) fits = (fits.0.0.buyer.from, fits.0.0.buyer.to, fits.0.0.seller.from, fits.0.0.seller.to, writable_members c fits.1)
+writable_members (Exempt m i s ∷ c) fits = writable_members c fits.1
+writable_members (Priority m i is_on ∷ c) fits = writable_members c fits.1
+writable_members (Cycle id ∷ c) fits = writable_members c fits.1
+writable_members (Allocate a ∷ c) fits = writable_members c fits.1
+writable_members (Confirm r ∷ c) fits = members_settled (order_of (orders_of c).orders r.number) r.moved (history_of c) (writable_members c fits.1)
 
 -- what an order of a kind and an issue moved
 abbrev moved_by_order : MoveKind → List Reply → ℕ → Order → ℕ

@@ -112,7 +112,7 @@ lawful_sound [] lawful fits =
     record { netted = book_empty; bounded = orderly.bounded; ordered = orderly.ordered }
 lawful_sound (r ∷ c) lawful fits =
     let orderly = lawful_bounded (r ∷ c) lawful in
-    let netted = netted_more r (books_of c) (lawful_sound c lawful.1 fits.2) lawful.0 fits.0 in
+    let netted = netted_more r (books_of c) (lawful_sound c lawful.1 fits.1) lawful.0 fits.0.0 in
     record { netted = netted; bounded = orderly.bounded; ordered = orderly.ordered }
 
 -- records are lawful from the oldest one on
@@ -123,14 +123,4 @@ lawful_before (r ∷ later) c lawful = lawful_before later c lawful.1
 -- and so they are writable
 pub writable_before : (later c : List ClearRecord) → AreWritable (later ++ c) → AreWritable c
 writable_before [] c fits = fits
-writable_before (r ∷ later) c fits = writable_before later c fits.2
-
--- records are writable in any order
-pub writable-append : (xs ys : List ClearRecord) → AreWritable xs → AreWritable ys → AreWritable (xs ++ ys)
-writable-append [] ys first then = then
-writable-append (x ∷ xs) ys first then = (first.0, first.1, writable-append xs ys first.2 then)
-
-pub writable-reverse : (xs : List ClearRecord) → AreWritable xs → AreWritable (reverse xs)
-writable-reverse [] fits = tt
-writable-reverse (x ∷ xs) fits =
-    subst AreWritable (sym (reverse-append (x ∷ []) xs)) (writable-append (reverse xs) (x ∷ []) (writable-reverse xs fits.2) (fits.0, fits.1, tt))
+writable_before (r ∷ later) c fits = writable_before later c fits.1

@@ -15,15 +15,14 @@ use Rattle.cns_records.specs.declared.allocation.Allocation.{Allocation}
 use Rattle.cns_records.specs.declared.clear_record.ClearRecord.{ClearRecord}
 use Rattle.cns_records.specs.declared.clear_record.ClearRecord.TheVariants.{Allocate}
 use Rattle.cns_clearing.specs.Answers.{LotCloseLeaves, LotOpenLeaves, LotPourLeaves, MayClose, allocation_of}
-use Rattle.cns_clearing.specs.Commit.{AddLeaves}
 use Rattle.cns_clearing.specs.Faults.{closing_fault}
-use Rattle.cns_clearing.specs.declared.fault.CommitFault.{CommitFault}
-use Rattle.cns_clearing.specs.declared.fault.CommitFault.TheVariants as commit
+use Rattle.cns_journal.specs.declared.record_log.CommitFault.{CommitFault}
+use Rattle.cns_journal.specs.declared.record_log.CommitFault.TheVariants as commit
 use Rattle.std.proofs.lemmas.Option.{none-some}
 use Rattle.cns_clearing.specs.Books.{Books, IsAllocable, IsAllowed, IsLawful, are_spent, books_of, deliveries_in, history_of, orders_of, tickets_of}
 use Rattle.cns_clearing.specs.Closing.{AreRecordable}
 use Rattle.cns_clearing.specs.Lots.{AreLots, IsAllocation, avail_in, longs_among, lots_poured, new_lot, plan_in}
-use Rattle.cns_clearing.specs.Node.{ClearNode}
+use Rattle.cns_clearing.specs.Node.{AddLeaves, ClearNode}
 use Rattle.cns_clearing.specs.OpenLots.{refilled}
 use Rattle.cns_clearing.specs.Pools.{lot_of}
 use Rattle.cns_clearing.specs.declared.lot.Lot.{Lot}
@@ -43,13 +42,13 @@ pub refilled_lots : (c : List ClearRecord) (lots lots' : List Lot) (issue n pour
 refilled_lots c lots lots' issue n poured are count avail is =
     subst (AreLots c) (sym (refilled_is c lots lots' issue n poured count avail is)) (lots_refilled c lots issue are)
 
-pub pour_leaves : (old : ClearNode) (lots' : List Lot) (issue shares n poured : ℕ) (lot : Lot) → IsLawful old.records → AreLots old.records old.lots → old.down ≡ false
-    → lot_of old.lots issue ≡ Some lot → n ≡ length old.records → poured ≡ avail_in old.records issue → shares ≡ poured - lot.poured
+pub pour_leaves : (old : ClearNode) (lots' : List Lot) (issue shares n poured : ℕ) (lot : Lot) → IsLawful old.log.records → AreLots old.log.records old.lots → old.log.down ≡ false
+    → lot_of old.lots issue ≡ Some lot → n ≡ length old.log.records → poured ≡ avail_in old.log.records issue → shares ≡ poured - lot.poured
     → lots' ≡ map (refilled issue n poured) old.lots → LotPourLeaves issue (Ok shares) old (record old { lots = lots' })
 pour_leaves old lots' issue shares n poured lot lawful are up found count avail is filled = (
   up,
   pour_adds old issue shares lot lawful are found (is ∙ ap (λ (x : ℕ). x - lot.poured) avail),
-  ap (λ (l : List Lot). record old { lots = l }) (refilled_is old.records old.lots lots' issue n poured count avail filled),
+  ap (λ (l : List Lot). record old { lots = l }) (refilled_is old.log.records old.lots lots' issue n poured count avail filled),
 )
 
 -- the plan of the books is that of the records
@@ -79,61 +78,61 @@ pub opened_lots : (c : List ClearRecord) (lots room lots' : List Lot) (issue n p
 opened_lots c lots room lots' issue n poured plan are none count avail is same list =
     subst (AreLots c) (sym (list ∙ ap (with_lot issue n poured plan) same ∙ ap (λ (x : Lot). lots ++ x ∷ []) (opened_is c issue n poured plan count avail is))) (lots_opened c lots issue are none)
 
-pub open_leaves : (old : ClearNode) (room lots' : List Lot) (issue n poured : ℕ) (plan answer : List Planned) → old.down ≡ false → lot_of old.lots issue ≡ None
-    → n ≡ length old.records → poured ≡ avail_in old.records issue → plan ≡ plan_in old.records issue → answer ≡ plan
+pub open_leaves : (old : ClearNode) (room lots' : List Lot) (issue n poured : ℕ) (plan answer : List Planned) → old.log.down ≡ false → lot_of old.lots issue ≡ None
+    → n ≡ length old.log.records → poured ≡ avail_in old.log.records issue → plan ≡ plan_in old.log.records issue → answer ≡ plan
     → room ≡ old.lots → lots' ≡ room ++ record { issue = issue; opened = n; upto = n; poured = poured; plan = plan } ∷ [] → LotOpenLeaves issue (Ok answer) old (record old { lots = lots' })
 open_leaves old room lots' issue n poured plan answer up none count avail is copied same list = (
   up,
   none,
   copied ∙ is,
-  ap (λ (l : List Lot). record old { lots = l }) (list ∙ ap (with_lot issue n poured plan) same ∙ ap (λ (x : Lot). old.lots ++ x ∷ []) (opened_is old.records issue n poured plan count avail is)),
+  ap (λ (l : List Lot). record old { lots = l }) (list ∙ ap (with_lot issue n poured plan) same ∙ ap (λ (x : Lot). old.lots ++ x ∷ []) (opened_is old.log.records issue n poured plan count avail is)),
 )
 
 -- ---- closing a lot
 
-pub may_close : (node : ClearNode) (issue : ℕ) (tickets : List Ticket) (sealed : Bool) (lot : Lot) (a : Allocation) → AreLots node.records node.lots
+pub may_close : (node : ClearNode) (issue : ℕ) (tickets : List Ticket) (sealed : Bool) (lot : Lot) (a : Allocation) → AreLots node.log.records node.lots
     → lot_of node.lots issue ≡ Some lot → IsServed lot.plan tickets sealed → a ≡ allocation_of lot tickets sealed → MayClose node issue tickets sealed a
 may_close node issue tickets sealed lot a are found served is = record {
   lot = lot;
   found = found;
   served = served;
   closes = is;
-  lawful = subst (IsAllocation node.records) (sym is) (allocation_lawful node.records lot tickets sealed (lot_found node.records node.lots issue lot are found).0 served);
+  lawful = subst (IsAllocation node.log.records) (sym is) (allocation_lawful node.log.records lot tickets sealed (lot_found node.log.records node.lots issue lot are found).0 served);
 }
 
 -- the tickets can be recorded
-pub close_recordable : (node : ClearNode) (issue : ℕ) (tickets : List Ticket) (sealed : Bool) (lot : Lot) → IsLawful node.records → AreWritable node.records
-    → AreLots node.records node.lots → lot_of node.lots issue ≡ Some lot → IsServed lot.plan tickets sealed → AreRecordable tickets
+pub close_recordable : (node : ClearNode) (issue : ℕ) (tickets : List Ticket) (sealed : Bool) (lot : Lot) → IsLawful node.log.records → AreWritable node.log.records
+    → AreLots node.log.records node.lots → lot_of node.lots issue ≡ Some lot → IsServed lot.plan tickets sealed → AreRecordable tickets
 close_recordable node issue tickets sealed lot lawful fits are found served =
-    recordable node.records lot tickets sealed lawful fits (lot_found node.records node.lots issue lot are found).0 served
+    recordable node.log.records lot tickets sealed lawful fits (lot_found node.log.records node.lots issue lot are found).0 served
 
 -- they ask for at most 10^18 shares in all
-pub close_small : (node : ClearNode) (issue : ℕ) (tickets : List Ticket) (sealed : Bool) (a : Allocation) → IsLawful node.records → AreWritable node.records
-    → AreLots node.records node.lots → MayClose node issue tickets sealed a → asked_sum tickets ≤ 1000000000000000000
+pub close_small : (node : ClearNode) (issue : ℕ) (tickets : List Ticket) (sealed : Bool) (a : Allocation) → IsLawful node.log.records → AreWritable node.log.records
+    → AreLots node.log.records node.lots → MayClose node issue tickets sealed a → asked_sum tickets ≤ 1000000000000000000
 close_small node issue tickets sealed a lawful fits are may =
-    asked_small node.records may.lot tickets sealed lawful fits (lot_found node.records node.lots issue may.lot are may.found).0 may.served
+    asked_small node.log.records may.lot tickets sealed lawful fits (lot_found node.log.records node.lots issue may.lot are may.found).0 may.served
 
 -- the deliveries of the tickets are those of the allocation
-pub close_asks : (node : ClearNode) (issue : ℕ) (tickets : List Ticket) (sealed : Bool) (a : Allocation) (asks : List Ask) → AreLots node.records node.lots
+pub close_asks : (node : ClearNode) (issue : ℕ) (tickets : List Ticket) (sealed : Bool) (a : Allocation) (asks : List Ask) → AreLots node.log.records node.lots
     → MayClose node issue tickets sealed a → asks ≡ deliveries_of issue a.poured tickets → asks ≡ deliveries_in a
 close_asks node issue tickets sealed a asks are may is =
-    let same = (lot_found node.records node.lots issue may.lot are may.found).1 in
+    let same = (lot_found node.log.records node.lots issue may.lot are may.found).1 in
     let its : a.issue ≡ issue = ap (λ (x : Allocation). x.issue) may.closes ∙ same in
     let drawn : tickets_of a.drawn ≡ tickets = ap (λ (x : Allocation). tickets_of x.drawn) may.closes ∙ tickets_drawn tickets in
     is ∙ ap (λ (i : ℕ). deliveries_of i a.poured tickets) (sym its) ∙ ap (λ (ts : List Ticket). deliveries_of a.issue a.poured ts) (sym drawn)
 
 -- and where there are numbers for them the allocation may be recorded
-pub close_allowed : (node : ClearNode) (issue : ℕ) (tickets : List Ticket) (sealed : Bool) (a : Allocation) (asks : List Ask) → IsLawful node.records → AreWritable node.records
-    → AreLots node.records node.lots → MayClose node issue tickets sealed a → asks ≡ deliveries_in a → are_spent (orders_of node.records) asks ≡ false
-    → IsAllowed node.records (Allocate a)
+pub close_allowed : (node : ClearNode) (issue : ℕ) (tickets : List Ticket) (sealed : Bool) (a : Allocation) (asks : List Ask) → IsLawful node.log.records → AreWritable node.log.records
+    → AreLots node.log.records node.lots → MayClose node issue tickets sealed a → asks ≡ deliveries_in a → are_spent (orders_of node.log.records) asks ≡ false
+    → IsAllowed node.log.records (Allocate a)
 close_allowed node issue tickets sealed a asks lawful fits are may is enough =
     let lot = may.lot in
-    let its = (lot_found node.records node.lots issue lot are may.found).0 in
+    let its = (lot_found node.log.records node.lots issue lot are may.found).0 in
     let mine : deliveries_in a ≡ deliveries_of lot.issue lot.poured tickets =
     ap deliveries_in may.closes ∙ ap (λ (ts : List Ticket). deliveries_of lot.issue lot.poured ts) (tickets_drawn tickets) in
-    let numbers : are_spent (orders_of node.records) (deliveries_of lot.issue lot.poured tickets) ≡ false =
-    subst (λ (l : List Ask). are_spent (orders_of node.records) l ≡ false) (is ∙ mine) enough in
-    subst (λ (x : Allocation). IsAllocable (books_of node.records) x) (sym may.closes) (allocable node.records lot tickets sealed lawful fits its may.served numbers)
+    let numbers : are_spent (orders_of node.log.records) (deliveries_of lot.issue lot.poured tickets) ≡ false =
+    subst (λ (l : List Ask). are_spent (orders_of node.log.records) l ≡ false) (is ∙ mine) enough in
+    subst (λ (x : Allocation). IsAllocable (books_of node.log.records) x) (sym may.closes) (allocable node.log.records lot tickets sealed lawful fits its may.served numbers)
 
 -- whether the numbers suffice, of the records
 pub spent_is : (b : Books) (c : List ClearRecord) (l asks : List Ask) (a : Allocation) (r v : Bool) → b ≡ books_of c → l ≡ asks → asks ≡ deliveries_in a
@@ -145,8 +144,8 @@ some_found : (node : ClearNode) (issue : ℕ) (lot : Lot) → lot_of node.lots i
 some_found node issue lot found none = none-some lot (sym none ∙ found)
 
 -- what a refused commit leaves of a close
-pub close_refused : (old new : ClearNode) (issue : ℕ) (tickets : List Ticket) (sealed : Bool) (a : Allocation) (fault : CommitFault) → old.down ≡ false
-    → MayClose old issue tickets sealed a → IsAllowed old.records (Allocate a) → AddLeaves (Allocate a) (Err fault) old new
+pub close_refused : (old new : ClearNode) (issue : ℕ) (tickets : List Ticket) (sealed : Bool) (a : Allocation) (fault : CommitFault) → old.log.down ≡ false
+    → MayClose old issue tickets sealed a → IsAllowed old.log.records (Allocate a) → AddLeaves (Allocate a) (Err fault) old new
     → LotCloseLeaves issue tickets sealed (Err (closing_fault fault)) old new
 close_refused old new issue tickets sealed a commit.OutOfMemory up may allowed left = (up, some_found old issue may.lot may.found, left)
 close_refused old new issue tickets sealed a commit.Device up may allowed left = (a, may, allowed, left)

@@ -1,6 +1,5 @@
 pub mod BooksLemmas
 pub mod NodeLemmas
-pub mod ReplayLemmas
 pub mod PositionLemmas
 pub mod ListLemmas
 pub mod ClosingLemmas

@@ -1,9 +1,7 @@
--- What a commit leaves of the parts of a clearing node.
-use Rattle.std.proofs.Common.{◌≡◌, ◌≢◌, ◌≤◌, ◌+◌, ℕ, arith, Bool, true, false, List, [], ◌∷◌, ◌++◌, map, reverse, Option, Some, None, Result, Ok, Err, refl, sym, ap, ◌∙◌, subst, inl, inr}
+-- What a record that may stand has, and what is so of a node after each of its calls.
+use Rattle.std.proofs.Common.{◌≡◌, ◌≢◌, ◌≤◌, ◌+◌, ℕ, arith, Bool, true, false, List, [], ◌∷◌, Result, Ok, Err, refl, sym, ap, ◌∙◌, subst}
 use Rattle.std.specs.Prelude.{◌==◌, nat_le}
 use Rattle.std.proofs.lemmas.Bool.{and_from, eq-eqb, le-leb}
-use Rattle.std.proofs.lemmas.List.{map-append, reverse-append}
-use Rattle.std.proofs.lemmas.Option.{none-some, same_Some}
 use Rattle.cns_trades.specs.Verdicts.{verdict}
 use Rattle.cns_trades.specs.declared.list.Verdict.TheVariants as verdicts
 use Rattle.cns_trades.specs.declared.trade.Trade.{Trade}
@@ -13,23 +11,24 @@ use Rattle.cns_pool.specs.Tiles.{AreChained}
 use Rattle.cns_records.specs.Drawn.{IsByStart, starts_from}
 use Rattle.cns_records.specs.declared.drawn.Drawn.{Drawn}
 use Rattle.cns_records.proofs.DrawnLaws.{by_start-sound}
-use Rattle.cns_records.specs.Clear.{spelling, HasRanges, IsWritable, AreWritable}
+use Rattle.cns_records.specs.Clear.{spelling, HasPayload, IsWritable, AreWritable}
 use Rattle.cns_records.specs.declared.clear_record.ClearRecord.{ClearRecord}
 use Rattle.cns_records.specs.declared.clear_record.ClearRecord.TheVariants.{Accept, Exempt, Priority, Cycle, Allocate, Confirm}
-use Rattle.cns_journal.specs.Keeper.{Running, Journal, Foresight, IsReopened, PlanLeaves}
+use Rattle.cns_journal.proofs.LogLemmas.{committed_lawful, opened_lawful, planned_lawful, restarted_lawful}
+use Rattle.cns_journal.specs.Replay.{KeeperState}
+use Rattle.cns_journal.specs.RecordLog.{IsLawfulLog, LogCommits, LogPlanned, LogRestarts, LogState}
 use Rattle.cns_journal.specs.declared.keeper.NotPlanned.{NotPlanned}
-use Rattle.cns_clearing.specs.Books.{Books, Allows, AreSound, IsLawful, books_of, tickets_of, with_record}
-use Rattle.cns_clearing.specs.Node.{GivesBack, IsNode, IsTried, IsUndecided, KeeperState}
-use Rattle.cns_clearing.proofs.BooksLemmas.{lawful_sound, writable-append, writable-reverse}
-
-pub reverse_more : (xs : List ClearRecord) (x : ClearRecord) → reverse (xs ++ x ∷ []) ≡ x ∷ reverse xs
-reverse_more xs x = reverse-append xs (x ∷ [])
-
-pub writable_more : (xs : List ClearRecord) (x : ClearRecord) → AreWritable xs → HasRanges x → IsWritable x → AreWritable (xs ++ x ∷ [])
-writable_more xs x fits ranges writable = writable-append xs (x ∷ []) fits (ranges, writable, tt)
-
-map_more : (xs : List ClearRecord) (x : ClearRecord) → map spelling (xs ++ x ∷ []) ≡ map spelling xs ++ spelling x ∷ []
-map_more xs x = map-append spelling xs (x ∷ [])
+use Rattle.cns_journal.specs.declared.record_log.CommitFault.{CommitFault}
+use Rattle.cns_journal.specs.declared.record_log.CommitFault.TheVariants as commit
+use Rattle.cns_journal.specs.declared.record_log.ReplayFault.{ReplayFault}
+use Rattle.cns_journal.specs.declared.record_log.ReplayFault.TheVariants.{OutOfMemory, BadJournal, Device}
+use Rattle.cns_journal.specs.declared.record_log.Restarted.{Restarted}
+use Rattle.cns_clearing.specs.Books.{Allows, AreBooksOf, AreSound, Books, IsAllowed, books_of, no_books, tickets_of, with_record}
+use Rattle.cns_clearing.specs.Lots.{AreLots, DoesNotDisturb, lots_after}
+use Rattle.cns_clearing.specs.Node.{ClearNode, IsNode, IsOpened, NodePlanned, RestartLeaves}
+use Rattle.cns_clearing.specs.declared.lot.Lot.{Lot}
+use Rattle.cns_clearing.proofs.BooksLemmas.{lawful_sound}
+use Rattle.cns_clearing.proofs.LotLemmas.{lots_more, lots_none}
 
 -- the buyer of a new trade is not its seller
 new_differs : (held : List Trade) (t : Trade) → verdict held t ≡ verdicts.New → t.buyer ≢ t.seller
@@ -60,96 +59,86 @@ allowed_writable b (Cycle id) allowed = tt
 allowed_writable b (Allocate a) allowed = (allowed.order, chained_by_start a.drawn allowed.chained)
 allowed_writable b (Confirm r) allowed = tt
 
--- the books of a node are sound
-pub node_sound : (books : Books) (items : List ClearRecord) (tried : Option ClearRecord) (down : Bool) (k : KeeperState)
-    → IsNode books items tried down k → AreSound (books_of (reverse items))
-node_sound books items tried down k n = lawful_sound (reverse items) n.lawful (writable-reverse items n.fits)
+-- the books of lawful records are sound, and stay those of the records with one more
+pub books_sound : (b : Books) (c : List ClearRecord) → AreBooksOf b c → AreSound b
+books_sound b c are = subst AreSound (sym are.books_are) (lawful_sound c are.lawful are.fits)
 
--- with nothing undecided a reopening gives what is kept
-only_kept : (items : List ClearRecord) (tried : Option ClearRecord) (given : List (List ℕ))
-    → IsReopened (record { kept = map spelling items; undecided = None }) given → GivesBack items tried given
-only_kept items tried given gives = elim gives [ inl e ↦ inl e | inr more ↦ absurd (none-some more.0 more.1) ]
-
-kept_or_tried : (items : List ClearRecord) (r : ClearRecord) (given : List (List ℕ))
-    → IsReopened (record { kept = map spelling items; undecided = Some (spelling r) }) given → GivesBack items (Some r) given
-kept_or_tried items r given gives =
-    elim gives [
-      | inl same ↦ inl same
-      | inr more ↦
-          inr (r, refl, more.2 ∙ ap (λ (p : List ℕ). map spelling items ++ p ∷ []) (sym (same_Some (spelling r) more.0 more.1)) ∙ sym (map_more items r))
-    ]
-
--- an acknowledged record
-pub node_added : (r : ClearRecord) (books books' : Books) (items items' : List ClearRecord) (tried tried' : Option ClearRecord) (down down' : Bool) (k k' : KeeperState)
-    → IsNode books items tried down k → down ≡ false → Allows (books_of (reverse items)) r → HasRanges r → books' ≡ with_record r (books_of (reverse items))
-    → items' ≡ items ++ r ∷ [] → tried' ≡ tried → down' ≡ down → k'.run.down ≡ false → k'.honest ≡ k.honest → k'.foresight ≡ k.foresight
-    → (k.honest ≡ true → k'.journal ≡ record { kept = k.journal.kept ++ spelling r ∷ []; undecided = None })
-    → IsNode books' items' tried' down' k'
+pub books_more : (b : Books) (c : List ClearRecord) (r : ClearRecord) → AreBooksOf b c → Allows b r → HasPayload r → AreBooksOf (with_record r b) (r ∷ c)
 unfolding books_of
-node_added r books books' items items' tried tried' down down' k k' n up allowed ranges more list same stays running honest_is foresight_is journal =
-    let back : reverse items' ≡ r ∷ reverse items = ap reverse list ∙ reverse_more items r in
-    let none : tried' ≡ None = same ∙ (n.up up).0 in
-    let exact : k'.honest ≡ true → k'.journal ≡ record { kept = map spelling items'; undecided = None } =
-    λ h.
-    let was = n.journal_up up (sym honest_is ∙ h) in
-    let kept : k.journal.kept ++ spelling r ∷ [] ≡ map spelling items' =
-    ap (λ (x : Journal). x.kept ++ spelling r ∷ []) was ∙ sym (map_more items r) ∙ ap (map spelling) (sym list) in
-    journal (sym honest_is ∙ h) ∙ ap (λ (l : List (List ℕ)). record { kept = l; undecided = None }) kept in
+books_more b c r are allowed payload = record {
+  books_are = ap (with_record r) are.books_are;
+  lawful = (subst (λ (x : Books). Allows x r) are.books_are allowed, are.lawful);
+  fits = (payload, are.fits);
+}
+
+pub none_yet : (b : Books) → b ≡ no_books → AreBooksOf b []
+unfolding books_of
+none_yet b none = record { books_are = none; lawful = tt; fits = tt }
+
+pub node_books : (b : Books) (node : ClearNode) → IsNode b node → AreBooksOf b node.log.records
+node_books b node n = record { books_are = n.books_are; lawful = n.log.allowed; fits = n.fits }
+
+-- a node with another log of the same records, and the same lots
+same_records : (b : Books) (old new : ClearNode) → IsNode b old → new.log.records ≡ old.log.records → IsLawfulLog IsAllowed new.log → new.lots ≡ old.lots → IsNode b new
+same_records b old new n same law lots = record {
+  books_are = n.books_are ∙ ap books_of (sym same);
+  log = law;
+  fits = subst AreWritable (sym same) n.fits;
+  lots = subst (λ (c : List ClearRecord). AreLots c new.lots) (sym same) (subst (AreLots old.log.records) (sym lots) n.lots);
+}
+
+-- a node with other lots
+pub node_lots : (b : Books) (node : ClearNode) (lots : List Lot) → IsNode b node → AreLots node.log.records lots → IsNode b (record node { lots = lots })
+node_lots b node lots n are = record { books_are = n.books_are; log = n.log; fits = n.fits; lots = are }
+
+pub node_added : (r : ClearRecord) (b b' : Books) (old new : ClearNode) → IsNode b old → old.log.down ≡ false → IsAllowed old.log.records r
+    → DoesNotDisturb r old.lots → HasPayload r → b' ≡ with_record r b → LogCommits r (Ok tt) old.log new.log → new.lots ≡ lots_after r old.lots → IsNode b' new
+node_added r b b' old new n up allowed quiet payload more left lots =
+    let list : new.log.records ≡ r ∷ old.log.records = ap (λ (l : LogState ClearRecord). l.records) left.0 in
+    let may : Allows b r = subst (λ (x : Books). Allows x r) (sym n.books_are) allowed in
+    let are : AreBooksOf (with_record r b) (r ∷ old.log.records) = books_more b old.log.records r (node_books b old n) may payload in
     record {
-      books_are = more ∙ ap books_of (sym back);
-      lawful = subst IsLawful (sym back) (allowed, n.lawful);
-      fits = subst AreWritable (sym list) (writable_more items r n.fits ranges (allowed_writable (books_of (reverse items)) r allowed));
-      tried_is = subst (IsTried (reverse items')) (sym none) tt;
-      up = λ _. (none, running);
-      journal_up = λ _ h. exact h;
-      journal_down = λ h given gives. only_kept items' tried' given (subst (λ (x : Journal). IsReopened x given) (exact h) gives);
-      foreseen = λ h stands is.
-          let was = n.foreseen (sym honest_is ∙ h) stands (ap (λ (f : Foresight). f.stands) (sym foresight_is) ∙ is) in
-          absurd (none-some was.0 (sym (n.up up).0 ∙ was.1));
+      books_are = more ∙ are.books_are ∙ ap books_of (sym list);
+      log = committed_lawful IsAllowed r (Ok tt) old.log new.log n.log up allowed left;
+      fits = subst AreWritable (sym list) are.fits;
+      lots = subst (λ (c : List ClearRecord). AreLots c new.lots) (sym list)
+          (subst (AreLots (r ∷ old.log.records)) (sym lots) (lots_more old.log.records r old.lots n.lots quiet));
     }
 
--- a record whose commit failed
-pub node_failed : (r : ClearRecord) (books books' : Books) (items items' : List ClearRecord) (tried : Option ClearRecord) (down : Bool) (k k' : KeeperState)
-    → IsNode books items tried down k → down ≡ false → Allows (books_of (reverse items)) r → HasRanges r → books' ≡ books → items' ≡ items → k'.honest ≡ k.honest
-    → (k.honest ≡ true → k'.journal ≡ record { kept = k.journal.kept; undecided = Some (spelling r) })
-    → IsNode books' items' (Some r) true k'
-node_failed r books books' items items' tried down k k' n up allowed ranges books_same list honest_is journal =
-    let back : reverse items ≡ reverse items' = ap reverse (sym list) in
-    let exact : k'.honest ≡ true → k'.journal ≡ record { kept = map spelling items'; undecided = Some (spelling r) } =
-    λ h.
-    let was = n.journal_up up (sym honest_is ∙ h) in
-    let kept : k.journal.kept ≡ map spelling items' = ap (λ (x : Journal). x.kept) was ∙ ap (map spelling) (sym list) in
-    journal (sym honest_is ∙ h) ∙ ap (λ (l : List (List ℕ)). record { kept = l; undecided = Some (spelling r) }) kept in
-    record {
-      books_are = books_same ∙ n.books_are ∙ ap books_of back;
-      lawful = subst IsLawful back n.lawful;
-      fits = subst AreWritable (sym list) n.fits;
-      tried_is = (subst (λ (c : List ClearRecord). Allows (books_of c) r) back allowed, ranges, allowed_writable (books_of (reverse items)) r allowed);
-      up = λ now. cc;
-      journal_up = λ now. cc;
-      journal_down = λ h given gives. kept_or_tried items' r given (subst (λ (x : Journal). IsReopened x given) (exact h) gives);
-      foreseen = λ h stands is. (r, refl, exact h);
-    }
+refused_records : (r : ClearRecord) (fault : CommitFault) (old new : LogState ClearRecord) → LogCommits r (Err fault) old new → new.records ≡ old.records
+refused_records r commit.OutOfMemory old new left = ap (λ (l : LogState ClearRecord). l.records) left
+refused_records r commit.Device old new left = ap (λ (l : LogState ClearRecord). l.records) left.0
 
--- what is known of the next commit says nothing of the undecided record
-planned_stands : (stands : Bool) (result : Result (Unit {0}) NotPlanned) (old new : Foresight) → PlanLeaves stands result old new → new.stands ≡ old.stands
-planned_stands stands (Ok done) old new left = ap (λ (f : Foresight). f.stands) left.1
-planned_stands stands (Err fault) old new left = ap (λ (f : Foresight). f.stands) left.1
+pub node_refused : (r : ClearRecord) (fault : CommitFault) (b : Books) (old new : ClearNode) → IsNode b old → old.log.down ≡ false → IsAllowed old.log.records r
+    → LogCommits r (Err fault) old.log new.log → new.lots ≡ old.lots → IsNode b new
+node_refused r fault b old new n up allowed left lots =
+    same_records b old new n (refused_records r fault old.log new.log left) (committed_lawful IsAllowed r (Err fault) old.log new.log n.log up allowed left) lots
 
--- a plan changes nothing else
-pub node_planned : (plan : Bool) (result : Result (Unit {0}) NotPlanned) (books : Books) (items : List ClearRecord) (tried : Option ClearRecord) (down : Bool) (k k' : KeeperState)
-    → IsNode books items tried down k → k'.honest ≡ k.honest → k'.run ≡ k.run → (k.honest ≡ true → k'.journal ≡ k.journal) → PlanLeaves plan result k.foresight k'.foresight
-    → IsNode books items tried down k'
-node_planned plan result books items tried down k k' n is ran same planned =
-    record {
-      books_are = n.books_are;
-      lawful = n.lawful;
-      fits = n.fits;
-      tried_is = n.tried_is;
-      up = λ now. ((n.up now).0, ap (λ (x : Running). x.down) ran ∙ (n.up now).1);
-      journal_up = λ now h. same (sym is ∙ h) ∙ n.journal_up now (sym is ∙ h);
-      journal_down = λ h given gives. n.journal_down (sym is ∙ h) given (subst (λ (x : Journal). IsReopened x given) (same (sym is ∙ h)) gives);
-      foreseen = λ h stands e.
-          subst (IsUndecided items tried) (sym (same (sym is ∙ h)))
-          (n.foreseen (sym is ∙ h) stands (sym (planned_stands plan result k.foresight k'.foresight planned) ∙ e));
-    }
+pub node_planned : (stands : Bool) (result : Result (Unit {0}) NotPlanned) (b : Books) (old new : ClearNode) → IsNode b old → NodePlanned stands result old new → IsNode b new
+node_planned stands result b old new n left =
+    same_records b old new n (ap (λ (l : LogState ClearRecord). l.records) left.0.1) (planned_lawful IsAllowed stands result old.log new.log n.log left.0) left.1
+
+-- a node whose lots have all ended
+without_lots : (b : Books) (new : ClearNode) → AreBooksOf b new.log.records → IsLawfulLog IsAllowed new.log → new.lots ≡ [] → IsNode b new
+without_lots b new are law none = record {
+  books_are = are.books_are;
+  log = law;
+  fits = are.fits;
+  lots = subst (AreLots new.log.records) (sym none) (lots_none new.log.records);
+}
+
+pub node_opened : (b : Books) (keeper : KeeperState) (node : ClearNode) → IsOpened keeper node → AreBooksOf b node.log.records → IsNode b node
+node_opened b keeper node opened are = without_lots b node are (opened_lawful IsAllowed spelling keeper node.log opened.0) opened.1
+
+pub node_restarted : (b b' : Books) (old new : ClearNode) (done : Restarted) → IsNode b old → RestartLeaves (Ok done) old new → AreBooksOf b' new.log.records → IsNode b' new
+node_restarted b b' old new done n left are = without_lots b' new are (restarted_lawful IsAllowed spelling HasPayload (Ok done) old.log new.log n.log left.0) left.1
+
+unread_records : (fault : ReplayFault) (old new : LogState ClearRecord) → LogRestarts spelling IsAllowed HasPayload (Err fault) old new → new.records ≡ old.records
+unread_records OutOfMemory old new left = ap (λ (l : LogState ClearRecord). l.records) left.0
+unread_records (BadJournal place) old new left = ap (λ (l : LogState ClearRecord). l.records) left.0
+unread_records Device old new left = ap (λ (l : LogState ClearRecord). l.records) left.0
+
+pub node_unread : (b : Books) (old new : ClearNode) (fault : ReplayFault) → IsNode b old → RestartLeaves (Err fault) old new → IsNode b new
+node_unread b old new fault n left =
+    let same = unread_records fault old.log new.log left.0 in
+    without_lots b new (subst (AreBooksOf b) (sym same) (node_books b old n)) (restarted_lawful IsAllowed spelling HasPayload (Err fault) old.log new.log n.log left.0) left.1

@@ -73,10 +73,10 @@ pool_whole c lots issue lawful are =
     omega (arith, lent_most c lots issue lawful are, taken_covered c issue lawful, taken_whole (orders_of c) issue)
 
 -- what a pour adds is what was free
-pub pour_adds : (node : ClearNode) (issue shares : ℕ) (lot : Lot) → IsLawful node.records → AreLots node.records node.lots → lot_of node.lots issue ≡ Some lot
-    → shares ≡ avail_in node.records issue - lot.poured → IsPoured node issue shares
+pub pour_adds : (node : ClearNode) (issue shares : ℕ) (lot : Lot) → IsLawful node.log.records → AreLots node.log.records node.lots → lot_of node.lots issue ≡ Some lot
+    → shares ≡ avail_in node.log.records issue - lot.poured → IsPoured node issue shares
 pour_adds node issue shares lot lawful are found is =
-    let most = found_most node.records node.lots issue lot lawful are found in
+    let most = found_most node.log.records node.lots issue lot lawful are found in
     let lent = lent_found node.lots issue lot found in
     record { lot = lot; found = found; free = omega (arith, is, lent); all = omega (arith, is, most) }
 

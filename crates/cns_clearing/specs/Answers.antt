@@ -14,8 +14,6 @@ use Rattle.cns_movements.specs.declared.book.Confirm.TheVariants as answers
 use Rattle.cns_movements.specs.declared.order.Ask.{Ask}
 use Rattle.cns_movements.specs.declared.order.Order.{Order}
 use Rattle.cns_movements.specs.declared.order.Reply.{Reply}
-use Rattle.cns_journal.specs.Keeper.{PlanLeaves}
-use Rattle.cns_journal.specs.declared.keeper.NotPlanned.{NotPlanned}
 use Rattle.cns_pool.specs.Pool.{asked_sum}
 use Rattle.cns_pool.specs.declared.ticket.Ticket.{Ticket}
 use Rattle.cns_allocate.specs.Served.{IsServed}
@@ -56,17 +54,17 @@ verdict_in c t = verdict (accepted (history_of c)) t
 
 -- what a trade leaves, by its answer: only a new one is accepted
 abbrev pub TradeLeaves : Trade → Result (Unit {0}) TradeFault → ClearNode → ClearNode → Type 0
-TradeLeaves t (Ok _) old new = IsAllowed old.records (entry.Accept t) × Added (entry.Accept t) old new
-TradeLeaves t (Err trade.Down) old new = (old.down ≡ true) × (new ≡ old)
-TradeLeaves t (Err (trade.Refused v)) old new = (old.down ≡ false) × (verdict_in old.records t ≡ v) × (v ≢ verdicts.New) × (new ≡ old)
-TradeLeaves t (Err trade.OutOfMemory) old new = (old.down ≡ false) × IsAllowed old.records (entry.Accept t) × (new ≡ old)
-TradeLeaves t (Err trade.Device) old new = IsAllowed old.records (entry.Accept t) × Failed (entry.Accept t) old new
+TradeLeaves t (Ok _) old new = IsAllowed old.log.records (entry.Accept t) × Added (entry.Accept t) old new
+TradeLeaves t (Err trade.Down) old new = (old.log.down ≡ true) × (new ≡ old)
+TradeLeaves t (Err (trade.Refused v)) old new = (old.log.down ≡ false) × (verdict_in old.log.records t ≡ v) × (v ≢ verdicts.New) × (new ≡ old)
+TradeLeaves t (Err trade.OutOfMemory) old new = (old.log.down ≡ false) × IsAllowed old.log.records (entry.Accept t) × (new ≡ old)
+TradeLeaves t (Err trade.Device) old new = IsAllowed old.log.records (entry.Accept t) × Failed (entry.Accept t) old new
 
 -- what the record of a setting leaves, by its answer
 abbrev pub SettingLeaves : ClearRecord → Result (Unit {0}) SettingFault → ClearNode → ClearNode → Type 0
 SettingLeaves r (Ok _) old new = Added r old new
-SettingLeaves r (Err setting.Down) old new = (old.down ≡ true) × (new ≡ old)
-SettingLeaves r (Err setting.OutOfMemory) old new = (old.down ≡ false) × (new ≡ old)
+SettingLeaves r (Err setting.Down) old new = (old.log.down ≡ true) × (new ≡ old)
+SettingLeaves r (Err setting.OutOfMemory) old new = (old.log.down ≡ false) × (new ≡ old)
 SettingLeaves r (Err setting.Device) old new = Failed r old new
 
 -- the covers that a cycle of this date orders after these records
@@ -82,36 +80,36 @@ pub record IsCycled (c : List ClearRecord) (day : ℕ) (done : Cycled) : Type 0 
 -- what a cycle leaves, by its answer
 abbrev pub CycleLeaves : CycleId → Result Cycled CycleFault → ClearNode → ClearNode → Type 0
 CycleLeaves id (Ok done) old new =
-    IsAllowed old.records (entry.Cycle id) × (old.lots ≡ []) × IsCycled old.records id.day done × Added (entry.Cycle id) old new
-CycleLeaves id (Err cycle.Down) old new = (old.down ≡ true) × (new ≡ old)
-CycleLeaves id (Err cycle.CycleOrder) old new = (old.down ≡ false) × (is_later (latest_of old.records) id ≡ false) × (new ≡ old)
-CycleLeaves id (Err cycle.LotsOpen) old new = (old.down ≡ false) × (is_later (latest_of old.records) id ≡ true) × (old.lots ≢ []) × (new ≡ old)
+    IsAllowed old.log.records (entry.Cycle id) × (old.lots ≡ []) × IsCycled old.log.records id.day done × Added (entry.Cycle id) old new
+CycleLeaves id (Err cycle.Down) old new = (old.log.down ≡ true) × (new ≡ old)
+CycleLeaves id (Err cycle.CycleOrder) old new = (old.log.down ≡ false) × (is_later (latest_of old.log.records) id ≡ false) × (new ≡ old)
+CycleLeaves id (Err cycle.LotsOpen) old new = (old.log.down ≡ false) × (is_later (latest_of old.log.records) id ≡ true) × (old.lots ≢ []) × (new ≡ old)
 CycleLeaves id (Err cycle.NumbersSpent) old new =
-    (old.down ≡ false) × (is_later (latest_of old.records) id ≡ true) × (old.lots ≡ []) × (are_spent (orders_of old.records) (covers_in old.records id.day) ≡ true) × (new ≡ old)
-CycleLeaves id (Err cycle.OutOfMemory) old new = (old.down ≡ false) × (is_later (latest_of old.records) id ≡ true) × (old.lots ≡ []) × (new ≡ old)
-CycleLeaves id (Err cycle.Device) old new = IsAllowed old.records (entry.Cycle id) × (old.lots ≡ []) × Failed (entry.Cycle id) old new
+    (old.log.down ≡ false) × (is_later (latest_of old.log.records) id ≡ true) × (old.lots ≡ []) × (are_spent (orders_of old.log.records) (covers_in old.log.records id.day) ≡ true) × (new ≡ old)
+CycleLeaves id (Err cycle.OutOfMemory) old new = (old.log.down ≡ false) × (is_later (latest_of old.log.records) id ≡ true) × (old.lots ≡ []) × (new ≡ old)
+CycleLeaves id (Err cycle.Device) old new = IsAllowed old.log.records (entry.Cycle id) × (old.lots ≡ []) × Failed (entry.Cycle id) old new
 
 -- what the opening of a lot leaves, by its answer: the lot has all shares of the issue that are there, and its plan
 abbrev pub LotOpenLeaves : ℕ → Result (List Planned) LotOpenFault → ClearNode → ClearNode → Type 0
 LotOpenLeaves issue (Ok plan) old new =
-    (old.down ≡ false) × (lot_of old.lots issue ≡ None) × (plan ≡ (new_lot old.records issue).plan) × (new ≡ record old { lots = old.lots ++ new_lot old.records issue ∷ [] })
-LotOpenLeaves issue (Err opening.Down) old new = (old.down ≡ true) × (new ≡ old)
-LotOpenLeaves issue (Err opening.LotAlready) old new = (old.down ≡ false) × (lot_of old.lots issue ≢ None) × (new ≡ old)
-LotOpenLeaves issue (Err opening.OutOfMemory) old new = (old.down ≡ false) × (lot_of old.lots issue ≡ None) × (new ≡ old)
+    (old.log.down ≡ false) × (lot_of old.lots issue ≡ None) × (plan ≡ (new_lot old.log.records issue).plan) × (new ≡ record old { lots = old.lots ++ new_lot old.log.records issue ∷ [] })
+LotOpenLeaves issue (Err opening.Down) old new = (old.log.down ≡ true) × (new ≡ old)
+LotOpenLeaves issue (Err opening.LotAlready) old new = (old.log.down ≡ false) × (lot_of old.lots issue ≢ None) × (new ≡ old)
+LotOpenLeaves issue (Err opening.OutOfMemory) old new = (old.log.down ≡ false) × (lot_of old.lots issue ≡ None) × (new ≡ old)
 
 -- shares poured into a lot are those that were free, and with those it had it has all that are there
 pub record IsPoured (node : ClearNode) (issue shares : ℕ) : Type 0 where
   pub lot : Lot
   pub found : lot_of node.lots issue ≡ Some lot
-  pub free : shares ≡ free_of (orders_of node.records) node.lots issue
-  pub all : lot.poured + shares ≡ avail_in node.records issue
+  pub free : shares ≡ free_of (orders_of node.log.records) node.lots issue
+  pub all : lot.poured + shares ≡ avail_in node.log.records issue
 
 -- what a pour leaves, by its answer
 abbrev pub LotPourLeaves : ℕ → Result ℕ LotPourFault → ClearNode → ClearNode → Type 0
 LotPourLeaves issue (Ok shares) old new =
-    (old.down ≡ false) × IsPoured old issue shares × (new ≡ record old { lots = lots_poured old.records issue old.lots })
-LotPourLeaves issue (Err pouring.Down) old new = (old.down ≡ true) × (new ≡ old)
-LotPourLeaves issue (Err pouring.NoLot) old new = (old.down ≡ false) × (lot_of old.lots issue ≡ None) × (new ≡ old)
+    (old.log.down ≡ false) × IsPoured old issue shares × (new ≡ record old { lots = lots_poured old.log.records issue old.lots })
+LotPourLeaves issue (Err pouring.Down) old new = (old.log.down ≡ true) × (new ≡ old)
+LotPourLeaves issue (Err pouring.NoLot) old new = (old.log.down ≡ false) × (lot_of old.lots issue ≡ None) × (new ≡ old)
 
 -- the tickets of a pool as those of a record
 abbrev pub drawn_in_record : Ticket → Drawn
@@ -131,7 +129,7 @@ pub record MayClose (node : ClearNode) (issue : ℕ) (tickets : List Ticket) (se
   pub found : lot_of node.lots issue ≡ Some lot
   pub served : IsServed lot.plan tickets sealed
   pub closes : a ≡ allocation_of lot tickets sealed
-  pub lawful : IsAllocation node.records a
+  pub lawful : IsAllocation node.log.records a
 
 -- what is answered for the allocation that closes the lot of an issue
 abbrev pub ClosingGives : ℕ → List Ticket → Bool → Result Allocation LotCloseFault → ClearNode → Type 0
@@ -152,22 +150,22 @@ pub record IsClosed (c : List ClearRecord) (tickets : List Ticket) (a : Allocati
 -- what the close of a lot leaves, by its answer
 abbrev pub LotCloseLeaves : ℕ → List Ticket → Bool → Result Closed LotCloseFault → ClearNode → ClearNode → Type 0
 LotCloseLeaves issue tickets sealed (Ok done) old new =
-    (a : Allocation) × MayClose old issue tickets sealed a × IsAllowed old.records (entry.Allocate a) × IsClosed old.records tickets a done × Added (entry.Allocate a) old new
-LotCloseLeaves issue tickets sealed (Err closing.Down) old new = (old.down ≡ true) × (new ≡ old)
-LotCloseLeaves issue tickets sealed (Err closing.NoLot) old new = (old.down ≡ false) × (lot_of old.lots issue ≡ None) × (new ≡ old)
+    (a : Allocation) × MayClose old issue tickets sealed a × IsAllowed old.log.records (entry.Allocate a) × IsClosed old.log.records tickets a done × Added (entry.Allocate a) old new
+LotCloseLeaves issue tickets sealed (Err closing.Down) old new = (old.log.down ≡ true) × (new ≡ old)
+LotCloseLeaves issue tickets sealed (Err closing.NoLot) old new = (old.log.down ≡ false) × (lot_of old.lots issue ≡ None) × (new ≡ old)
 LotCloseLeaves issue tickets sealed (Err closing.BadTickets) old new =
-    (old.down ≡ false) × ((lot : Lot) × (lot_of old.lots issue ≡ Some lot) × (IsServed lot.plan tickets sealed → ⊥)) × (new ≡ old)
+    (old.log.down ≡ false) × ((lot : Lot) × (lot_of old.lots issue ≡ Some lot) × (IsServed lot.plan tickets sealed → ⊥)) × (new ≡ old)
 LotCloseLeaves issue tickets sealed (Err closing.NumbersSpent) old new =
-    (old.down ≡ false) × ((a : Allocation) × MayClose old issue tickets sealed a × (are_spent (orders_of old.records) (deliveries_in a) ≡ true)) × (new ≡ old)
-LotCloseLeaves issue tickets sealed (Err closing.OutOfMemory) old new = (old.down ≡ false) × (lot_of old.lots issue ≢ None) × (new ≡ old)
+    (old.log.down ≡ false) × ((a : Allocation) × MayClose old issue tickets sealed a × (are_spent (orders_of old.log.records) (deliveries_in a) ≡ true)) × (new ≡ old)
+LotCloseLeaves issue tickets sealed (Err closing.OutOfMemory) old new = (old.log.down ≡ false) × (lot_of old.lots issue ≢ None) × (new ≡ old)
 LotCloseLeaves issue tickets sealed (Err closing.Device) old new =
-    (a : Allocation) × MayClose old issue tickets sealed a × IsAllowed old.records (entry.Allocate a) × Failed (entry.Allocate a) old new
+    (a : Allocation) × MayClose old issue tickets sealed a × IsAllowed old.log.records (entry.Allocate a) × Failed (entry.Allocate a) old new
 
 -- what is answered for the number of an order
 abbrev pub OrderGives : ℕ → Result Order OrderFault → ClearNode → Type 0
-OrderGives n (Ok o) node = (node.down ≡ false) × (order_of (orders_of node.records).orders n ≡ Some o)
-OrderGives n (Err order.Down) node = node.down ≡ true
-OrderGives n (Err order.UnknownMove) node = (node.down ≡ false) × (order_of (orders_of node.records).orders n ≡ None)
+OrderGives n (Ok o) node = (node.log.down ≡ false) × (order_of (orders_of node.log.records).orders n ≡ Some o)
+OrderGives n (Err order.Down) node = node.log.down ≡ true
+OrderGives n (Err order.UnknownMove) node = (node.log.down ≡ false) × (order_of (orders_of node.log.records).orders n ≡ None)
 
 -- what the orders and confirmations say of a reply
 abbrev pub answer_in : List ClearRecord → Reply → Confirm
@@ -175,15 +173,11 @@ answer_in c r = confirm_answer (orders_of c) r
 
 -- what a reply leaves, by its answer: only the first one of an order adds a record
 abbrev pub ReplyLeaves : Reply → Result Taken ReplyFault → ClearNode → ClearNode → Type 0
-ReplyLeaves r (Ok Done) old new = IsAllowed old.records (entry.Confirm r) × Added (entry.Confirm r) old new
-ReplyLeaves r (Ok Again) old new = (old.down ≡ false) × (answer_in old.records r ≡ answers.Again) × (new ≡ old)
-ReplyLeaves r (Err reply.Down) old new = (old.down ≡ true) × (new ≡ old)
-ReplyLeaves r (Err reply.UnknownMove) old new = (old.down ≡ false) × (answer_in old.records r ≡ answers.UnknownMove) × (new ≡ old)
-ReplyLeaves r (Err reply.Conflict) old new = (old.down ≡ false) × (answer_in old.records r ≡ answers.Conflict) × (new ≡ old)
-ReplyLeaves r (Err reply.TooMuch) old new = (old.down ≡ false) × (answer_in old.records r ≡ answers.TooMuch) × (new ≡ old)
-ReplyLeaves r (Err reply.OutOfMemory) old new = (old.down ≡ false) × IsAllowed old.records (entry.Confirm r) × (new ≡ old)
-ReplyLeaves r (Err reply.Device) old new = IsAllowed old.records (entry.Confirm r) × Failed (entry.Confirm r) old new
-
--- what a plan leaves: nothing but what is known beforehand changes
-abbrev pub NodePlanned : Bool → Result (Unit {0}) NotPlanned → ClearNode → ClearNode → Type 0
-NodePlanned stands result old new = PlanLeaves stands result old.foresight new.foresight × (new ≡ record old { foresight = new.foresight })
+ReplyLeaves r (Ok Done) old new = IsAllowed old.log.records (entry.Confirm r) × Added (entry.Confirm r) old new
+ReplyLeaves r (Ok Again) old new = (old.log.down ≡ false) × (answer_in old.log.records r ≡ answers.Again) × (new ≡ old)
+ReplyLeaves r (Err reply.Down) old new = (old.log.down ≡ true) × (new ≡ old)
+ReplyLeaves r (Err reply.UnknownMove) old new = (old.log.down ≡ false) × (answer_in old.log.records r ≡ answers.UnknownMove) × (new ≡ old)
+ReplyLeaves r (Err reply.Conflict) old new = (old.log.down ≡ false) × (answer_in old.log.records r ≡ answers.Conflict) × (new ≡ old)
+ReplyLeaves r (Err reply.TooMuch) old new = (old.log.down ≡ false) × (answer_in old.log.records r ≡ answers.TooMuch) × (new ≡ old)
+ReplyLeaves r (Err reply.OutOfMemory) old new = (old.log.down ≡ false) × IsAllowed old.log.records (entry.Confirm r) × (new ≡ old)
+ReplyLeaves r (Err reply.Device) old new = IsAllowed old.log.records (entry.Confirm r) × Failed (entry.Confirm r) old new

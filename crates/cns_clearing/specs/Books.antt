@@ -1,6 +1,7 @@
 -- What the records of a clearing node amount to (this project's own rules). All lists of records stand newest first: what was
 -- recorded before a record is the rest of the list.
 use Rattle.std.specs.Prelude.{◌≡◌, ℕ, ◌+◌, ◌&&◌, ◌==◌, nat_lt, not, Bool, true, false, All, List, [], ◌∷◌, count_by, length, map, ◌≤◌, Option, Some, None}
+use Rattle.cns_journal.specs.Replay.{AreAllowed}
 use Rattle.cns_ids.specs.Cycle.{is_after}
 use Rattle.cns_ids.specs.declared.cycle.CycleId.{CycleId}
 use Rattle.cns_trades.specs.Verdicts.{verdict}
@@ -26,6 +27,7 @@ use Rattle.cns_covers.specs.Covers.{covers_of}
 use Rattle.cns_covers.specs.declared.exemptions.Exempted.{Exempted}
 use Rattle.cns_covers.specs.declared.priorities.Prioritized.{Prioritized}
 use Rattle.cns_allocate.specs.Deliveries.{deliveries_of}
+use Rattle.cns_records.specs.Clear.{AreWritable}
 use Rattle.cns_records.specs.declared.allocation.Allocation.{Allocation}
 use Rattle.cns_records.specs.declared.clear_record.ClearRecord.{ClearRecord}
 use Rattle.cns_records.specs.declared.clear_record.ClearRecord.TheVariants.{Accept, Exempt, Priority, Cycle, Allocate, Confirm}
@@ -134,8 +136,13 @@ IsAllowed c r = Allows (books_of c) r
 
 -- each record could stand after those before it
 abbrev pub IsLawful : List ClearRecord → Type 0
-IsLawful [] = Unit {0}
-IsLawful (r ∷ c) = IsAllowed c r × IsLawful c
+IsLawful c = AreAllowed IsAllowed c
+
+-- books are those of records, each of which may stand after those before it and has a payload
+pub record AreBooksOf (b : Books) (c : List ClearRecord) : Type 0 where
+  pub books_are : b ≡ books_of c
+  pub lawful : IsLawful c
+  pub fits : AreWritable c
 
 -- the orders that a record makes
 abbrev pub asks_of : Books → ClearRecord → List Ask
@@ -159,6 +166,15 @@ rows_after b (Confirm r) = []
 pub record AreEffects (b : Books) (r : ClearRecord) (effects : Effects) : Type 0 where
   pub asks : effects.asks.items ≡ asks_of b r
   pub rows : effects.rows.items ≡ rows_after b r
+
+-- what a record makes besides itself, where it may follow those of the books
+abbrev pub AdmittedBy : Books → ClearRecord → Option Effects → Type 0
+AdmittedBy b r (Some effects) = Allows b r × AreEffects b r effects
+AdmittedBy b r None = Allows b r → ⊥
+
+-- the same of an allocation
+abbrev pub AllocatedBy : Books → Allocation → Option Effects → Type 0
+AllocatedBy b a effects = AdmittedBy b (Allocate a) effects
 
 -- how many trades a record makes due
 abbrev pub due_by : Books → ClearRecord → ℕ

@@ -1,6 +1,6 @@
 -- The refusal of each call whose record was not added.
-use Rattle.cns_clearing.specs.declared.fault.CommitFault.{CommitFault}
-use Rattle.cns_clearing.specs.declared.fault.CommitFault.TheVariants.{OutOfMemory, Device}
+use Rattle.cns_journal.specs.declared.record_log.CommitFault.{CommitFault}
+use Rattle.cns_journal.specs.declared.record_log.CommitFault.TheVariants.{OutOfMemory, Device}
 use Rattle.cns_clearing.specs.declared.fault.TradeFault.{TradeFault}
 use Rattle.cns_clearing.specs.declared.fault.TradeFault.TheVariants as trade
 use Rattle.cns_clearing.specs.declared.fault.SettingFault.{SettingFault}

@@ -7,6 +7,4 @@ pub mod Lots
 pub mod Closing
 pub mod Faults
 pub mod Node
-pub mod Commit
 pub mod Answers
-pub mod Replay

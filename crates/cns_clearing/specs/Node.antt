@@ -1,67 +1,57 @@
--- What contracts see of a clearing node.
-use Rattle.std.specs.Prelude.{◌≡◌, ◌⊎◌, ℕ, Bool, true, false, List, [], ◌∷◌, ◌++◌, map, reverse, Option, Some, None}
-use Rattle.cns_journal.specs.Keeper.{Running, Journal, Foresight, MaySucceed, HasFailed, HasRisen, IsReopened}
-use Rattle.cns_records.specs.Clear.{spelling, HasRanges, IsWritable, AreWritable}
+-- What contracts see of a clearing node (this project's own rules).
+use Rattle.std.specs.Prelude.{◌≡◌, ℕ, Bool, false, List, [], Result, Ok, Err}
+use Rattle.cns_journal.specs.Replay.{KeeperState, Reread}
+use Rattle.cns_journal.specs.RecordLog.{IsLawfulLog, LogCommits, LogPlanned, LogRestarts, LogState}
+use Rattle.cns_journal.specs.RecordLog as log
+use Rattle.cns_journal.specs.declared.keeper.NotPlanned.{NotPlanned}
+use Rattle.cns_journal.specs.declared.record_log.CommitFault.{CommitFault}
+use Rattle.cns_journal.specs.declared.record_log.CommitFault.TheVariants as commit
+use Rattle.cns_journal.specs.declared.record_log.ReplayFault.{ReplayFault}
+use Rattle.cns_journal.specs.declared.record_log.Restarted.{Restarted}
+use Rattle.cns_records.specs.Clear.{spelling, HasPayload, AreWritable}
 use Rattle.cns_records.specs.declared.clear_record.ClearRecord.{ClearRecord}
-use Rattle.cns_clearing.specs.Books.{Books, books_of, IsAllowed, IsLawful}
-use Rattle.cns_clearing.specs.Lots.{lots_after}
+use Rattle.cns_clearing.specs.Books.{Books, books_of, due_by, IsAllowed}
+use Rattle.cns_clearing.specs.Lots.{AreLots, lots_after}
 use Rattle.cns_clearing.specs.declared.lot.Lot.{Lot}
 
--- the records, the newest first; the record whose commit failed; whether the node is down; its open lots; and of its keeper,
--- how often the device has failed, whether it is honest, and what is known beforehand
+-- the log of the records, and the open lots
 pub record ClearNode : Type 0 where
-  pub records : List ClearRecord
-  pub tried : Option ClearRecord
-  pub down : Bool
+  pub log : LogState ClearRecord
   pub lots : List Lot
-  pub failures : ℕ
-  pub honest : Bool
-  pub foresight : Foresight
 
--- a node whose record was acknowledged
+-- the books are those of the records, each of which may stand after those before it and has a payload; and the lots are as the
+-- records have them
+pub record IsNode (books : Books) (node : ClearNode) : Type 0 where
+  pub books_are : books ≡ books_of node.log.records
+  pub log : IsLawfulLog IsAllowed node.log
+  pub fits : AreWritable node.log.records
+  pub lots : AreLots node.log.records node.lots
+
+-- a node whose record was acknowledged, and one whose commit failed at the device
 abbrev pub Added : ClearRecord → ClearNode → ClearNode → Type 0
-Added r old new =
-    (old.down ≡ false) × (new.records ≡ r ∷ old.records) × (new.tried ≡ old.tried) × (new.lots ≡ lots_after r old.lots)
-    × (new.honest ≡ old.honest) × (new.down ≡ false) × (new.failures ≡ old.failures)
-    × (new.foresight ≡ old.foresight) × MaySucceed old.foresight.next
+Added r old new = (old.log.down ≡ false) × LogCommits r (Ok tt) old.log new.log × (new.lots ≡ lots_after r old.lots)
 
--- a node whose commit failed at the device
 abbrev pub Failed : ClearRecord → ClearNode → ClearNode → Type 0
-Failed r old new =
-    (old.down ≡ false) × (new.records ≡ old.records) × (new.tried ≡ Some r) × (new.lots ≡ old.lots)
-    × (new.honest ≡ old.honest) × (new.down ≡ true) × HasRisen old.failures new.failures × HasFailed old.foresight new.foresight
+Failed r old new = (old.log.down ≡ false) × LogCommits r (Err commit.Device) old.log new.log × (new.lots ≡ old.lots)
 
--- what every keeper shows of itself
-pub record KeeperState : Type 0 where
-  pub honest : Bool
-  pub run : Running
-  pub journal : Journal
-  pub foresight : Foresight
+-- what the call leaves that adds a record, by its answer: how many trades the record made due
+abbrev pub AddLeaves : ClearRecord → Result ℕ CommitFault → ClearNode → ClearNode → Type 0
+AddLeaves r (Ok due) old new = (due ≡ due_by (books_of old.log.records) r) × Added r old new
+AddLeaves r (Err commit.OutOfMemory) old new = new ≡ old
+AddLeaves r (Err commit.Device) old new = Failed r old new
 
--- a record that was tried may stand after the node's records
-abbrev pub IsTried : List ClearRecord → Option ClearRecord → Type 0
-IsTried c None = Unit {0}
-IsTried c (Some r) = IsAllowed c r × HasRanges r × IsWritable r
+-- what a plan leaves, by its answer
+abbrev pub NodePlanned : Bool → Result (Unit {0}) NotPlanned → ClearNode → ClearNode → Type 0
+NodePlanned stands result old new = LogPlanned stands result old.log new.log × (new.lots ≡ old.lots)
 
--- what a reopening may give: the node's records, the oldest first, and then at most the one whose commit failed
-abbrev pub GivesBack : List ClearRecord → Option ClearRecord → List (List ℕ) → Type 0
-GivesBack items tried given =
-    (given ≡ map spelling items) ⊎ ((r : ClearRecord) × (tried ≡ Some r) × (given ≡ map spelling (items ++ r ∷ [])))
+-- what a restart leaves, by its answer: it ends all lots, also where it is refused
+abbrev pub RestartLeaves : Result Restarted ReplayFault → ClearNode → ClearNode → Type 0
+RestartLeaves result old new = LogRestarts spelling IsAllowed HasPayload result old.log new.log × (new.lots ≡ [])
 
--- the record that was tried is the one that the journal has not decided
-abbrev pub IsUndecided : List ClearRecord → Option ClearRecord → Journal → Type 0
-IsUndecided items tried journal =
-    (r : ClearRecord) × (tried ≡ Some r) × (journal ≡ record { kept = map spelling items; undecided = Some (spelling r) })
+-- what an opening gives: a node that is up, with the records that its keeper gave
+abbrev pub IsOpened : KeeperState → ClearNode → Type 0
+IsOpened keeper node = log.IsOpened spelling IsAllowed keeper node.log × (node.lots ≡ [])
 
--- what is so of a node's parts, its records with the oldest first: the books are those of the records, each of which could
--- stand after those before it; an honest keeper has just their payloads while the node is up, and gives back no others while
--- it is down; and where it is known whether a record stands, that is the one that was tried
-pub record IsNode (books : Books) (items : List ClearRecord) (tried : Option ClearRecord) (down : Bool) (keeper : KeeperState) : Type 0 where
-  pub books_are : books ≡ books_of (reverse items)
-  pub lawful : IsLawful (reverse items)
-  pub fits : AreWritable items
-  pub tried_is : IsTried (reverse items) tried
-  pub up : down ≡ false → (tried ≡ None) × (keeper.run.down ≡ false)
-  pub journal_up : down ≡ false → keeper.honest ≡ true → keeper.journal ≡ record { kept = map spelling items; undecided = None }
-  pub journal_down : keeper.honest ≡ true → (given : List (List ℕ)) → IsReopened keeper.journal given → GivesBack items tried given
-  pub foreseen : keeper.honest ≡ true → (stands : Bool) → keeper.foresight.stands ≡ Some stands → IsUndecided items tried keeper.journal
+-- what a refused opening leaves of the keeper
+abbrev pub IsUnread : ReplayFault → KeeperState → KeeperState → Type 0
+IsUnread fault old new = Reread spelling IsAllowed HasPayload (Err fault) old new

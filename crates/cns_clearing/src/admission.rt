@@ -2,9 +2,8 @@ ghost use Rattle.std.specs.Prelude.{◌≡◌, ◌↔◌, ◌≤◌, ℕ, All, I
 ghost use Rattle.cns_covers.specs.Bounds.{want_in};
 ghost use Rattle.cns_allocate.specs.Served.{has_ticket as has_ticket_in};
 ghost use Rattle.cns_pool.specs.declared.ticket.Ticket.{Ticket};
-ghost use Rattle.cns_clearing.specs.Books.{AreSound, ticket_of, tickets_of};
+ghost use Rattle.cns_clearing.specs.Books.{AllocatedBy, AreSound, ticket_of, tickets_of};
 ghost use Rattle.cns_clearing.specs.Closing.{MayFollow, is_apart, is_chained};
-ghost use Rattle.cns_clearing.specs.Replay.{AllocatedBy};
 
 use crate::books::Books;
 use crate::effects::Effects;

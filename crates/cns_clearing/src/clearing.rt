@@ -1,29 +1,27 @@
-ghost use Rattle.std.specs.Prelude.{◌≡◌, ℕ, ◌≤◌, ◌^◌, ◌+◌, ◌==◌, false, [], length, option_map, Some, None, Err, IfOk, IfErr, if◌then◌else◌};
+ghost use Rattle.std.specs.Prelude.{◌≡◌, ℕ, ◌≤◌, ◌^◌, ◌+◌, ◌==◌, true, false, [], length, option_map, Some, None, IfOk, IfErr, if◌then◌else◌};
 ghost use Rattle.cns_records.specs.declared.clear_record.ClearRecord.TheVariants.{Exempt, Priority};
-ghost use Rattle.cns_records.specs.Clear.{AreWritable};
+ghost use Rattle.cns_records.specs.Clear.{AreWritable, spelling};
 ghost use Rattle.cns_netting.specs.History.{due, longs_of, shorts_of};
 ghost use Rattle.cns_clearing.specs.Books.{AreEffects, AreSound, IsAllowed, IsLawful, are_spent, asks_of, books_of, history_of, latest_of, orders_of, rows_after};
 ghost use Rattle.cns_clearing.specs.Lots.{AreLots, DoesNotDisturb, avail_in, plan_in};
 ghost use Rattle.cns_clearing.specs.Position.{IsBetween, due_in, position_in};
-ghost use Rattle.cns_clearing.specs.Commit.{AddLeaves};
 ghost use Rattle.cns_clearing.specs.Pools.{covered_of as covered_in, delivered_of as delivered_in, free_of as free_in, lent_of as lent_in, lot_of, out_of as out_in, rows_of};
-ghost use Rattle.cns_clearing.specs.Answers.{ClosingGives, CycleLeaves, LotCloseLeaves, LotOpenLeaves, LotPourLeaves, NodePlanned, OrderGives, ReplyLeaves, SettingLeaves, TradeLeaves};
-ghost use Rattle.cns_clearing.specs.Replay.{IsOpened, Reread, RestartLeaves};
+ghost use Rattle.cns_clearing.specs.Answers.{ClosingGives, CycleLeaves, LotCloseLeaves, LotOpenLeaves, LotPourLeaves, OrderGives, ReplyLeaves, SettingLeaves, TradeLeaves};
+ghost use Rattle.cns_clearing.specs.Node.{AddLeaves, IsOpened, IsUnread, NodePlanned, RestartLeaves};
+ghost use Rattle.cns_journal.specs.RecordLog.{Keeps};
 
 use crate::books::Books;
 use crate::closing::{allocation_of, asked_in_all};
-use crate::commit::commit_record;
 use crate::effects::Effects;
 use crate::fault::{
-    Closed, CommitFault, CycleFault, Cycled, LotCloseFault, LotOpenFault, LotPourFault, OrderFault,
-    ReplyFault, SettingFault, Taken, TradeFault,
+    Closed, CycleFault, Cycled, LotCloseFault, LotOpenFault, LotPourFault, OrderFault, ReplyFault,
+    SettingFault, Taken, TradeFault,
 };
 use crate::lot::{Lot, Lots};
 use crate::pools::{PoolRows, free_of, lent_of, out_of, pool_rows};
-use crate::replay::{ReplayFault, Restarted, reread};
 use cns_allocate::{Plan, are_served, deliveries};
 use cns_ids::{Cusip, CycleId, MemberNo, Shares};
-use cns_journal::{Keeper, NotPlanned};
+use cns_journal::{CommitFault, Keeper, NotPlanned, RecordLog, Refused, ReplayFault, Restarted};
 use cns_movements::{Ask, Confirm as Confirmed, MoveNo, Order, OrderBook, Reply};
 use cns_netting::NetBook;
 use cns_pool::Ticket;
@@ -32,58 +30,29 @@ use cns_trades::{Trade, Verdict};
 use std::alloc::{AllocError, Global};
 use std::marker::Model;
 
-/// A refused opening: why, and the keeper as its reopening left it.
-#[derive(Drop)]
-pub struct Refused<K> {
-    /// The keeper, after its reopening.
-    pub keeper: K,
-    /// Why the node was not opened.
-    pub fault: ReplayFault,
-}
-
 /// The clearing node: its records, each of which its keeper acknowledged, its books, which are what
 /// the records amount to, and its open lots, which no journal keeps.
 ///
-/// Contracts see the records, the newest first; the record whose commit failed, until a restart
-/// decides it; whether the node is down; the open lots; and of its keeper, how often the device has failed, whether
-/// it is honest, and what is known of it beforehand. (This project's own rules.)
+/// Contracts see the log of the records: the records, the newest first; the record whose commit failed,
+/// until a restart decides it; whether the node is down; and of its keeper, how often the device has failed,
+/// whether it is honest, and what is known of it beforehand; and beside the log the open lots. (This
+/// project's own rules.)
 #[derive(Drop)]
 pub struct Clearing<K: Keeper> {
-    keeper: K,
-    // In the order in which they were acknowledged.
-    records: Vec<ClearRecord>,
+    log: RecordLog<K, ClearRecord>,
     books: Books,
-    tried: Option<ClearRecord>,
-    down: bool,
     lots: Lots,
     alloc: Global,
 }
 
 impl<K: Keeper> Model for Clearing<K> {
-    ghost use Rattle.std.specs.Prelude.{reverse};
-    ghost use Rattle.cns_clearing.specs.Lots.{AreLots};
     ghost use Rattle.cns_clearing.specs.Node.{ClearNode, IsNode};
 
     ghost Value = { ClearNode };
 
-    ghost view = { λ n. record {
-      records = reverse n.records.items;
-      tried = n.tried;
-      down = n.down;
-      lots = n.lots.lots;
-      failures = (K.run n.keeper).failures;
-      honest = K.honest n.keeper;
-      foresight = K.foresight n.keeper;
-    } };
+    ghost view = { λ n. record { log = n.log; lots = n.lots.lots } };
 
-    ghost invariant = { λ n. IsNode n.books.books n.records.items n.tried n.down
-        (record {
-          honest = K.honest n.keeper;
-          run = K.run n.keeper;
-          journal = K.journal n.keeper;
-          foresight = K.foresight n.keeper;
-        })
-        × AreLots (reverse n.records.items) n.lots.lots };
+    ghost invariant = { λ n. IsNode n.books.books (record { log = n.log; lots = n.lots.lots }) };
 }
 
 impl<K: Keeper> Clearing<K> {
@@ -92,38 +61,34 @@ impl<K: Keeper> Clearing<K> {
     ///
     /// Refuses `BadJournal` where a payload is no record, or of a record that may not stand after
     /// those before it. (This project's own rule.)
-    pub fn open(alloc: Global, mut keeper: K) -> Result<Clearing<K>, Refused<K>>
-        ensures ok { IfOk result (IsOpened (record {
-          honest = K.honest keeper;
-          run = K.run keeper;
-          journal = K.journal keeper;
-          foresight = K.foresight keeper;
-        })) }
-        ensures err { IfErr result (λ refused. Reread (Err refused.fault)
+    pub fn open(alloc: Global, keeper: K) -> Result<Clearing<K>, Refused<K>>
+        ensures ok { IfOk result (IsOpened
+            (record { honest = K.honest keeper; run = K.run keeper; journal = K.journal keeper; foresight = K.foresight keeper })) }
+        ensures err { IfErr result (λ refused. IsUnread refused.fault
             (record { honest = K.honest keeper; run = K.run keeper; journal = K.journal keeper; foresight = K.foresight keeper })
             (record { honest = K.honest refused.keeper; run = K.run refused.keeper; journal = K.journal refused.keeper; foresight = K.foresight refused.keeper })) }
     {
-        let replayed = match reread(alloc, &mut keeper) {
-            Ok(replayed) => replayed,
-            Err(fault) => return Err(Refused { keeper, fault }),
-        };
-        Ok(Clearing {
-            keeper,
-            records: replayed.records,
-            books: replayed.books,
-            tried: None,
-            down: false,
-            lots: Lots::new(alloc),
-            alloc,
-        })
+        let mut books = Books::new(alloc);
+        match RecordLog::open(alloc, keeper, &alloc, &mut books) {
+            Ok(log) => Ok(Clearing {
+                log,
+                books,
+                lots: Lots::new(alloc),
+                alloc,
+            }),
+            Err(refused) => {
+                drop(books);
+                Err(refused)
+            }
+        }
     }
 
     /// Whether the node is down: from a failure of the device, or a refused restart, until a restart
     /// succeeds.
     pub fn is_down(&self) -> bool
-        ensures { result ≡ self.now.down }
+        ensures { result ≡ self.now.log.down }
     {
-        self.down
+        self.log.is_down()
     }
 
     /// Accepts a trade.
@@ -358,21 +323,18 @@ impl<K: Keeper> Clearing<K> {
     pub fn restart(&mut self) -> Result<Restarted, ReplayFault>
         ensures { RestartLeaves result self.old self.new }
     {
-        self.down = true;
         self.lots.clear();
-        let replayed = match reread(self.alloc, &mut self.keeper) {
-            Ok(replayed) => replayed,
-            Err(fault) => return Err(fault),
-        };
-        let kept = replayed.records.len() > self.records.len();
-        self.records = replayed.records;
-        self.books = replayed.books;
-        self.tried = None;
-        self.down = false;
-        Ok(Restarted {
-            records: self.records.len() as u64,
-            kept,
-        })
+        let mut books = Books::new(self.alloc);
+        match self.log.restart(&self.alloc, &mut books) {
+            Ok(restarted) => {
+                self.books = books;
+                Ok(restarted)
+            }
+            Err(fault) => {
+                drop(books);
+                Err(fault)
+            }
+        }
     }
 
     /// Makes the next commit of the keeper fail, where the keeper plans failures. Its record stands
@@ -380,7 +342,20 @@ impl<K: Keeper> Clearing<K> {
     pub fn plan(&mut self, stands: bool) -> Result<(), NotPlanned>
         ensures { NodePlanned stands result self.old self.new }
     {
-        self.keeper.plan(stands)
+        self.log.plan(stands)
+    }
+
+    /// Gives the keeper up.
+    pub fn into_keeper(self) -> K
+        ensures honest { K.honest result ≡ self.log.honest }
+
+        // An honest one has the records just as the node has them, where that is up; where it is down, a
+        // reopening gives these and at most the one whose commit failed.
+        ensures keeps { self.log.honest ≡ true → Keeps spelling self.log (K.journal result) }
+        ensures run { self.log.down ≡ false → (K.run result).down ≡ false }
+        ensures failures { (K.run result).failures ≡ self.log.failures }
+    {
+        self.log.into_keeper()
     }
 }
 
@@ -389,17 +364,17 @@ impl<K: Keeper> Clearing<K> {
     /// It is what the member bought less what it sold in due trades, with what its confirmed covers
     /// moved, and less what its confirmed deliveries moved. (This project's own rule.)
     pub fn position(&self, member: MemberNo, issue: Cusip) -> i128
-        ensures value { result ≡ position_in self.now.records member issue }
+        ensures value { result ≡ position_in self.now.log.records member issue }
 
         // Once all that is ordered has moved, it is between what was sold and what was bought.
-        ensures bounds { IsBetween self.now.records member issue result }
+        ensures bounds { IsBetween self.now.log.records member issue result }
     {
         self.books().book().position(member, issue)
     }
 
     /// The shares of an issue in account 0 that are free.
     pub fn free(&self, issue: Cusip) -> u128
-        ensures value { result ≡ free_in (orders_of self.now.records) self.now.lots issue }
+        ensures value { result ≡ free_in (orders_of self.now.log.records) self.now.lots issue }
 
         // With those that are lent they are at most 10^18.
         ensures small { result + lent_in self.now.lots issue ≤ 10 ^ 18 }
@@ -416,11 +391,11 @@ impl<K: Keeper> Clearing<K> {
 
     /// The shares of an issue that unconfirmed deliveries ask for.
     pub fn out(&self, issue: Cusip) -> u128
-        ensures value { result ≡ out_in (orders_of self.now.records) issue }
+        ensures value { result ≡ out_in (orders_of self.now.log.records) issue }
 
         // The shares that are free, lent and out, with those that confirmed deliveries took, are all
         // that confirmed covers brought: none appears, and none is lost.
-        ensures whole { let book = orders_of self.now.records in
+        ensures whole { let book = orders_of self.now.log.records in
             free_in book self.now.lots issue + lent_in self.now.lots issue + result + delivered_in book issue
             ≡ covered_in book issue }
     {
@@ -429,7 +404,7 @@ impl<K: Keeper> Clearing<K> {
 
     /// The pools that have shares, by issue.
     pub fn pools(&self, alloc: Global) -> Result<PoolRows, AllocError>
-        ensures { IfOk result (λ rows. rows ≡ rows_of (orders_of self.now.records) self.now.lots) }
+        ensures { IfOk result (λ rows. rows ≡ rows_of (orders_of self.now.log.records) self.now.lots) }
     {
         pool_rows(alloc, self.books().orders(), self.lots())
     }
@@ -437,7 +412,7 @@ impl<K: Keeper> Clearing<K> {
     /// The plan that a lot of an issue would have if it were opened now: the members that are to
     /// receive shares, and how many.
     pub fn lot_plan(&self, issue: Cusip) -> Result<Plan, AllocError>
-        ensures { IfOk result (λ plan. plan ≡ plan_in self.now.records issue) }
+        ensures { IfOk result (λ plan. plan ≡ plan_in self.now.log.records issue) }
     {
         self.books().plan(self.alloc, issue)
     }
@@ -451,31 +426,31 @@ impl<K: Keeper> Clearing<K> {
 
     /// The latest cycle.
     pub fn latest(&self) -> Option<CycleId>
-        ensures { result ≡ latest_of self.now.records }
+        ensures { result ≡ latest_of self.now.log.records }
     {
         self.books().latest()
     }
 
     /// The accepted trades and the positions.
     pub fn book(&self) -> &NetBook
-        ensures history { result.now.history ≡ history_of self.now.records }
+        ensures history { result.now.history ≡ history_of self.now.log.records }
 
         // The due trades, as the book has them.
-        ensures due { due result.now.history ≡ due_in self.now.records }
+        ensures due { due result.now.history ≡ due_in self.now.log.records }
 
         // In each issue longs less shorts are the shares that confirmed covers brought, less those that
         // confirmed deliveries took.
-        ensures balanced { (issue : ℕ) → longs_of (history_of self.now.records) issue + delivered_in (orders_of self.now.records) issue
-            ≡ shorts_of (history_of self.now.records) issue + covered_in (orders_of self.now.records) issue }
-        ensures lawful { IsLawful self.now.records }
+        ensures balanced { (issue : ℕ) → longs_of (history_of self.now.log.records) issue + delivered_in (orders_of self.now.log.records) issue
+            ≡ shorts_of (history_of self.now.log.records) issue + covered_in (orders_of self.now.log.records) issue }
+        ensures lawful { IsLawful self.now.log.records }
     {
         self.books().book()
     }
 
     /// The orders and their confirmations.
     pub fn orders(&self) -> &OrderBook
-        ensures orders { result.now.book ≡ orders_of self.now.records }
-        ensures lawful { IsLawful self.now.records }
+        ensures orders { result.now.book ≡ orders_of self.now.log.records }
+        ensures lawful { IsLawful self.now.log.records }
     {
         self.books().orders()
     }
@@ -484,11 +459,11 @@ impl<K: Keeper> Clearing<K> {
 impl<K: Keeper> Clearing<K> {
     // The books of the acknowledged records.
     fn books(&self) -> &Books
-        ensures books { result.now.books ≡ books_of self.now.records }
+        ensures books { result.now.books ≡ books_of self.now.log.records }
         ensures sound { AreSound result.now.books }
-        ensures lawful { IsLawful self.now.records }
-        ensures fits { AreWritable self.now.records }
-        ensures lots { AreLots self.now.records self.now.lots }
+        ensures lawful { IsLawful self.now.log.records }
+        ensures fits { AreWritable self.now.log.records }
+        ensures lots { AreLots self.now.log.records self.now.lots }
     {
         &self.books
     }
@@ -496,22 +471,22 @@ impl<K: Keeper> Clearing<K> {
     // The open lots.
     fn lots(&self) -> &Lots
         ensures lots { result.now.lots ≡ self.now.lots }
-        ensures lawful { AreLots self.now.records self.now.lots }
-        ensures records { IsLawful self.now.records × AreWritable self.now.records }
+        ensures lawful { AreLots self.now.log.records self.now.lots }
+        ensures records { IsLawful self.now.log.records × AreWritable self.now.log.records }
     {
         &self.lots
     }
 
     // How many records there are.
     fn record_count(&self) -> u64
-        ensures { result ≡ length self.now.records }
+        ensures { result ≡ length self.now.log.records }
     {
-        self.records.len() as u64
+        self.log.records().len() as u64
     }
 
     // The shares of an issue that covers brought, less those that deliveries took or still may take.
     fn avail(&self, issue: Cusip) -> Shares
-        ensures { result ≡ avail_in self.now.records issue }
+        ensures { result ≡ avail_in self.now.log.records issue }
     {
         let Some(shares) = Shares::new(self.books().avail(issue) as u64) else {
             unreachable!()
@@ -522,8 +497,8 @@ impl<K: Keeper> Clearing<K> {
     // The shares of an issue that unconfirmed deliveries ask for. It stands apart from `out`, since the
     // folder of that one's proof would have the name of what the toolchain makes.
     fn going_out(&self, issue: Cusip) -> u128
-        ensures value { result ≡ out_in (orders_of self.now.records) issue }
-        ensures whole { let book = orders_of self.now.records in
+        ensures value { result ≡ out_in (orders_of self.now.log.records) issue }
+        ensures whole { let book = orders_of self.now.log.records in
             free_in book self.now.lots issue + lent_in self.now.lots issue + result + delivered_in book issue
             ≡ covered_in book issue }
     {
@@ -558,39 +533,30 @@ impl<K: Keeper> Clearing<K> {
     // Adds a record that may stand after the others and makes this besides itself: commits it, and
     // then adds it to the books. Answers how many trades it makes due.
     fn add(&mut self, entry: ClearRecord, effects: Effects) -> Result<u64, CommitFault>
-        requires up { self.old.down ≡ false }
-        requires allowed { IsAllowed self.old.records entry }
+        requires up { self.old.log.down ≡ false }
+        requires allowed { IsAllowed self.old.log.records entry }
         requires quiet { DoesNotDisturb entry self.old.lots }
-        requires effects { AreEffects (books_of self.old.records) entry effects }
+        requires effects { AreEffects (books_of self.old.log.records) entry effects }
         ensures { AddLeaves entry result self.old self.new }
     {
         if self.books.room(&entry, effects.asks.as_slice()).is_err() {
             return Err(CommitFault::OutOfMemory);
         }
-        if self.records.reserve(1).is_err() {
-            return Err(CommitFault::OutOfMemory);
-        }
-        match commit_record(self.alloc, &mut self.keeper, &entry) {
-            Ok(()) => {}
-            Err(CommitFault::OutOfMemory) => return Err(CommitFault::OutOfMemory),
-            Err(CommitFault::Device) => {
-                self.tried = Some(entry);
-                self.down = true;
-                return Err(CommitFault::Device);
-            }
-        }
-        let due = self.books.add(&entry, effects);
-        self.lots.follow(&entry);
-        self.records.push_reserved(entry);
+        self.log.commit(entry)?;
+        let Some(entry) = self.log.latest() else {
+            unreachable!()
+        };
+        let due = self.books.add(entry, effects);
+        self.lots.follow(entry);
         Ok(due)
     }
 
     // Adds the record of a setting.
     fn set(&mut self, entry: ClearRecord) -> Result<(), SettingFault>
-        requires allowed { IsAllowed self.old.records entry }
+        requires allowed { IsAllowed self.old.log.records entry }
         requires quiet { DoesNotDisturb entry self.old.lots }
-        requires asks { [] ≡ asks_of (books_of self.old.records) entry }
-        requires rows { [] ≡ rows_after (books_of self.old.records) entry }
+        requires asks { [] ≡ asks_of (books_of self.old.log.records) entry }
+        requires rows { [] ≡ rows_after (books_of self.old.log.records) entry }
         ensures { SettingLeaves entry result self.old self.new }
     {
         if self.is_down() {

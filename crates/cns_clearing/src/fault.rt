@@ -1,3 +1,4 @@
+use cns_journal::CommitFault;
 use cns_movements::MoveNo;
 use cns_trades::Verdict;
 use thiserror::Error;
@@ -168,13 +169,6 @@ pub enum ReplyFault {
     OutOfMemory,
     /// The device of the journal failed. The node is down until it is restarted.
     #[error("the journal's device failed")]
-    Device,
-}
-
-/// Why a record was not added.
-#[derive(Clone, Copy, PartialEq, Eq, Debug)]
-pub(crate) enum CommitFault {
-    OutOfMemory,
     Device,
 }
 

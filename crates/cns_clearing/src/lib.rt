@@ -9,21 +9,19 @@ mod admission;
 mod books;
 mod clearing;
 mod closing;
-mod commit;
 mod effects;
 mod fault;
+mod ledger;
 mod lot;
 mod pools;
-mod replay;
 
-pub use clearing::{Clearing, Refused};
+pub use clearing::Clearing;
 pub use fault::{
     Closed, CycleFault, Cycled, LotCloseFault, LotOpenFault, LotPourFault, OrderFault, ReplyFault,
     SettingFault, Taken, TradeFault,
 };
 pub use lot::Lot;
 pub use pools::{PoolRow, PoolRows};
-pub use replay::{ReplayFault, Restarted};
 
 #[cfg(test)]
 mod journal_tests;

@@ -4,6 +4,4 @@ pub mod OpeningIndex
 pub mod Stock
 pub mod Balances
 pub mod Node
-pub mod Commit
 pub mod Answers
-pub mod Replay

@@ -1,5 +1,6 @@
 -- The stock record: balances as sums over the executed movements, which stand newest first (this project's own rules).
 use Rattle.std.specs.Prelude.{◌≡◌, ℕ, ◌+◌, ◌-◌, min, Bool, ◌&&◌, ◌==◌, List, [], ◌∷◌, Option, None, find, sum_by, if◌then◌else◌}
+use Rattle.cns_journal.specs.Replay.{AreAllowed}
 use Rattle.cns_movements.specs.declared.order.Order.{Order}
 use Rattle.cns_records.specs.declared.dep_record.DepRecord.{DepRecord}
 use Rattle.cns_records.specs.declared.dep_record.DepRecord.TheVariants.{Exec}
@@ -52,5 +53,4 @@ pub record IsExecutable (openings : List Opening) (p : List DepRecord) (e : DepR
 
 -- each record could stand after those before it
 abbrev pub IsLawfulDepot : List Opening → List DepRecord → Type 0
-IsLawfulDepot openings [] = Unit {0}
-IsLawfulDepot openings (e ∷ p) = IsExecutable openings p e × IsLawfulDepot openings p
+IsLawfulDepot openings p = AreAllowed (IsExecutable openings) p

@@ -1,80 +1,47 @@
-ghost use Rattle.std.specs.Prelude.{◌≡◌, ◌+◌, ◌≤◌, option_map, reverse, Err, IfOk, IfErr};
+ghost use Rattle.std.specs.Prelude.{◌≡◌, ◌+◌, ◌≤◌, true, false, option_map, reverse, IfOk, IfErr};
 ghost use Rattle.cns_depository.specs.Openings.{opening_shares};
 ghost use Rattle.cns_depository.specs.Stock.{IsLawfulDepot, order_in, moved_by, record_of as record_in, moved_in, moved_out, balance_of as balance_in};
 ghost use Rattle.cns_depository.specs.Balances.{balance_rows as balance_rows_of, AreComplete, AreAscending};
 ghost use Rattle.cns_depository.specs.Answers.{OrderLeaves, IsKnownAnswer};
-ghost use Rattle.cns_depository.specs.Node.{NodePlanned};
-ghost use Rattle.cns_depository.specs.Replay.{IsOpened, Reread, RestartLeaves};
+ghost use Rattle.cns_depository.specs.Node.{IsOpened, IsUnread, NodePlanned, RestartLeaves};
+ghost use Rattle.cns_journal.specs.RecordLog.{Keeps};
+ghost use Rattle.cns_records.specs.Dep.{dep_spelling};
 
 use crate::account::Account;
 use crate::balances::{BalanceRows, balance_rows};
-use crate::commit::commit_record;
 use crate::fault::{Answer, DepFault};
+use crate::ledger::NoTotals;
 use crate::openings::Openings;
-use crate::replay::{ReplayFault, reread};
 use crate::stock::{balance_of, movement, record_of};
 use cns_ids::{Cusip, Shares};
-use cns_journal::{Keeper, NotPlanned};
+use cns_journal::{Keeper, NotPlanned, RecordLog, Refused, ReplayFault, Restarted};
 use cns_movements::{MoveNo, Order, Reply};
 use cns_records::DepRecord;
 use std::alloc::{AllocError, Global};
 use std::marker::Model;
 
-/// A restart that succeeded.
-#[derive(Clone, Copy, PartialEq, Eq, Debug)]
-pub struct Restarted {
-    /// How many records the journal has.
-    pub records: u64,
-    /// Whether one more record came back than the depository held: the one whose commit failed.
-    pub kept: bool,
-}
-
-/// A refused opening: why, and the keeper as its reopening left it.
-#[derive(Drop)]
-pub struct Refused<K> {
-    /// The keeper, after its reopening.
-    pub keeper: K,
-    /// Why the depository was not opened.
-    pub fault: ReplayFault,
-}
-
 /// The depository's stock record: its openings and the movements that it executed, each of which its
 /// keeper acknowledged.
 ///
-/// Contracts see the openings; the records of the executed movements, the newest first; the record
-/// whose commit failed, until a restart decides it; whether the depository is down; how often its
-/// keeper's device has failed; whether its keeper is honest; and what is known beforehand of its
+/// Contracts see the openings and the log of the records: the executed movements, the newest first;
+/// the record whose commit failed, until a restart decides it; whether the depository is down; how often
+/// its keeper's device has failed; whether its keeper is honest; and what is known beforehand of its
 /// keeper: how the next commit ends, and whether a restart keeps the record whose commit failed. (This
 /// project's own rules.)
 #[derive(Drop)]
 pub struct Depository<K: Keeper> {
-    keeper: K,
     openings: Openings,
-    // In the order in which they were executed.
-    records: Vec<DepRecord>,
-    tried: Option<DepRecord>,
-    down: bool,
-    alloc: Global,
+    log: RecordLog<K, DepRecord>,
 }
 
 impl<K: Keeper> Model for Depository<K> {
-    ghost use Rattle.std.specs.Prelude.{reverse};
     ghost use Rattle.cns_depository.specs.Node.{DepNode, IsNode};
 
     ghost Value = { DepNode };
 
-    ghost view = { λ d. record {
-      openings = d.openings;
-      records = reverse d.records.items;
-      tried = d.tried;
-      down = d.down;
-      failures = (K.run d.keeper).failures;
-      honest = K.honest d.keeper;
-      foresight = K.foresight d.keeper;
-    } };
+    ghost view = { λ d. record { openings = d.openings; log = d.log } };
 
-    ghost invariant = { λ d. IsNode d.openings d.records.items d.tried d.down
-        (K.run d.keeper) (K.honest d.keeper) (K.journal d.keeper) (K.foresight d.keeper) };
+    ghost invariant = { λ d. IsNode (record { openings = d.openings; log = d.log }) };
 }
 
 impl<K: Keeper> Depository<K> {
@@ -83,79 +50,66 @@ impl<K: Keeper> Depository<K> {
     ///
     /// Refuses `BadJournal` where a payload is no record of a movement that may stand after those
     /// before it, beginning from the openings. (This project's own rule.)
-    pub fn open(
-        alloc: Global,
-        mut keeper: K,
-        openings: Openings,
-    ) -> Result<Depository<K>, Refused<K>>
-        ensures ok { IfOk result (IsOpened openings (K.honest keeper) (K.run keeper) (K.journal keeper)
-            (K.foresight keeper)) }
-        ensures err { IfErr result (λ refused. Reread openings (Err refused.fault) (K.honest keeper)
-            (K.run keeper) (K.run refused.keeper) (K.journal keeper) (K.journal refused.keeper)
-            (K.foresight keeper) (K.foresight refused.keeper)) }
-        ensures honest { IfErr result (λ refused. K.honest refused.keeper ≡ K.honest keeper) }
+    pub fn open(alloc: Global, keeper: K, openings: Openings) -> Result<Depository<K>, Refused<K>>
+        ensures ok { IfOk result (IsOpened openings
+            (record { honest = K.honest keeper; run = K.run keeper; journal = K.journal keeper; foresight = K.foresight keeper })) }
+        ensures err { IfErr result (λ refused. IsUnread openings refused.fault
+            (record { honest = K.honest keeper; run = K.run keeper; journal = K.journal keeper; foresight = K.foresight keeper })
+            (record { honest = K.honest refused.keeper; run = K.run refused.keeper; journal = K.journal refused.keeper; foresight = K.foresight refused.keeper })) }
     {
-        let records = match reread(alloc, &mut keeper, &openings) {
-            Ok(records) => records,
-            Err(fault) => return Err(Refused { keeper, fault }),
-        };
-        Ok(Depository {
-            keeper,
-            openings,
-            records,
-            tried: None,
-            down: false,
-            alloc,
-        })
+        match RecordLog::open(alloc, keeper, &openings, &mut NoTotals) {
+            Ok(log) => Ok(Depository { openings, log }),
+            Err(refused) => Err(refused),
+        }
     }
 
     /// Whether the depository is down: from a failure of the device, or a refused restart, until a
     /// restart succeeds.
     pub fn is_down(&self) -> bool
-        ensures { result ≡ self.now.down }
+        ensures { result ≡ self.now.log.down }
     {
-        self.down
+        self.log.is_down()
     }
 
     /// The records of the orders that were executed, the first one first.
     pub fn records(&self) -> &[DepRecord]
-        ensures records { reverse result.now ≡ self.now.records }
-        ensures lawful { IsLawfulDepot self.now.openings self.now.records }
+        ensures records { reverse result.now ≡ self.now.log.records }
+        ensures lawful { IsLawfulDepot self.now.openings self.now.log.records }
     {
-        self.records.as_slice()
+        self.log.records()
     }
 
     /// The order that was executed under this number, and the shares that it moved.
     pub fn executed(&self, number: MoveNo) -> Option<(Order, Shares)>
         ensures { result
-            ≡ option_map (λ entry. (order_in entry, moved_by entry)) (record_in self.now.records number) }
+            ≡ option_map (λ entry. (order_in entry, moved_by entry)) (record_in self.now.log.records number) }
     {
-        let DepRecord::Exec { order, moved } = record_of(self.records.as_slice(), number)?;
+        let DepRecord::Exec { order, moved } = record_of(self.log.records(), number)?;
         Some((order, moved))
     }
 
     /// The shares that an account holds in an issue: its opening, and what was moved into it, less
     /// what was moved out of it. (This project's own rule.)
     pub fn balance(&self, account: Account, issue: Cusip) -> u128
-        ensures balance { result ≡ balance_in self.now.openings self.now.records account issue }
+        ensures balance { result ≡ balance_in self.now.openings self.now.log.records account issue }
 
         // No more was moved out of the account than it had.
-        ensures covered { moved_out self.now.records account issue
-            ≤ opening_shares self.now.openings account issue + moved_in self.now.records account issue }
+        ensures covered { moved_out self.now.log.records account issue
+            ≤ opening_shares self.now.openings account issue + moved_in self.now.log.records account issue }
     {
-        balance_of(&self.openings, self.records.as_slice(), &account, issue)
+        balance_of(&self.openings, self.log.records(), &account, issue)
     }
 
     /// Each balance that is not 0, by issue, then account: the CNS account first, then the members by
     /// number. (This project's own rule.)
     pub fn balances(&self, alloc: Global) -> Result<BalanceRows, AllocError>
-        ensures rows { IfOk result (λ rows. rows ≡ balance_rows_of self.now.openings self.now.records) }
+        ensures rows { IfOk result (λ rows. rows ≡ balance_rows_of self.now.openings self.now.log.records) }
 
         // No balance is left out.
-        ensures complete { IfOk result (AreComplete self.now.openings self.now.records) }
+        ensures complete { IfOk result (AreComplete self.now.openings self.now.log.records) }
         ensures ascending { IfOk result AreAscending }
     {
-        balance_rows(alloc, &self.openings, self.records.as_slice())
+        balance_rows(alloc, &self.openings, self.log.records())
     }
 
     /// Executes an order once: it moves what the giving account has, at most what is asked, and
@@ -167,22 +121,15 @@ impl<K: Keeper> Depository<K> {
     pub fn take_order(&mut self, order: &Order) -> Result<Answer, DepFault>
         ensures { OrderLeaves order.now result self.old self.new }
     {
-        if self.down {
+        if self.is_down() {
             return Err(DepFault::Down);
         }
-        if let Some(known) = record_of(self.records.as_slice(), order.number) {
+        if let Some(known) = record_of(self.log.records(), order.number) {
             return again(&known, order);
         }
-        let entry = movement(&self.openings, self.records.as_slice(), order);
-        commit_record(
-            self.alloc,
-            &mut self.keeper,
-            &mut self.records,
-            &mut self.tried,
-            &mut self.down,
-            &entry,
-        )?;
+        let entry = movement(&self.openings, self.log.records(), order);
         let DepRecord::Exec { moved, .. } = entry;
+        self.log.commit(entry)?;
         Ok(Answer::Done(Reply {
             number: order.number,
             moved,
@@ -198,19 +145,7 @@ impl<K: Keeper> Depository<K> {
     pub fn restart(&mut self) -> Result<Restarted, ReplayFault>
         ensures { RestartLeaves result self.old self.new }
     {
-        self.down = true;
-        let records = match reread(self.alloc, &mut self.keeper, &self.openings) {
-            Ok(records) => records,
-            Err(fault) => return Err(fault),
-        };
-        let kept = records.len() > self.records.len();
-        self.records = records;
-        self.tried = None;
-        self.down = false;
-        Ok(Restarted {
-            records: self.records.len() as u64,
-            kept,
-        })
+        self.log.restart(&self.openings, &mut NoTotals)
     }
 
     /// Makes the next commit of the keeper fail. Its record stands at the restart, or does not.
@@ -219,7 +154,20 @@ impl<K: Keeper> Depository<K> {
     pub fn plan(&mut self, stands: bool) -> Result<(), NotPlanned>
         ensures { NodePlanned stands result self.old self.new }
     {
-        self.keeper.plan(stands)
+        self.log.plan(stands)
+    }
+
+    /// Gives the keeper up.
+    pub fn into_keeper(self) -> K
+        ensures honest { K.honest result ≡ self.log.honest }
+
+        // An honest one has the records just as the depository has them, where that is up; where it is
+        // down, a reopening gives these and at most the one whose commit failed.
+        ensures keeps { self.log.honest ≡ true → Keeps dep_spelling self.log (K.journal result) }
+        ensures run { self.log.down ≡ false → (K.run result).down ≡ false }
+        ensures failures { (K.run result).failures ≡ self.log.failures }
+    {
+        self.log.into_keeper()
     }
 }
 

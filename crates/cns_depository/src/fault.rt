@@ -1,3 +1,4 @@
+use cns_journal::CommitFault;
 use cns_movements::Reply;
 use thiserror::Error;
 
@@ -25,4 +26,18 @@ pub enum DepFault {
     /// The device of the journal failed. The depository is down until it is restarted.
     #[error("the journal's device failed")]
     Device,
+}
+
+impl From<CommitFault> for DepFault {
+    ghost use Rattle.std.specs.Prelude.{◌≡◌};
+    ghost use Rattle.cns_depository.specs.Answers.{dep_fault};
+
+    ghost from_gives = { λ fault given. given ≡ dep_fault fault };
+
+    fn from(fault: CommitFault) -> DepFault {
+        match fault {
+            CommitFault::OutOfMemory => DepFault::OutOfMemory,
+            CommitFault::Device => DepFault::Device,
+        }
+    }
 }

@@ -7,20 +7,18 @@
 
 mod account;
 mod balances;
-mod commit;
 mod depository;
 mod fault;
+mod ledger;
 mod opening_index;
 mod openings;
-mod replay;
 mod stock;
 
 pub use account::Account;
 pub use balances::{BalanceRow, BalanceRows};
-pub use depository::{Depository, Refused, Restarted};
+pub use depository::Depository;
 pub use fault::{Answer, DepFault};
 pub use openings::{OpeningFault, Openings};
-pub use replay::ReplayFault;
 
 #[cfg(test)]
 mod journal_tests;

@@ -6,9 +6,12 @@ use Rattle.std.proofs.lemmas.Option.{none-some}
 use Rattle.cns_journal.specs.Keeper.{Running, Journal, Foresight, IsReopened, PlanLeaves, ReopenKeeps, StandsAsForeseen}
 use Rattle.cns_journal.specs.declared.keeper.NotPlanned.{NotPlanned}
 use Rattle.std.specs.Prelude.{◌==◌}
-use Rattle.cns_journal.specs.RecordLog.{GivesBack, FitsTried, IsLog, Keeps, LogState, LogRestarts, MayStand, Restarts}
+use Rattle.cns_journal.specs.RecordLog.{GivesBack, FitsTried, IsLawfulLog, IsLog, IsOpened, Keeps, LogCommits, LogPlanned, LogState, LogRestarts, MayStand, Restarts}
 use Rattle.cns_journal.specs.Replay.{KeeperState, Reread, AreAllowed, AreFit, AreReplayed, IsBadPlace, IsAdmitted, AdmitLeaves, ReplayGives}
+use Rattle.cns_journal.specs.declared.record_log.CommitFault.{CommitFault}
+use Rattle.cns_journal.specs.declared.record_log.CommitFault.TheVariants as commit
 use Rattle.cns_journal.specs.declared.record_log.ReplayFault.{ReplayFault}
+use Rattle.cns_journal.specs.declared.record_log.Restarted.{Restarted}
 use Rattle.cns_journal.specs.declared.record_log.ReplayFault.TheVariants.{OutOfMemory, BadJournal, Device}
 
 -- the first elements, with one more, and what stands round an element
@@ -188,14 +191,12 @@ module _ {R : Type 0} (spelling : R → List ℕ) (allows : List R → R → Typ
 
     pub restart_refused_at : (items : List R) (tried : Option R) (down : Bool) (old new : KeeperState) (fault : ReplayFault) (before : LogState R)
         → IsLog spelling fits items tried down old.run old.honest old.journal old.foresight
-        → AreAllowed allows before.records → MayStand allows before.records before.tried
-        → Reread spelling allows fits (Err fault) old new → state_of items tried down old ≡ before
+        → IsLawfulLog allows before → Reread spelling allows fits (Err fault) old new → state_of items tried down old ≡ before
         → LogRestarts spelling allows fits (Err fault) before (state_of items tried true new)
-    restart_refused_at items tried down old new fault before n allowed may r seen =
+    restart_refused_at items tried down old new fault before n lawful r seen =
+        let law : IsLawfulLog allows (state_of items tried down old) = subst (IsLawfulLog allows) (sym seen) lawful in
         subst (λ (v : LogState R). LogRestarts spelling allows fits (Err fault) v (state_of items tried true new)) seen
-        (restart_refused items tried down old new fault n
-        (subst (λ (v : LogState R). AreAllowed allows v.records) (sym seen) allowed)
-        (subst (λ (v : LogState R). MayStand allows v.records v.tried) (sym seen) may) r)
+        (restart_refused items tried down old new fault n law.allowed law.tried r)
 
     -- one more record came back, or none
     restarts : (items items' : List R) (tried : Option R) (down : Bool) (old new : KeeperState) (kept : Bool)
@@ -344,3 +345,37 @@ module _ {R : Type 0} (spelling : R → List ℕ) (allows : List R → R → Typ
         | inl none ↦ log_down items tried down old new n none.honest none.keeps none.foreseen
         | inr some ↦ log_lost items tried down old new some.0 n some.1.honest some.1.keeps some.1.foreseen
       ]
+
+-- a log stays lawful where what is committed may stand, and through plans and restarts
+module _ {R : Type 0} (allows : List R → R → Type 0) where
+  pub opened_lawful : (spelling : R → List ℕ) (keeper : KeeperState) (log : LogState R) → IsOpened spelling allows keeper log → IsLawfulLog allows log
+  opened_lawful spelling keeper log opened =
+      subst (IsLawfulLog allows) (sym opened.value) (record { allowed = opened.allowed; tried = tt; up = λ up. refl })
+
+  pub committed_lawful : (r : R) (result : Result (Unit {0}) CommitFault) (old new : LogState R) → IsLawfulLog allows old → old.down ≡ false
+      → allows old.records r → LogCommits r result old new → IsLawfulLog allows new
+  committed_lawful r (Ok done) old new law up may left =
+      subst (IsLawfulLog allows) (sym left.0) (record {
+        allowed = (may, law.allowed);
+        tried = subst (MayStand allows (r ∷ old.records)) (sym (law.up up)) tt;
+        up = law.up;
+      })
+  committed_lawful r (Err commit.OutOfMemory) old new law up may left = subst (IsLawfulLog allows) (sym left) law
+  committed_lawful r (Err commit.Device) old new law up may left =
+      subst (IsLawfulLog allows) (sym left.0) (record { allowed = law.allowed; tried = may; up = λ now. cc })
+
+  pub planned_lawful : (stands : Bool) (result : Result (Unit {0}) NotPlanned) (old new : LogState R) → IsLawfulLog allows old
+      → LogPlanned stands result old new → IsLawfulLog allows new
+  planned_lawful stands result old new law left =
+      subst (IsLawfulLog allows) (sym left.1) (record { allowed = law.allowed; tried = law.tried; up = law.up })
+
+  pub restarted_lawful : (spelling : R → List ℕ) (fits : R → Type 0) (result : Result Restarted ReplayFault) (old new : LogState R)
+      → IsLawfulLog allows old → LogRestarts spelling allows fits result old new → IsLawfulLog allows new
+  restarted_lawful spelling fits (Ok done) old new law left =
+      subst (IsLawfulLog allows) (sym left.0) (record { allowed = left.3; tried = tt; up = λ up. refl })
+  restarted_lawful spelling fits (Err OutOfMemory) old new law left =
+      subst (IsLawfulLog allows) (sym left.0) (record { allowed = law.allowed; tried = law.tried; up = λ now. cc })
+  restarted_lawful spelling fits (Err (BadJournal place)) old new law left =
+      subst (IsLawfulLog allows) (sym left.0) (record { allowed = law.allowed; tried = law.tried; up = λ now. cc })
+  restarted_lawful spelling fits (Err Device) old new law left =
+      subst (IsLawfulLog allows) (sym left.0) (record { allowed = law.allowed; tried = law.tried; up = λ now. cc })

@@ -19,6 +19,10 @@ pub record LogState (R : Type 0) : Type 0 where
   pub honest : Bool
   pub foresight : Foresight
 
+-- no two records have one payload
+abbrev pub HaveOwnPayloads : {R : Type 0} → (R → List ℕ) → (R → Type 0) → Type 0
+HaveOwnPayloads spelling fits = (a b : _) → fits a → fits b → spelling a ≡ spelling b → a ≡ b
+
 -- what a reopening may give: the records, the oldest first, and then at most the one whose commit failed
 abbrev pub GivesBack : {R : Type 0} → (R → List ℕ) → List R → Option R → List (List ℕ) → Type 0
 GivesBack spelling items tried given =
@@ -51,6 +55,12 @@ LogCommits r (Err Device) old new =
 abbrev pub MayStand : {R : Type 0} → (List R → R → Type 0) → List R → Option R → Type 0
 MayStand allows c None = Unit {0}
 MayStand allows c (Some r) = allows c r
+
+-- each record may stand after those before it, and so may the one whose commit failed; a log that is up has none such
+pub record IsLawfulLog {R : Type 0} (allows : List R → R → Type 0) (log : LogState R) : Type 0 where
+  pub allowed : AreAllowed allows log.records
+  pub tried : MayStand allows log.records log.tried
+  pub up : log.down ≡ false → log.tried ≡ None
 
 -- where the keeper is honest: the records are as before, and then the one whose commit failed, where so answered
 abbrev pub Restarts : {R : Type 0} → Bool → LogState R → LogState R → Type 0

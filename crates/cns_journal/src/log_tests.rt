@@ -18,9 +18,10 @@ struct Mark {
 
 impl Record for Mark {
     ghost use Rattle.std.specs.Prelude.{[], ◌∷◌, ⊤};
-    ghost use Rattle.std.proofs.Common.{rules};
 
     ghost spelling = { λ m. m.number ∷ [] };
+
+    ghost writable = { λ _. ⊤ };
 
     ghost fits = { λ _. ⊤ };
 
@@ -34,8 +35,6 @@ impl Record for Mark {
             _ => Err(RecordFault::BadRecord),
         }
     }
-
-    ghost injective = { λ a b _ _ e. Prim.search rules };
 }
 
 // How many numbers there were, none of which is above a limit.

@@ -1,8 +1,8 @@
 //! A node's records over the journal of its keeper.
 
-ghost use Rattle.std.specs.Prelude.{◌≡◌, ◌≤◌, ℕ, List, [], ◌∷◌, true, false, Err, IfErr, IfOk, OnOk, length, map, reverse, vec_items};
-ghost use Rattle.cns_journal.specs.Replay.{AdmitLeaves, AreAllowed, Admits, ReplayGives, Reread, records_by};
-ghost use Rattle.cns_journal.specs.RecordLog.{IsOpened, Keeps, LogCommits, LogPlanned, LogRestarts, MayStand};
+ghost use Rattle.std.specs.Prelude.{◌≡◌, ◌≤◌, ℕ, List, [], ◌∷◌, true, false, Err, IfErr, IfOk, OnOk, length, map, option_map, reverse, slice_get, vec_items};
+ghost use Rattle.cns_journal.specs.Replay.{AdmitLeaves, Admits, ReplayGives, Reread, records_by};
+ghost use Rattle.cns_journal.specs.RecordLog.{HaveOwnPayloads, IsLawfulLog, IsOpened, Keeps, LogCommits, LogPlanned, LogRestarts};
 
 use crate::keeper::{KeepFault, Keeper, MAX_PAYLOAD, NotPlanned};
 use std::alloc::{AllocError, Global};
@@ -14,14 +14,18 @@ pub trait Record: Drop {
     /// The payload.
     ghost spelling: { Self → List ℕ };
 
+    /// Whether the record may be written.
+    ghost writable: { Self → Type 0 };
+
     /// Whether a payload of its own stands for the record.
     ghost fits: { Self → Type 0 };
 
     /// The payload of the record.
     fn write(&self, alloc: Global) -> Result<Vec<u8>, AllocError>
-        requires { fits self.now }
+        requires { writable self.now }
         ensures bytes { IfOk result (λ payload. payload.items ≡ spelling self.now) }
-        ensures size { length (spelling self.now) ≤ MAX_PAYLOAD };
+        ensures size { IfOk result (λ payload. length payload.items ≤ MAX_PAYLOAD) }
+        ensures fits { fits self.now };
 
     /// The record that a payload is.
     fn read(alloc: Global, payload: &[u8]) -> Result<Self, RecordFault>
@@ -29,18 +33,28 @@ pub trait Record: Drop {
         ensures fits { IfOk result (λ r. fits r) }
         ensures none { result ≡ Err RecordFault.BadRecord
             → (r : Self) → fits r → spelling r ≡ payload.now → ⊥ };
-
-    /// Two records have two payloads.
-    ghost injective: { (a b : Self) → fits a → fits b → spelling a ≡ spelling b → a ≡ b };
 }
 
-/// Why bytes are not read as a record.
+/// Why a payload is not read as a record.
 #[derive(Clone, Copy, PartialEq, Eq, Debug, Error)]
 pub enum RecordFault {
-    #[error("bad record")]
+    /// The payload is no record.
+    #[error("not a journal record")]
     BadRecord,
+    /// There is no memory for what the record holds.
     #[error("out of memory")]
     OutOfMemory,
+}
+
+impl From<AllocError> for RecordFault {
+    ghost use Rattle.std.specs.Prelude.{◌≡◌};
+    ghost use Rattle.cns_journal.specs.declared.record_log.RecordFault.TheVariants as fault;
+
+    ghost from_gives = { λ refusal given. given ≡ fault.OutOfMemory };
+
+    fn from(_refusal: AllocError) -> RecordFault {
+        RecordFault::OutOfMemory
+    }
 }
 
 /// Why a journal is not read again.
@@ -77,7 +91,8 @@ pub trait Ledger: Drop {
         records: &[Self::Record],
         entry: &Self::Record,
     ) -> Result<bool, AllocError>
-        requires { comes_to self.old (reverse records.now) }
+        requires comes { comes_to self.old (reverse records.now) }
+        requires fits { Self.Record.fits entry.now }
         ensures { IfOk result (Admits (allows context.now (reverse records.now) entry.now)
             (comes_to self.new (entry.now ∷ reverse records.now))) };
 }
@@ -90,7 +105,8 @@ fn admit<L: Ledger>(
     records: &mut Vec<L::Record>,
     payload: &[u8],
 ) -> Result<(), ReplayFault>
-    requires { L.comes_to ledger.old (reverse records.old.items) }
+    requires payloads { HaveOwnPayloads L.Record.spelling L.Record.fits }
+    requires comes { L.comes_to ledger.old (reverse records.old.items) }
     ensures list { AdmitLeaves L.Record.spelling (L.allows context.now) L.Record.fits payload.now result records.old.items records.new.items }
     ensures comes { OnOk result (L.comes_to ledger.new (reverse records.new.items)) }
 {
@@ -120,7 +136,8 @@ fn replay<L: Ledger>(
     ledger: &mut L,
     payloads: &[Vec<u8>],
 ) -> Result<Vec<L::Record>, ReplayFault>
-    requires { L.comes_to ledger.old [] }
+    requires payloads { HaveOwnPayloads L.Record.spelling L.Record.fits }
+    requires comes { L.comes_to ledger.old [] }
     ensures gives { ReplayGives L.Record.spelling (L.allows context.now) L.Record.fits (map vec_items payloads.now) (records_by result) }
     ensures comes { IfOk result (λ records. L.comes_to ledger.new (reverse records.items)) }
 {
@@ -140,7 +157,8 @@ fn reread<K: Keeper, L: Ledger>(
     context: &L::Context,
     ledger: &mut L,
 ) -> Result<Vec<L::Record>, ReplayFault>
-    requires { L.comes_to ledger.old [] }
+    requires payloads { HaveOwnPayloads L.Record.spelling L.Record.fits }
+    requires comes { L.comes_to ledger.old [] }
     ensures reread { Reread L.Record.spelling (L.allows context.now) L.Record.fits (records_by result)
         (record { honest = K.honest keeper.old; run = K.run keeper.old; journal = K.journal keeper.old; foresight = K.foresight keeper.old })
         (record { honest = K.honest keeper.new; run = K.run keeper.new; journal = K.journal keeper.new; foresight = K.foresight keeper.new }) }
@@ -225,7 +243,8 @@ impl<K: Keeper, R: Record> RecordLog<K, R> {
         context: &L::Context,
         ledger: &mut L,
     ) -> Result<RecordLog<K, R>, Refused<K>>
-        requires { L.comes_to ledger.old [] }
+        requires payloads { HaveOwnPayloads R.spelling R.fits }
+        requires comes { L.comes_to ledger.old [] }
         ensures ok { IfOk result (IsOpened R.spelling (L.allows context.now)
             (record { honest = K.honest keeper; run = K.run keeper; journal = K.journal keeper; foresight = K.foresight keeper })) }
         ensures err { IfErr result (λ refused. Reread R.spelling (L.allows context.now) R.fits (Err refused.fault)
@@ -261,6 +280,13 @@ impl<K: Keeper, R: Record> RecordLog<K, R> {
         self.records.as_slice()
     }
 
+    /// The latest record.
+    pub fn latest(&self) -> Option<&R>
+        ensures { option_map (λ r. r.now) result ≡ slice_get self.now.records 0 }
+    {
+        self.records.as_slice().last()
+    }
+
     /// Makes the next commit of the keeper fail. Its record stands at the restart, or does not.
     ///
     /// Answers `NotPlanned` exactly where the keeper plans no failures. (This project's own rule.)
@@ -283,8 +309,9 @@ impl<K: Keeper, R: Record> RecordLog<K, R> {
     /// Commits a record, and adds it once it is acknowledged.
     pub fn commit(&mut self, entry: R) -> Result<(), CommitFault>
         requires up { self.old.down ≡ false }
-        requires fits { R.fits entry }
-        ensures { LogCommits entry result self.old self.new }
+        requires writable { R.writable entry }
+        ensures leaves { LogCommits entry result self.old self.new }
+        ensures fits { OnOk result (R.fits entry) }
     {
         let written = entry.write(self.alloc);
         let Ok(payload) = written else {
@@ -314,9 +341,9 @@ impl<K: Keeper, R: Record> RecordLog<K, R> {
         context: &L::Context,
         ledger: &mut L,
     ) -> Result<Restarted, ReplayFault>
-        requires empty { L.comes_to ledger.old [] }
-        requires allowed { AreAllowed (L.allows context.now) self.old.records }
-        requires tried { MayStand (L.allows context.now) self.old.records self.old.tried }
+        requires comes { L.comes_to ledger.old [] }
+        requires lawful { IsLawfulLog (L.allows context.now) self.old }
+        requires payloads { HaveOwnPayloads R.spelling R.fits }
         ensures leaves { LogRestarts R.spelling (L.allows context.now) R.fits result self.old self.new }
         ensures comes { OnOk result (L.comes_to ledger.new self.new.records) }
     {

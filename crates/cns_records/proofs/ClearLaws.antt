@@ -13,10 +13,11 @@ use Rattle.cns_trades.specs.declared.trade.Trade.{Trade}
 use Rattle.cns_ids.specs.declared.cycle.CycleId.{CycleId}
 use Rattle.cns_records.specs.declared.clear_record.ClearRecord.{ClearRecord}
 use Rattle.cns_records.specs.declared.clear_record.ClearRecord.TheVariants.{Accept, Exempt, Priority, Cycle, Allocate, Confirm}
-use Rattle.cns_records.specs.declared.fault.RecordFault.{RecordFault}
+use Rattle.cns_journal.specs.declared.record_log.RecordFault.{RecordFault}
+use Rattle.cns_journal.specs.declared.record_log.RecordFault.TheVariants as fault
 use Rattle.cns_records.specs.declared.allocation.Allocation.{Allocation}
 use Rattle.cns_records.specs.Fields.{bad, whole, id_bytes, day_bytes, flag_bytes, cycle_kind_bytes}
-use Rattle.cns_records.specs.Clear.{spelling, IsTradeInRange, IsAllocationInRange, HasRanges, IsWritable, AreWritable, accepted, accept_of, exempt_of, priority_of, cycle_of, allocated, allocate_of, confirm_of, of_kind, read_clear_of, ReadsAs}
+use Rattle.cns_records.specs.Clear.{spelling, IsTradeInRange, IsAllocationInRange, HasRanges, IsWritable, HasPayload, accepted, accept_of, exempt_of, priority_of, cycle_of, allocated, allocate_of, confirm_of, of_kind, read_clear_of, ReadsAs}
 use Rattle.cns_records.specs.Drawn.{by_start, drawn_bytes}
 use Rattle.cns_movements.proofs.BytesLemmas.{IsBytes}
 use Rattle.cns_records.proofs.FieldLemmas.{bind_ok, chosen, tested_ok, whole_ok, done, ok_is, step, chain, last, again_last, number_field, wide64}
@@ -233,17 +234,12 @@ spelling_short (Allocate a) fits = allocate_short a fits.drawn.few
 spelling_short (Confirm r) fits = lit≤ tt
 
 -- No two records are spelled alike.
-pub spelling_injective : (a b : ClearRecord) → HasRanges a → HasRanges b → IsWritable a → IsWritable b → spelling a ≡ spelling b → a ≡ b
-spelling_injective a b fits_a fits_b is_a is_b same = ok_is a b (sym (read-spelling a fits_a is_a) ∙ ap read_clear_of same ∙ read-spelling b fits_b is_b)
+pub spelling_injective : (a b : ClearRecord) → HasPayload a → HasPayload b → spelling a ≡ spelling b → a ≡ b
+spelling_injective a b of_a of_b same = ok_is a b (sym (read-spelling a of_a.0 of_a.1) ∙ ap read_clear_of same ∙ read-spelling b of_b.0 of_b.1)
 
--- No two lists of records are.
-pub spellings_injective : (xs ys : List ClearRecord) → AreWritable xs → AreWritable ys → map spelling xs ≡ map spelling ys → xs ≡ ys
-spellings_injective [] [] fits_x fits_y same = refl
-spellings_injective [] (y ∷ ys) fits_x fits_y same = absurd cc
-spellings_injective (x ∷ xs) [] fits_x fits_y same = absurd cc
-spellings_injective (x ∷ xs) (y ∷ ys) fits_x fits_y same =
-    let head : spelling x ≡ spelling y = cc in
-    let tail : map spelling xs ≡ map spelling ys = cc in
-    let first = spelling_injective x y fits_x.0 fits_y.0 fits_x.1 fits_y.1 head in
-    let others = spellings_injective xs ys fits_x.2 fits_y.2 tail in
-    ap (λ (z : ClearRecord). z ∷ xs) first ∙ ap (λ (zs : List ClearRecord). y ∷ zs) others
+-- A payload that is no record is that of none.
+pub bad_is_none : (payload : List ℕ) (answer : Result ClearRecord RecordFault) → ReadsAs payload answer → answer ≡ Err fault.BadRecord
+    → (r : ClearRecord) → HasPayload r → spelling r ≡ payload → ⊥
+bad_is_none payload answer read is r of_r spelled =
+    let none : read_clear_of payload ≡ bad = subst (ReadsAs payload) is read in
+    bad_is_not_ok r (sym none ∙ ap read_clear_of (sym spelled) ∙ read-spelling r of_r.0 of_r.1)

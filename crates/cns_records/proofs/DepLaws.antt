@@ -13,7 +13,7 @@ use Rattle.cns_records.specs.declared.bad_record.BadRecord.{BadRecord}
 use Rattle.cns_records.specs.declared.dep_record.DepRecord.{DepRecord}
 use Rattle.cns_records.specs.declared.dep_record.DepRecord.TheVariants.{Exec}
 use Rattle.cns_records.specs.Fields.{bad, whole, move_kind_bytes}
-use Rattle.cns_records.specs.Dep.{dep_spelling, HasDepRanges, IsDepWritable, AreDepWritable, executed, exec_of, read_dep_of}
+use Rattle.cns_records.specs.Dep.{dep_spelling, HasDepRanges, IsDepWritable, HasDepPayload, executed, exec_of, read_dep_of}
 use Rattle.cns_movements.proofs.BytesLemmas.{IsBytes}
 use Rattle.cns_records.proofs.FieldLemmas.{bind_ok, chosen, tested_ok, whole_ok, done, ok_is, step, chain, last, again_last}
 use Rattle.cns_records.proofs.FieldLaws.{move_kind_field, move_no_field, member_field, issue_field, asked_field, shares_field}
@@ -95,17 +95,10 @@ unfolding dep_spelling
 dep_spelling_short (Exec o moved) = rw (short_from_kind o.kind o moved) (lit≤ tt)
 
 -- No two records are spelled alike.
-pub dep_spelling_injective : (a b : DepRecord) → HasDepRanges a → HasDepRanges b → IsDepWritable a → IsDepWritable b → dep_spelling a ≡ dep_spelling b → a ≡ b
-dep_spelling_injective a b fits_a fits_b is_a is_b same = ok_is a b (sym (dep_read-spelling a fits_a is_a) ∙ ap read_dep_of same ∙ dep_read-spelling b fits_b is_b)
+pub dep_spelling_injective : (a b : DepRecord) → HasDepPayload a → HasDepPayload b → dep_spelling a ≡ dep_spelling b → a ≡ b
+dep_spelling_injective a b of_a of_b same = ok_is a b (sym (dep_read-spelling a of_a.0 of_a.1) ∙ ap read_dep_of same ∙ dep_read-spelling b of_b.0 of_b.1)
 
--- No two lists of records are.
-pub dep_spellings_injective : (xs ys : List DepRecord) → AreDepWritable xs → AreDepWritable ys → map dep_spelling xs ≡ map dep_spelling ys → xs ≡ ys
-dep_spellings_injective [] [] fits_x fits_y same = refl
-dep_spellings_injective [] (y ∷ ys) fits_x fits_y same = absurd cc
-dep_spellings_injective (x ∷ xs) [] fits_x fits_y same = absurd cc
-dep_spellings_injective (x ∷ xs) (y ∷ ys) fits_x fits_y same =
-    let head : dep_spelling x ≡ dep_spelling y = cc in
-    let tail : map dep_spelling xs ≡ map dep_spelling ys = cc in
-    let first = dep_spelling_injective x y fits_x.0 fits_y.0 fits_x.1 fits_y.1 head in
-    let others = dep_spellings_injective xs ys fits_x.2 fits_y.2 tail in
-    ap (λ (z : DepRecord). z ∷ xs) first ∙ ap (λ (zs : List DepRecord). y ∷ zs) others
+-- A payload that is no record is that of none.
+pub dep_bad_is_none : (payload : List ℕ) (f : BadRecord) → Err f ≡ read_dep_of payload → (r : DepRecord) → HasDepPayload r → dep_spelling r ≡ payload → ⊥
+dep_bad_is_none payload f none r of_r spelled =
+    let both : Err f ≡ done r = none ∙ ap read_dep_of (sym spelled) ∙ dep_read-spelling r of_r.0 of_r.1 in cc

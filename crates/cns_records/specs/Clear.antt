@@ -14,8 +14,9 @@ use Rattle.cns_records.specs.declared.allocation.Allocation.{Allocation}
 use Rattle.cns_records.specs.declared.bad_record.BadRecord.{BadRecord}
 use Rattle.cns_records.specs.declared.clear_record.ClearRecord.{ClearRecord}
 use Rattle.cns_records.specs.declared.clear_record.ClearRecord.TheVariants.{Accept, Exempt, Priority, Cycle, Allocate, Confirm}
-use Rattle.cns_records.specs.declared.fault.RecordFault.{RecordFault}
-use Rattle.cns_records.specs.declared.fault.RecordFault.TheVariants as fault
+use Rattle.cns_journal.specs.Replay.{AreFit}
+use Rattle.cns_journal.specs.declared.record_log.RecordFault.{RecordFault}
+use Rattle.cns_journal.specs.declared.record_log.RecordFault.TheVariants as fault
 
 -- the one payload of a record: the version 1, the kind, and the fields
 unfoldable pub spelling : ClearRecord → List ℕ
@@ -64,10 +65,13 @@ IsWritable (Cycle id) = Unit {0}
 IsWritable (Allocate a) = (a.opened ≤ a.upto) × IsByStart a.drawn
 IsWritable (Confirm r) = Unit {0}
 
+-- the records that have a payload of their own
+abbrev pub HasPayload : ClearRecord → Type 0
+HasPayload r = HasRanges r × IsWritable r
+
 -- the same of each record of a list
 abbrev pub AreWritable : List ClearRecord → Type 0
-AreWritable [] = Unit {0}
-AreWritable (r ∷ rs) = HasRanges r × IsWritable r × AreWritable rs
+AreWritable rs = AreFit HasPayload rs
 
 -- a trade has two members
 abbrev pub accepted : Trade → Result ClearRecord BadRecord

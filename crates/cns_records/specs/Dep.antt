@@ -23,10 +23,9 @@ HasDepRanges (Exec o moved) = IsOrderInRange o × IsShares moved
 abbrev pub IsDepWritable : DepRecord → Type 0
 IsDepWritable (Exec o moved) = moved ≤ o.asked
 
--- the same of each record of a list
-abbrev pub AreDepWritable : List DepRecord → Type 0
-AreDepWritable [] = Unit {0}
-AreDepWritable (r ∷ rs) = HasDepRanges r × IsDepWritable r × AreDepWritable rs
+-- the records that have a payload of their own
+abbrev pub HasDepPayload : DepRecord → Type 0
+HasDepPayload r = HasDepRanges r × IsDepWritable r
 
 -- no more is moved than the order asks for
 abbrev pub executed : Order → ℕ → Result DepRecord BadRecord

@@ -10,8 +10,8 @@ use Rattle.cns_movements.specs.Asked.{IsAsked}
 use Rattle.cns_records.specs.Fields.{bad, ◌>>=◌, tested_at, member_at, shares_at, asked_at}
 use Rattle.cns_records.specs.declared.bad_record.BadRecord.{BadRecord}
 use Rattle.cns_records.specs.declared.drawn.Drawn.{Drawn}
-use Rattle.cns_records.specs.declared.fault.RecordFault.{RecordFault}
-use Rattle.cns_records.specs.declared.fault.RecordFault.TheVariants as fault
+use Rattle.cns_journal.specs.declared.record_log.RecordFault.{RecordFault}
+use Rattle.cns_journal.specs.declared.record_log.RecordFault.TheVariants as fault
 
 -- what the types of a ticket's fields promise
 pub record IsDrawn (t : Drawn) : Type 0 where

@@ -4,9 +4,9 @@ ghost use Rattle.cns_records.specs.Clear.{spelling, HasRanges, IsWritable, accep
 use crate::allocation::Allocation;
 use crate::bad_record::BadRecord;
 use crate::drawn::are_by_start;
-use crate::fault::RecordFault;
 use crate::fields::{DAY_CYCLE, Fields, NIGHT_CYCLE, VERSION, day_bytes, joined, tickets_bytes};
 use cns_ids::{Cusip, CycleId, CycleKind, MemberNo, Shares};
+use cns_journal::{Record, RecordFault};
 use cns_movements::Reply;
 use cns_trades::Trade;
 use std::alloc::{AllocError, Global};
@@ -87,6 +87,24 @@ impl ClearRecord {
         ensures ranges { IfOk result HasRanges }
     {
         record_of(alloc, payload)
+    }
+}
+
+impl Record for ClearRecord {
+    ghost use Rattle.cns_records.specs.Clear.{spelling as clear_spelling, IsWritable, HasPayload};
+
+    ghost spelling = { clear_spelling };
+
+    ghost writable = { IsWritable };
+
+    ghost fits = { HasPayload };
+
+    fn write(&self, alloc: Global) -> Result<Vec<u8>, AllocError> {
+        ClearRecord::write(self, alloc)
+    }
+
+    fn read(alloc: Global, payload: &[u8]) -> Result<ClearRecord, RecordFault> {
+        ClearRecord::read(alloc, payload)
     }
 }
 

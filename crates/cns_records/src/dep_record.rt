@@ -4,6 +4,7 @@ ghost use Rattle.cns_records.specs.Dep.{dep_spelling, HasDepRanges, IsDepWritabl
 use crate::bad_record::BadRecord;
 use crate::fields::{COVER_ORDER, DELIVERY_ORDER, Fields, VERSION, joined};
 use cns_ids::Shares;
+use cns_journal::{Record, RecordFault};
 use cns_movements::{MoveKind, Order};
 use std::alloc::{AllocError, Global};
 
@@ -48,6 +49,24 @@ impl DepRecord {
         ensures ranges { IfOk result HasDepRanges }
     {
         record_of(payload)
+    }
+}
+
+impl Record for DepRecord {
+    ghost use Rattle.cns_records.specs.Dep.{dep_spelling, IsDepWritable, HasDepPayload};
+
+    ghost spelling = { dep_spelling };
+
+    ghost writable = { IsDepWritable };
+
+    ghost fits = { HasDepPayload };
+
+    fn write(&self, alloc: Global) -> Result<Vec<u8>, AllocError> {
+        DepRecord::write(self, alloc)
+    }
+
+    fn read(_alloc: Global, payload: &[u8]) -> Result<DepRecord, RecordFault> {
+        Ok(DepRecord::read(payload)?)
     }
 }
 

@@ -8,8 +8,8 @@ ghost use Rattle.cns_records.specs.Drawn.{ticket_bytes, ticket_at, tickets_at, d
 
 use crate::bad_record::BadRecord;
 use crate::drawn::{Drawn, DrawnList, MAX_DRAWN};
-use crate::fault::RecordFault;
 use cns_ids::{Cusip, CycleKind, Day, MemberNo, Quantity, Shares};
+use cns_journal::RecordFault;
 use cns_movements::{Asked, MoveKind, MoveNo};
 use cns_trades::TradeId;
 use std::alloc::{AllocError, Global};

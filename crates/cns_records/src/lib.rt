@@ -12,7 +12,6 @@ mod bad_record;
 mod clear_record;
 mod dep_record;
 mod drawn;
-mod fault;
 mod fields;
 
 pub use allocation::Allocation;
@@ -20,7 +19,6 @@ pub use bad_record::BadRecord;
 pub use clear_record::ClearRecord;
 pub use dep_record::DepRecord;
 pub use drawn::{Drawn, DrawnList, MAX_DRAWN};
-pub use fault::RecordFault;
 
 #[cfg(test)]
 mod tests;

@@ -14,9 +14,9 @@ use Rattle.cns_records.specs.declared.clear_record.ClearRecord.TheVariants as en
 use Rattle.cns_records.specs.declared.dep_record.DepRecord.{DepRecord}
 use Rattle.cns_records.specs.declared.dep_record.DepRecord.TheVariants.{Exec}
 use Rattle.cns_clearing.specs.Books.{books_of, orders_of}
-use Rattle.cns_clearing.specs.Node.{ClearNode, KeeperState}
+use Rattle.cns_journal.specs.Replay.{KeeperState}
+use Rattle.cns_journal.specs.RecordLog.{LogState}
 use Rattle.cns_trades.specs.declared.opening.Opening.{Opening}
-use Rattle.cns_depository.specs.Node.{DepNode}
 use Rattle.cns_depository.specs.Stock.{IsLawfulDepot, moved_by, order_in, record_of}
 use Rattle.cns_system.specs.Accord.{Accord, FitsStock, IsInAccord, IsKnown}
 use Rattle.cns_system.specs.Agreement.{IsExecuted, IsOrdered}
@@ -71,7 +71,7 @@ packet_cases P (z ∷ zs) y all here (suc k) x e = packet_cases P zs y (λ j. al
 
 -- ---- what one node leaves
 
-module _ (c c' : ClearNode) (d : DepNode) (orders replies : List (List ℕ)) where
+module _ (c c' : LogState ClearRecord) (d : LogState DepRecord) (orders replies : List (List ℕ)) where
   -- the clearing node has a record more
   pub grown : (u : ClearRecord) → Accord c d orders replies → FitsStock d.records u → c'.records ≡ u ∷ c.records → c'.tried ≡ None → Accord c' d orders replies
   grown u a fits more none =
@@ -110,7 +110,7 @@ module _ (c c' : ClearNode) (d : DepNode) (orders replies : List (List ℕ)) whe
     depot_up = a.depot_up;
   }
 
-module _ (c : ClearNode) (d d' : DepNode) (orders replies : List (List ℕ)) where
+module _ (c : LogState ClearRecord) (d d' : LogState DepRecord) (orders replies : List (List ℕ)) where
   -- the depository has executed a movement
   pub executed_more : (e : DepRecord) → Accord c d orders replies → record_of d.records (order_in e).number ≡ None → IsKnown (orders_of c.records).orders e
       → d'.records ≡ e ∷ d.records → d'.tried ≡ None → Accord c d' orders replies
@@ -148,7 +148,7 @@ module _ (c : ClearNode) (d d' : DepNode) (orders replies : List (List ℕ)) whe
   }
 
 -- a packet more on the link of orders, and one on that of replies
-pub order_put : (c : ClearNode) (d : DepNode) (orders replies : List (List ℕ)) (o : Order) (bytes : List ℕ) → Accord c d orders replies
+pub order_put : (c : LogState ClearRecord) (d : LogState DepRecord) (orders replies : List (List ℕ)) (o : Order) (bytes : List ℕ) → Accord c d orders replies
     → order_of (orders_of c.records).orders o.number ≡ Some o → order_in_packet (Some bytes) ≡ Some o → Accord c d (orders ++ bytes ∷ []) replies
 order_put c d orders replies o bytes a found reads = record {
   known = a.known;
@@ -164,7 +164,7 @@ order_put c d orders replies o bytes a found reads = record {
   depot_up = a.depot_up;
 }
 
-pub reply_put : (c : ClearNode) (d : DepNode) (orders replies : List (List ℕ)) (r : Reply) (bytes : List ℕ) → Accord c d orders replies
+pub reply_put : (c : LogState ClearRecord) (d : LogState DepRecord) (orders replies : List (List ℕ)) (r : Reply) (bytes : List ℕ) → Accord c d orders replies
     → IsExecuted d.records r → reply_in_packet (Some bytes) ≡ Some r → Accord c d orders (replies ++ bytes ∷ [])
 reply_put c d orders replies r bytes a done reads = record {
   known = a.known;
@@ -191,10 +191,10 @@ known_all openings orders (Exec o moved ∷ p) lawful all =
 -- nodes that were opened are in accord, as there is no packet yet
 pub started : (openings : List Opening) (clear depot : KeeperState) (w : World) → IsStarted openings clear depot w → IsInAccord w
 started openings clear depot w s =
-    let none = ap (λ (n : ClearNode). n.tried) s.clear_opens.value in
-    let stock_none = ap (λ (n : DepNode). n.tried) s.depot_opens.value in
+    let none = ap (λ (l : LogState ClearRecord). l.tried) s.clear_opens.0.value in
+    let stock_none = ap (λ (l : LogState DepRecord). l.tried) s.depot_opens.0.value in
     λ clear_honest depot_honest. record {
-      known = known_all openings (orders_of w.clear.clear.records).orders w.depot.records s.depot_opens.lawful s.agree.ordered;
+      known = known_all openings (orders_of w.clear.clear.log.records).orders w.depot.log.records s.depot_opens.0.allowed s.agree.ordered;
       executed = s.agree.executed;
       sent = λ k bytes o at reads. absurd (none-some bytes (ap (λ (l : List (List ℕ)). slice_get l k) (sym s.orders) ∙ at));
       answered = λ k bytes r at reads. absurd (none-some bytes (ap (λ (l : List (List ℕ)). slice_get l k) (sym s.replies) ∙ at));

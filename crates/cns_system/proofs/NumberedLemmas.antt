@@ -18,9 +18,8 @@ use Rattle.cns_clearing.specs.Answers.{LotCloseLeaves, LotOpenLeaves, LotPourLea
 use Rattle.cns_clearing.specs.Books.{IsLawful, books_of, history_of, orders_of}
 use Rattle.cns_clearing.specs.Lots.{avail_in, lots_poured, plan_in, poured_into, were_long}
 use Rattle.cns_clearing.specs.Lots as node
-use Rattle.cns_clearing.specs.Node.{ClearNode}
+use Rattle.cns_clearing.specs.Node.{ClearNode, RestartLeaves}
 use Rattle.cns_clearing.specs.Pools.{free_of, lent_of, lot_of}
-use Rattle.cns_clearing.specs.Replay.{RestartLeaves}
 use Rattle.cns_clearing.proofs.BooksLemmas.{lawful_bounded}
 use Rattle.cns_clearing.specs.declared.fault.Closed.{Closed}
 use Rattle.cns_clearing.specs.declared.fault.LotOpenFault.{LotOpenFault}
@@ -28,9 +27,9 @@ use Rattle.cns_clearing.specs.declared.fault.LotOpenFault.TheVariants as opening
 use Rattle.cns_clearing.specs.declared.fault.LotPourFault.{LotPourFault}
 use Rattle.cns_clearing.specs.declared.fault.LotPourFault.TheVariants as pouring
 use Rattle.cns_clearing.specs.declared.lot.Lot.{Lot}
-use Rattle.cns_clearing.specs.declared.replay.ReplayFault.{ReplayFault}
-use Rattle.cns_clearing.specs.declared.replay.ReplayFault.TheVariants.{OutOfMemory, BadJournal, Device}
-use Rattle.cns_clearing.specs.declared.replay.Restarted.{Restarted}
+use Rattle.cns_journal.specs.declared.record_log.ReplayFault.{ReplayFault}
+use Rattle.cns_journal.specs.declared.record_log.ReplayFault.TheVariants.{OutOfMemory, BadJournal, Device}
+use Rattle.cns_journal.specs.declared.record_log.Restarted.{Restarted}
 use Rattle.cns_system.specs.Lot.{LotState, IsLot, new_lot, planned_sum, with_end, with_pour, with_seal, with_ticket}
 use Rattle.cns_system.specs.Lots.{lot_at, update_at, AreLotsLawful, HasOpenLot, LotLeaves, ReserveLeaves}
 use Rattle.cns_system.specs.Numbered.{AreTied}
@@ -40,14 +39,6 @@ use Rattle.cns_system.specs.declared.fault.ReserveFault.{ReserveFault}
 use Rattle.cns_system.specs.declared.fault.ReserveFault.TheVariants as refusal
 use Rattle.cns_system.proofs.LotsLemmas.{open-from, open-parts}
 use Rattle.cns_system.proofs.TiedLemmas.{at_place, found_of, found_poured, found_without, tied_changed, tied_more}
-
--- ---- a restart ends all lots
-
-pub restart_lots : (r : Result Restarted ReplayFault) (old new : ClearNode) → RestartLeaves r old new → new.lots ≡ []
-restart_lots (Ok done) old new h = ap (λ (n : ClearNode). n.lots) h.0
-restart_lots (Err OutOfMemory) old new h = ap (λ (n : ClearNode). n.lots) h.0
-restart_lots (Err (BadJournal place)) old new h = ap (λ (n : ClearNode). n.lots) h.0
-restart_lots (Err Device) old new h = ap (λ (n : ClearNode). n.lots) h.0
 
 -- ---- changes of the lots by number alone
 
@@ -96,13 +87,13 @@ all_free c open_lots issue none =
     let lent : lent_of open_lots issue ≡ 0 = ap (λ (o : Option Lot). unwrap_or (option_map (λ (l : Lot). l.poured) o) 0) none in omega (arith, lent)
 
 pub open_tied : (old new : ClearNode) (lots after : List LotState) (issue poured : ℕ) (plan answer : List Planned) → AreTied old.lots lots
-    → LotOpenLeaves issue (Ok answer) old new → plan ≡ plan_in old.records issue → poured ≡ free_of (orders_of old.records) old.lots issue
+    → LotOpenLeaves issue (Ok answer) old new → plan ≡ plan_in old.log.records issue → poured ≡ free_of (orders_of old.log.records) old.lots issue
     → after ≡ lots ++ new_lot issue plan poured ∷ [] → AreTied new.lots after
 open_tied old new lots after issue poured plan answer are h is_plan free is =
-    let there : poured ≡ avail_in old.records issue = free ∙ all_free old.records old.lots issue h.1 in
+    let there : poured ≡ avail_in old.log.records issue = free ∙ all_free old.log.records old.lots issue h.1 in
     subst (λ (l : List Lot). AreTied l after) (sym (ap (λ (n : ClearNode). n.lots) h.3))
-    (subst (AreTied (old.lots ++ node.new_lot old.records issue ∷ [])) (sym is)
-    (tied_more old.lots lots (node.new_lot old.records issue) (new_lot issue plan poured) are h.1 refl (sym is_plan) (sym there)))
+    (subst (AreTied (old.lots ++ node.new_lot old.log.records issue ∷ [])) (sym is)
+    (tied_more old.lots lots (node.new_lot old.log.records issue) (new_lot issue plan poured) are h.1 refl (sym is_plan) (sym there)))
 
 -- a refused opening leaves the node
 pub open_refused : (issue : ℕ) (f : LotOpenFault) (old new : ClearNode) → LotOpenLeaves issue (Err f) old new → new ≡ old
@@ -128,7 +119,7 @@ no_twin open_lots lots n issue l are found going is none =
 -- ---- a pour
 
 pub pour_never : (old new : ClearNode) (lots : List LotState) (n issue : ℕ) (f : LotPourFault) → AreTied old.lots lots → HasOpenLot lots n (λ (l : LotState). issue ≡ l.issue)
-    → old.down ≡ false → LotPourLeaves issue (Err f) old new → ⊥
+    → old.log.down ≡ false → LotPourLeaves issue (Err f) old new → ⊥
 pour_never old new lots n issue pouring.Down are has up h = let no : true ≡ false = sym h.0 ∙ up in cc
 pour_never old new lots n issue pouring.NoLot are has up h =
     let at = open-parts lots n (λ (l : LotState). issue ≡ l.issue) has in
@@ -136,7 +127,7 @@ pour_never old new lots n issue pouring.NoLot are has up h =
 
 -- what is poured into a lot stays small
 pub pour_small : (old new : ClearNode) (lots : List LotState) (n issue shares free : ℕ) → AreTied old.lots lots → HasOpenLot lots n (λ (l : LotState). issue ≡ l.issue)
-    → free ≡ free_of (orders_of old.records) old.lots issue → free + lent_of old.lots issue ≤ 1000000000000000000
+    → free ≡ free_of (orders_of old.log.records) old.lots issue → free + lent_of old.lots issue ≤ 1000000000000000000
     → LotPourLeaves issue (Ok shares) old new → HasOpenLot lots n (λ (l : LotState). l.poured + shares ≤ 1000000000000000000)
 pour_small old new lots n issue shares free are has is_free few h =
     let at = open-parts lots n (λ (l : LotState). issue ≡ l.issue) has in
@@ -170,7 +161,7 @@ pour_tied old new lots after n issue shares are has h pours =
     let after_is : after ≡ update_at lots n (with_pour shares at.lot) = last.holds ∙ ap (λ (l : LotState). update_at lots n (with_pour shares l)) one in
     let tied = are.each n at.lot at.found at.going in
     let twin : Lot = tied.twin in
-    let c : List ClearRecord = old.records in
+    let c : List ClearRecord = old.log.records in
     let found : lot_of old.lots issue ≡ Some twin = ap (lot_of old.lots) at.holds ∙ tied.found in
     let is : twin.issue ≡ issue = found_of old.lots issue twin found in
     let poured : lot_of (lots_poured c issue old.lots) issue ≡ Some (record twin { upto = length c; poured = avail_in c issue }) =
@@ -210,7 +201,7 @@ close_tied old new lots after n issue tickets sealed done l r are has is h ends 
     let issue_is : issue ≡ at.lot.issue = is ∙ ap (λ (k : LotState). k.issue) at.holds in
     let after_is = change_is with_end n r lots after at.lot at.found at.going ends in
     let closes : h.0.issue ≡ at.lot.issue = ap (λ a. a.issue) h.1.closes ∙ found_of old.lots issue h.1.lot h.1.found ∙ issue_is in
-    subst (λ (ls : List Lot). AreTied ls after) (sym h.4.3)
+    subst (λ (ls : List Lot). AreTied ls after) (sym h.4.2)
     (subst (AreTied (node.without_lot h.0.issue old.lots)) (sym after_is)
     (tied_changed old.lots (node.without_lot h.0.issue old.lots) lots n at.lot (with_end at.lot) are at.found at.going refl
     (λ up. absurd (let no : true ≡ false = up in cc))

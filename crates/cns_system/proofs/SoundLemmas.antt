@@ -17,26 +17,22 @@ use Rattle.cns_depository.specs.Stock.{moved_by, order_in, record_of}
 use Rattle.cns_clearing.specs.Answers.{ReplyLeaves}
 use Rattle.cns_clearing.specs.Books.{orders_of}
 use Rattle.cns_clearing.specs.Node.{ClearNode}
-use Rattle.cns_clearing.specs.Replay.{RestartLeaves}
 use Rattle.cns_clearing.specs.declared.fault.ReplyFault.{ReplyFault}
 use Rattle.cns_clearing.specs.declared.fault.ReplyFault.TheVariants as reply
 use Rattle.cns_clearing.specs.declared.fault.Taken.{Taken}
 use Rattle.cns_clearing.specs.declared.fault.Taken.TheVariants as taken
-use Rattle.cns_clearing.specs.declared.replay.ReplayFault.{ReplayFault}
-use Rattle.cns_clearing.specs.declared.replay.ReplayFault.TheVariants as replay
-use Rattle.cns_clearing.specs.declared.replay.Restarted.{Restarted}
+use Rattle.cns_journal.specs.declared.record_log.ReplayFault.{ReplayFault}
+use Rattle.cns_journal.specs.declared.record_log.ReplayFault.TheVariants as replay
+use Rattle.cns_journal.specs.declared.record_log.Restarted.{Restarted}
 use Rattle.cns_depository.specs.Answers.{OrderLeaves}
 use Rattle.cns_depository.specs.Node.{DepNode}
-use Rattle.cns_depository.specs.Replay.{RestartLeaves as DepotRestartLeaves}
+use Rattle.cns_journal.specs.RecordLog.{LogRestarts, LogState}
 use Rattle.cns_depository.specs.declared.fault.Answer.{Answer}
 use Rattle.cns_depository.specs.declared.fault.Answer.TheVariants as answer
 use Rattle.cns_depository.specs.declared.fault.DepFault.{DepFault}
 use Rattle.cns_depository.specs.declared.fault.DepFault.TheVariants as fault
-use Rattle.cns_depository.specs.declared.replay.ReplayFault.{ReplayFault as DepotReplayFault}
-use Rattle.cns_depository.specs.declared.replay.ReplayFault.TheVariants as depot_replay
-use Rattle.cns_depository.specs.declared.depository.Restarted.{Restarted as DepotRestarted}
 use Rattle.cns_system.specs.Accord.{Accord, IsInAccord, IsKnown, StaysSound}
-use Rattle.cns_system.specs.Outcomes.{clear_restart_outcome, depot_restart_outcome, order_outcome, reply_outcome}
+use Rattle.cns_system.specs.Outcomes.{order_outcome, reply_outcome, restart_outcome}
 use Rattle.cns_wire.specs.Packet.{packet_at}
 use Rattle.cns_system.specs.Step.{OrderInStep, OrderTaken, ReplyInStep, Step}
 use Rattle.cns_system.specs.World.{World, order_in_packet, reply_in_packet}
@@ -109,12 +105,12 @@ answer_known book p r known executed done =
 -- ---- events
 
 -- an order that came is not another one than was executed under its number
-order_sound : (o : Order) (packet : ℕ) (result : Result Answer DepFault) (old new : DepNode) (orders : List Order) → All (IsKnown orders) old.records
+order_sound : (o : Order) (packet : ℕ) (result : Result Answer DepFault) (old new : DepNode) (orders : List Order) → All (IsKnown orders) old.log.records
     → order_of orders o.number ≡ Some o → OrderLeaves o result old new → order_outcome packet result ≢ outcomes.Refused refusal.Conflict
 order_sound o packet (Ok (answer.Done r)) old new orders all found h = λ e. cc e
 order_sound o packet (Ok (answer.Again r)) old new orders all found h = λ e. cc e
 order_sound o packet (Err fault.Down) old new orders all found h = λ e. cc e
-order_sound o packet (Err fault.Conflict) old new orders all found h = λ e. h.1.3 (same_order orders old.records o h.1.0 h.1.1 all found h.1.2)
+order_sound o packet (Err fault.Conflict) old new orders all found h = λ e. h.1.3 (same_order orders old.log.records o h.1.0 h.1.1 all found h.1.2)
 order_sound o packet (Err fault.OutOfMemory) old new orders all found h = λ e. cc e
 order_sound o packet (Err fault.Device) old new orders all found h = λ e. cc e
 
@@ -129,8 +125,8 @@ not_refused a (inl done) = (λ e. cc (done, e), λ e. cc (done, e), λ e. cc (do
 not_refused a (inr again) = (λ e. cc (again, e), λ e. cc (again, e), λ e. cc (again, e))
 
 reply_sound : (r : Reply) (result : Result Taken ReplyFault) (old new : ClearNode)
-    → (confirm_answer (orders_of old.records) r ≢ confirm.UnknownMove) × (confirm_answer (orders_of old.records) r ≢ confirm.Conflict)
-    × (confirm_answer (orders_of old.records) r ≢ confirm.TooMuch)
+    → (confirm_answer (orders_of old.log.records) r ≢ confirm.UnknownMove) × (confirm_answer (orders_of old.log.records) r ≢ confirm.Conflict)
+    × (confirm_answer (orders_of old.log.records) r ≢ confirm.TooMuch)
     → ReplyLeaves r result old new → IsSoundReply (reply_outcome r result)
 reply_sound r (Ok taken.Done) old new sound h = (λ e. cc e, λ e. cc e, λ e. cc e)
 reply_sound r (Ok taken.Again) old new sound h = (λ e. cc e, λ e. cc e, λ e. cc e)
@@ -141,23 +137,16 @@ reply_sound r (Err reply.TooMuch) old new sound h = absurd (sound.2 h.1)
 reply_sound r (Err reply.OutOfMemory) old new sound h = (λ e. cc e, λ e. cc e, λ e. cc e)
 reply_sound r (Err reply.Device) old new sound h = (λ e. cc e, λ e. cc e, λ e. cc e)
 
-clear_restart_sound : (result : Result Restarted ReplayFault) (old new : ClearNode) (place : ℕ) → old.honest ≡ true → RestartLeaves result old new
-    → clear_restart_outcome result ≢ outcomes.Refused (refusal.BadJournal place)
-clear_restart_sound (Ok r) old new place honest h = λ e. cc e
-clear_restart_sound (Err replay.OutOfMemory) old new place honest h = λ e. cc e
-clear_restart_sound (Err (replay.BadJournal at)) old new place honest h = absurd (h.1 honest)
-clear_restart_sound (Err replay.Device) old new place honest h = λ e. cc e
-
-depot_restart_sound : (result : Result DepotRestarted DepotReplayFault) (old new : DepNode) (place : ℕ) → old.honest ≡ true → DepotRestartLeaves result old new
-    → depot_restart_outcome result ≢ outcomes.Refused (refusal.BadJournal place)
-depot_restart_sound (Ok r) old new place honest h = λ e. cc e
-depot_restart_sound (Err depot_replay.OutOfMemory) old new place honest h = λ e. cc e
-depot_restart_sound (Err (depot_replay.BadJournal at)) old new place honest h = absurd (h.2 honest)
-depot_restart_sound (Err depot_replay.Device) old new place honest h = λ e. cc e
+restart_sound : {R : Type 0} (spelling : R → List ℕ) (allows : List R → R → Type 0) (fits : R → Type 0) (result : Result Restarted ReplayFault)
+    (old new : LogState R) (place : ℕ) → old.honest ≡ true → LogRestarts spelling allows fits result old new → restart_outcome result ≢ outcomes.Refused (refusal.BadJournal place)
+restart_sound spelling allows fits (Ok r) old new place honest h = λ e. cc e
+restart_sound spelling allows fits (Err replay.OutOfMemory) old new place honest h = λ e. cc e
+restart_sound spelling allows fits (Err (replay.BadJournal at)) old new place honest h = absurd (h.2 honest)
+restart_sound spelling allows fits (Err replay.Device) old new place honest h = λ e. cc e
 
 order_in_sound : (packet : Option (List ℕ)) (held : Option Order) (outcome : Outcome) (old new : World)
     → ((bytes : List ℕ) → packet ≡ Some bytes → (k : ℕ) × (slice_get old.orders k ≡ Some bytes)) → order_in_packet packet ≡ held
-    → OrderInStep held outcome old new → Accord old.clear.clear old.depot old.orders old.replies → outcome ≢ outcomes.Refused refusal.Conflict
+    → OrderInStep held outcome old new → Accord old.clear.clear.log old.depot.log old.orders old.replies → outcome ≢ outcomes.Refused refusal.Conflict
 order_in_sound packet None outcome old new place is h a = λ e. cc (h.0, e)
 order_in_sound None (Some o) outcome old new place is h a = absurd (none-some o is)
 order_in_sound (Some bytes) (Some o) outcome old new place is h a = taken_sound h.2
@@ -167,19 +156,19 @@ order_in_sound (Some bytes) (Some o) outcome old new place is h a = taken_sound 
 
     taken_sound : OrderTaken o outcome old new → outcome ≢ outcomes.Refused refusal.Conflict
     taken_sound (inl t) = λ e.
-        order_sound o _ t.0 old.depot new.depot (orders_of old.clear.clear.records).orders a.known (a.sent at.0 bytes o at.1 is) t.2 (sym t.1 ∙ e)
+        order_sound o _ t.0 old.depot new.depot (orders_of old.clear.clear.log.records).orders a.known (a.sent at.0 bytes o at.1 is) t.2 (sym t.1 ∙ e)
     taken_sound (inr t) = λ e. cc (t.0, e)
 
 reply_in_sound : (packet : Option (List ℕ)) (held : Option Reply) (outcome : Outcome) (old new : World)
     → ((bytes : List ℕ) → packet ≡ Some bytes → (k : ℕ) × (slice_get old.replies k ≡ Some bytes)) → reply_in_packet packet ≡ held
-    → ReplyInStep held outcome old new → Accord old.clear.clear old.depot old.orders old.replies → IsSoundReply outcome
+    → ReplyInStep held outcome old new → Accord old.clear.clear.log old.depot.log old.orders old.replies → IsSoundReply outcome
 reply_in_sound packet None outcome old new place is h a = (λ e. cc (h.0, e), λ e. cc (h.0, e), λ e. cc (h.0, e))
 reply_in_sound None (Some r) outcome old new place is h a = absurd (none-some r is)
 reply_in_sound (Some bytes) (Some r) outcome old new place is h a =
     let at = place bytes refl in
-    let known = answer_known (orders_of old.clear.clear.records) old.depot.records r a.known a.executed (a.answered at.0 bytes r at.1 is) in
+    let known = answer_known (orders_of old.clear.clear.log.records) old.depot.log.records r a.known a.executed (a.answered at.0 bytes r at.1 is) in
     subst IsSoundReply (sym h.3.1)
-    (reply_sound r h.3.0 old.clear.clear new.clear.clear (not_refused (confirm_answer (orders_of old.clear.clear.records) r) known) h.3.2.0)
+    (reply_sound r h.3.0 old.clear.clear new.clear.clear (not_refused (confirm_answer (orders_of old.clear.clear.log.records) r) known) h.3.2.0)
 
 -- what no event comes to
 pub step_sound : (e : Event) (outcome : Outcome) (old new : World) → Step e outcome old new → IsInAccord old → StaysSound old e outcome
@@ -200,6 +189,6 @@ step_sound (event.OrderIn packet) outcome old new h accord = λ c d.
 step_sound (event.ReplyIn packet) outcome old new h accord = λ c d.
     reply_in_sound (packet_at old.replies packet) (reply_in_packet (packet_at old.replies packet)) outcome old new (packet_place old.replies packet) refl h (accord c d)
 step_sound (event.Restart node.Clear) outcome old new h accord = λ c d. λ place e.
-    clear_restart_sound h.3.0 old.clear.clear new.clear.clear place c h.3.2.0 (sym h.3.1 ∙ e)
+    restart_sound _ _ _ h.3.0 old.clear.clear.log new.clear.clear.log place c h.3.2.0.0 (sym h.3.1 ∙ e)
 step_sound (event.Restart node.Depot) outcome old new h accord = λ c d. λ place e.
-    depot_restart_sound h.3.0 old.depot new.depot place d h.3.2 (sym h.3.1 ∙ e)
+    restart_sound _ _ _ h.3.0 old.depot.log new.depot.log place d h.3.2.0 (sym h.3.1 ∙ e)

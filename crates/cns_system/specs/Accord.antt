@@ -3,12 +3,11 @@ use Rattle.std.specs.Prelude.{◌≡◌, ◌≢◌, ◌≤◌, ℕ, true, false,
 use Rattle.cns_movements.specs.Order.{order_of}
 use Rattle.cns_movements.specs.declared.order.Order.{Order}
 use Rattle.cns_movements.specs.declared.order.Reply.{Reply}
+use Rattle.cns_journal.specs.RecordLog.{LogState}
 use Rattle.cns_records.specs.declared.clear_record.ClearRecord.{ClearRecord}
 use Rattle.cns_records.specs.declared.clear_record.ClearRecord.TheVariants as entry
 use Rattle.cns_records.specs.declared.dep_record.DepRecord.{DepRecord}
 use Rattle.cns_clearing.specs.Books.{orders_of}
-use Rattle.cns_clearing.specs.Node.{ClearNode}
-use Rattle.cns_depository.specs.Node.{DepNode}
 use Rattle.cns_depository.specs.Stock.{moved_by, order_in, record_of}
 use Rattle.cns_system.specs.Agreement.{IsExecuted}
 use Rattle.cns_system.specs.World.{World, order_in_packet, reply_in_packet}
@@ -34,7 +33,7 @@ FitsStock p (entry.Confirm r) = IsExecuted p r
 
 -- the two nodes' records agree, each packet of an order is the order of its number and each packet of a reply a movement that was
 -- executed, and so it stays where a record whose commit failed comes back; a node that is up has no such record
-pub record Accord (clear : ClearNode) (depot : DepNode) (orders replies : List (List ℕ)) : Type 0 where
+pub record Accord (clear : LogState ClearRecord) (depot : LogState DepRecord) (orders replies : List (List ℕ)) : Type 0 where
   pub known : All (IsKnown (orders_of clear.records).orders) depot.records
   pub executed : All (IsExecuted depot.records) (orders_of clear.records).replies
   pub sent : (k : ℕ) (bytes : List ℕ) (o : Order) → slice_get orders k ≡ Some bytes → order_in_packet (Some bytes) ≡ Some o
@@ -48,7 +47,7 @@ pub record Accord (clear : ClearNode) (depot : DepNode) (orders replies : List (
   pub depot_up : depot.down ≡ false → depot.tried ≡ None
 
 abbrev pub IsInAccord : World → Type 0
-IsInAccord w = w.clear.clear.honest ≡ true → w.depot.honest ≡ true → Accord w.clear.clear w.depot w.orders w.replies
+IsInAccord w = w.clear.clear.log.honest ≡ true → w.depot.log.honest ≡ true → Accord w.clear.clear.log w.depot.log w.orders w.replies
 
 -- what no event comes to where both keepers are honest: no order meets another one under its number, no reply is of a movement that
 -- is unknown, moved another quantity or more than was asked for, and no journal is bad
@@ -61,4 +60,4 @@ IsSound _ outcome = Unit {0}
 
 -- so it is where both keepers were honest
 abbrev pub StaysSound : World → Event → Outcome → Type 0
-StaysSound w e outcome = w.clear.clear.honest ≡ true → w.depot.honest ≡ true → IsSound e outcome
+StaysSound w e outcome = w.clear.clear.log.honest ≡ true → w.depot.log.honest ≡ true → IsSound e outcome

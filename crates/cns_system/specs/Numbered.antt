@@ -39,20 +39,20 @@ pub record AreTied (open_lots : List Lot) (lots : List LotState) : Type 0 where
 -- an opened lot has the next number and all shares of the issue that are there, and its plan has so many members
 pub record IsOpened (node : NumberedNode) (issue : ℕ) (opened : Opened) : Type 0 where
   pub number : opened.number ≡ length node.lots + 1
-  pub poured : opened.poured ≡ avail_in node.clear.records issue
-  pub longs : opened.longs ≡ length (plan_in node.clear.records issue)
+  pub poured : opened.poured ≡ avail_in node.clear.log.records issue
+  pub longs : opened.longs ≡ length (plan_in node.clear.log.records issue)
 
 -- what the opening of a lot leaves, by its answer
 abbrev pub OpenLeaves : ℕ → Result Opened OpenFault → NumberedNode → NumberedNode → Type 0
 OpenLeaves issue (Ok opened) old new =
-    (length old.lots < 1000000) × IsOpened old issue opened × LotOpenLeaves issue (Ok (plan_in old.clear.records issue)) old.clear new.clear
-    × (new.lots ≡ old.lots ++ new_lot issue (plan_in old.clear.records issue) opened.poured ∷ [])
-OpenLeaves issue (Err opening.Down) old new = (old.clear.down ≡ true) × (new ≡ old)
-OpenLeaves issue (Err opening.LotAlready) old new = (old.clear.down ≡ false) × (lot_of old.clear.lots issue ≢ None) × (new ≡ old)
+    (length old.lots < 1000000) × IsOpened old issue opened × LotOpenLeaves issue (Ok (plan_in old.clear.log.records issue)) old.clear new.clear
+    × (new.lots ≡ old.lots ++ new_lot issue (plan_in old.clear.log.records issue) opened.poured ∷ [])
+OpenLeaves issue (Err opening.Down) old new = (old.clear.log.down ≡ true) × (new ≡ old)
+OpenLeaves issue (Err opening.LotAlready) old new = (old.clear.log.down ≡ false) × (lot_of old.clear.lots issue ≢ None) × (new ≡ old)
 OpenLeaves issue (Err opening.LotsSpent) old new =
-    (old.clear.down ≡ false) × (lot_of old.clear.lots issue ≡ None) × (1000000 ≤ length old.lots) × (new ≡ old)
+    (old.clear.log.down ≡ false) × (lot_of old.clear.lots issue ≡ None) × (1000000 ≤ length old.lots) × (new ≡ old)
 OpenLeaves issue (Err opening.OutOfMemory) old new =
-    (old.clear.down ≡ false) × (lot_of old.clear.lots issue ≡ None) × (length old.lots < 1000000) × (new ≡ old)
+    (old.clear.log.down ≡ false) × (lot_of old.clear.lots issue ≡ None) × (length old.lots < 1000000) × (new ≡ old)
 
 -- what a pour leaves, by its answer: what the node pours into the lot of the issue is poured into the lot of the number
 abbrev pub PourLeaves : ℕ → Result ℕ PourFault → NumberedNode → NumberedNode → Type 0
@@ -61,7 +61,7 @@ PourLeaves number (Ok shares) old new =
     (λ (lot : LotState). LotPourLeaves lot.issue (Ok shares) old.clear new.clear × (new.lots ≡ update_at old.lots number (with_pour shares lot)))
 PourLeaves number (Err pouring.NoLot) old new = (lot_at old.lots number ≡ None) × (new ≡ old)
 PourLeaves number (Err pouring.StaleLot) old new = HasEndedLot old.lots number × (new ≡ old)
-PourLeaves number (Err pouring.Down) old new = HasOpenLot old.lots number (λ (lot : LotState). old.clear.down ≡ true) × (new ≡ old)
+PourLeaves number (Err pouring.Down) old new = HasOpenLot old.lots number (λ (lot : LotState). old.clear.log.down ≡ true) × (new ≡ old)
 
 -- a lot is sealed, or each member of its plan has a ticket
 abbrev pub IsMet : LotState → Type 0
@@ -75,14 +75,14 @@ CloseLeaves number (Ok done) old new =
     IsMet lot × LotCloseLeaves lot.issue lot.tickets lot.sealed (Ok done) old.clear new.clear × (new.lots ≡ update_at old.lots number (with_end lot)))
 CloseLeaves number (Err close.NoLot) old new = (lot_at old.lots number ≡ None) × (new ≡ old)
 CloseLeaves number (Err close.StaleLot) old new = HasEndedLot old.lots number × (new ≡ old)
-CloseLeaves number (Err close.Down) old new = HasOpenLot old.lots number (λ (lot : LotState). old.clear.down ≡ true) × (new ≡ old)
+CloseLeaves number (Err close.Down) old new = HasOpenLot old.lots number (λ (lot : LotState). old.clear.log.down ≡ true) × (new ≡ old)
 CloseLeaves number (Err close.Unserved) old new =
-    HasOpenLot old.lots number (λ (lot : LotState). (old.clear.down ≡ false) × (lot.sealed ≡ false) × (waiting lot.plan lot.tickets ≢ [])) × (new ≡ old)
+    HasOpenLot old.lots number (λ (lot : LotState). (old.clear.log.down ≡ false) × (lot.sealed ≡ false) × (waiting lot.plan lot.tickets ≢ [])) × (new ≡ old)
 CloseLeaves number (Err close.NumbersSpent) old new =
     HasOpenLot old.lots number
     (λ (lot : LotState). IsMet lot × LotCloseLeaves lot.issue lot.tickets lot.sealed (Err closing.NumbersSpent) old.clear new.clear) × (new ≡ old)
 CloseLeaves number (Err close.OutOfMemory) old new =
-    HasOpenLot old.lots number (λ (lot : LotState). IsMet lot × (old.clear.down ≡ false)) × (new ≡ old)
+    HasOpenLot old.lots number (λ (lot : LotState). IsMet lot × (old.clear.log.down ≡ false)) × (new ≡ old)
 CloseLeaves number (Err close.Device) old new =
     HasOpenLot old.lots number
     (λ (lot : LotState). IsMet lot × LotCloseLeaves lot.issue lot.tickets lot.sealed (Err closing.Device) old.clear new.clear) × (new.lots ≡ old.lots)

@@ -16,16 +16,13 @@ use Rattle.cns_clearing.specs.declared.fault.ReplyFault.{ReplyFault}
 use Rattle.cns_clearing.specs.declared.fault.ReplyFault.TheVariants as reply
 use Rattle.cns_clearing.specs.declared.fault.Taken.{Taken}
 use Rattle.cns_clearing.specs.declared.fault.Taken.TheVariants as taken
-use Rattle.cns_clearing.specs.declared.replay.ReplayFault.{ReplayFault}
-use Rattle.cns_clearing.specs.declared.replay.ReplayFault.TheVariants as replay
-use Rattle.cns_clearing.specs.declared.replay.Restarted.{Restarted}
+use Rattle.cns_journal.specs.declared.record_log.ReplayFault.{ReplayFault}
+use Rattle.cns_journal.specs.declared.record_log.ReplayFault.TheVariants as replay
+use Rattle.cns_journal.specs.declared.record_log.Restarted.{Restarted}
 use Rattle.cns_depository.specs.declared.fault.Answer.{Answer}
 use Rattle.cns_depository.specs.declared.fault.Answer.TheVariants as answer
 use Rattle.cns_depository.specs.declared.fault.DepFault.{DepFault}
 use Rattle.cns_depository.specs.declared.fault.DepFault.TheVariants as fault
-use Rattle.cns_depository.specs.declared.replay.ReplayFault.{ReplayFault as DepotReplayFault}
-use Rattle.cns_depository.specs.declared.replay.ReplayFault.TheVariants as depot
-use Rattle.cns_depository.specs.declared.depository.Restarted.{Restarted as DepotRestarted}
 use Rattle.cns_system.specs.declared.entry.Look.{Look}
 use Rattle.cns_system.specs.declared.fault.OpenFault.{OpenFault}
 use Rattle.cns_system.specs.declared.fault.OpenFault.TheVariants as opening
@@ -142,15 +139,9 @@ reply_outcome r (Err reply.TooMuch) = outcome.Refused refusal.TooMuch
 reply_outcome r (Err reply.OutOfMemory) = outcome.Refused refusal.OutOfMemory
 reply_outcome r (Err reply.Device) = outcome.Refused refusal.Device
 
--- of a restart of the clearing node, and of one of the depository
-abbrev pub clear_restart_outcome : Result Restarted ReplayFault → Outcome
-clear_restart_outcome (Ok r) = outcome.Restarted r.records r.kept
-clear_restart_outcome (Err replay.OutOfMemory) = outcome.Refused refusal.OutOfMemory
-clear_restart_outcome (Err (replay.BadJournal place)) = outcome.Refused (refusal.BadJournal place)
-clear_restart_outcome (Err replay.Device) = outcome.Refused refusal.Device
-
-abbrev pub depot_restart_outcome : Result DepotRestarted DepotReplayFault → Outcome
-depot_restart_outcome (Ok r) = outcome.Restarted r.records r.kept
-depot_restart_outcome (Err depot.OutOfMemory) = outcome.Refused refusal.OutOfMemory
-depot_restart_outcome (Err (depot.BadJournal place)) = outcome.Refused (refusal.BadJournal place)
-depot_restart_outcome (Err depot.Device) = outcome.Refused refusal.Device
+-- of a restart of a node
+abbrev pub restart_outcome : Result Restarted ReplayFault → Outcome
+restart_outcome (Ok r) = outcome.Restarted r.records r.kept
+restart_outcome (Err replay.OutOfMemory) = outcome.Refused refusal.OutOfMemory
+restart_outcome (Err (replay.BadJournal place)) = outcome.Refused (refusal.BadJournal place)
+restart_outcome (Err replay.Device) = outcome.Refused refusal.Device

@@ -8,23 +8,20 @@ use Rattle.cns_records.specs.declared.clear_record.ClearRecord.TheVariants as en
 use Rattle.cns_wire.specs.Frame.{order_frame, reply_frame}
 use Rattle.cns_wire.specs.Packet.{packet_at}
 use Rattle.cns_depository.specs.Answers.{OrderLeaves}
-use Rattle.cns_depository.specs.Replay.{RestartLeaves as DepotRestartLeaves}
-use Rattle.cns_depository.specs.declared.depository.Restarted.{Restarted as DepotRestarted}
-use Rattle.cns_depository.specs.declared.replay.ReplayFault.{ReplayFault as DepotReplayFault}
+use Rattle.cns_depository.specs.Node.{RestartLeaves as DepotRestartLeaves}
 use Rattle.cns_depository.specs.declared.fault.Answer.{Answer}
 use Rattle.cns_depository.specs.declared.fault.Answer.TheVariants as answer
 use Rattle.cns_depository.specs.declared.fault.DepFault.{DepFault}
 use Rattle.cns_clearing.specs.Answers.{CycleLeaves, ReplyLeaves, SettingLeaves, TradeLeaves}
 use Rattle.cns_clearing.specs.Books.{orders_of}
-use Rattle.cns_clearing.specs.Node.{ClearNode}
-use Rattle.cns_clearing.specs.Replay.{RestartLeaves}
-use Rattle.cns_clearing.specs.declared.replay.ReplayFault.{ReplayFault}
-use Rattle.cns_clearing.specs.declared.replay.Restarted.{Restarted}
+use Rattle.cns_clearing.specs.Node.{ClearNode, RestartLeaves}
+use Rattle.cns_journal.specs.declared.record_log.ReplayFault.{ReplayFault}
+use Rattle.cns_journal.specs.declared.record_log.Restarted.{Restarted}
 use Rattle.cns_pool.specs.Pool.{asked_sum}
 use Rattle.cns_system.specs.Lot.{LotState, with_end, with_seal}
 use Rattle.cns_system.specs.Lots.{LotGives, LotLeaves, ReserveLeaves}
 use Rattle.cns_system.specs.Numbered.{NumberedNode, CloseLeaves, OpenLeaves, PourLeaves}
-use Rattle.cns_system.specs.Outcomes.{asked_outcome, clear_restart_outcome, close_outcome, cycle_outcome, depot_restart_outcome, open_outcome, order_outcome, pour_outcome, poured_outcome, reply_outcome, reserve_outcome, seal_outcome, setting_outcome, trade_outcome}
+use Rattle.cns_system.specs.Outcomes.{asked_outcome, restart_outcome, close_outcome, cycle_outcome, open_outcome, order_outcome, pour_outcome, poured_outcome, reply_outcome, reserve_outcome, seal_outcome, setting_outcome, trade_outcome}
 use Rattle.cns_system.specs.World.{World, order_in_packet, reply_in_packet}
 use Rattle.cns_system.specs.declared.entry.Look.{Look}
 use Rattle.cns_system.specs.declared.event.Event.{Event}
@@ -62,11 +59,11 @@ ClearRestarts result old new = RestartLeaves result old.clear new.clear × (new.
 
 -- the order of a number, where the clearing node has it
 abbrev pub order_at : World → ℕ → Option Order
-order_at w number = order_of (orders_of w.clear.clear.records).orders number
+order_at w number = order_of (orders_of w.clear.clear.log.records).orders number
 
 -- an order is put on the link as the next packet, and is read from it again
 pub record IsSent (number packet : ℕ) (old new : World) : Type 0 where
-  pub up : old.clear.clear.down ≡ false
+  pub up : old.clear.clear.log.down ≡ false
   pub order : Order
   pub found : order_at old number ≡ Some order
   pub put : new ≡ record old { orders = old.orders ++ order_frame order ∷ [] }
@@ -75,9 +72,9 @@ pub record IsSent (number packet : ℕ) (old new : World) : Type 0 where
 
 -- why an order is not sent: the clearing node is down, or has no such order
 abbrev pub IsNotSent : ℕ → Refusal → World → Type 0
-IsNotSent number refusal.Down w = w.clear.clear.down ≡ true
-IsNotSent number refusal.UnknownMove w = (w.clear.clear.down ≡ false) × (order_at w number ≡ None)
-IsNotSent number refusal.OutOfMemory w = w.clear.clear.down ≡ false
+IsNotSent number refusal.Down w = w.clear.clear.log.down ≡ true
+IsNotSent number refusal.UnknownMove w = (w.clear.clear.log.down ≡ false) × (order_at w number ≡ None)
+IsNotSent number refusal.OutOfMemory w = w.clear.clear.log.down ≡ false
 IsNotSent number _ w = ⊥
 
 abbrev pub SendStep : ℕ → Outcome → World → World → Type 0
@@ -116,7 +113,7 @@ ReplyInStep (Some r) outcome old new = AtClear (reply_outcome r) (ByNode (ReplyL
 abbrev pub DepotRestartStep : Outcome → World → World → Type 0
 DepotRestartStep outcome old new =
     (new.clear ≡ old.clear) × (new.orders ≡ old.orders) × (new.replies ≡ old.replies)
-    × ((result : Result DepotRestarted DepotReplayFault) × (outcome ≡ depot_restart_outcome result) × DepotRestartLeaves result old.depot new.depot)
+    × ((result : Result Restarted ReplayFault) × (outcome ≡ restart_outcome result) × DepotRestartLeaves result old.depot new.depot)
 
 -- an event comes to this, and leaves so much
 abbrev pub Step : Event → Outcome → World → World → Type 0
@@ -134,7 +131,7 @@ Step (event.LotClose lot) outcome old new = AtClear close_outcome (CloseLeaves l
 Step (event.Send number) outcome old new = SendStep number outcome old new
 Step (event.OrderIn packet) outcome old new = OrderInStep (order_in_packet (packet_at old.orders packet)) outcome old new
 Step (event.ReplyIn packet) outcome old new = ReplyInStep (reply_in_packet (packet_at old.replies packet)) outcome old new
-Step (event.Restart node.Clear) outcome old new = AtClear clear_restart_outcome ClearRestarts outcome old new
+Step (event.Restart node.Clear) outcome old new = AtClear restart_outcome ClearRestarts outcome old new
 Step (event.Restart node.Depot) outcome old new = DepotRestartStep outcome old new
 
 -- events come to these outcomes, one after another

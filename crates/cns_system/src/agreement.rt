@@ -33,7 +33,7 @@ fn are_ordered(orders: &OrderBook, records: &[DepRecord]) -> bool
 
 // Whether a confirmed movement was executed, and moved so much.
 fn is_executed<D: Keeper>(depot: &Depository<D>, reply: &Reply) -> bool
-    ensures { IsTrue result ↔ IsExecuted depot.now.records reply.now }
+    ensures { IsTrue result ↔ IsExecuted depot.now.log.records reply.now }
 {
     match depot.executed(reply.number) {
         Some((_, moved)) => moved == reply.moved,
@@ -43,7 +43,7 @@ fn is_executed<D: Keeper>(depot: &Depository<D>, reply: &Reply) -> bool
 
 // Whether that is so of each of them.
 fn are_executed<D: Keeper>(depot: &Depository<D>, replies: &[Reply]) -> bool
-    ensures { IsTrue result ↔ All (IsExecuted depot.now.records) replies.now }
+    ensures { IsTrue result ↔ All (IsExecuted depot.now.log.records) replies.now }
 {
     for reply in replies {
         if !is_executed(depot, reply) {
@@ -57,7 +57,7 @@ fn are_executed<D: Keeper>(depot: &Depository<D>, replies: &[Reply]) -> bool
 /// number, each delivery moved all that it asks for, and each confirmed movement was executed and
 /// moved just what was confirmed. (This project's own rule.)
 pub(crate) fn agree<C: Keeper, D: Keeper>(clear: &Clearing<C>, depot: &Depository<D>) -> bool
-    ensures { IsTrue result ↔ Agree clear.now.records depot.now.records }
+    ensures { IsTrue result ↔ Agree clear.now.log.records depot.now.log.records }
 {
     let orders = clear.orders();
     are_ordered(orders, depot.records()) && are_executed(depot, orders.replies())

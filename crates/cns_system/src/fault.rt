@@ -1,3 +1,4 @@
+use cns_journal::ReplayFault;
 use thiserror::Error;
 
 /// Why a number has no lot that could be used. (This project's own rule.)
@@ -93,10 +94,10 @@ pub enum CloseFault {
 pub enum StartFault {
     /// The clearing node is not opened.
     #[error("the clearing node: {0}")]
-    Clear(cns_clearing::ReplayFault),
+    Clear(ReplayFault),
     /// The depository is not opened.
     #[error("the depository: {0}")]
-    Depot(cns_depository::ReplayFault),
+    Depot(ReplayFault),
     /// The records of the two nodes do not agree.
     #[error("the records of the two nodes do not agree")]
     Disagree,

@@ -1,8 +1,8 @@
 ghost use Rattle.std.specs.Prelude.{◌≡◌, ◌^◌, ◌≤◌, [], length, map, IfOk};
 ghost use Rattle.cns_records.specs.declared.clear_record.ClearRecord.TheVariants.{Exempt, Priority};
-ghost use Rattle.cns_clearing.specs.Answers.{CycleLeaves, NodePlanned, ReplyLeaves, SettingLeaves, TradeLeaves};
+ghost use Rattle.cns_clearing.specs.Answers.{CycleLeaves, ReplyLeaves, SettingLeaves, TradeLeaves};
 ghost use Rattle.cns_clearing.specs.Lots.{plan_in};
-ghost use Rattle.cns_clearing.specs.Replay.{RestartLeaves};
+ghost use Rattle.cns_clearing.specs.Node.{NodePlanned, RestartLeaves};
 ghost use Rattle.cns_pool.specs.Pool.{asked_sum};
 ghost use Rattle.cns_system.specs.Lot.{planned_sum, with_end, with_seal};
 ghost use Rattle.cns_system.specs.Lots.{AreLotsLawful, LotGives, LotLeaves, ReserveLeaves};
@@ -13,11 +13,11 @@ use crate::fault::{CloseFault, LotFault, OpenFault, PourFault, ReserveFault};
 use crate::lots::LotBook;
 use cns_allocate::Plan;
 use cns_clearing::{
-    Clearing, Closed, CycleFault, Cycled, LotCloseFault, ReplayFault, ReplyFault, Restarted,
-    SettingFault, Taken, TradeFault,
+    Clearing, Closed, CycleFault, Cycled, LotCloseFault, ReplyFault, SettingFault, Taken,
+    TradeFault,
 };
 use cns_ids::{Cusip, CycleId, MemberNo, Shares};
-use cns_journal::{Keeper, NotPlanned};
+use cns_journal::{Keeper, NotPlanned, ReplayFault, Restarted};
 use cns_movements::Reply;
 use cns_pool::Ticket;
 use cns_trades::Trade;
@@ -296,7 +296,7 @@ impl<K: Keeper> NumberedClearing<K> {
 
 // The plan that a lot of an issue would have if it were opened now.
 fn plan_of<K: Keeper>(node: &Clearing<K>, issue: Cusip) -> Result<Plan, AllocError>
-    ensures plan { IfOk result (λ plan. plan ≡ plan_in node.now.records issue) }
+    ensures plan { IfOk result (λ plan. plan ≡ plan_in node.now.log.records issue) }
     ensures small { IfOk result (λ plan. planned_sum plan ≤ 10 ^ 18) }
 {
     let plan = node.lot_plan(issue)?;

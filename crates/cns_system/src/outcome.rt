@@ -1,12 +1,11 @@
 ghost use Rattle.std.specs.Prelude.{◌≡◌};
-ghost use Rattle.cns_system.specs.Outcomes.{asked_outcome, clear_restart_outcome, close_outcome, cycle_outcome, depot_restart_outcome, open_outcome, pour_outcome, poured_outcome, reply_outcome, reserve_outcome, seal_outcome, setting_outcome, trade_outcome, verdict_outcome};
+ghost use Rattle.cns_system.specs.Outcomes.{asked_outcome, close_outcome, cycle_outcome, open_outcome, pour_outcome, poured_outcome, reply_outcome, reserve_outcome, restart_outcome, seal_outcome, setting_outcome, trade_outcome, verdict_outcome};
 
 use crate::entry::Look;
 use crate::fault::{CloseFault, LotFault, OpenFault, PourFault, ReserveFault};
 use crate::numbered::Opened;
-use cns_clearing::{
-    Closed, CycleFault, Cycled, ReplayFault, ReplyFault, Restarted, SettingFault, Taken, TradeFault,
-};
+use cns_clearing::{Closed, CycleFault, Cycled, ReplyFault, SettingFault, Taken, TradeFault};
+use cns_journal::{ReplayFault, Restarted};
 use cns_movements::Reply;
 use cns_pool::Ticket;
 use cns_trades::Verdict;
@@ -252,8 +251,8 @@ impl Outcome {
         }
     }
 
-    pub(crate) fn of_clear_restart(answer: Result<Restarted, ReplayFault>) -> Outcome
-        ensures { result ≡ clear_restart_outcome answer }
+    pub(crate) fn of_restart(answer: Result<Restarted, ReplayFault>) -> Outcome
+        ensures { result ≡ restart_outcome answer }
     {
         match answer {
             Ok(Restarted { records, kept }) => Outcome::Restarted { records, kept },
@@ -262,21 +261,6 @@ impl Outcome {
                 place,
             }),
             Err(ReplayFault::Device) => Outcome::Refused(Refusal::Device),
-        }
-    }
-
-    pub(crate) fn of_depot_restart(
-        answer: Result<cns_depository::Restarted, cns_depository::ReplayFault>,
-    ) -> Outcome
-        ensures { result ≡ depot_restart_outcome answer }
-    {
-        match answer {
-            Ok(cns_depository::Restarted { records, kept }) => Outcome::Restarted { records, kept },
-            Err(cns_depository::ReplayFault::OutOfMemory) => Outcome::Refused(Refusal::OutOfMemory),
-            Err(cns_depository::ReplayFault::BadJournal { place }) => Outcome::Refused(
-                Refusal::BadJournal { place },
-            ),
-            Err(cns_depository::ReplayFault::Device) => Outcome::Refused(Refusal::Device),
         }
     }
 }

@@ -130,8 +130,8 @@ impl<C: Keeper, D: Keeper> Pair<C, D> {
             Event::Send { number } => self.send(*number),
             Event::OrderIn { packet } => self.order_in(*packet),
             Event::ReplyIn { packet } => self.reply_in(*packet),
-            Event::Restart(NodeName::Clear) => Outcome::of_clear_restart(self.clear.restart()),
-            Event::Restart(NodeName::Depot) => Outcome::of_depot_restart(self.depot.restart()),
+            Event::Restart(NodeName::Clear) => Outcome::of_restart(self.clear.restart()),
+            Event::Restart(NodeName::Depot) => Outcome::of_restart(self.depot.restart()),
         }
     }
 

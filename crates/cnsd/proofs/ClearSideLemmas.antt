@@ -6,6 +6,7 @@ use Rattle.cns_ids.specs.declared.cycle.CycleId.{CycleId}
 use Rattle.cns_movements.specs.Order.{numbered}
 use Rattle.cns_movements.specs.declared.order.Order.{Order}
 use Rattle.cns_movements.proofs.OrderLemmas.{length-numbered}
+use Rattle.cns_journal.specs.RecordLog.{LogState}
 use Rattle.cns_records.specs.declared.clear_record.ClearRecord.{ClearRecord}
 use Rattle.cns_records.specs.declared.clear_record.ClearRecord.TheVariants as entry
 use Rattle.cns_clearing.specs.Answers.{CycleLeaves, covers_in}
@@ -50,7 +51,7 @@ commit_done old new r done failed added lots =
     let commit = clear_when_added r old new added in
     commits_done (clear_state old) (clear_state new) r done failed commit.0 (commit.1 ∙ rw lots refl)
 
-commit_failed : (old new : NumberedNode) (r : ClearRecord) (done failed : List ℕ) → IsKnown old.clear.honest old.clear.tried old.clear.foresight
+commit_failed : (old new : NumberedNode) (r : ClearRecord) (done failed : List ℕ) → IsKnown old.clear.log.honest old.clear.log.tried old.clear.log.foresight
     → Failed r old.clear new.clear → new.lots ≡ old.lots → (clear_state new, failed) ≡ clear_commits (clear_state old) r done failed
 commit_failed old new r done failed known fails lots =
     let commit = clear_when_failed r old new known.foreseen fails lots in
@@ -98,13 +99,13 @@ cycled_beside_lots s id up later some = by s.lots refl
     by (lot ∷ lots) e = rw (up, later, e) refl
 
 -- what a cycle leaves and tells
-pub cycle_told : (id : CycleId) (answer : Result Cycled CycleFault) (old new : NumberedNode) (out out' : List ℕ) → IsKnown old.clear.honest old.clear.tried old.clear.foresight
-    → CycleLeaves id answer old.clear new.clear → new.lots ≡ old.lots → IsTold (cycle_answer_text id new.clear.records answer) out out'
+pub cycle_told : (id : CycleId) (answer : Result Cycled CycleFault) (old new : NumberedNode) (out out' : List ℕ) → IsKnown old.clear.log.honest old.clear.log.tried old.clear.log.foresight
+    → CycleLeaves id answer old.clear new.clear → new.lots ≡ old.lots → IsTold (cycle_answer_text id new.clear.log.records answer) out out'
     → IsAsWanted (cycled (clear_state old) id) (clear_state new) out out'
 cycle_told id (Ok done) old new out out' known (allowed, none, made, added) lots told =
-    let lines : cycle_line id done.due ++ order_lines (drop (length (orders_of new.clear.records).orders - done.count) (orders_of new.clear.records).orders)
-    ≡ cycle_text (clear_state old) id (covers_in old.clear.records id.day) =
-    rw (made.due, last_orders old.clear.records new.clear.records id done.count added.1 made.count) refl in
+    let lines : cycle_line id done.due ++ order_lines (drop (length (orders_of new.clear.log.records).orders - done.count) (orders_of new.clear.log.records).orders)
+    ≡ cycle_text (clear_state old) id (covers_in old.clear.log.records id.day) =
+    rw (made.due, last_orders old.clear.log.records new.clear.log.records id done.count (ap (λ (l : LogState ClearRecord). l.records) added.1.0) made.count) refl in
     as_wanted _ _ _ out out' (commit_done old new (entry.Cycle id) _ _ added lots ∙ cycled_up (clear_state old) id added.0 allowed.0 none allowed.1) (told ∙ ap (λ l. out ++ l) lines)
 cycle_told id (Err cycle.Down) old new out out' known (down, same) lots told =
     as_wanted _ _ _ out out' (rw (clear_unchanged old new same lots) (cycled_down (clear_state old) id down)) told

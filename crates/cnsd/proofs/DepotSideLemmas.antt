@@ -71,7 +71,7 @@ unfolding order_reached
 reached_conflict s o other moved up found isnt = rw (up, found, differ other o isnt) refl
 
 -- the depository's answer to an order
-pub depot_answered : (o : Order) (result : Result Answer DepFault) (old new : DepNode) → IsKnown old.honest old.tried old.foresight → OrderLeaves o result old new
+pub depot_answered : (o : Order) (result : Result Answer DepFault) (old new : DepNode) → IsKnown old.log.honest old.log.tried old.log.foresight → OrderLeaves o result old new
     → IsAnswered (order_reached (depot_state old) o) (depot_state new) result
 depot_answered o (Ok (answer.Done r)) old new known (none, is, added) =
     let commit = depot_when_added (next_record old o) old new added in

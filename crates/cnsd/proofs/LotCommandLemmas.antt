@@ -11,6 +11,7 @@ use Rattle.cns_allocate.specs.Served.{waiting}
 use Rattle.cns_allocate.specs.declared.planned.Planned.{Planned}
 use Rattle.cns_allocate.specs.declared.turns.Turn.TheVariants as turn
 use Rattle.cns_records.specs.declared.allocation.Allocation.{Allocation}
+use Rattle.cns_journal.specs.RecordLog.{LogState}
 use Rattle.cns_records.specs.declared.clear_record.ClearRecord.{ClearRecord}
 use Rattle.cns_records.specs.declared.clear_record.ClearRecord.TheVariants as entry
 use Rattle.cns_clearing.specs.Answers.{allocation_of, IsClosed, LotCloseLeaves}
@@ -115,9 +116,9 @@ poured_at_stale : (s : ClearState) (n : ℕ) → lot_for s n ≡ Err fault.Stale
 unfolding poured
 poured_at_stale s n stale = rw stale refl
 
-poured_state : (old new : NumberedNode) (n shares : ℕ) (lot : LotState) → new.clear ≡ record old.clear { lots = lots_poured old.clear.records lot.issue old.clear.lots }
+poured_state : (old new : NumberedNode) (n shares : ℕ) (lot : LotState) → new.clear ≡ record old.clear { lots = lots_poured old.clear.log.records lot.issue old.clear.lots }
     → new.lots ≡ update_at old.lots n (with_pour shares lot)
-    → clear_state new ≡ record (clear_state old) { lots = lots_poured old.clear.records lot.issue old.clear.lots; numbered = update_at old.lots n (with_pour shares lot) }
+    → clear_state new ≡ record (clear_state old) { lots = lots_poured old.clear.log.records lot.issue old.clear.lots; numbered = update_at old.lots n (with_pour shares lot) }
 poured_state old new n shares lot clear lots = rw (clear, lots) refl
 
 pub pour_told : (n : ℕ) (answer : Result ℕ PourFault) (old new : NumberedNode) (out out' : List ℕ) → PourLeaves n answer old new → IsTold (pour_text answer) out out'
@@ -256,13 +257,13 @@ lot_open_spent : (s : ClearState) (issue : ℕ) → s.down ≡ false → lot_of 
 unfolding lot_opened
 lot_open_spent s issue up none spent = rw (up, none, le-ltb (length s.numbered) 1000000 spent) refl
 
-lot_open_state : (old new : NumberedNode) (issue poured : ℕ) → poured ≡ avail_in old.clear.records issue → new.clear ≡ record old.clear { lots = old.clear.lots ++ new_lot old.clear.records issue ∷ [] }
-    → new.lots ≡ old.lots ++ numbered_lot issue (plan_in old.clear.records issue) poured ∷ []
-    → clear_state new ≡ (lot_added (clear_state old) (length old.lots + 1) (new_lot old.clear.records issue)).state
+lot_open_state : (old new : NumberedNode) (issue poured : ℕ) → poured ≡ avail_in old.clear.log.records issue → new.clear ≡ record old.clear { lots = old.clear.lots ++ new_lot old.clear.log.records issue ∷ [] }
+    → new.lots ≡ old.lots ++ numbered_lot issue (plan_in old.clear.log.records issue) poured ∷ []
+    → clear_state new ≡ (lot_added (clear_state old) (length old.lots + 1) (new_lot old.clear.log.records issue)).state
 lot_open_state old new issue poured is clear lots = rw (clear, lots, is) refl
 
 lot_open_text : (old : NumberedNode) (issue : ℕ) (opened : Opened) → IsOpened old issue opened
-    → lot_line opened.number opened.poured opened.longs ≡ (lot_added (clear_state old) (length old.lots + 1) (new_lot old.clear.records issue)).text
+    → lot_line opened.number opened.poured opened.longs ≡ (lot_added (clear_state old) (length old.lots + 1) (new_lot old.clear.log.records issue)).text
 lot_open_text old issue opened is = rw (is.number, is.poured, is.longs) refl
 
 pub lot_told : (issue : ℕ) (answer : Result Opened OpenFault) (old new : NumberedNode) (out out' : List ℕ) → OpenLeaves issue answer old new → IsTold (lot_text answer) out out'
@@ -303,12 +304,12 @@ last_found lots lot =
 
 -- the lot that was opened is found by its number
 pub opened_found : (issue : ℕ) (opened : Opened) (old new : NumberedNode) → OpenLeaves issue (Ok opened) old new
-    → lot_at new.lots opened.number ≡ Some (numbered_lot issue (plan_in old.clear.records issue) opened.poured)
+    → lot_at new.lots opened.number ≡ Some (numbered_lot issue (plan_in old.clear.log.records issue) opened.poured)
 opened_found issue opened old new (room, is, left, lots) =
-    rw (lots, is.number) (last_found old.lots (numbered_lot issue (plan_in old.clear.records issue) opened.poured))
+    rw (lots, is.number) (last_found old.lots (numbered_lot issue (plan_in old.clear.log.records issue) opened.poured))
 
 pub opened_lot : (issue : ℕ) (opened : Opened) (old new : NumberedNode) (members : List ℕ) (plan : List Planned) → OpenLeaves issue (Ok opened) old new
-    → plan ≡ plan_in old.clear.records issue → members ≡ members_of plan
+    → plan ≡ plan_in old.clear.log.records issue → members ≡ members_of plan
     → Some (record { number = opened.number; members = members }) ≡ (lot_opened (clear_state old) issue).opened
 opened_lot issue opened old new members plan (room, is, (up, none, planned, clear), lots) from of =
     let added = lot_open_added (clear_state old) issue up none room in
@@ -401,11 +402,11 @@ closed_state old new n lot a state lots =
 -- a lot that may close, by what the node answers
 closed_done : (n : ℕ) (lot : LotState) (done : Closed) (old new : NumberedNode) (out out' : List ℕ) → lot_for (clear_state old) n ≡ Ok lot → IsMet lot
     → LotCloseLeaves lot.issue lot.tickets lot.sealed (Ok done) old.clear new.clear → new.lots ≡ update_at old.lots n (with_end lot)
-    → IsTold (close_answer_text new.clear.records (Ok done)) out out' → IsAsWanted (closed (clear_state old) n) (clear_state new) out out'
+    → IsTold (close_answer_text new.clear.log.records (Ok done)) out out' → IsAsWanted (closed (clear_state old) n) (clear_state new) out out'
 closed_done n lot done old new out out' found met (a, may, allowed, made, added) lots told =
     let commit = clear_when_added (entry.Allocate a) old new added in
     let state = closed_state old new n lot a commit.1 lots in
-    let lines = closed_lines (clear_state old) new.clear.records lot a done added.1 made in
+    let lines = closed_lines (clear_state old) new.clear.log.records lot a done (ap (λ (l : LogState ClearRecord). l.records) added.1.0) made in
     as_wanted _ _ _ out out'
     (close_done (clear_state old) (clear_state new) n lot a allowed.numbers commit.0 state ∙ sym (close_of (clear_state old) n lot may.lot a may.found may.closes)
     ∙ sym (close_met (clear_state old) n lot found added.0 met))
@@ -418,7 +419,7 @@ closed_spent n lot old new out out' found met (up, (a, may, spent), same) told =
     as_wanted _ _ _ out out'
     (close_spent (clear_state old) n lot a spent ∙ sym (close_of (clear_state old) n lot may.lot a may.found may.closes) ∙ sym (close_met (clear_state old) n lot found up met)) told
 
-closed_failed : (n : ℕ) (lot : LotState) (old new : NumberedNode) (out out' : List ℕ) → IsKnown old.clear.honest old.clear.tried old.clear.foresight → lot_for (clear_state old) n ≡ Ok lot → IsMet lot
+closed_failed : (n : ℕ) (lot : LotState) (old new : NumberedNode) (out out' : List ℕ) → IsKnown old.clear.log.honest old.clear.log.tried old.clear.log.foresight → lot_for (clear_state old) n ≡ Ok lot → IsMet lot
     → LotCloseLeaves lot.issue lot.tickets lot.sealed (Err node_closing.Device) old.clear new.clear → new.lots ≡ old.lots
     → out' ≡ out ++ refused_line subject.Close refusal.Device → IsAsWanted (closed (clear_state old) n) (clear_state new) out out'
 closed_failed n lot old new out out' known found met (a, may, allowed, failed) lots told =
@@ -427,8 +428,8 @@ closed_failed n lot old new out out' known found met (a, may, allowed, failed) l
     (close_failed (clear_state old) (clear_state new) n lot a allowed.numbers commit.0 commit.1 ∙ sym (close_of (clear_state old) n lot may.lot a may.found may.closes)
     ∙ sym (close_met (clear_state old) n lot found failed.0 met)) told
 
-pub close_told : (n : ℕ) (answer : Result Closed CloseFault) (old new : NumberedNode) (out out' : List ℕ) → IsKnown old.clear.honest old.clear.tried old.clear.foresight
-    → CloseLeaves n answer old new → IsTold (close_answer_text new.clear.records answer) out out' → IsAsWanted (closed (clear_state old) n) (clear_state new) out out'
+pub close_told : (n : ℕ) (answer : Result Closed CloseFault) (old new : NumberedNode) (out out' : List ℕ) → IsKnown old.clear.log.honest old.clear.log.tried old.clear.log.foresight
+    → CloseLeaves n answer old new → IsTold (close_answer_text new.clear.log.records answer) out out' → IsAsWanted (closed (clear_state old) n) (clear_state new) out out'
 close_told n (Ok done) old new out out' known is told =
     let at = open-parts old.lots n _ is in
     closed_done n at.lot done old new out out' (open_for (clear_state old) n at.lot at.found at.going) at.holds.0 at.holds.1 at.holds.2 told

@@ -2,6 +2,7 @@
 use Rattle.std.proofs.Common.{◌≡◌, ◌≢◌, Bool, true, false, Option, None, refl, sym, ap, ◌∙◌, subst}
 use Rattle.std.proofs.lemmas.Option.{none-some}
 use Rattle.cns_journal.specs.Keeper.{Foresight, Forecast, Unforeseen, Succeeds, Fails, MaySucceed, FailsTo}
+use Rattle.cns_journal.specs.RecordLog.{LogState}
 use Rattle.cns_records.specs.declared.clear_record.ClearRecord.{ClearRecord}
 use Rattle.cns_records.specs.declared.dep_record.DepRecord.{DepRecord}
 use Rattle.cns_clearing.specs.Node as clear
@@ -53,16 +54,18 @@ known_failed honest honest' tried tried' f f' known h fails =
 
 -- the clearing node after an acknowledged record, and after one whose commit failed
 pub clear_when_added : (r : ClearRecord) (old new : NumberedNode) → clear.Added r old.clear new.clear
-    → (is_failure old.clear.foresight.next ≡ false) × (clear_state new ≡ record (clear_added (clear_state old) r) { numbered = new.lots })
-clear_when_added r old new (up, records, tried, lots, honest, still, failures, foresight, may) =
-    (no_failure old.clear.foresight.next may, rw (records, tried, lots, still, up, foresight) refl)
+    → (is_failure old.clear.log.foresight.next ≡ false) × (clear_state new ≡ record (clear_added (clear_state old) r) { numbered = new.lots })
+clear_when_added r old new (up, added, lots) = (no_failure old.clear.log.foresight.next added.1, rw (added.0, lots) refl)
 
-pub clear_when_failed : (r : ClearRecord) (old new : NumberedNode) → old.clear.foresight.next ≢ Unforeseen → clear.Failed r old.clear new.clear → new.lots ≡ old.lots
-    → (is_failure old.clear.foresight.next ≡ true) × (clear_state new ≡ clear_failed (clear_state old) r)
-clear_when_failed r old new foreseen (up, records, tried, lots, honest, down, risen, failed) same = (
-  a_failure old.clear.foresight.next new.clear.foresight foreseen failed,
-  rw (records, tried, lots, down, failure_to old.clear.foresight.next new.clear.foresight foreseen failed, same) refl,
-)
+pub clear_when_failed : (r : ClearRecord) (old new : NumberedNode) → old.clear.log.foresight.next ≢ Unforeseen → clear.Failed r old.clear new.clear → new.lots ≡ old.lots
+    → (is_failure old.clear.log.foresight.next ≡ true) × (clear_state new ≡ clear_failed (clear_state old) r)
+clear_when_failed r old new foreseen (up, (log, risen, failed), lots) same =
+    let records = ap (λ (l : LogState ClearRecord). l.records) log in
+    let tried = ap (λ (l : LogState ClearRecord). l.tried) log in
+    let down = ap (λ (l : LogState ClearRecord). l.down) log in (
+      a_failure old.clear.log.foresight.next new.clear.log.foresight foreseen failed,
+      rw (records, tried, lots, down, failure_to old.clear.log.foresight.next new.clear.log.foresight foreseen failed, same) refl,
+    )
 
 -- a call that leaves the node and the lots by number as they were
 pub clear_unchanged : (old new : NumberedNode) → new.clear ≡ old.clear → new.lots ≡ old.lots → clear_state new ≡ clear_state old
@@ -70,11 +73,15 @@ clear_unchanged old new same lots = rw (same, lots) refl
 
 -- the depository likewise
 pub depot_when_added : (e : DepRecord) (old new : depot.DepNode) → depot.Added e old new
-    → (is_failure old.foresight.next ≡ false) × (depot_state new ≡ depot_added (depot_state old) e)
-depot_when_added e old new (up, records, openings, tried, honest, still, failures, foresight, may) =
-    (no_failure old.foresight.next may, rw (records, openings, tried, still, up, foresight) refl)
+    → (is_failure old.log.foresight.next ≡ false) × (depot_state new ≡ depot_added (depot_state old) e)
+depot_when_added e old new (up, added, openings) = (no_failure old.log.foresight.next added.1, rw (added.0, openings) refl)
 
-pub depot_when_failed : (e : DepRecord) (old new : depot.DepNode) → old.foresight.next ≢ Unforeseen → depot.Failed e old new
-    → (is_failure old.foresight.next ≡ true) × (depot_state new ≡ depot_failed (depot_state old) e)
-depot_when_failed e old new foreseen (up, records, openings, tried, honest, down, risen, failed) =
-    (a_failure old.foresight.next new.foresight foreseen failed, rw (records, openings, tried, down, failure_to old.foresight.next new.foresight foreseen failed) refl)
+pub depot_when_failed : (e : DepRecord) (old new : depot.DepNode) → old.log.foresight.next ≢ Unforeseen → depot.Failed e old new
+    → (is_failure old.log.foresight.next ≡ true) × (depot_state new ≡ depot_failed (depot_state old) e)
+depot_when_failed e old new foreseen (up, (log, risen, failed), openings) =
+    let records = ap (λ (l : LogState DepRecord). l.records) log in
+    let tried = ap (λ (l : LogState DepRecord). l.tried) log in
+    let down = ap (λ (l : LogState DepRecord). l.down) log in (
+      a_failure old.log.foresight.next new.log.foresight foreseen failed,
+      rw (records, openings, tried, down, failure_to old.log.foresight.next new.log.foresight foreseen failed) refl,
+    )

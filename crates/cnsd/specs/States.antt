@@ -22,12 +22,12 @@ pub record ClearState : Type 0 where
 
 abbrev pub clear_state : NumberedNode → ClearState
 clear_state n = record {
-  records = n.clear.records;
-  tried = n.clear.tried;
-  down = n.clear.down;
+  records = n.clear.log.records;
+  tried = n.clear.log.tried;
+  down = n.clear.log.down;
   lots = n.clear.lots;
   numbered = n.lots;
-  foresight = n.clear.foresight;
+  foresight = n.clear.log.foresight;
 }
 
 -- the depository: its openings, and the same
@@ -39,7 +39,7 @@ pub record DepotState : Type 0 where
   pub foresight : Foresight
 
 abbrev pub depot_state : DepNode → DepotState
-depot_state n = record { openings = n.openings; records = n.records; tried = n.tried; down = n.down; foresight = n.foresight }
+depot_state n = record { openings = n.openings; records = n.log.records; tried = n.log.tried; down = n.log.down; foresight = n.log.foresight }
 
 -- all is known beforehand of a keeper in memory
 pub record IsKnown {R : Type 0} (honest : Bool) (tried : Option R) (foresight : Foresight) : Type 0 where

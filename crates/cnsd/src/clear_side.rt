@@ -44,7 +44,7 @@ impl Model for ClearSide {
 
     ghost view = { λ s. clear_state s.node };
 
-    ghost invariant = { λ s. IsKnown s.node.clear.honest s.node.clear.tried s.node.clear.foresight };
+    ghost invariant = { λ s. IsKnown s.node.clear.log.honest s.node.clear.log.tried s.node.clear.log.foresight };
 }
 
 impl ClearSide {

@@ -31,7 +31,7 @@ impl Model for DepotSide {
 
     ghost view = { λ s. depot_state s.node };
 
-    ghost invariant = { λ s. IsKnown s.node.honest s.node.tried s.node.foresight };
+    ghost invariant = { λ s. IsKnown s.node.log.honest s.node.log.tried s.node.log.foresight };
 }
 
 impl DepotSide {

@@ -85,7 +85,7 @@ pub(crate) fn tell_cycle(
     answer: Result<Cycled, CycleFault>,
     out: &mut String,
 ) -> Result<(), AllocError>
-    ensures told { OnOk result (IsTold (cycle_answer_text cycle.now node.now.records answer) (string_bytes out.old) (string_bytes out.new)) }
+    ensures told { OnOk result (IsTold (cycle_answer_text cycle.now node.now.log.records answer) (string_bytes out.old) (string_bytes out.new)) }
 {
     match answer {
         Ok(done) => {
@@ -214,7 +214,7 @@ pub(crate) fn tell_close(
     answer: Result<Closed, CloseFault>,
     out: &mut String,
 ) -> Result<(), AllocError>
-    ensures told { OnOk result (IsTold (close_answer_text node.now.records answer) (string_bytes out.old) (string_bytes out.new)) }
+    ensures told { OnOk result (IsTold (close_answer_text node.now.log.records answer) (string_bytes out.old) (string_bytes out.new)) }
 {
     match answer {
         Ok(done) => {

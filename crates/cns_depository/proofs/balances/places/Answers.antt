@@ -1,7 +1,7 @@
 use Rattle.std.proofs.Common.{refl}
 use Rattle.std.proofs.lemmas.List.{take_more}
 use Rattle.cns_depository.specs.Balances.{places_of}
-use Rattle.cns_depository.proofs.NodeLemmas.{reverse_more}
+use Rattle.cns_journal.proofs.LogLemmas.{reverse_more}
 use Rattle.cns_depository.proofs.balances.places.Goals as goal
 
 pub loop-entry-init : goal.loop-entry-init

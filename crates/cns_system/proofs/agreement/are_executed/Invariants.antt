@@ -4,4 +4,4 @@ use Rattle.cns_system.specs.Agreement.{IsExecuted}
 use Rattle.cns_system.proofs.agreement.are_executed.Given as goal
 
 abbrev pub invariant-loop-reply : goal.invariant-loop-reply
-invariant-loop-reply g l = All (IsExecuted l.depot.records) (take l.reply-index l.replies)
+invariant-loop-reply g l = All (IsExecuted l.depot.log.records) (take l.reply-index l.replies)

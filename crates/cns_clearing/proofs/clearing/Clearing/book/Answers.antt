@@ -6,7 +6,7 @@ use Rattle.cns_clearing.proofs.PositionLemmas.{due_in_is}
 use Rattle.cns_clearing.proofs.clearing.Clearing.book.Goals as goal
 
 pub returns-clause-due : goal.returns-clause-due
-returns-clause-due g c = ap due c.book.ensures ∙ ap (λ (b : Books). due b.history) c.books.ensures.books ∙ due_in_is c.args.self.now.records
+returns-clause-due g c = ap due c.book.ensures ∙ ap (λ (b : Books). due b.history) c.books.ensures.books ∙ due_in_is c.args.self.now.log.records
 
 pub returns-clause-balanced : goal.returns-clause-balanced
-returns-clause-balanced g c = λ issue. balanced c.args.self.now.records issue c.books.ensures.lawful c.books.ensures.fits
+returns-clause-balanced g c = λ issue. balanced c.args.self.now.log.records issue c.books.ensures.lawful c.books.ensures.fits

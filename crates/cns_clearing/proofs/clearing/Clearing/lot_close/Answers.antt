@@ -9,33 +9,33 @@ use Rattle.cns_clearing.proofs.clearing.Clearing.lot_close.Goals as goal
 
 pub asked_in_all-requires : goal.asked_in_all-requires
 asked_in_all-requires g c =
-    let are = subst (λ (v : ClearNode). AreLots v.records v.lots) c.self.view_is c.self.invariant.1 in
+    let are = subst (λ (v : ClearNode). AreLots v.log.records v.lots) c.self.view_is c.self.invariant.lots in
     close_small c.args.self.now c.args.issue c.args.tickets.now c.args.sealed c.in-Ok.allocation c.books-books.ensures.lawful c.books-books.ensures.fits are c.in-Ok.ensures
 
 pub returns-then-are_spent : goal.returns-then-are_spent
 returns-then-are_spent g c =
     let may = c.in-Ok.ensures in
-    let are = subst (λ (v : ClearNode). AreLots v.records v.lots) c.self.view_is c.self.invariant.1 in
+    let are = subst (λ (v : ClearNode). AreLots v.log.records v.lots) c.self.view_is c.self.invariant.lots in
     let law = c.books-books.ensures in
     let asks = close_asks c.args.self.now c.args.issue c.args.tickets.now c.args.sealed c.in-Ok.allocation c.in-Ok-deliveries.asks.items are may
     (c.in-Ok-deliveries.ensures.exact ∙ ap (λ (p : ℕ). deliveries_of c.args.issue p c.args.tickets.now) c.count-poured.ensures.value) in
-    let spent = spent_is _ c.args.self.now.records _ _ c.in-Ok.allocation _ _ law.books c.as_slice.ensures.value asks c.are_spent.ensures c.if-are_spent.true in
+    let spent = spent_is _ c.args.self.now.log.records _ _ c.in-Ok.allocation _ _ law.books c.as_slice.ensures.value asks c.are_spent.ensures c.if-are_spent.true in
     (sym c.is_down.ensures ∙ c.if-is_down.false, (c.in-Ok.allocation, may, spent), refl)
 
 pub add-requires-clause-allowed : goal.add-requires-clause-allowed
 add-requires-clause-allowed g c =
     let may = c.in-Ok.ensures in
-    let are = subst (λ (v : ClearNode). AreLots v.records v.lots) c.self.view_is c.self.invariant.1 in
+    let are = subst (λ (v : ClearNode). AreLots v.log.records v.lots) c.self.view_is c.self.invariant.lots in
     let law = c.books-books.ensures in
     let asks = close_asks c.args.self.now c.args.issue c.args.tickets.now c.args.sealed c.in-Ok.allocation c.in-Ok-deliveries.asks.items are may
     (c.in-Ok-deliveries.ensures.exact ∙ ap (λ (p : ℕ). deliveries_of c.args.issue p c.args.tickets.now) c.count-poured.ensures.value) in
-    let enough = spent_is _ c.args.self.now.records _ _ c.in-Ok.allocation _ _ law.books c.as_slice.ensures.value asks c.are_spent.ensures c.if-are_spent.false in
+    let enough = spent_is _ c.args.self.now.log.records _ _ c.in-Ok.allocation _ _ law.books c.as_slice.ensures.value asks c.are_spent.ensures c.if-are_spent.false in
     close_allowed c.args.self.now c.args.issue c.args.tickets.now c.args.sealed c.in-Ok.allocation (deliveries_in c.in-Ok.allocation) law.lawful law.fits are may refl enough
 
 pub add-requires-clause-effects : goal.add-requires-clause-effects
 add-requires-clause-effects g c =
     let may = c.in-Ok.ensures in
-    let are = subst (λ (v : ClearNode). AreLots v.records v.lots) c.self.view_is c.self.invariant.1 in
+    let are = subst (λ (v : ClearNode). AreLots v.log.records v.lots) c.self.view_is c.self.invariant.lots in
     let law = c.books-books.ensures in
     let asks = close_asks c.args.self.now c.args.issue c.args.tickets.now c.args.sealed c.in-Ok.allocation c.in-Ok-deliveries.asks.items are may
     (c.in-Ok-deliveries.ensures.exact ∙ ap (λ (p : ℕ). deliveries_of c.args.issue p c.args.tickets.now) c.count-poured.ensures.value) in
@@ -44,11 +44,11 @@ add-requires-clause-effects g c =
 pub returns-in-Err-add : goal.returns-in-Err-add
 returns-in-Err-add g c =
     let may = c.in-Ok.ensures in
-    let are = subst (λ (v : ClearNode). AreLots v.records v.lots) c.self.view_is c.self.invariant.1 in
+    let are = subst (λ (v : ClearNode). AreLots v.log.records v.lots) c.self.view_is c.self.invariant.lots in
     let law = c.books-books.ensures in
     let asks = close_asks c.args.self.now c.args.issue c.args.tickets.now c.args.sealed c.in-Ok.allocation c.in-Ok-deliveries.asks.items are may
     (c.in-Ok-deliveries.ensures.exact ∙ ap (λ (p : ℕ). deliveries_of c.args.issue p c.args.tickets.now) c.count-poured.ensures.value) in
-    let enough = spent_is _ c.args.self.now.records _ _ c.in-Ok.allocation _ _ law.books c.as_slice.ensures.value asks c.are_spent.ensures c.if-are_spent.false in
+    let enough = spent_is _ c.args.self.now.log.records _ _ c.in-Ok.allocation _ _ law.books c.as_slice.ensures.value asks c.are_spent.ensures c.if-are_spent.false in
     let allowed = close_allowed c.args.self.now c.args.issue c.args.tickets.now c.args.sealed c.in-Ok.allocation (deliveries_in c.in-Ok.allocation) law.lawful law.fits are may refl enough in
     let left = close_refused c.args.self.now c.add.new.self c.args.issue c.args.tickets.now c.args.sealed c.in-Ok.allocation c.in-Err-add.fault (sym c.is_down.ensures ∙ c.if-is_down.false)
     may allowed c.in-Err-add.ensures in
@@ -57,18 +57,18 @@ returns-in-Err-add g c =
 pub returns-in-Ok-add : goal.returns-in-Ok-add
 returns-in-Ok-add g c =
     let may = c.in-Ok.ensures in
-    let are = subst (λ (v : ClearNode). AreLots v.records v.lots) c.self.view_is c.self.invariant.1 in
+    let are = subst (λ (v : ClearNode). AreLots v.log.records v.lots) c.self.view_is c.self.invariant.lots in
     let law = c.books-books.ensures in
     let asks = close_asks c.args.self.now c.args.issue c.args.tickets.now c.args.sealed c.in-Ok.allocation c.in-Ok-deliveries.asks.items are may
     (c.in-Ok-deliveries.ensures.exact ∙ ap (λ (p : ℕ). deliveries_of c.args.issue p c.args.tickets.now) c.count-poured.ensures.value) in
-    let enough = spent_is _ c.args.self.now.records _ _ c.in-Ok.allocation _ _ law.books c.as_slice.ensures.value asks c.are_spent.ensures c.if-are_spent.false in
+    let enough = spent_is _ c.args.self.now.log.records _ _ c.in-Ok.allocation _ _ law.books c.as_slice.ensures.value asks c.are_spent.ensures c.if-are_spent.false in
     let allowed = close_allowed c.args.self.now c.args.issue c.args.tickets.now c.args.sealed c.in-Ok.allocation (deliveries_in c.in-Ok.allocation) law.lawful law.fits are may refl enough in
     let count : length c.in-Ok-deliveries.asks.items ≡ c.len-count.result = search rules in
     let size : length c.as_slice-2.result.now ≡ c.len-count.result = ap length c.as_slice-2.ensures.value ∙ count in
-    let done : IsClosed c.args.self.now.records c.args.tickets.now c.in-Ok.allocation (record { granted = c.min-granted.result; first = c.first_number-first.result; count = c.len-count.result }) =
+    let done : IsClosed c.args.self.now.log.records c.args.tickets.now c.in-Ok.allocation (record { granted = c.min-granted.result; first = c.first_number-first.result; count = c.len-count.result }) =
     record {
       granted = search rules;
       count = sym count ∙ ap length asks;
-      first = first_is _ c.args.self.now.records _ _ _ law.books size c.first_number-first.ensures;
+      first = first_is _ c.args.self.now.log.records _ _ _ law.books size c.first_number-first.ensures;
     } in
     (c.in-Ok.allocation, may, allowed, done, c.in-Ok-add.ensures.1)

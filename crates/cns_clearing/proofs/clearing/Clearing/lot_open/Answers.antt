@@ -1,6 +1,7 @@
 use Rattle.std.proofs.Common.{◌≡◌, ◌∙◌, None, sym, rules}
 use Rattle.cns_clearing.specs.Pools.{lot_of}
 use Rattle.cns_clearing.proofs.LeavesLemmas.{open_leaves, opened_lots, plan_is}
+use Rattle.cns_clearing.proofs.NodeLemmas.{node_lots}
 use Rattle.cns_clearing.proofs.clearing.Clearing.lot_open.Goals as goal
 
 pub invariant_of-self-2 : goal.invariant_of-self-2
@@ -11,7 +12,7 @@ invariant_of-self-2 g c =
     let plan = plan_is _ c.args.issue _ c.in-Ok.plan books c.in-Ok.ensures in
     let none : lot_of c.args.self.now.lots c.args.issue ≡ None = search rules in
     let none' = rw (← c.self.view_is) at none in
-    (c.self.invariant.0, opened_lots _ _ _ _ c.args.issue _ _ c.in-Ok.plan c.self.invariant.1 none' count avail plan c.room.ensures.same c.open.ensures)
+    node_lots _ _ _ c.self.invariant (opened_lots _ _ _ _ c.args.issue _ _ c.in-Ok.plan c.self.invariant.lots none' count avail plan c.room.ensures.same c.open.ensures)
 
 pub returns : goal.returns
 returns g c =

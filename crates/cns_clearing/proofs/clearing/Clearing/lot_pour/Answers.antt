@@ -1,12 +1,13 @@
 use Rattle.std.proofs.Common.{◌≡◌, ◌∙◌, ◌-◌, sym, rules}
 use Rattle.cns_clearing.proofs.LeavesLemmas.{pour_leaves, refilled_lots}
+use Rattle.cns_clearing.proofs.NodeLemmas.{node_lots}
 use Rattle.cns_clearing.proofs.clearing.Clearing.lot_pour.Goals as goal
 
 pub invariant_of-self : goal.invariant_of-self
 invariant_of-self g c =
     let count = rw (← c.self.view_is) at c.record_count-records.ensures in
     let avail = rw (← c.self.view_is) at c.avail-poured.ensures in
-    (c.self.invariant.0, refilled_lots _ _ _ c.args.issue _ _ c.self.invariant.1 count avail c.refill.ensures)
+    node_lots _ _ _ c.self.invariant (refilled_lots _ _ _ c.args.issue _ _ c.self.invariant.lots count avail c.refill.ensures)
 
 pub returns : goal.returns
 returns g c =
@@ -16,4 +17,4 @@ returns g c =
     let down = rw (← c.self.view_is) at c.is_down.ensures in
     let shares : c.saturating_sub.result ≡ c.avail-poured.result - c.in-Some.lot.now.poured = search rules in
     rw (← c.self.view_is)
-    (pour_leaves _ _ c.args.issue _ _ _ c.in-Some.lot.now c.self.invariant.0.lawful c.self.invariant.1 (sym down ∙ c.if-is_down.false) (sym found) count avail shares c.refill.ensures)
+    (pour_leaves _ _ c.args.issue _ _ _ c.in-Some.lot.now c.self.invariant.log.allowed c.self.invariant.lots (sym down ∙ c.if-is_down.false) (sym found) count avail shares c.refill.ensures)

@@ -1,4 +1,4 @@
-use Rattle.std.proofs.Common.{◌+◌, ◌≤◌, reverse, subst}
+use Rattle.std.proofs.Common.{◌+◌, ◌≤◌, subst}
 use Rattle.cns_depository.specs.Node.{DepNode}
 use Rattle.cns_depository.specs.Openings.{opening_shares}
 use Rattle.cns_depository.specs.Stock.{moved_in, moved_out}
@@ -7,5 +7,5 @@ use Rattle.cns_depository.proofs.depository.Depository.balance.Goals as goal
 
 pub returns-clause-covered : goal.returns-clause-covered
 returns-clause-covered g c =
-    subst (λ (v : DepNode). moved_out v.records c.args.account c.args.issue ≤ opening_shares v.openings c.args.account c.args.issue + moved_in v.records c.args.account c.args.issue) c.self.view_is
-    (moved_out_covered c.self.inside.openings (reverse c.self.inside.records.items) c.args.account c.args.issue c.self.invariant.lawful)
+    subst (λ (v : DepNode). moved_out v.log.records c.args.account c.args.issue ≤ opening_shares v.openings c.args.account c.args.issue + moved_in v.log.records c.args.account c.args.issue) c.self.view_is
+    (moved_out_covered c.self.inside.openings c.self.inside.log.records c.args.account c.args.issue c.self.invariant.allowed)

@@ -1,4 +1,4 @@
-use Rattle.std.proofs.Common.{reverse, sym, subst}
+use Rattle.std.proofs.Common.{reverse, sym, ap, ◌∙◌, subst}
 use Rattle.std.specs.Prelude.{◌≡◌, List, IfOk}
 use Rattle.std.proofs.lemmas.Result.{IfOk-weaker}
 use Rattle.cns_depository.specs.Node.{DepNode}
@@ -10,16 +10,16 @@ use Rattle.cns_depository.proofs.depository.Depository.balances.Goals as goal
 pub returns-clause-complete : goal.returns-clause-complete
 returns-clause-complete g c =
     let openings = c.self.inside.openings in
-    let p = reverse c.self.inside.records.items in
-    let made = rw c.as_slice.ensures.value at c.balance_rows.ensures in
-    subst (λ (v : DepNode). IfOk c.balance_rows.result (AreComplete v.openings v.records)) c.self.view_is
+    let p = c.self.inside.log.records in
+    let made = rw c.records.ensures at c.balance_rows.ensures in
+    subst (λ (v : DepNode). IfOk c.balance_rows.result (AreComplete v.openings v.log.records)) c.self.view_is
     (IfOk-weaker c.balance_rows.result (λ (rows : List BalanceRow). rows ≡ balance_rows openings p) (AreComplete openings p)
     (λ rows is. subst (AreComplete openings p) (sym is) (rows_complete openings p)) made)
 
 pub returns-clause-ascending : goal.returns-clause-ascending
 returns-clause-ascending g c =
     let openings = c.self.inside.openings in
-    let p = reverse c.self.inside.records.items in
-    let made = rw c.as_slice.ensures.value at c.balance_rows.ensures in
+    let p = c.self.inside.log.records in
+    let made = rw c.records.ensures at c.balance_rows.ensures in
     IfOk-weaker c.balance_rows.result (λ (rows : List BalanceRow). rows ≡ balance_rows openings p) AreAscending
     (λ rows is. subst AreAscending (sym is) (rows_ascend openings p)) made

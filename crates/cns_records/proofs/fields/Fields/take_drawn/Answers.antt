@@ -6,8 +6,8 @@ use Rattle.std.proofs.lemmas.Bool.{le-leb}
 use Rattle.cns_records.specs.Fields.{number_at}
 use Rattle.cns_records.specs.Drawn.{tickets_at, drawn_at, GivesIfRoom}
 use Rattle.cns_records.specs.declared.drawn.Drawn.{Drawn}
-use Rattle.cns_records.specs.declared.fault.RecordFault.{RecordFault}
-use Rattle.cns_records.specs.declared.fault.RecordFault.TheVariants as fault
+use Rattle.cns_journal.specs.declared.record_log.RecordFault.{RecordFault}
+use Rattle.cns_journal.specs.declared.record_log.RecordFault.TheVariants as fault
 use Rattle.cns_records.proofs.DrawnLaws.{tickets_count}
 use Rattle.cns_records.proofs.fields.Fields.take_drawn.Goals as goal
 

@@ -1,6 +1,6 @@
 use Rattle.std.proofs.Common.{subst, sym}
-use Rattle.cns_clearing.specs.Node.{ClearNode, KeeperState}
-use Rattle.cns_clearing.specs.Replay.{IsOpened}
+use Rattle.cns_journal.specs.Replay.{KeeperState}
+use Rattle.cns_clearing.specs.Node.{ClearNode, IsOpened}
 use Rattle.cns_system.specs.Agreement.{Agree}
 use Rattle.cns_system.proofs.pair.Pair.open.Goals as goal
 
@@ -23,11 +23,11 @@ returns g c =
       journal = g.C.Keeper.journal c.args.clear;
       foresight = g.C.Keeper.foresight c.args.clear;
     } in
-    let agree : Agree c.in-Ok.node.records c.in-Ok-open.node.records = c.agree.ensures.0 c.if-not-agree.false in
+    let agree : Agree c.in-Ok.node.log.records c.in-Ok-open.node.log.records = c.agree.ensures.0 c.if-not-agree.false in
     record {
       clear_opens = subst (IsOpened clear) (sym c.new.ensures.clear) c.in-Ok.ensures.ok;
       depot_opens = c.in-Ok-open.ensures.ok;
-      agree = subst (λ (n : ClearNode). Agree n.records c.in-Ok-open.node.records) (sym c.new.ensures.clear) agree;
+      agree = subst (λ (n : ClearNode). Agree n.log.records c.in-Ok-open.node.log.records) (sym c.new.ensures.clear) agree;
       lots = c.new.ensures.lots;
       orders = c.new-2.ensures;
       replies = c.new-3.ensures;

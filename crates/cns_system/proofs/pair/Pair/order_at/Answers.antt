@@ -9,14 +9,14 @@ use Rattle.cns_system.proofs.pair.Pair.order_at.Goals as goal
 
 pub returns-in_err-place : goal.returns-in_err-place
 returns-in_err-place g c =
-    let same = c.orders-orders.ensures.orders ∙ ap (λ b. b.orders) (c.orders.ensures.orders ∙ ap (λ n. orders_of n.records) c.node.ensures ∙ ap (λ w. orders_of w.clear.clear.records) c.self.view_is) in
+    let same = c.orders-orders.ensures.orders ∙ ap (λ b. b.orders) (c.orders.ensures.orders ∙ ap (λ n. orders_of n.log.records) c.node.ensures ∙ ap (λ w. orders_of w.clear.clear.log.records) c.self.view_is) in
     let numbered = subst (λ l. IsNumbered 1 l) (sym c.orders-orders.ensures.orders) c.orders-orders.ensures.lawful.numbered in
     let none = c.in_err-place.ensures in
     c.from_residual.ensures ∙ sym (order_of_below c.orders-orders.result.now 1 c.args.number numbered (omega (arith, none))) ∙ ap (λ l. order_of l c.args.number) same
 
 pub returns : goal.returns
 returns g c =
-    let same = c.orders-orders.ensures.orders ∙ ap (λ b. b.orders) (c.orders.ensures.orders ∙ ap (λ n. orders_of n.records) c.node.ensures ∙ ap (λ w. orders_of w.clear.clear.records) c.self.view_is) in
+    let same = c.orders-orders.ensures.orders ∙ ap (λ b. b.orders) (c.orders.ensures.orders ∙ ap (λ n. orders_of n.log.records) c.node.ensures ∙ ap (λ w. orders_of w.clear.clear.log.records) c.self.view_is) in
     let numbered = subst (λ l. IsNumbered 1 l) (sym c.orders-orders.ensures.orders) c.orders-orders.ensures.lawful.numbered in
     let place = c.in_ok-place.ensures in
     let at = found_at c.orders-orders.result.now c.args.number c.in_ok-place.place numbered (omega (arith, place.0, place.1)) in

@@ -1,5 +1,0 @@
-use Rattle.cns_depository.proofs.NodeLemmas.{node_planned}
-use Rattle.cns_depository.proofs.depository.Depository.plan.Goals as goal
-
-pub invariant_of-self : goal.invariant_of-self
-invariant_of-self g c = node_planned _ _ _ _ _ _ _ _ _ _ _ _ _ _ c.self.invariant c.plan.ensures.honest c.plan.ensures.leaves c.plan.ensures.keeps c.plan.ensures.foreseen
