@@ -3,7 +3,6 @@ ghost use Rattle.std.specs.Ordering.{nat_cmp, as_partial_cmp};
 ghost use Rattle.std.proofs.Common.{rules};
 ghost use Rattle.std.specs.Cmp.{partial_order_from_own_ties};
 ghost use Rattle.std.specs.Cmp.Rules.{comparing};
-ghost use Rattle.std.specs.Hash as fed;
 ghost use Rattle.cns_ids.specs.Number.{is_digit};
 ghost use Rattle.cns_ids.specs.Day.{has_day_form, day_text};
 
