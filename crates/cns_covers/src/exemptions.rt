@@ -17,8 +17,7 @@ pub struct Exempted {
 /// The exemptions of all members and issues: one quantity of shares for each, which stands until it
 /// is replaced, and 0 where none was set. (This project's own rule.)
 ///
-/// Contracts see the settings, the newest first, and for how many more there is room without taking
-/// memory.
+/// Contracts see the settings, the newest first, and for how many more there is room.
 #[derive(Drop)]
 pub struct Exemptions {
     // In the order in which they were made.
@@ -38,9 +37,10 @@ impl Model for Exemptions {
 }
 
 impl Exemptions {
-    /// No exemptions. It takes no memory.
+    /// No exemptions, and room for none.
     pub fn new(alloc: Global) -> Exemptions
-        ensures { result.settings ≡ [] }
+        ensures settings { result.settings ≡ [] }
+        ensures room { result.room ≡ 0 }
     {
         Exemptions {
             settings: Vec::new(alloc),
@@ -63,7 +63,7 @@ impl Exemptions {
         Ok(())
     }
 
-    /// Takes the memory that `set` needs; it then takes none until the next change.
+    /// Takes the memory that `set` needs: as the next change, it then succeeds.
     pub fn set_room(
         &mut self,
         _member: MemberNo,
@@ -72,6 +72,8 @@ impl Exemptions {
     ) -> Result<(), AllocError>
         ensures same { self.new.settings ≡ self.old.settings }
         ensures room { OnOk result (0 < self.new.room) }
+        ensures err { OnErr result (self.old.room ≡ 0) }
+        ensures left { self.old.room ≤ self.new.room }
     {
         self.settings.reserve(1)
     }

@@ -18,8 +18,7 @@ pub struct Prioritized {
 /// was never set. A member with priority is served before others that are long in the issue. (This
 /// project's own rule.)
 ///
-/// Contracts see the settings, the newest first, and for how many more there is room without taking
-/// memory.
+/// Contracts see the settings, the newest first, and for how many more there is room.
 #[derive(Drop)]
 pub struct Priorities {
     // In the order in which they were made.
@@ -39,9 +38,10 @@ impl Model for Priorities {
 }
 
 impl Priorities {
-    /// No priority is on. It takes no memory.
+    /// No priority is on, and there is room for no setting.
     pub fn new(alloc: Global) -> Priorities
-        ensures { result.settings ≡ [] }
+        ensures settings { result.settings ≡ [] }
+        ensures room { result.room ≡ 0 }
     {
         Priorities {
             settings: Vec::new(alloc),
@@ -59,7 +59,7 @@ impl Priorities {
         Ok(())
     }
 
-    /// Takes the memory that `set` needs; it then takes none until the next change.
+    /// Takes the memory that `set` needs: as the next change, it then succeeds.
     pub fn set_room(
         &mut self,
         _member: MemberNo,
@@ -68,6 +68,8 @@ impl Priorities {
     ) -> Result<(), AllocError>
         ensures same { self.new.settings ≡ self.old.settings }
         ensures room { OnOk result (0 < self.new.room) }
+        ensures err { OnErr result (self.old.room ≡ 0) }
+        ensures left { self.old.room ≤ self.new.room }
     {
         self.settings.reserve(1)
     }

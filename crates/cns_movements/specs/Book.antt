@@ -10,7 +10,7 @@ pub record Orders : Type 0 where
   pub orders : List Order
   pub replies : List Reply
 
--- a book, and how many orders and confirmations it takes with no more memory
+-- a book, and how many more orders and confirmations there is room for
 pub record OrderRoom : Type 0 where
   pub book : Orders
   pub order_room : ℕ

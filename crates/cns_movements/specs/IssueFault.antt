@@ -12,7 +12,7 @@ NumbersSuffice book count = length book.orders + max 1 count ≤ 1000000
 abbrev pub AreNumbersSpent : Orders → ℕ → Type 0
 AreNumbersSpent book count = 1000000 < length book.orders + max 1 count
 
--- what is so where this many asks are refused: numbers come before memory, which is asked for only where room is missing
+-- what is so where this many asks are refused: numbers come before memory, which is wanting only where room is missing
 abbrev pub IsIssueRefused : IssueFault → OrderRoom → ℕ → Type 0
 IsIssueRefused NumbersSpent old count = AreNumbersSpent old.book count
 IsIssueRefused OutOfMemory old count = NumbersSuffice old.book count × (old.order_room < count)

@@ -42,7 +42,7 @@ pub enum Confirm {
 /// The movement orders in the order of their numbers, and their confirmations.
 ///
 /// Contracts see the orders with the oldest first and the confirmations with the newest first, and
-/// beside this book how many more of each it takes with no more memory.
+/// beside this book how many more of each there is room for.
 #[derive(Drop)]
 pub struct OrderBook {
     orders: Vec<Order>,
@@ -71,9 +71,11 @@ impl Model for OrderBook {
 }
 
 impl OrderBook {
-    /// A book with no orders. It takes no memory.
+    /// A book with no orders, and with room for none.
     pub fn new(alloc: Global) -> OrderBook
-        ensures { result.book ≡ record { orders = []; replies = [] } }
+        ensures book { result.book ≡ record { orders = []; replies = [] } }
+        ensures order_room { result.order_room ≡ 0 }
+        ensures reply_room { result.reply_room ≡ 0 }
     {
         OrderBook {
             orders: Vec::new(alloc),
@@ -143,7 +145,7 @@ impl OrderBook {
         ensures after { IfOk result (λ answer.
             self.new.book ≡ after_reply answer self.old.book reply) }
 
-        // Memory is asked for only by a `Done`, and only where room is missing.
+        // Refused only in place of a `Done`, and only where room is missing.
         ensures wanted { OnErr result (confirm_answer self.old.book reply ≡ Confirm.Done) }
         ensures room { OnErr result (self.old.reply_room ≡ 0) }
         ensures err { OnErr result (self.new.book ≡ self.old.book) }

@@ -1,4 +1,4 @@
-ghost use Rattle.std.specs.Prelude.{◌≡◌, ◌++◌, ◌+◌, ◌^◌, ◌<◌, List, [], ◌∷◌, None, reverse, length, filter, ◌+ℤ◌, IfOk, OnOk, OnErr, IsOk};
+ghost use Rattle.std.specs.Prelude.{◌≡◌, ◌++◌, ◌+◌, ◌^◌, ◌<◌, ◌≤◌, List, [], ◌∷◌, None, reverse, length, filter, ◌+ℤ◌, IfOk, OnOk, OnErr, IsOk};
 ghost use Rattle.std.specs.List.{filter_map};
 ghost use Rattle.cns_trades.specs.Verdicts.{known};
 ghost use Rattle.cns_netting.specs.Book.{IsBook, IsWithin};
@@ -18,8 +18,7 @@ use std::marker::Model;
 
 /// Accepted trades, due or not, with the nettings and settlements since.
 ///
-/// Contracts see the history of entries, the newest first, and for how many more there is room without
-/// taking memory.
+/// Contracts see the history of entries, the newest first, and for how many more there is room.
 #[derive(Drop)]
 pub struct NetBook {
     entries: Vec<NetEntry>,
@@ -132,19 +131,22 @@ fn short_shares(entries: &[NetEntry], issue: Cusip) -> u128
 }
 
 impl NetBook {
-    /// An empty book.
+    /// An empty book, with room for no entry.
     pub fn new(alloc: Global) -> NetBook
-        ensures { result.history ≡ [] }
+        ensures history { result.history ≡ [] }
+        ensures room { result.room ≡ 0 }
     {
         NetBook {
             entries: Vec::new(alloc),
         }
     }
 
-    /// Takes the memory that `accept` of a trade needs; it then takes none until the next change.
+    /// Takes the memory that `accept` of a trade needs: as the next change, it then succeeds.
     pub fn accept_room(&mut self, _trade: Trade) -> Result<(), AllocError>
         ensures same { self.new.history ≡ self.old.history }
         ensures room { OnOk result (0 < self.new.room) }
+        ensures err { OnErr result (self.old.room ≡ 0) }
+        ensures left { self.old.room ≤ self.new.room }
     {
         self.entries.reserve(1)
     }
@@ -162,10 +164,12 @@ impl NetBook {
         Ok(())
     }
 
-    /// Takes the memory that `net` of a date needs; it then takes none until the next change.
+    /// Takes the memory that `net` of a date needs: as the next change, it then succeeds.
     pub fn net_room(&mut self, _day: Day) -> Result<(), AllocError>
         ensures same { self.new.history ≡ self.old.history }
         ensures room { OnOk result (0 < self.new.room) }
+        ensures err { OnErr result (self.old.room ≡ 0) }
+        ensures left { self.old.room ≤ self.new.room }
         ensures lawful { IsBook self.new.history }
     {
         self.entries.reserve(1)
@@ -184,7 +188,7 @@ impl NetBook {
         Ok(becoming)
     }
 
-    /// Takes the memory that `settle` needs; it then takes none until the next change.
+    /// Takes the memory that `settle` needs: as the next change, it then succeeds.
     pub fn settle_room(
         &mut self,
         _member: MemberNo,
@@ -193,6 +197,8 @@ impl NetBook {
     ) -> Result<(), AllocError>
         ensures same { self.new.history ≡ self.old.history }
         ensures room { OnOk result (0 < self.new.room) }
+        ensures err { OnErr result (self.old.room ≡ 0) }
+        ensures left { self.old.room ≤ self.new.room }
         ensures lawful { IsBook self.new.history }
     {
         self.entries.reserve(1)

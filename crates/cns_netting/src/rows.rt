@@ -1,4 +1,4 @@
-ghost use Rattle.std.specs.Prelude.{◌≡◌, ◌++◌, ◌^◌, ◌<◌, [], ◌∷◌, None, reverse, length, filter, IfOk, OnOk};
+ghost use Rattle.std.specs.Prelude.{◌≡◌, ◌++◌, ◌^◌, ◌<◌, [], ◌∷◌, Some, None, reverse, length, filter, IfOk, OnOk, IsOk};
 ghost use Rattle.std.specs.List.{filter_map};
 ghost use Rattle.cns_netting.specs.Book.{IsBook};
 ghost use Rattle.cns_netting.specs.Rows.{counts_in, IsPartOf, holdings_of, with_holdings, netted_by, open_row as open_row_of, rows_of};
@@ -121,12 +121,13 @@ impl IssueEntries {
         }
     }
 
-    // Goes to an issue of these entries. It takes no memory where it is there.
+    // Goes to an issue of these entries; where it is there, it succeeds.
     fn go_to(&mut self, entries: &[NetEntry], issue: Cusip) -> Result<(), AllocError>
         requires { IsPartOf self.old.issue entries.now self.old.entries.items }
         ensures there { OnOk result (self.new.entries.items ≡ filter (counts_in issue) entries.now) }
         ensures whole { OnOk result (IsPartOf self.new.issue entries.now self.new.entries.items) }
         ensures reached { self.new.reached ≡ self.old.reached }
+        ensures stays { self.old.issue ≡ Some issue → IsOk result }
     {
         if self.issue != Some(issue) {
             self.entries = entries_in(*self.entries.allocator(), entries, issue)?;

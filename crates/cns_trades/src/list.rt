@@ -24,7 +24,7 @@ pub enum Verdict {
 
 /// The accepted trades by id, in the order in which they were accepted.
 ///
-/// Contracts see the trades, and for how many more there is room without taking memory.
+/// Contracts see the trades, and for how many more there is room.
 #[derive(Drop)]
 pub struct TradeList {
     by_id: IndexMap<TradeId, Trade>,
@@ -106,10 +106,12 @@ impl TradeList {
         }
     }
 
-    /// Takes the memory that `add` of a trade needs; `add` then takes none until the next change.
+    /// Takes the memory that `add` of a trade needs: as the next change, it then succeeds.
     pub fn add_room(&mut self, _trade: Trade) -> Result<(), AllocError>
         ensures same { self.new.trades ≡ self.old.trades }
         ensures room { OnOk result (0 < self.new.room) }
+        ensures err { OnErr result (self.old.room ≡ 0) }
+        ensures left { self.old.room ≤ self.new.room }
     {
         self.by_id.reserve(1)
     }

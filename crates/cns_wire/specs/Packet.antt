@@ -14,7 +14,7 @@ pub record IsStored (len : ℕ) (bytes : List ℕ) : Type 0 where
 abbrev pub packet_at : List (List ℕ) → ℕ → Option (List ℕ)
 packet_at packets number = if number == 0 then None else slice_get packets (number - 1)
 
--- the packets that were put, the oldest first, and how many more there is memory for
+-- the packets that were put, the oldest first, and how many more there is room for
 pub record PacketRoom : Type 0 where
   pub packets : List (List ℕ)
   pub room : ℕ

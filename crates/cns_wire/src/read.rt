@@ -97,7 +97,7 @@ fn frame_in(bytes: &[u8]) -> Result<Frame, FrameFault>
     }
 }
 
-/// Reads a frame of version 1, all of the bytes. It takes no memory. (This project's own format.)
+/// Reads a frame of version 1, all of the bytes. (This project's own format.)
 ///
 /// Refuses, in this order: `Short` with fewer than four bytes; `Magic`; `Version`; `Kind`; `Short`
 /// with fewer bytes than a frame of its kind has, and `Long` with more; `Field` where a number is

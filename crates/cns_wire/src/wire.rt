@@ -8,7 +8,7 @@ use std::marker::Model;
 /// One direction of the link: the packets that were ever put on it, in their order. Nothing is ever
 /// taken out.
 ///
-/// Contracts see the packets with the oldest first, and how many more it takes with no more memory.
+/// Contracts see the packets with the oldest first, and how many more there is room for.
 #[derive(Drop)]
 pub struct Wire {
     packets: Vec<Packet>,
@@ -27,9 +27,10 @@ impl Model for Wire {
 }
 
 impl Wire {
-    /// A direction with no packets. It takes no memory.
+    /// A direction with no packets, and with room for none.
     pub fn new(alloc: Global) -> Wire
-        ensures { result.packets ≡ [] }
+        ensures packets { result.packets ≡ [] }
+        ensures room { result.room ≡ 0 }
     {
         Wire {
             packets: Vec::new(alloc),
@@ -43,7 +44,7 @@ impl Wire {
         ensures number { IfOk result (λ number. number ≡ length self.new.packets) }
         ensures ok { OnOk result (self.new.packets ≡ self.old.packets ++ frame.now ∷ []) }
 
-        // Memory is asked for only where room is missing.
+        // Refused only where room is missing.
         ensures err { OnErr result (self.new.packets ≡ self.old.packets) }
         ensures room { 0 < self.old.room → IsOk result }
         ensures left { self.old.room ≤ self.new.room + 1 }

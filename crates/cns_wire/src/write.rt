@@ -25,7 +25,7 @@ fn kind_byte(kind: MoveKind) -> u8
     }
 }
 
-/// The frame of an order. It takes no memory. (This project's own format.)
+/// The frame of an order. (This project's own format.)
 ///
 /// Its 31 bytes are `C` and `D`, the version 1, the kind (1 for a cover, 2 for a delivery), the
 /// number (8 bytes), the member (2 bytes), the CUSIP (9 bytes) and the shares asked (8 bytes).
@@ -47,7 +47,7 @@ pub fn write_order(order: &Order) -> [u8; ORDER_SIZE]
     frame
 }
 
-/// The frame of a reply. It takes no memory. (This project's own format.)
+/// The frame of a reply. (This project's own format.)
 ///
 /// Its 20 bytes are `C` and `D`, the version 1, the kind 3, the number (8 bytes) and the shares
 /// moved (8 bytes).
