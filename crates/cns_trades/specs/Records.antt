@@ -1,6 +1,8 @@
 -- The rows of a text: its records under a header, as `csv` reads them.
 use Rattle.std.specs.Prelude.{◌≡◌, ⊤, ℕ, ◌+◌, ◌<◌, Bool, true, false, List, [], ◌∷◌, length, Option, Some, None, if◌then◌else◌}
 use Rattle.csv.specs.Reading.{default_config, records, strip_bom}
+use Rattle.std.specs.IoError.{error_kind}
+use Rattle.std.specs.declared.io.ErrorKind.TheVariants as io
 use Rattle.csv.specs.declared.error.ErrorKind.{ErrorKind}
 use Rattle.csv.specs.declared.error.ErrorKind.TheVariants as kind
 use Rattle.cns_trades.specs.declared.fault.CsvFault.{CsvFault}
@@ -38,6 +40,15 @@ TellsRows fault.OutOfMemory rows = ⊤
 abbrev pub StandBefore : Bool → Records → Type 0
 StandBefore true before = before ≡ []
 StandBefore false before = 0 < length before
+
+-- an error of want of memory: the library's own, or one of the reader underneath
+abbrev pub IsWantOfMemory : ErrorKind → Type 0
+IsWantOfMemory kind.OutOfMemory = ⊤
+IsWantOfMemory (kind.Io e) = error_kind e ≡ io.OutOfMemory
+IsWantOfMemory (kind.UnequalLengths pos expected len) = ⊥
+IsWantOfMemory (kind.Utf8 pos err) = ⊥
+IsWantOfMemory (kind.Serialize why) = ⊥
+IsWantOfMemory (kind.Deserialize pos err) = ⊥
 
 -- the faults of a reader of bytes that takes records of any length: the reader underneath, or memory
 abbrev pub IsReaderFault : ErrorKind → Type 0

@@ -1,13 +1,13 @@
 ghost use Rattle.std.specs.Prelude.{◌≡◌, ◌≢◌, ◌↔◌, ◌++◌, ◌∷◌, [], ℕ, List, Bool, true, false, Some, MatchResult, OnOk, IfErr};
 ghost use Rattle.csv.specs.Records.{fields_of};
 ghost use Rattle.cns_trades.specs.Fields.{field_or_empty};
-ghost use Rattle.cns_trades.specs.Records.{Records, Fields, under_header, rows_of, TellsRows, StandBefore, IsReaderFault};
+ghost use Rattle.cns_trades.specs.Records.{Records, Fields, under_header, rows_of, TellsRows, StandBefore, IsReaderFault, IsWantOfMemory};
 ghost use Rattle.cns_trades.specs.declared.fault.CsvFault.TheVariants.{Header, OutOfMemory, Reading};
-ghost use Rattle.csv.specs.declared.error.ErrorKind.TheVariants as kind;
 
 use crate::fault::CsvFault;
 use csv::{ByteRecord, Error, ErrorKind, ReaderBuilder};
 use std::alloc::Global;
+use std::io;
 
 /// What one record of a text is read as.
 pub(crate) trait FromRecord: Drop {
@@ -35,10 +35,11 @@ pub(crate) fn field(fields: &ByteRecord, place: usize) -> &[u8]
 fn stopped(error: &Error) -> CsvFault
     requires { IsReaderFault error.now.kind }
     ensures header { result ≢ Header }
-    ensures memory { (result ≡ OutOfMemory) ↔ (error.now.kind ≡ kind.OutOfMemory) }
+    ensures memory { (result ≡ OutOfMemory) ↔ IsWantOfMemory error.now.kind }
 {
     match error.kind() {
         ErrorKind::OutOfMemory => CsvFault::OutOfMemory,
+        ErrorKind::Io(cause) if cause.kind() == io::ErrorKind::OutOfMemory => CsvFault::OutOfMemory,
         ErrorKind::Io(_) => CsvFault::Reading,
         _ => unreachable!(),
     }
@@ -53,7 +54,10 @@ fn take_record<R: FromRecord>(
     ensures ok { OnOk result ((before : Records) → StandBefore header_is_next before → under_header R.is_header R.row_at before ≡ Some rows.old.items
         → under_header R.is_header R.row_at (before ++ fields_of fields.now ∷ []) ≡ Some rows.new.items) }
     ensures err { IfErr result (λ e. e ≡ Header → (header_is_next ≡ true) × (R.is_header (fields_of fields.now) ≡ false)) }
-    ensures memory { IfErr result (λ e. e ≢ Reading) }
+    ensures reading { IfErr result (λ e. e ≢ Reading) }
+
+    // Memory is wanted for a row alone, after the header was found right.
+    ensures memory { IfErr result (λ e. e ≡ OutOfMemory → header_is_next ≡ false) }
 {
     if header_is_next {
         return if R::is_header(fields) {
