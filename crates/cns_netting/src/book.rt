@@ -132,6 +132,7 @@ fn short_shares(entries: &[NetEntry], issue: Cusip) -> u128
 
 impl NetBook {
     /// An empty book, with room for no entry.
+    #[tactic(auto, using(crate::proofs::BookLemmas::book_empty))]
     pub fn new(alloc: Global) -> NetBook
         ensures history { result.history ≡ [] }
         ensures room { result.room ≡ 0 }
