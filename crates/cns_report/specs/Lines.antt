@@ -68,15 +68,11 @@ order_lines (o ∷ orders) = order_line o ++ order_lines orders
 
 -- opening row N fault ..
 unfoldable pub opening_row_fault_line : ℕ → RowFault → List ℕ
-opening_row_fault_line row fault = codes "opening " ++ row_fault_line row fault
-
--- row N fault NAME
-unfoldable pub row_refused_line : ℕ → OpeningRefusal → List ℕ
-row_refused_line row refusal = codes "row " ++ decimal row ++ codes " fault " ++ opening_refusal_text refusal ++ line_end
+opening_row_fault_line row fault = codes "opening row " ++ decimal row ++ codes " fault " ++ row_fault_text fault ++ line_end
 
 -- opening row N fault NAME
 unfoldable pub opening_refused_line : ℕ → OpeningRefusal → List ℕ
-opening_refused_line row refusal = codes "opening " ++ row_refused_line row refusal
+opening_refused_line row refusal = codes "opening row " ++ decimal row ++ codes " fault " ++ opening_refusal_text refusal ++ line_end
 
 -- send N packet K
 unfoldable pub send_line : ℕ → ℕ → List ℕ
@@ -132,21 +128,9 @@ abbrev pub sealed_text : Bool → List ℕ
 sealed_text true = codes "yes"
 sealed_text false = codes "no"
 
--- the end of a look's line: sealed yes, or .. no
-unfoldable pub sealed_end : Bool → List ℕ
-sealed_end is_sealed = codes " sealed " ++ sealed_text is_sealed ++ line_end
-
--- asked Q, and that
-unfoldable pub asked_end : ℕ → Bool → List ℕ
-asked_end asked is_sealed = codes " asked " ++ decimal asked ++ sealed_end is_sealed
-
--- poured Q, and that
-unfoldable pub poured_end : ℕ → ℕ → Bool → List ℕ
-poured_end poured asked is_sealed = codes "poured " ++ decimal poured ++ asked_end asked is_sealed
-
 -- look poured Q asked Q sealed yes, or .. no
 unfoldable pub look_line : ℕ → ℕ → Bool → List ℕ
-look_line poured asked is_sealed = codes "look " ++ poured_end poured asked is_sealed
+look_line poured asked is_sealed = codes "look poured " ++ decimal poured ++ codes " asked " ++ decimal asked ++ codes " sealed " ++ sealed_text is_sealed ++ line_end
 
 -- seal ok
 unfoldable pub seal_line : List ℕ

@@ -1,10 +1,11 @@
 //! Texts: the exact bytes of each outcome line and of the report.
 //!
-//! Each function adds its text to what stands in `out`. Where memory is wanting, some first bytes of
-//! the text may have been added.
+//! Each function adds its whole text to what stands in `out`. Where memory is wanting, it adds nothing,
+//! and `out` reads as before.
 #![tactic(auto)]
 
 mod account;
+mod append;
 mod fault;
 mod line;
 mod position;

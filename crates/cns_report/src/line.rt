@@ -1,6 +1,7 @@
-ghost use Rattle.std.specs.Prelude.{◌≡◌, ◌++◌, OnOk, string_bytes};
-ghost use Rattle.cns_report.specs.Lines.{trade_line, row_fault_line, bad_command_line, cycle_line, refused_line, exempt_line, priority_line, order_line, order_lines, opening_row_fault_line, row_refused_line, opening_refused_line, send_line, exec_line, again_line, confirm_done_line, confirm_again_line, trade_refused_line, fail_line, restart_line, lot_line, pour_line, ticket_line, sealed_end, asked_end, poured_end, look_line, seal_line, close_line};
+ghost use Rattle.std.specs.Prelude.{◌≡◌, ◌++◌, OnOk, OnErr, string_bytes};
+ghost use Rattle.cns_report.specs.Lines.{trade_line, row_fault_line, bad_command_line, cycle_line, refused_line, exempt_line, priority_line, order_line, order_lines, opening_row_fault_line, opening_refused_line, send_line, exec_line, again_line, confirm_done_line, confirm_again_line, trade_refused_line, fail_line, restart_line, lot_line, pour_line, ticket_line, look_line, seal_line, close_line};
 
+use crate::append::append;
 use crate::fault::{RowFaultName, VerdictName};
 use crate::refusal::{NodeName, OpeningRefusal, Refusal, Subject};
 use cns_ids::CycleId;
@@ -12,13 +13,14 @@ use std::alloc::AllocError;
 /// The line of a trade: `trade ID accepted`, or `trade ID refused NAME`.
 #[tactic(auto, unfolding(crate::specs::Lines::trade_line))]
 pub fn write_trade(out: &mut String, id: TradeId, verdict: Verdict) -> Result<(), AllocError>
-    ensures { OnOk result (string_bytes out.new ≡ string_bytes out.old ++ trade_line id verdict) }
+    ensures ok { OnOk result (string_bytes out.new ≡ string_bytes out.old ++ trade_line id verdict) }
+    ensures err { OnErr result (string_bytes out.new ≡ string_bytes out.old) }
 {
     match verdict {
-        Verdict::New => write!(out, "trade {id} accepted\n"),
+        Verdict::New => append(out, format_args!("trade {id} accepted\n")),
         _ => {
             let name = VerdictName(verdict);
-            write!(out, "trade {id} refused {name}\n")
+            append(out, format_args!("trade {id} refused {name}\n"))
         }
     }
 }
@@ -26,42 +28,47 @@ pub fn write_trade(out: &mut String, id: TradeId, verdict: Verdict) -> Result<()
 /// The line of a faulty row of trades: `row N fault ..`.
 #[tactic(auto, unfolding(crate::specs::Lines::row_fault_line))]
 pub fn write_row_fault(out: &mut String, row: u64, fault: RowFault) -> Result<(), AllocError>
-    ensures { OnOk result (string_bytes out.new ≡ string_bytes out.old ++ row_fault_line row fault) }
+    ensures ok { OnOk result (string_bytes out.new ≡ string_bytes out.old ++ row_fault_line row fault) }
+    ensures err { OnErr result (string_bytes out.new ≡ string_bytes out.old) }
 {
     let name = RowFaultName(fault);
-    write!(out, "row {row} fault {name}\n")
+    append(out, format_args!("row {row} fault {name}\n"))
 }
 
 /// The line of a script line that fits no form: `line N bad command`.
 #[tactic(auto, unfolding(crate::specs::Lines::bad_command_line))]
 pub fn write_bad_command(out: &mut String, line: u64) -> Result<(), AllocError>
-    ensures { OnOk result (string_bytes out.new ≡ string_bytes out.old ++ bad_command_line line) }
+    ensures ok { OnOk result (string_bytes out.new ≡ string_bytes out.old ++ bad_command_line line) }
+    ensures err { OnErr result (string_bytes out.new ≡ string_bytes out.old) }
 {
-    write!(out, "line {line} bad command\n")
+    append(out, format_args!("line {line} bad command\n"))
 }
 
 /// The line of a recorded cycle: `cycle DATE KIND due N`.
 #[tactic(auto, unfolding(crate::specs::Lines::cycle_line))]
 pub fn write_cycle(out: &mut String, cycle: CycleId, due: u64) -> Result<(), AllocError>
-    ensures { OnOk result (string_bytes out.new ≡ string_bytes out.old ++ cycle_line cycle due) }
+    ensures ok { OnOk result (string_bytes out.new ≡ string_bytes out.old ++ cycle_line cycle due) }
+    ensures err { OnErr result (string_bytes out.new ≡ string_bytes out.old) }
 {
     let day = cycle.day;
     let kind = cycle.kind;
-    write!(out, "cycle {day} {kind} due {due}\n")
+    append(out, format_args!("cycle {day} {kind} due {due}\n"))
 }
 
 /// The line of a refused command: `WORD refused NAME`.
 #[tactic(auto, unfolding(crate::specs::Lines::refused_line))]
 pub fn write_refused(out: &mut String, subject: Subject, refusal: Refusal) -> Result<(), AllocError>
-    ensures { OnOk result (string_bytes out.new ≡ string_bytes out.old ++ refused_line subject refusal) }
+    ensures ok { OnOk result (string_bytes out.new ≡ string_bytes out.old ++ refused_line subject refusal) }
+    ensures err { OnErr result (string_bytes out.new ≡ string_bytes out.old) }
 {
-    write!(out, "{subject} refused {refusal}\n")
+    append(out, format_args!("{subject} refused {refusal}\n"))
 }
 
 /// The line of an exemption that was set: `exempt ok`.
 #[tactic(auto, unfolding(crate::specs::Lines::exempt_line))]
 pub fn write_exempt(out: &mut String) -> Result<(), AllocError>
-    ensures { OnOk result (string_bytes out.new ≡ string_bytes out.old ++ exempt_line) }
+    ensures ok { OnOk result (string_bytes out.new ≡ string_bytes out.old ++ exempt_line) }
+    ensures err { OnErr result (string_bytes out.new ≡ string_bytes out.old) }
 {
     out.push_str("exempt ok\n")
 }
@@ -69,7 +76,8 @@ pub fn write_exempt(out: &mut String) -> Result<(), AllocError>
 /// The line of a priority that was set: `priority ok`.
 #[tactic(auto, unfolding(crate::specs::Lines::priority_line))]
 pub fn write_priority(out: &mut String) -> Result<(), AllocError>
-    ensures { OnOk result (string_bytes out.new ≡ string_bytes out.old ++ priority_line) }
+    ensures ok { OnOk result (string_bytes out.new ≡ string_bytes out.old ++ priority_line) }
+    ensures err { OnErr result (string_bytes out.new ≡ string_bytes out.old) }
 {
     out.push_str("priority ok\n")
 }
@@ -91,12 +99,14 @@ fn write_order(out: &mut String, order: &Order) -> Result<(), AllocError>
 /// The lines of orders, one after another: `order N KIND MEMBER CUSIP ASKED`.
 #[tactic(auto, unfolding(crate::specs::Lines::order_lines))]
 pub fn write_orders(out: &mut String, orders: &[Order]) -> Result<(), AllocError>
-    ensures { OnOk result (string_bytes out.new ≡ string_bytes out.old ++ order_lines orders.now) }
+    ensures ok { OnOk result (string_bytes out.new ≡ string_bytes out.old ++ order_lines orders.now) }
+    ensures err { OnErr result (string_bytes out.new ≡ string_bytes out.old) }
 {
+    let mut lines = String::new(*out.allocator());
     for order in orders {
-        write_order(out, order)?;
+        write_order(&mut lines, order)?;
     }
-    Ok(())
+    out.push_str(&lines)
 }
 
 /// The line of a faulty row of openings: `opening row N fault ..`.
@@ -106,18 +116,11 @@ pub fn write_opening_row_fault(
     row: u64,
     fault: RowFault,
 ) -> Result<(), AllocError>
-    ensures { OnOk result (string_bytes out.new ≡ string_bytes out.old ++ opening_row_fault_line row fault) }
+    ensures ok { OnOk result (string_bytes out.new ≡ string_bytes out.old ++ opening_row_fault_line row fault) }
+    ensures err { OnErr result (string_bytes out.new ≡ string_bytes out.old) }
 {
-    write!(out, "opening ")?;
-    write_row_fault(out, row, fault)
-}
-
-// The line of a row that was refused, from its number on: `row N fault NAME`.
-#[tactic(auto, unfolding(crate::specs::Lines::row_refused_line))]
-fn write_row_refused(out: &mut String, row: u64, refusal: OpeningRefusal) -> Result<(), AllocError>
-    ensures { OnOk result (string_bytes out.new ≡ string_bytes out.old ++ row_refused_line row refusal) }
-{
-    write!(out, "row {row} fault {refusal}\n")
+    let name = RowFaultName(fault);
+    append(out, format_args!("opening row {row} fault {name}\n"))
 }
 
 /// The line of a row of openings that was refused: `opening row N fault NAME`.
@@ -127,50 +130,61 @@ pub fn write_opening_refused(
     row: u64,
     refusal: OpeningRefusal,
 ) -> Result<(), AllocError>
-    ensures { OnOk result (string_bytes out.new ≡ string_bytes out.old ++ opening_refused_line row refusal) }
+    ensures ok { OnOk result (string_bytes out.new ≡ string_bytes out.old ++ opening_refused_line row refusal) }
+    ensures err { OnErr result (string_bytes out.new ≡ string_bytes out.old) }
 {
-    write!(out, "opening ")?;
-    write_row_refused(out, row, refusal)
+    append(out, format_args!("opening row {row} fault {refusal}\n"))
 }
 
 /// The line of an order that was sent: `send N packet K`.
 #[tactic(auto, unfolding(crate::specs::Lines::send_line))]
 pub fn write_send(out: &mut String, number: u64, packet: u64) -> Result<(), AllocError>
-    ensures { OnOk result (string_bytes out.new ≡ string_bytes out.old ++ send_line number packet) }
+    ensures ok { OnOk result (string_bytes out.new ≡ string_bytes out.old ++ send_line number packet) }
+    ensures err { OnErr result (string_bytes out.new ≡ string_bytes out.old) }
 {
-    write!(out, "send {number} packet {packet}\n")
+    append(out, format_args!("send {number} packet {packet}\n"))
 }
 
 /// The line of an order that came in and was executed: `exec N moved Q packet K`.
 #[tactic(auto, unfolding(crate::specs::Lines::exec_line))]
 pub fn write_exec(out: &mut String, number: u64, moved: u64, packet: u64) -> Result<(), AllocError>
-    ensures { OnOk result (string_bytes out.new ≡ string_bytes out.old ++ exec_line number moved packet) }
+    ensures ok { OnOk result (string_bytes out.new ≡ string_bytes out.old ++ exec_line number moved packet) }
+    ensures err { OnErr result (string_bytes out.new ≡ string_bytes out.old) }
 {
-    write!(out, "exec {number} moved {moved} packet {packet}\n")
+    append(
+        out,
+        format_args!("exec {number} moved {moved} packet {packet}\n"),
+    )
 }
 
 /// The line of an order that came in once more: `again N moved Q packet K`.
 #[tactic(auto, unfolding(crate::specs::Lines::again_line))]
 pub fn write_again(out: &mut String, number: u64, moved: u64, packet: u64) -> Result<(), AllocError>
-    ensures { OnOk result (string_bytes out.new ≡ string_bytes out.old ++ again_line number moved packet) }
+    ensures ok { OnOk result (string_bytes out.new ≡ string_bytes out.old ++ again_line number moved packet) }
+    ensures err { OnErr result (string_bytes out.new ≡ string_bytes out.old) }
 {
-    write!(out, "again {number} moved {moved} packet {packet}\n")
+    append(
+        out,
+        format_args!("again {number} moved {moved} packet {packet}\n"),
+    )
 }
 
 /// The line of a reply that confirms its order: `confirm N moved Q done`.
 #[tactic(auto, unfolding(crate::specs::Lines::confirm_done_line))]
 pub fn write_confirm_done(out: &mut String, number: u64, moved: u64) -> Result<(), AllocError>
-    ensures { OnOk result (string_bytes out.new ≡ string_bytes out.old ++ confirm_done_line number moved) }
+    ensures ok { OnOk result (string_bytes out.new ≡ string_bytes out.old ++ confirm_done_line number moved) }
+    ensures err { OnErr result (string_bytes out.new ≡ string_bytes out.old) }
 {
-    write!(out, "confirm {number} moved {moved} done\n")
+    append(out, format_args!("confirm {number} moved {moved} done\n"))
 }
 
 /// The line of a reply that came in once more: `confirm N moved Q again`.
 #[tactic(auto, unfolding(crate::specs::Lines::confirm_again_line))]
 pub fn write_confirm_again(out: &mut String, number: u64, moved: u64) -> Result<(), AllocError>
-    ensures { OnOk result (string_bytes out.new ≡ string_bytes out.old ++ confirm_again_line number moved) }
+    ensures ok { OnOk result (string_bytes out.new ≡ string_bytes out.old ++ confirm_again_line number moved) }
+    ensures err { OnErr result (string_bytes out.new ≡ string_bytes out.old) }
 {
-    write!(out, "confirm {number} moved {moved} again\n")
+    append(out, format_args!("confirm {number} moved {moved} again\n"))
 }
 
 /// The line of a trade that a node did not take: `trade ID refused NAME`.
@@ -180,15 +194,17 @@ pub fn write_trade_refused(
     id: TradeId,
     refusal: Refusal,
 ) -> Result<(), AllocError>
-    ensures { OnOk result (string_bytes out.new ≡ string_bytes out.old ++ trade_refused_line id refusal) }
+    ensures ok { OnOk result (string_bytes out.new ≡ string_bytes out.old ++ trade_refused_line id refusal) }
+    ensures err { OnErr result (string_bytes out.new ≡ string_bytes out.old) }
 {
-    write!(out, "trade {id} refused {refusal}\n")
+    append(out, format_args!("trade {id} refused {refusal}\n"))
 }
 
 /// The line of a planned failure: `fail ok`.
 #[tactic(auto, unfolding(crate::specs::Lines::fail_line))]
 pub fn write_fail(out: &mut String) -> Result<(), AllocError>
-    ensures { OnOk result (string_bytes out.new ≡ string_bytes out.old ++ fail_line) }
+    ensures ok { OnOk result (string_bytes out.new ≡ string_bytes out.old ++ fail_line) }
+    ensures err { OnErr result (string_bytes out.new ≡ string_bytes out.old) }
 {
     out.push_str("fail ok\n")
 }
@@ -201,83 +217,70 @@ pub fn write_restart(
     records: u64,
     kept: bool,
 ) -> Result<(), AllocError>
-    ensures { OnOk result (string_bytes out.new ≡ string_bytes out.old ++ restart_line node records kept) }
+    ensures ok { OnOk result (string_bytes out.new ≡ string_bytes out.old ++ restart_line node records kept) }
+    ensures err { OnErr result (string_bytes out.new ≡ string_bytes out.old) }
 {
     let kept = if kept { "yes" } else { "no" };
-    write!(out, "restart {node} records {records}")?;
-    write!(out, " kept {kept}\n")
+    append(
+        out,
+        format_args!("restart {node} records {records} kept {kept}\n"),
+    )
 }
 
 /// The line of a lot that was opened: `lot N poured Q longs N`.
 #[tactic(auto, unfolding(crate::specs::Lines::lot_line))]
 pub fn write_lot(out: &mut String, number: u64, poured: u64, longs: usize) -> Result<(), AllocError>
-    ensures { OnOk result (string_bytes out.new ≡ string_bytes out.old ++ lot_line number poured longs) }
+    ensures ok { OnOk result (string_bytes out.new ≡ string_bytes out.old ++ lot_line number poured longs) }
+    ensures err { OnErr result (string_bytes out.new ≡ string_bytes out.old) }
 {
-    write!(out, "lot {number} poured {poured} longs {longs}\n")
+    append(
+        out,
+        format_args!("lot {number} poured {poured} longs {longs}\n"),
+    )
 }
 
 /// The line of shares that were poured into a lot: `pour Q`.
 #[tactic(auto, unfolding(crate::specs::Lines::pour_line))]
 pub fn write_pour(out: &mut String, shares: u64) -> Result<(), AllocError>
-    ensures { OnOk result (string_bytes out.new ≡ string_bytes out.old ++ pour_line shares) }
+    ensures ok { OnOk result (string_bytes out.new ≡ string_bytes out.old ++ pour_line shares) }
+    ensures err { OnErr result (string_bytes out.new ≡ string_bytes out.old) }
 {
-    write!(out, "pour {shares}\n")
+    append(out, format_args!("pour {shares}\n"))
 }
 
 /// The line of a ticket that was drawn: `ticket MEMBER start Q asked Q`.
 #[tactic(auto, unfolding(crate::specs::Lines::ticket_line))]
 pub fn write_ticket(out: &mut String, ticket: &Ticket) -> Result<(), AllocError>
-    ensures { OnOk result (string_bytes out.new ≡ string_bytes out.old ++ ticket_line ticket.now) }
+    ensures ok { OnOk result (string_bytes out.new ≡ string_bytes out.old ++ ticket_line ticket.now) }
+    ensures err { OnErr result (string_bytes out.new ≡ string_bytes out.old) }
 {
     let member = ticket.member;
     let start = ticket.start;
     let asked = ticket.asked;
-    write!(out, "ticket {member} start {start} asked {asked}\n")
-}
-
-// The end of a look's line, from the seal on.
-#[tactic(auto, unfolding(crate::specs::Lines::sealed_end))]
-fn write_sealed(out: &mut String, sealed: bool) -> Result<(), AllocError>
-    ensures { OnOk result (string_bytes out.new ≡ string_bytes out.old ++ sealed_end sealed) }
-{
-    if sealed {
-        out.push_str(" sealed yes\n")
-    } else {
-        out.push_str(" sealed no\n")
-    }
-}
-
-// The same, from the shares that were asked on.
-#[tactic(auto, unfolding(crate::specs::Lines::asked_end))]
-fn write_asked(out: &mut String, asked: u64, sealed: bool) -> Result<(), AllocError>
-    ensures { OnOk result (string_bytes out.new ≡ string_bytes out.old ++ asked_end asked sealed) }
-{
-    write!(out, " asked {asked}")?;
-    write_sealed(out, sealed)
-}
-
-// The same, from the shares that were poured on.
-#[tactic(auto, unfolding(crate::specs::Lines::poured_end))]
-fn write_poured(out: &mut String, poured: u64, asked: u64, sealed: bool) -> Result<(), AllocError>
-    ensures { OnOk result (string_bytes out.new ≡ string_bytes out.old ++ poured_end poured asked sealed) }
-{
-    write!(out, "poured {poured}")?;
-    write_asked(out, asked, sealed)
+    append(
+        out,
+        format_args!("ticket {member} start {start} asked {asked}\n"),
+    )
 }
 
 /// The line of what a look at a lot showed: `look poured Q asked Q sealed yes`, or `.. no`.
 #[tactic(auto, unfolding(crate::specs::Lines::look_line))]
 pub fn write_look(out: &mut String, poured: u64, asked: u64, sealed: bool) -> Result<(), AllocError>
-    ensures { OnOk result (string_bytes out.new ≡ string_bytes out.old ++ look_line poured asked sealed) }
+    ensures ok { OnOk result (string_bytes out.new ≡ string_bytes out.old ++ look_line poured asked sealed) }
+    ensures err { OnErr result (string_bytes out.new ≡ string_bytes out.old) }
 {
-    write!(out, "look ")?;
-    write_poured(out, poured, asked, sealed)
+    let sealed = if sealed { "yes" } else { "no" };
+    append(
+        out,
+        format_args!("look poured {poured} asked {asked} sealed {sealed}\n"),
+    )
 }
 
 /// The line of a lot that was sealed: `seal ok`.
 #[tactic(auto, unfolding(crate::specs::Lines::seal_line))]
 pub fn write_seal(out: &mut String) -> Result<(), AllocError>
-    ensures { OnOk result (string_bytes out.new ≡ string_bytes out.old ++ seal_line) }
+    ensures ok { OnOk result (string_bytes out.new ≡ string_bytes out.old ++ seal_line) }
+    ensures err { OnErr result (string_bytes out.new ≡ string_bytes out.old) }
 {
     out.push_str("seal ok\n")
 }
@@ -285,7 +288,8 @@ pub fn write_seal(out: &mut String) -> Result<(), AllocError>
 /// The line of a lot that was closed: `close granted Q`.
 #[tactic(auto, unfolding(crate::specs::Lines::close_line))]
 pub fn write_close(out: &mut String, granted: u64) -> Result<(), AllocError>
-    ensures { OnOk result (string_bytes out.new ≡ string_bytes out.old ++ close_line granted) }
+    ensures ok { OnOk result (string_bytes out.new ≡ string_bytes out.old ++ close_line granted) }
+    ensures err { OnErr result (string_bytes out.new ≡ string_bytes out.old) }
 {
-    write!(out, "close granted {granted}\n")
+    append(out, format_args!("close granted {granted}\n"))
 }

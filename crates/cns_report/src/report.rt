@@ -1,4 +1,4 @@
-ghost use Rattle.std.specs.Prelude.{◌≡◌, ◌++◌, OnOk, string_bytes};
+ghost use Rattle.std.specs.Prelude.{◌≡◌, ◌++◌, OnOk, OnErr, string_bytes};
 ghost use Rattle.cns_report.specs.Report.{report_head, position_line, position_lines, pool_line, pool_lines, balance_line, balance_lines, cycle_report_text, report_end};
 
 use crate::account::AccountName;
@@ -87,12 +87,14 @@ fn write_balance(out: &mut String, row: &BalanceRow) -> Result<(), AllocError>
 /// issue, then account.
 #[tactic(auto, unfolding(crate::specs::Report::balance_lines))]
 pub fn write_balance_report(out: &mut String, rows: &[BalanceRow]) -> Result<(), AllocError>
-    ensures { OnOk result (string_bytes out.new ≡ string_bytes out.old ++ balance_lines rows.now) }
+    ensures ok { OnOk result (string_bytes out.new ≡ string_bytes out.old ++ balance_lines rows.now) }
+    ensures err { OnErr result (string_bytes out.new ≡ string_bytes out.old) }
 {
+    let mut lines = String::new(*out.allocator());
     for row in rows {
-        write_balance(out, row)?;
+        write_balance(&mut lines, row)?;
     }
-    Ok(())
+    out.push_str(&lines)
 }
 
 /// The book's part of the report: the latest recorded cycle; the positions other than 0, which the
@@ -104,17 +106,21 @@ pub fn write_cycle_report(
     positions: &[PositionRow],
     pools: &[PoolRow],
 ) -> Result<(), AllocError>
-    ensures { OnOk result (string_bytes out.new ≡ string_bytes out.old ++ cycle_report_text latest positions.now pools.now) }
+    ensures ok { OnOk result (string_bytes out.new ≡ string_bytes out.old ++ cycle_report_text latest positions.now pools.now) }
+    ensures err { OnErr result (string_bytes out.new ≡ string_bytes out.old) }
 {
-    write_head(out, latest)?;
-    write_positions(out, positions)?;
-    write_pools(out, pools)
+    let mut report = String::new(*out.allocator());
+    write_head(&mut report, latest)?;
+    write_positions(&mut report, positions)?;
+    write_pools(&mut report, pools)?;
+    out.push_str(&report)
 }
 
 /// The report's last line: `END`.
 #[tactic(auto, unfolding(crate::specs::Report::report_end))]
 pub fn write_report_end(out: &mut String) -> Result<(), AllocError>
-    ensures { OnOk result (string_bytes out.new ≡ string_bytes out.old ++ report_end) }
+    ensures ok { OnOk result (string_bytes out.new ≡ string_bytes out.old ++ report_end) }
+    ensures err { OnErr result (string_bytes out.new ≡ string_bytes out.old) }
 {
     out.push_str("END\n")
 }

@@ -91,8 +91,48 @@ fn lines(rt: HostRuntime) -> Result<(), Fail> {
     write_restart(&mut out, NodeName::Clear, 6, false)?;
     write_restart(&mut out, NodeName::Depot, 1, true)?;
     write_orders(&mut out, &two_orders()?)?;
-    let want =
-        "trade A1 accepted\ntrade A1 refused Same\ntrade A1 refused Conflict\ntrade A1 refused SameMember\ntrade A1 refused Full\nrow 5 fault Settle BadDate\nrow 6 fault Fields\nrow 7 fault Id\nrow 8 fault Buyer BadNumber\nrow 9 fault Seller OutOfRange\nrow 10 fault Cusip BadChar 6\nrow 11 fault Cusip CheckDigit 0\nrow 12 fault Cusip Length\nrow 13 fault Quantity OutOfRange\nline 1 bad command\ncycle 2025-03-04 NIGHT due 2\ncycle refused CycleOrder\ncycle refused NumbersSpent\nsend refused UnknownMove\norder refused NoPacket\norder refused Conflict\nreply refused TooMuch\nsend 1 packet 2\nexec 1 moved 20 packet 3\nagain 1 moved 20 packet 4\nconfirm 1 moved 20 done\nconfirm 1 moved 20 again\nopening row 4 fault Account OutOfRange\nopening row 5 fault Shares BadNumber\nopening row 6 fault Double\nopening row 7 fault IssueSum\nexempt ok\npriority ok\ntrade A1 refused Down\nexempt refused Device\npriority refused Down\nfail ok\nrestart CLEAR records 6 kept no\nrestart DEPOT records 1 kept yes\norder 1 COVER 0001 037833100 60\norder 1000000 DELIVERY 0042 037833100 1000000000000000000\n";
+    let want = "\
+        trade A1 accepted\n\
+        trade A1 refused Same\n\
+        trade A1 refused Conflict\n\
+        trade A1 refused SameMember\n\
+        trade A1 refused Full\n\
+        row 5 fault Settle BadDate\n\
+        row 6 fault Fields\n\
+        row 7 fault Id\n\
+        row 8 fault Buyer BadNumber\n\
+        row 9 fault Seller OutOfRange\n\
+        row 10 fault Cusip BadChar 6\n\
+        row 11 fault Cusip CheckDigit 0\n\
+        row 12 fault Cusip Length\n\
+        row 13 fault Quantity OutOfRange\n\
+        line 1 bad command\n\
+        cycle 2025-03-04 NIGHT due 2\n\
+        cycle refused CycleOrder\n\
+        cycle refused NumbersSpent\n\
+        send refused UnknownMove\n\
+        order refused NoPacket\n\
+        order refused Conflict\n\
+        reply refused TooMuch\n\
+        send 1 packet 2\n\
+        exec 1 moved 20 packet 3\n\
+        again 1 moved 20 packet 4\n\
+        confirm 1 moved 20 done\n\
+        confirm 1 moved 20 again\n\
+        opening row 4 fault Account OutOfRange\n\
+        opening row 5 fault Shares BadNumber\n\
+        opening row 6 fault Double\n\
+        opening row 7 fault IssueSum\n\
+        exempt ok\n\
+        priority ok\n\
+        trade A1 refused Down\n\
+        exempt refused Device\n\
+        priority refused Down\n\
+        fail ok\n\
+        restart CLEAR records 6 kept no\n\
+        restart DEPOT records 1 kept yes\n\
+        order 1 COVER 0001 037833100 60\n\
+        order 1000000 DELIVERY 0042 037833100 1000000000000000000\n";
     assert_eq!(rt; out.as_str(), want);
     Ok(())
 }
@@ -140,8 +180,16 @@ fn a_report(rt: HostRuntime) -> Result<(), Fail> {
     write_cycle_report(&mut out, Some(day), &rows, &pools)?;
     write_balance_report(&mut out, &balances)?;
     write_report_end(&mut out)?;
-    let want =
-        "REPORT cycle none\nEND\nREPORT cycle 2025-03-04 DAY\nPOS 037833100 0001                  -60\nPOS 037833100 0002  1000000000000000000\nPOOL 037833100 free 20 lent 0 out 1000000000000000000\nBAL 037833100 0000                   20\nBAL 037833100 0042  1000000000000000000\nEND\n";
+    let want = "\
+        REPORT cycle none\n\
+        END\n\
+        REPORT cycle 2025-03-04 DAY\n\
+        POS 037833100 0001                  -60\n\
+        POS 037833100 0002  1000000000000000000\n\
+        POOL 037833100 free 20 lent 0 out 1000000000000000000\n\
+        BAL 037833100 0000                   20\n\
+        BAL 037833100 0042  1000000000000000000\n\
+        END\n";
     assert_eq!(rt; out.as_str(), want);
     Ok(())
 }
@@ -161,8 +209,14 @@ fn lot_lines(rt: HostRuntime) -> Result<(), Fail> {
     write_look(&mut out, 40, 30, true)?;
     write_seal(&mut out)?;
     write_close(&mut out, 30)?;
-    let want =
-        "lot 1 poured 40 longs 2\npour 0\nticket 0003 start 30 asked 10\nlook poured 40 asked 0 sealed no\nlook poured 40 asked 30 sealed yes\nseal ok\nclose granted 30\n";
+    let want = "\
+        lot 1 poured 40 longs 2\n\
+        pour 0\n\
+        ticket 0003 start 30 asked 10\n\
+        look poured 40 asked 0 sealed no\n\
+        look poured 40 asked 30 sealed yes\n\
+        seal ok\n\
+        close granted 30\n";
     assert_eq!(rt; out.as_str(), want);
     Ok(())
 }
@@ -181,8 +235,18 @@ fn lot_refusals(rt: HostRuntime) -> Result<(), Fail> {
     write_refused(&mut out, Subject::Seal, Refusal::StaleLot)?;
     write_refused(&mut out, Subject::Close, Refusal::LotBusy)?;
     write_refused(&mut out, Subject::Close, Refusal::Unserved)?;
-    let want =
-        "cycle refused LotsOpen\nlot refused LotAlready\nlot refused LotsSpent\npour refused NoLot\nlook refused StaleLot\nreserve refused NotLong\nreserve refused EarlierGroup\nreserve refused Sealed\nseal refused StaleLot\nclose refused LotBusy\nclose refused Unserved\n";
+    let want = "\
+        cycle refused LotsOpen\n\
+        lot refused LotAlready\n\
+        lot refused LotsSpent\n\
+        pour refused NoLot\n\
+        look refused StaleLot\n\
+        reserve refused NotLong\n\
+        reserve refused EarlierGroup\n\
+        reserve refused Sealed\n\
+        seal refused StaleLot\n\
+        close refused LotBusy\n\
+        close refused Unserved\n";
     assert_eq!(rt; out.as_str(), want);
     Ok(())
 }

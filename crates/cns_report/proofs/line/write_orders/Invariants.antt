@@ -3,4 +3,4 @@ use Rattle.cns_report.specs.Lines.{order_lines}
 use Rattle.cns_report.proofs.line.write_orders.Given as goal
 
 abbrev pub invariant-loop-order : goal.invariant-loop-order
-invariant-loop-order l = string_bytes l.out ++ order_lines (drop l.order-index l.orders) ≡ string_bytes l.fn.out ++ order_lines l.orders
+invariant-loop-order l = string_bytes l.lines ++ order_lines (drop l.order-index l.orders) ≡ order_lines l.orders
