@@ -18,6 +18,6 @@ returns-in-Ok-clause-text c =
     rw c.in-Some.is
     (on_ok c.count_line.result _ _
     (λ told.
-    told ∙ ap (λ l. l ++ (line_counted c.args.course).1) c.in-Ok.ensures
+    told ∙ ap (λ l. l ++ (line_counted c.args.course).1) c.in-Ok.ensures.ok
     ∙ append_assoc (string_bytes c.args.out.now) (bad_command_line c.args.number) (line_counted c.args.course).1)
     c.count_line.ensures.text)
