@@ -1,7 +1,7 @@
 -- The two laws of the clearing node's records: what is read is spelled so, and what is spelled so is read.
 -- With them: no two records are spelled alike.
-use Rattle.std.proofs.Common.{◌≡◌, ◌≢◌, ℕ, suc, ◌^◌, ◌≤◌, Bool, true, false, List, [], ◌∷◌, ◌++◌, length, map, Result, Ok, Err, refl, sym, ap, subst, ◌∙◌, inl, inr, arith, lit≤}
-use Rattle.std.specs.Prelude.{IfOk, ◌==◌, ◌&&◌, nat_le, not}
+use Rattle.std.proofs.Common.{◌≡◌, ◌≢◌, ℕ, suc, ◌^◌, ◌<◌, ◌≤◌, Bool, true, false, List, [], ◌∷◌, ◌++◌, length, Result, Ok, Err, refl, sym, ap, subst, ◌∙◌, inl, inr, arith, lit≤}
+use Rattle.std.specs.Prelude.{IfOk, IsErrAnd, ◌==◌, nat_le, not}
 use Rattle.std.specs.Int.{w16, w64, to_be_bytes}
 use Rattle.std.proofs.lemmas.Bool.{eqb-true, eqb-false, ne_eqb, not-true, leb-true, le-leb}
 use Rattle.cns_ids.specs.Cusip.{cusip_text}
@@ -16,13 +16,13 @@ use Rattle.cns_records.specs.declared.clear_record.ClearRecord.TheVariants.{Acce
 use Rattle.cns_journal.specs.declared.record_log.RecordFault.{RecordFault}
 use Rattle.cns_journal.specs.declared.record_log.RecordFault.TheVariants as fault
 use Rattle.cns_records.specs.declared.allocation.Allocation.{Allocation}
-use Rattle.cns_records.specs.Fields.{bad, whole, id_bytes, day_bytes, flag_bytes, cycle_kind_bytes}
-use Rattle.cns_records.specs.Clear.{spelling, IsTradeInRange, IsAllocationInRange, HasRanges, IsWritable, HasPayload, accepted, accept_of, exempt_of, priority_of, cycle_of, allocated, allocate_of, confirm_of, of_kind, read_clear_of, ReadsAs}
-use Rattle.cns_records.specs.Drawn.{by_start, drawn_bytes}
+use Rattle.cns_records.specs.Fields.{bad, whole, tested, tested_at, id_bytes, day_bytes, flag_bytes, cycle_kind_bytes}
+use Rattle.cns_records.specs.Clear.{spelling, IsTradeInRange, IsAllocationInRange, HasRanges, IsWritable, HasPayload, accepted, accept_of, exempt_of, priority_of, cycle_of, allocation_of, allocate_of, confirm_of, of_kind, read_clear_of, ReadsAs}
+use Rattle.cns_records.specs.Drawn.{drawn_bytes, drawn_of, AnswersIfRoom}
 use Rattle.cns_movements.proofs.BytesLemmas.{IsBytes}
-use Rattle.cns_records.proofs.FieldLemmas.{bind_ok, chosen, tested_ok, whole_ok, done, ok_is, step, chain, last, again_last, number_field, wide64}
+use Rattle.cns_records.proofs.FieldLemmas.{bind_ok, ok_value, chosen, tested_ok, whole_ok, done, ok_is, Takes, IsField, step, chain, last, again_last, number_field, wide64}
 use Rattle.cns_records.proofs.FieldLaws.{id_field, day_field, member_field, issue_field, quantity_field, shares_field, flag_field, cycle_kind_field, move_no_field}
-use Rattle.cns_records.proofs.DrawnLaws.{both, drawn_field, tickets_length, by_start-sound, by_start-complete}
+use Rattle.cns_records.proofs.DrawnLaws.{drawn_takes, drawn_again, tickets_length}
 
 id_short : (id : List ℕ) → IsId id → length id ≤ 16
 id_short id is = grind (arith, nat_tests)
@@ -100,27 +100,40 @@ cycle_takes bytes r fits e =
     let parts = chain (day_bytes day.value) day.parts (last (cycle_kind_bytes kind.value) kind.parts d.0) in
     subst (Spells 4 bytes) d.1 (front 4 parts, day.fits, tt)
 
-allocate_takes : (bytes : List ℕ) (r : ClearRecord) → IsBytes bytes → allocate_of bytes ≡ Ok r → Spells 5 bytes r
-unfolding allocate_of spelling
-allocate_takes bytes r fits e =
-    let issue = step issue_field bytes _ r fits e in
-    let opened = step (number_field w64 (2 ^ 64) wide64) issue.rest _ r issue.rest_fits issue.then in
-    let upto = step (number_field w64 (2 ^ 64) wide64) opened.rest _ r opened.rest_fits opened.then in
-    let poured = step shares_field upto.rest _ r upto.rest_fits upto.then in
-    let sealed = step flag_field poured.rest _ r poured.rest_fits poured.then in
-    let drawn = step drawn_field sealed.rest _ r sealed.rest_fits sealed.then in
-    let allocation : Allocation = record { issue = issue.value; opened = opened.value; upto = upto.value; poured = poured.value; sealed = sealed.value; drawn = drawn.value } in
-    let w = bind_ok (whole drawn.rest allocation) allocated r drawn.then in
-    let d = whole_ok drawn.rest allocation w.0 w.1 in
-    let t = tested_ok (nat_le w.0.opened w.0.upto && by_start w.0.drawn) (Allocate w.0) r w.2 in
-    let b = both _ _ t.0 in
+-- a last pour not before the opening
+last_pour_field : (opened : ℕ) → IsField (tested_at w64 (nat_le opened)) (to_be_bytes w64) (λ upto. (upto < 2 ^ 64) × (opened ≤ upto))
+last_pour_field opened = record { takes = takes; again = again } where
+  takes : (bytes : List ℕ) (x : ℕ × List ℕ) → IsBytes bytes → tested_at w64 (nat_le opened) bytes ≡ Ok x → Takes bytes (to_be_bytes w64 x.0) x.1 × ((x.0 < 2 ^ 64) × (opened ≤ x.0))
+  takes bytes x fits e =
+      let upto = step (number_field w64 (2 ^ 64) wide64) bytes (λ upto. tested (nat_le opened upto.0) upto) x fits e in
+      let t = tested_ok (nat_le opened upto.value) (upto.value, upto.rest) x upto.then in
+      subst (λ (p : ℕ × List ℕ). Takes bytes (to_be_bytes w64 p.0) p.1 × ((p.0 < 2 ^ 64) × (opened ≤ p.0))) t.1
+      (record { parts = upto.parts; rest_fits = upto.rest_fits }, (upto.fits, leb-true _ _ t.0))
+
+  again : (upto : ℕ) (rest : List ℕ) → (upto < 2 ^ 64) × (opened ≤ upto) → tested_at w64 (nat_le opened) (to_be_bytes w64 upto ++ rest) ≡ Ok (upto, rest)
+  again upto rest fits = rw ((number_field w64 (2 ^ 64) wide64).again upto rest fits.0, le-leb opened upto fits.1) refl
+
+allocation_takes : (bytes : List ℕ) (a : Allocation) → IsBytes bytes → allocation_of bytes ≡ Ok a → Spells 5 bytes (Allocate a)
+unfolding allocation_of spelling
+allocation_takes bytes a fits e =
+    let issue = step issue_field bytes _ a fits e in
+    let opened = step (number_field w64 (2 ^ 64) wide64) issue.rest _ a issue.rest_fits issue.then in
+    let upto = step (last_pour_field opened.value) opened.rest _ a opened.rest_fits opened.then in
+    let poured = step shares_field upto.rest _ a upto.rest_fits upto.then in
+    let sealed = step flag_field poured.rest _ a poured.rest_fits poured.then in
+    let drawn = bind_ok (drawn_of sealed.rest) _ a sealed.then in
+    let d = drawn_takes sealed.rest drawn.0 sealed.rest_fits drawn.1 in
+    let allocation : Allocation = record { issue = issue.value; opened = opened.value; upto = upto.value; poured = poured.value; sealed = sealed.value; drawn = drawn.0 } in
     let parts = chain (cusip_text issue.value) issue.parts (chain (to_be_bytes w64 opened.value) opened.parts (chain (to_be_bytes w64 upto.value) upto.parts
-    (chain (to_be_bytes w64 poured.value) poured.parts (chain (flag_bytes sealed.value) sealed.parts (last (drawn_bytes drawn.value) drawn.parts d.0))))) in
-    let ranges : IsAllocationInRange allocation = record { issue = issue.fits; opened = opened.fits; upto = upto.fits; poured = poured.fits; drawn = drawn.fits } in
-    let spelled : (spelling (Allocate w.0) ≡ 1 ∷ 5 ∷ bytes) × IsAllocationInRange w.0 =
-    subst (λ (a : Allocation). (spelling (Allocate a) ≡ 1 ∷ 5 ∷ bytes) × IsAllocationInRange a) d.1 (front 5 parts, ranges) in
-    let writable : IsWritable (Allocate w.0) = (leb-true _ _ b.0, by_start-sound w.0.drawn b.1) in
-    subst (Spells 5 bytes) t.1 (spelled.0, spelled.1, writable)
+    (chain (to_be_bytes w64 poured.value) poured.parts (chain (flag_bytes sealed.value) sealed.parts d.0)))) in
+    let ranges : IsAllocationInRange allocation = record { issue = issue.fits; opened = opened.fits; upto = upto.fits.0; poured = poured.fits; drawn = d.1 } in
+    let same : allocation ≡ a = ok_is allocation a drawn.2 in
+    subst (λ (b : Allocation). Spells 5 bytes (Allocate b)) same (front 5 parts, ranges, (upto.fits.1, d.2))
+
+allocate_takes : (bytes : List ℕ) (r : ClearRecord) → IsBytes bytes → allocate_of bytes ≡ Ok r → Spells 5 bytes r
+allocate_takes bytes r fits e =
+    let allocation = bind_ok (allocation_of bytes) _ r e in
+    subst (Spells 5 bytes) (ok_is (Allocate allocation.0) r allocation.2) (allocation_takes bytes allocation.0 fits allocation.1)
 
 confirm_takes : (bytes : List ℕ) (r : ClearRecord) → IsBytes bytes → confirm_of bytes ≡ Ok r → Spells 6 bytes r
 unfolding confirm_of spelling
@@ -156,6 +169,18 @@ of_kind_takes k bytes r fits e1 = elim (chosen (k == 1) _ _ _ e1) [
   ]
 ]
 
+-- bytes that are read as no allocation, or as one for which memory is short
+pub no_allocation : (payload fields : List ℕ) (f : RecordFault) (answer : Result ClearRecord RecordFault) → read_clear_of payload ≡ allocate_of fields → AnswersIfRoom (Err f) (allocation_of fields)
+    → IsErrAnd answer (λ g. g ≡ f) → ReadsAs payload answer
+no_allocation payload fields f (Ok r) is none same = absurd same
+no_allocation payload fields f (Err g) is none same = subst (λ (h : RecordFault). ReadsAs payload (Err h)) (sym same) (told f none) where
+  of_value : {a : Allocation} → allocation_of fields ≡ Ok a → allocate_of fields ≡ Ok (Allocate a)
+  of_value e = rw e refl
+
+  told : (f : RecordFault) → AnswersIfRoom (Err f) (allocation_of fields) → ReadsAs payload (Err f)
+  told fault.BadRecord none = is ∙ rw none refl
+  told fault.OutOfMemory some = let allocation = ok_value (allocation_of fields) some in (allocation.0, is ∙ of_value allocation.1)
+
 -- What is read as a record is spelled by just these bytes, has its ranges, and is read again.
 pub read_takes : (bytes : List ℕ) (r : ClearRecord) → IsBytes bytes → read_clear_of bytes ≡ Ok r → (spelling r ≡ bytes) × HasRanges r × IsWritable r
 unfolding read_clear_of
@@ -171,7 +196,7 @@ read_takes (v ∷ k ∷ bytes) r fits e =
 
 -- A record with its ranges is read again, where it is writable.
 pub read-spelling : (r : ClearRecord) → HasRanges r → IsWritable r → read_clear_of (spelling r) ≡ Ok r
-unfolding read_clear_of spelling accept_of exempt_of priority_of cycle_of allocate_of confirm_of
+unfolding read_clear_of spelling accept_of exempt_of priority_of cycle_of allocation_of confirm_of
 read-spelling (Accept t) fits differ =
     let quantity = to_be_bytes w64 t.quantity in
     let issue = cusip_text t.issue ++ quantity in
@@ -203,12 +228,10 @@ read-spelling (Allocate a) fits writable =
     rw (
       issue_field.again a.issue opened fits.issue,
       wide.again a.opened upto fits.opened,
-      wide.again a.upto poured fits.upto,
+      (last_pour_field a.opened).again a.upto poured (fits.upto, writable.0),
       shares_field.again a.poured sealed fits.poured,
       flag_field.again a.sealed drawn tt,
-      again_last drawn_field a.drawn fits.drawn,
-      le-leb a.opened a.upto writable.0,
-      by_start-complete a.drawn writable.1,
+      drawn_again a.drawn fits.drawn writable.1,
     ) refl
 read-spelling (Confirm r) fits u =
     rw (move_no_field.again r.number (to_be_bytes w64 r.moved) fits.0, again_last shares_field r.moved fits.1) refl

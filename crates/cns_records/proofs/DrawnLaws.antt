@@ -1,17 +1,17 @@
 -- The tickets of an allocation: what is read is what was written, and the other way round; and their order.
-use Rattle.std.proofs.Common.{◌≡◌, ℕ, zero, suc, ◌+◌, ◌*◌, ◌^◌, ◌<◌, ◌≤◌, Bool, true, false, List, [], ◌∷◌, ◌++◌, length, take, drop, add-one, Result, Ok, Err, refl, sym, ap, subst, ◌∙◌, arith}
-use Rattle.std.specs.Prelude.{nat_lt, ◌&&◌}
-use Rattle.std.specs.Int.{Width, w16, w32, w64, byte_len, from_be_bytes, to_be_bytes}
+use Rattle.std.proofs.Common.{◌≡◌, ℕ, zero, suc, ◌*◌, ◌^◌, ◌<◌, ◌≤◌, Bool, true, false, List, [], ◌∷◌, ◌++◌, length, add-one, Result, Ok, Err, refl, sym, ap, ap₂, subst, ◌∙◌, arith}
+use Rattle.std.specs.Prelude.{nat_le, ◌==◌, ◌&&◌, IsOk, is_ok}
+use Rattle.std.specs.Int.{w16, w32, w64, to_be_bytes}
 use Rattle.std.specs.List.{All, AllAdjacentBelow, flat_map}
-use Rattle.std.proofs.lemmas.Bool.{leb-true, le-leb, ltb-false}
-use Rattle.std.proofs.lemmas.List.{append_assoc, append-nil, length-drop}
+use Rattle.std.proofs.lemmas.Bool.{leb-true, le-leb, lt-leb}
+use Rattle.std.proofs.lemmas.List.{append_assoc, append-nil}
 use Rattle.std.proofs.lemmas.List.Sorted.{IsNonDecreasingBy-from_all_adjacent, all_adjacent_from_non_decreasing}
 use Rattle.cns_records.specs.declared.bad_record.BadRecord.{BadRecord}
 use Rattle.cns_records.specs.declared.drawn.Drawn.{Drawn}
-use Rattle.cns_records.specs.Fields.{bad, ◌>>=◌, number_at, tested_at, member_at, shares_at, asked_at}
-use Rattle.cns_records.specs.Drawn.{IsDrawn, AreDrawn, IsByStart, starts_from, by_start, ticket_bytes, ticket_at, tickets_at, is_few, drawn_bytes, drawn_at}
+use Rattle.cns_records.specs.Fields.{bad, ◌>>=◌, tested, tested_at, whole}
+use Rattle.cns_records.specs.Drawn.{IsDrawn, AreDrawn, IsByStart, starts_from, by_start, ticket_bytes, ticket_at, tickets_at, is_few, drawn_bytes, tickets_of, drawn_of}
 use Rattle.cns_movements.proofs.BytesLemmas.{IsBytes}
-use Rattle.cns_records.proofs.FieldLemmas.{bind_ok, guard_ok, tested_ok, ok_is, Takes, IsField, step, chain, tested_field, wide32}
+use Rattle.cns_records.proofs.FieldLemmas.{bind_ok, ok_value, tested_ok, whole_ok, ok_is, Takes, IsField, step, chain, last, tested_field, wide32}
 use Rattle.cns_records.proofs.FieldLaws.{member_field, shares_field, asked_field}
 
 -- ---- a ticket
@@ -78,75 +78,8 @@ few-sound n h = leb-true n 9999 h
 few-complete : (n : ℕ) → n ≤ 9999 → (n < 2 ^ 32) × (is_few n ≡ true)
 few-complete n le = (omega arith, le-leb n 9999 le)
 
-pub drawn_field : IsField drawn_at drawn_bytes AreDrawn
-unfolding drawn_at
-drawn_field = record { takes = takes; again = again } where
-  count_field : IsField (tested_at w32 is_few) (to_be_bytes w32) (λ n. n ≤ 9999)
-  count_field = tested_field w32 (2 ^ 32) wide32 is_few (λ n. n ≤ 9999) few-sound few-complete
-
-  takes : (bytes : List ℕ) (x : List Drawn × List ℕ) → IsBytes bytes → drawn_at bytes ≡ Ok x → Takes bytes (drawn_bytes x.0) x.1 × AreDrawn x.0
-  takes bytes x fits e =
-      let count = step count_field bytes _ x fits e in
-      let t = tickets_take count.value count.rest x count.rest_fits count.then in
-      let parts : bytes ≡ drawn_bytes x.0 ++ x.1 =
-      chain (to_be_bytes w32 count.value) count.parts t.0.parts ∙ ap (λ (n : ℕ). to_be_bytes w32 n ++ (flat_map ticket_bytes x.0 ++ x.1)) (sym t.1) in
-      let few : length x.0 ≤ 9999 = subst (λ (n : ℕ). n ≤ 9999) (sym t.1) count.fits in
-      (record { parts = parts; rest_fits = t.0.rest_fits }, record { few = few; each = t.2 })
-
-  again : (ts : List Drawn) (rest : List ℕ) → AreDrawn ts → drawn_at (drawn_bytes ts ++ rest) ≡ Ok (ts, rest)
-  again ts rest fits = rw (count_field.again (length ts) (flat_map ticket_bytes ts ++ rest) fits.few) (tickets_again ts rest fits.each)
-
--- ---- where bytes are missing
-
-number_long : (w : Width) (bytes : List ℕ) (x : ℕ × List ℕ) → number_at w bytes ≡ Ok x → length bytes ≡ byte_len w + length x.1
-unfolding number_at
-number_long w bytes x e =
-    let g = guard_ok (nat_lt (length bytes) (byte_len w)) (from_be_bytes w (take (byte_len w) bytes), drop (byte_len w) bytes) x e in
-    let long : byte_len w ≤ length bytes = ltb-false _ _ g.0 in
-    subst (λ (p : ℕ × List ℕ). length bytes ≡ byte_len w + length p.1) g.1 (omega (arith, length-drop (byte_len w) bytes))
-
-tested_long : (w : Width) (test : ℕ → Bool) (bytes : List ℕ) (x : ℕ × List ℕ) → tested_at w test bytes ≡ Ok x → length bytes ≡ byte_len w + length x.1
-tested_long w test bytes x e =
-    let number = bind_ok (number_at w bytes) _ x e in
-    let t = tested_ok (test number.0.0) number.0 x number.2 in
-    subst (λ (p : ℕ × List ℕ). length bytes ≡ byte_len w + length p.1) t.1 (number_long w bytes number.0 number.1)
-
-ticket_long : (bytes : List ℕ) (x : Drawn × List ℕ) → ticket_at bytes ≡ Ok x → length bytes ≡ 18 + length x.1
-unfolding ticket_at member_at shares_at asked_at
-ticket_long bytes x e =
-    let member = bind_ok (member_at bytes) _ x e in
-    let start = bind_ok (shares_at member.0.1) _ x member.2 in
-    let asked = bind_ok (asked_at start.0.1) _ x start.2 in
-    let is = ok_is _ x asked.2 in
-    let a = tested_long w16 _ bytes member.0 member.1 in
-    let b = tested_long w64 _ member.0.1 start.0 start.1 in
-    let c = tested_long w64 _ start.0.1 asked.0 asked.1 in
-    subst (λ (p : Drawn × List ℕ). length bytes ≡ 18 + length p.1) is (omega arith)
-
-tickets_long : (n : ℕ) (bytes : List ℕ) (x : List Drawn × List ℕ) → tickets_at n bytes ≡ Ok x → n * 18 ≤ length bytes
-unfolding tickets_at
-tickets_long zero bytes x e = omega arith
-tickets_long (suc n) bytes x e =
-    let first = bind_ok (ticket_at bytes) _ x e in
-    let others = bind_ok (tickets_at n first.0.1) _ x first.2 in
-    omega (arith, ticket_long bytes first.0 first.1, tickets_long n first.0.1 others.0 others.1)
-
--- as many tickets are read as there are to be
-pub tickets_count : (n : ℕ) (bytes : List ℕ) (x : List Drawn × List ℕ) → tickets_at n bytes ≡ Ok x → length x.0 ≡ n
-unfolding tickets_at
-tickets_count zero bytes x e = ap (λ (p : List Drawn × List ℕ). length p.0) (sym (ok_is ([], bytes) x e))
-tickets_count (suc n) bytes x e =
-    let first = bind_ok (ticket_at bytes) _ x e in
-    let others = bind_ok (tickets_at n first.0.1) _ x first.2 in
-    ap (λ (p : List Drawn × List ℕ). length p.0) (sym (ok_is (first.0.0 ∷ others.0.0, others.0.1) x others.2)) ∙ ap suc (tickets_count n first.0.1 others.0 others.1)
-
-refused : {A : Type 0} (r : Result A BadRecord) → ((x : A) → r ≡ Ok x → ⊥) → r ≡ bad
-refused (Ok x) never = absurd (never x refl)
-refused (Err e) never = refl
-
--- no tickets are read where their bytes are missing
-pub tickets_short : (n : ℕ) (bytes : List ℕ) → length bytes < n * 18 → tickets_at n bytes ≡ bad
-tickets_short n bytes short = refused (tickets_at n bytes) (λ x e. omega (arith, tickets_long n bytes x e))
+count_field : IsField (tested_at w32 is_few) (to_be_bytes w32) (λ n. n ≤ 9999)
+count_field = tested_field w32 (2 ^ 32) wide32 is_few (λ n. n ≤ 9999) few-sound few-complete
 
 -- ---- tickets that are read one by one
 
@@ -230,3 +163,122 @@ by_start-sound ts e = IsNonDecreasingBy-from_all_adjacent (λ (t : Drawn). t.sta
 
 pub by_start-complete : (ts : List Drawn) → IsByStart ts → by_start ts ≡ true
 by_start-complete ts h = starts 0 ts (starts_at_0 ts) (all_adjacent_from_non_decreasing (λ (t : Drawn). t.start) ts h)
+
+-- ---- the tickets that bytes are
+
+-- as many tickets are read as there are to be
+pub tickets_count : (n : ℕ) (bytes : List ℕ) (x : List Drawn × List ℕ) → tickets_at n bytes ≡ Ok x → length x.0 ≡ n
+unfolding tickets_at
+tickets_count zero bytes x e = ap (λ (p : List Drawn × List ℕ). length p.0) (sym (ok_is ([], bytes) x e))
+tickets_count (suc n) bytes x e =
+    let first = bind_ok (ticket_at bytes) _ x e in
+    let others = bind_ok (tickets_at n first.0.1) _ x first.2 in
+    ap (λ (p : List Drawn × List ℕ). length p.0) (sym (ok_is (first.0.0 ∷ others.0.0, others.0.1) x others.2)) ∙ ap suc (tickets_count n first.0.1 others.0 others.1)
+
+-- what was read in front of the tickets that bytes are
+tickets_front : (n : ℕ) (bytes : List ℕ) (ts : List Drawn) → tickets_of n bytes ≡ Ok ts → (tickets_at n bytes ≡ Ok (ts, [])) × (by_start ts ≡ true)
+unfolding tickets_of
+tickets_front n bytes ts e =
+    let front = bind_ok (tickets_at n bytes) _ ts e in
+    let listed = bind_ok (whole front.0.1 front.0.0) _ ts front.2 in
+    let end = whole_ok front.0.1 front.0.0 listed.0 listed.1 in
+    let sorted = tested_ok (by_start listed.0) listed.0 ts listed.2 in
+    (front.1 ∙ ap₂ (λ (us : List Drawn) (rest : List ℕ). Ok (us, rest)) (end.1 ∙ sorted.1) end.0, subst (λ (us : List Drawn). by_start us ≡ true) sorted.1 sorted.0)
+
+-- where the bytes are so many tickets, so many are in front
+pub tickets_there : (n : ℕ) (bytes : List ℕ) → IsOk (tickets_of n bytes) → IsOk (tickets_at n bytes)
+tickets_there n bytes there = let ts = ok_value (tickets_of n bytes) there in ap is_ok (tickets_front n bytes ts.0 ts.1).0
+
+-- tickets by their starts and nothing after them are the tickets that bytes are
+tickets_whole : (n : ℕ) (bytes : List ℕ) (ts : List Drawn) → tickets_at n bytes ≡ Ok (ts, []) → by_start ts ≡ true → tickets_of n bytes ≡ Ok ts
+unfolding tickets_of
+tickets_whole n bytes ts e sorted = rw (e, sorted) refl
+
+pub drawn_takes : (bytes : List ℕ) (ts : List Drawn) → IsBytes bytes → drawn_of bytes ≡ Ok ts → (bytes ≡ drawn_bytes ts) × AreDrawn ts × IsByStart ts
+unfolding drawn_of
+drawn_takes bytes ts fits e =
+    let count = step count_field bytes (λ n. tickets_of n.0 n.1) ts fits e in
+    let front = tickets_front count.value count.rest ts count.then in
+    let taken = tickets_take count.value count.rest (ts, []) count.rest_fits front.0 in
+    let parts : bytes ≡ drawn_bytes ts =
+    chain (to_be_bytes w32 count.value) count.parts (last (flat_map ticket_bytes ts) taken.0.parts refl) ∙ ap (λ (n : ℕ). to_be_bytes w32 n ++ flat_map ticket_bytes ts) (sym taken.1) in
+    let few : length ts ≤ 9999 = subst (λ (n : ℕ). n ≤ 9999) (sym taken.1) count.fits in
+    (parts, record { few = few; each = taken.2 }, by_start-sound ts front.1)
+
+pub drawn_again : (ts : List Drawn) → AreDrawn ts → IsByStart ts → drawn_of (drawn_bytes ts) ≡ Ok ts
+unfolding drawn_of
+drawn_again ts fits sorted =
+    let count = count_field.again (length ts) (flat_map ticket_bytes ts) fits.few in
+    let front : tickets_at (length ts) (flat_map ticket_bytes ts) ≡ Ok (ts, []) = rw append-nil at (tickets_again ts [] fits.each) in
+    rw count (tickets_whole (length ts) (flat_map ticket_bytes ts) ts front (by_start-complete ts sorted))
+
+-- so many tickets that are read, where the bytes are so many tickets, are these
+pub tickets_all : (n : ℕ) (bytes : List ℕ) (x : List Drawn × List ℕ) → IsOk (tickets_of n bytes) → tickets_at n bytes ≡ Ok x → tickets_of n bytes ≡ Ok x.0
+tickets_all n bytes x there e =
+    let ts = ok_value (tickets_of n bytes) there in
+    let same = ok_is (ts.0, []) x (sym (tickets_front n bytes ts.0 ts.1).0 ∙ e) in
+    ts.1 ∙ ap (λ (p : List Drawn × List ℕ). Ok p.0) same
+
+-- ---- tickets that are tested one by one
+
+-- the tickets that bytes are, so many of them, of which none starts below the one before it, and the first not below this
+abbrev pub tickets_from : ℕ → ℕ → List ℕ → Result (List Drawn) BadRecord
+tickets_from low n bytes = tickets_at n bytes >>= λ front. whole front.1 front.0 >>= λ tickets. tested (starts_from low tickets) tickets
+
+-- no ticket yet
+pub from_first : (n m : ℕ) (bytes rest : List ℕ) → m ≡ n → rest ≡ bytes → is_ok (tickets_of n bytes) ≡ is_ok (tickets_from 0 m rest)
+unfolding tickets_of
+from_first n m bytes rest is same = rw (is, same) refl
+
+-- a value that passes two tests
+two_tests : {A : Type 0} (first : Bool) (x : A) (second : A → Bool) → is_ok (tested first x >>= λ y. tested (second y) y) ≡ (first && second x)
+two_tests true x second = one (second x) where
+  one : (b : Bool) → is_ok (tested b x) ≡ b
+  one true = refl
+  one false = refl
+two_tests false x second = refl
+
+middle : (a b c : Bool) → (a && (b && c)) ≡ (b && (a && c))
+middle true b c = refl
+middle false true c = refl
+middle false false c = refl
+
+-- one ticket before others
+abbrev with_first : Drawn → Result (List Drawn × List ℕ) BadRecord → Result (List Drawn × List ℕ) BadRecord
+with_first t r = r >>= λ others. Ok (t ∷ others.0, others.1)
+
+from-cons : (low : ℕ) (t : Drawn) (r : Result (List Drawn × List ℕ) BadRecord)
+    → is_ok (with_first t r >>= λ front. whole front.1 front.0 >>= λ tickets. tested (starts_from low tickets) tickets)
+    ≡ (nat_le low t.start && is_ok (r >>= λ front. whole front.1 front.0 >>= λ tickets. tested (starts_from t.start tickets) tickets))
+from-cons low t (Ok x) =
+    two_tests (length x.1 == 0) (t ∷ x.0) (starts_from low) ∙ middle (length x.1 == 0) (nat_le low t.start) (starts_from t.start x.0)
+    ∙ ap (λ (b : Bool). nat_le low t.start && b) (sym (two_tests (length x.1 == 0) x.0 (starts_from t.start)))
+from-cons low t (Err e) = never (nat_le low t.start) where
+  never : (b : Bool) → false ≡ (b && false)
+  never true = refl
+  never false = refl
+
+-- a ticket that starts below the one before it
+pub from_low : (low n m : ℕ) (bytes : List ℕ) (t : Drawn) (rest : List ℕ) → n ≡ suc m → ticket_at bytes ≡ Ok (t, rest) → t.start < low
+    → is_ok (tickets_from low n bytes) ≡ false
+unfolding tickets_at
+from_low low n m bytes t rest is e below = rw (is, e) (from-cons low t (tickets_at m rest) ∙ rw (lt-leb low t.start below) refl)
+
+-- one more ticket
+pub from_more : (low n m : ℕ) (bytes : List ℕ) (t : Drawn) (rest : List ℕ) → n ≡ suc m → ticket_at bytes ≡ Ok (t, rest) → low ≤ t.start
+    → is_ok (tickets_from low n bytes) ≡ is_ok (tickets_from t.start m rest)
+unfolding tickets_at
+from_more low n m bytes t rest is e up = rw (is, e) (from-cons low t (tickets_at m rest) ∙ rw (le-leb low t.start up) refl)
+
+-- a ticket that is not read
+pub from_bad : (low n m : ℕ) (bytes : List ℕ) (e : BadRecord) → n ≡ suc m → ticket_at bytes ≡ Err e → is_ok (tickets_from low n bytes) ≡ false
+unfolding tickets_at
+from_bad low n m bytes e is bad_is = rw (is, bad_is) refl
+
+-- no more tickets
+pub from_all : (low n : ℕ) (bytes : List ℕ) → n ≡ 0 → is_ok (tickets_from low n bytes) ≡ (length bytes == 0)
+unfolding tickets_at
+from_all low n bytes is = rw is (two_tests (length bytes == 0) [] (starts_from low) ∙ always (length bytes == 0)) where
+  always : (b : Bool) → (b && true) ≡ b
+  always true = refl
+  always false = refl

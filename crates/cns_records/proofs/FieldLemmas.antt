@@ -1,6 +1,6 @@
 -- A field that is read is the field that was written, and what was written is read again.
 use Rattle.std.proofs.Common.{◌≡◌, ℕ, suc, ◌^◌, ◌<◌, ◌≤◌, Bool, true, false, cond, ltb, List, [], ◌∷◌, ◌++◌, length, take, drop, Result, Ok, Err, refl, sym, ap, subst, ◌∙◌, arith, ◌⊎◌, inl, inr}
-use Rattle.std.specs.Prelude.{◌==◌}
+use Rattle.std.specs.Prelude.{◌==◌, IsOk}
 use Rattle.std.specs.Int.{Width, w16, w32, w64, byte_len, from_be_bytes, to_be_bytes}
 use Rattle.std.proofs.lemmas.Bool.{ltb-false, le-ltb, eqb-true}
 use Rattle.std.proofs.lemmas.List.{take_at, drop_at, take-append-drop, length-append, length-take, nil_from_length, append-nil}
@@ -19,6 +19,11 @@ IsBytes-rest b bytes h i = h (suc i)
 pub bind_ok : {A B : Type 0} (r : Result A BadRecord) (f : A → Result B BadRecord) (y : B) → (r >>= f) ≡ Ok y → (x : A) × (r ≡ Ok x) × (f x ≡ Ok y)
 bind_ok (Ok x) f y e = (x, refl, e)
 bind_ok (Err d) f y e = absurd cc
+
+-- what was read, where something was
+pub ok_value : {A : Type 0} (r : Result A BadRecord) → IsOk r → (x : A) × (r ≡ Ok x)
+ok_value (Ok x) ok = (x, refl)
+ok_value (Err e) ok = absurd cc
 
 pub tested_ok : {A : Type 0} (b : Bool) (x y : A) → tested b x ≡ Ok y → (b ≡ true) × (x ≡ y)
 tested_ok true x y e = (refl, cc)

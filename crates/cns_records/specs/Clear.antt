@@ -1,5 +1,5 @@
 -- The records of the clearing node and the payload of each (this project's own format).
-use Rattle.std.specs.Prelude.{◌≡◌, ◌≢◌, ℕ, ◌^◌, ◌<◌, ◌≤◌, nat_le, ◌==◌, not, ◌&&◌, List, [], ◌∷◌, ◌++◌, take, Result, Ok, Err, if◌then◌else◌}
+use Rattle.std.specs.Prelude.{◌≡◌, ◌≢◌, ℕ, ◌^◌, ◌<◌, ◌≤◌, nat_le, ◌==◌, not, List, ◌∷◌, ◌++◌, Result, Ok, Err, if◌then◌else◌}
 use Rattle.std.specs.Int.{w16, w64, to_be_bytes}
 use Rattle.cns_ids.specs.Cusip.{IsCusip, cusip_text}
 use Rattle.cns_ids.specs.Day.{IsDayNumber}
@@ -8,8 +8,8 @@ use Rattle.cns_ids.specs.Shares.{IsShares, IsQuantity}
 use Rattle.cns_movements.specs.Number.{IsMoveNo}
 use Rattle.cns_trades.specs.TradeId.{IsId}
 use Rattle.cns_trades.specs.declared.trade.Trade.{Trade}
-use Rattle.cns_records.specs.Fields.{bad, ◌>>=◌, number_at, tested, whole, id_bytes, id_at, day_bytes, day_at, member_at, issue_at, quantity_at, shares_at, flag_bytes, flag_at, cycle_kind_bytes, cycle_kind_at, move_no_at}
-use Rattle.cns_records.specs.Drawn.{AreDrawn, IsByStart, by_start, drawn_bytes, drawn_at}
+use Rattle.cns_records.specs.Fields.{bad, ◌>>=◌, number_at, tested, tested_at, whole, id_bytes, id_at, day_bytes, day_at, member_at, issue_at, quantity_at, shares_at, flag_bytes, flag_at, cycle_kind_bytes, cycle_kind_at, move_no_at}
+use Rattle.cns_records.specs.Drawn.{AreDrawn, IsByStart, drawn_bytes, drawn_of}
 use Rattle.cns_records.specs.declared.allocation.Allocation.{Allocation}
 use Rattle.cns_records.specs.declared.bad_record.BadRecord.{BadRecord}
 use Rattle.cns_records.specs.declared.clear_record.ClearRecord.{ClearRecord}
@@ -109,19 +109,20 @@ cycle_of bytes = do
   whole kind.1 (Cycle (record { day = day.0; kind = kind.0 }))
 
 -- a lot is opened not after its last pour, and its tickets stand by start
-abbrev pub allocated : Allocation → Result ClearRecord BadRecord
-allocated a = tested (nat_le a.opened a.upto && by_start a.drawn) (Allocate a)
-
-unfoldable pub allocate_of : List ℕ → Result ClearRecord BadRecord
-allocate_of bytes = do
+unfoldable pub allocation_of : List ℕ → Result Allocation BadRecord
+allocation_of bytes = do
   issue ← issue_at bytes
   opened ← number_at w64 issue.1
-  upto ← number_at w64 opened.1
+  upto ← tested_at w64 (nat_le opened.0) opened.1
   poured ← shares_at upto.1
   sealed ← flag_at poured.1
-  drawn ← drawn_at sealed.1
-  allocation ← whole drawn.1 (record { issue = issue.0; opened = opened.0; upto = upto.0; poured = poured.0; sealed = sealed.0; drawn = drawn.0 })
-  allocated allocation
+  drawn ← drawn_of sealed.1
+  Ok (record { issue = issue.0; opened = opened.0; upto = upto.0; poured = poured.0; sealed = sealed.0; drawn = drawn })
+
+abbrev pub allocate_of : List ℕ → Result ClearRecord BadRecord
+allocate_of bytes = do
+  allocation ← allocation_of bytes
+  Ok (Allocate allocation)
 
 unfoldable pub confirm_of : List ℕ → Result ClearRecord BadRecord
 confirm_of bytes = do
@@ -145,14 +146,8 @@ unfoldable pub read_clear_of : List ℕ → Result ClearRecord BadRecord
 read_clear_of (version ∷ kind ∷ fields) = if version == 1 then of_kind kind fields else bad
 read_clear_of _ = bad
 
--- what a reader that takes memory returned is what reading gives; where memory was short nothing is claimed
-abbrev pub AnswersIfRoom : Result ClearRecord RecordFault → Result ClearRecord BadRecord → Type 0
-AnswersIfRoom (Ok entry) read = read ≡ Ok entry
-AnswersIfRoom (Err fault.BadRecord) read = read ≡ bad
-AnswersIfRoom (Err fault.OutOfMemory) read = Unit {0}
-
 -- what reading a payload answers: its record, or that it is none; memory may be short for an allocation only
 abbrev pub ReadsAs : List ℕ → Result ClearRecord RecordFault → Type 0
 ReadsAs payload (Ok entry) = read_clear_of payload ≡ Ok entry
 ReadsAs payload (Err fault.BadRecord) = read_clear_of payload ≡ bad
-ReadsAs payload (Err fault.OutOfMemory) = take 2 payload ≡ 1 ∷ 5 ∷ []
+ReadsAs payload (Err fault.OutOfMemory) = (a : Allocation) × (read_clear_of payload ≡ Ok (Allocate a))

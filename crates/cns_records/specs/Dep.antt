@@ -1,5 +1,5 @@
 -- The records of the depository and the payload of each (this project's own format).
-use Rattle.std.specs.Prelude.{ℕ, ◌≤◌, nat_le, ◌==◌, List, [], ◌∷◌, ◌++◌, Result, if◌then◌else◌}
+use Rattle.std.specs.Prelude.{ℕ, ◌≤◌, nat_le, ◌==◌, List, ◌∷◌, ◌++◌, Result, if◌then◌else◌}
 use Rattle.std.specs.Int.{w16, w64, to_be_bytes}
 use Rattle.cns_ids.specs.Cusip.{cusip_text}
 use Rattle.cns_ids.specs.Shares.{IsShares}

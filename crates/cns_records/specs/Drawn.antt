@@ -1,13 +1,12 @@
 -- The tickets of an allocation (this project's own format).
-use Rattle.std.specs.Prelude.{◌≡◌, ℕ, zero, suc, ◌≤◌, nat_le, Bool, true, ◌&&◌, List, [], ◌∷◌, ◌++◌, length, Vec, Result, Ok, Err}
+use Rattle.std.specs.Prelude.{◌≡◌, ℕ, zero, suc, ◌≤◌, nat_le, Bool, true, ◌&&◌, List, [], ◌∷◌, ◌++◌, length, Result, Ok, Err, IsOk}
 use Rattle.std.specs.Int.{w16, w32, w64, to_be_bytes}
-use Rattle.std.specs.declared.alloc.Global.{Global}
 use Rattle.std.specs.List.{All, flat_map}
 use Rattle.std.specs.List.Sorted.{IsNonDecreasingBy}
 use Rattle.cns_ids.specs.Member.{IsMember}
 use Rattle.cns_ids.specs.Shares.{IsShares}
 use Rattle.cns_movements.specs.Asked.{IsAsked}
-use Rattle.cns_records.specs.Fields.{bad, ◌>>=◌, tested_at, member_at, shares_at, asked_at}
+use Rattle.cns_records.specs.Fields.{bad, ◌>>=◌, tested, tested_at, member_at, shares_at, asked_at, whole}
 use Rattle.cns_records.specs.declared.bad_record.BadRecord.{BadRecord}
 use Rattle.cns_records.specs.declared.drawn.Drawn.{Drawn}
 use Rattle.cns_journal.specs.declared.record_log.RecordFault.{RecordFault}
@@ -64,20 +63,21 @@ is_few n = nat_le n 9999
 abbrev pub drawn_bytes : List Drawn → List ℕ
 drawn_bytes tickets = to_be_bytes w32 (length tickets) ++ flat_map ticket_bytes tickets
 
-unfoldable pub drawn_at : List ℕ → Result (List Drawn × List ℕ) BadRecord
-drawn_at bytes = do
+-- the tickets that bytes are, so many of them, by their starts
+unfoldable pub tickets_of : ℕ → List ℕ → Result (List Drawn) BadRecord
+tickets_of n bytes = do
+  front ← tickets_at n bytes
+  tickets ← whole front.1 front.0
+  tested (by_start tickets) tickets
+
+-- the tickets that bytes are: how many they are, and each of them, by their starts
+unfoldable pub drawn_of : List ℕ → Result (List Drawn) BadRecord
+drawn_of bytes = do
   count ← tested_at w32 is_few bytes
-  tickets_at count.0 count.1
+  tickets_of count.0 count.1
 
--- what a reader that takes memory returned, and the bytes that it left, are what reading gives; where memory was
--- short nothing is claimed
-abbrev pub GivesIfRoom : {X : Type 0} → Result X RecordFault → List ℕ → Result (X × List ℕ) BadRecord → Type 0
-GivesIfRoom (Ok x) rest read = read ≡ Ok (x, rest)
-GivesIfRoom (Err fault.BadRecord) rest read = read ≡ bad
-GivesIfRoom (Err fault.OutOfMemory) rest read = Unit {0}
-
--- the same where it returned a `Vec` of tickets
-abbrev pub GivesTickets : Result (Vec Drawn Global) RecordFault → List ℕ → Result (List Drawn × List ℕ) BadRecord → Type 0
-GivesTickets (Ok tickets) rest read = read ≡ Ok (tickets.items, rest)
-GivesTickets (Err fault.BadRecord) rest read = read ≡ bad
-GivesTickets (Err fault.OutOfMemory) rest read = Unit {0}
+-- what a reader that takes memory returned is what reading gives; memory is short only where reading gives a value
+abbrev pub AnswersIfRoom : {X : Type 0} → Result X RecordFault → Result X BadRecord → Type 0
+AnswersIfRoom (Ok x) read = read ≡ Ok x
+AnswersIfRoom (Err fault.BadRecord) read = read ≡ bad
+AnswersIfRoom (Err fault.OutOfMemory) read = IsOk read

@@ -1,9 +1,9 @@
 ghost use Rattle.std.specs.Prelude.{◌≡◌, ◌≤◌, length, IfOk};
-ghost use Rattle.cns_records.specs.Clear.{spelling, HasRanges, IsWritable, accept_of, exempt_of, priority_of, cycle_of, allocate_of, confirm_of, read_clear_of, AnswersIfRoom, ReadsAs};
+ghost use Rattle.cns_records.specs.Clear.{spelling, HasRanges, IsWritable, accept_of, exempt_of, priority_of, cycle_of, allocation_of, confirm_of, read_clear_of, ReadsAs};
+ghost use Rattle.cns_records.specs.Drawn.{AnswersIfRoom};
 
 use crate::allocation::Allocation;
 use crate::bad_record::BadRecord;
-use crate::drawn::are_by_start;
 use crate::fields::{DAY_CYCLE, Fields, NIGHT_CYCLE, VERSION, day_bytes, joined, tickets_bytes};
 use cns_ids::{Cusip, CycleId, CycleKind, MemberNo, Shares};
 use cns_journal::{Record, RecordFault};
@@ -77,8 +77,8 @@ impl ClearRecord {
     ///
     /// Refuses all that is not the payload of a record whose fields are in their ranges, whose buyer
     /// and seller differ, whose lot was opened not after its last pour, and whose tickets stand by
-    /// start. Takes memory for the tickets of an allocation only, and only where all their bytes are
-    /// there.
+    /// start. Takes memory for the tickets of an allocation only, and only where the payload is an
+    /// allocation.
     pub fn read(alloc: Global, payload: &[u8]) -> Result<ClearRecord, RecordFault>
         ensures exact { ReadsAs payload.now result }
 
@@ -284,27 +284,27 @@ fn read_cycle(mut fields: Fields) -> Result<ClearRecord, BadRecord>
     Ok(ClearRecord::Cycle(CycleId { day, kind }))
 }
 
-#[tactic(auto, unfolding(crate::specs::Clear::allocate_of))]
-fn read_allocate(alloc: Global, mut fields: Fields) -> Result<ClearRecord, RecordFault>
-    ensures { AnswersIfRoom result (allocate_of fields.entry) }
+#[tactic(auto, unfolding(crate::specs::Clear::allocation_of))]
+fn read_allocation(alloc: Global, mut fields: Fields) -> Result<Allocation, RecordFault>
+    ensures { AnswersIfRoom result (allocation_of fields.entry) }
 {
     let issue = fields.take_issue()?;
     let opened = fields.take_u64()?;
     let upto = fields.take_u64()?;
-    let poured = fields.take_shares()?;
-    let sealed = fields.take_flag()?;
-    let drawn = fields.take_drawn(alloc)?;
-    if !fields.is_at_end() || opened > upto || !are_by_start(drawn.as_slice()) {
+    if opened > upto {
         return Err(RecordFault::BadRecord);
     }
-    Ok(ClearRecord::Allocate(Allocation {
+    let poured = fields.take_shares()?;
+    let sealed = fields.take_flag()?;
+    let drawn = fields.into_drawn(alloc)?;
+    Ok(Allocation {
         issue,
         opened,
         upto,
         poured,
         sealed,
         drawn,
-    }))
+    })
 }
 
 #[tactic(auto, unfolding(crate::specs::Clear::confirm_of))]
@@ -332,7 +332,7 @@ fn record_of(alloc: Global, payload: &[u8]) -> Result<ClearRecord, RecordFault>
         EXEMPT => Ok(read_exempt(fields)?),
         PRIORITY => Ok(read_priority(fields)?),
         CYCLE => Ok(read_cycle(fields)?),
-        ALLOCATE => read_allocate(alloc, fields),
+        ALLOCATE => Ok(ClearRecord::Allocate(read_allocation(alloc, fields)?)),
         CONFIRM => Ok(read_confirm(fields)?),
         _ => Err(RecordFault::BadRecord),
     }

@@ -1,6 +1,6 @@
 ghost use Rattle.std.specs.Prelude.{◌≡◌, ◌↔◌, ◌≤◌, [], Some, None, nat_le, length, IsTrue, if◌then◌else◌};
 ghost use Rattle.std.specs.List.{All};
-ghost use Rattle.cns_records.specs.Drawn.{IsDrawn, AreDrawn, by_start};
+ghost use Rattle.cns_records.specs.Drawn.{IsDrawn, AreDrawn};
 
 use cns_ids::{MemberNo, Shares};
 use cns_movements::Asked;
@@ -107,19 +107,4 @@ impl Eq for DrawnList {
     ghost use Rattle.std.proofs.Common.{rules};
 
     ghost laws = { lists_equiv (Prim.search (comparing, rules)) };
-}
-
-/// Whether the tickets stand by their starts: none starts below the one before it.
-pub fn are_by_start(tickets: &[Drawn]) -> bool
-    ensures { result ≡ by_start tickets.now }
-{
-    let mut low = 0;
-    for ticket in tickets {
-        let start = ticket.start.count();
-        if start < low {
-            return false;
-        }
-        low = start;
-    }
-    true
 }

@@ -1,10 +1,10 @@
 //! The fields of a payload: how each is taken from its front, and the parts that are put together.
-ghost use Rattle.std.specs.Prelude.{◌≡◌, ◌≤◌, ◌==◌, ◌++◌, IfOk, OnOk, length};
+ghost use Rattle.std.specs.Prelude.{◌≡◌, ◌≤◌, ◌==◌, ◌++◌, IfOk, IsOk, OnOk, is_ok, length};
 ghost use Rattle.std.specs.Int.{w16, w32, w64};
 ghost use Rattle.std.specs.List.{flat_map};
 ghost use Rattle.cns_ids.specs.Day.{IsDayNumber};
 ghost use Rattle.cns_records.specs.Fields.{day_bytes as day_bytes_of, Gives, byte_at, number_at, text_at, GivesText, member_at, quantity_at, shares_at, move_no_at, asked_at, id_at, day_at, issue_at, flag_at, cycle_kind_at, move_kind_at};
-ghost use Rattle.cns_records.specs.Drawn.{ticket_bytes, ticket_at, tickets_at, drawn_at, GivesIfRoom, GivesTickets};
+ghost use Rattle.cns_records.specs.Drawn.{ticket_bytes, ticket_at, tickets_at, tickets_of, drawn_of, AnswersIfRoom};
 
 use crate::bad_record::BadRecord;
 use crate::drawn::{Drawn, DrawnList, MAX_DRAWN};
@@ -30,9 +30,6 @@ pub const DELIVERY_ORDER: u8 = 2;
 
 // The characters of a CUSIP.
 const CUSIP_LEN: usize = 9;
-
-// The bytes of a ticket.
-const TICKET_LEN: usize = 18;
 
 /// A date: the year in 2 bytes, the month and the day in 1 each.
 pub fn day_bytes(day: Day) -> [u8; 4]
@@ -294,29 +291,49 @@ impl<'a> Fields<'a> {
         })
     }
 
-    // So many tickets. Takes memory only where all their bytes are there.
-    fn take_tickets(&mut self, alloc: Global, count: usize) -> Result<Vec<Drawn>, RecordFault>
-        requires { count ≤ 9999 }
-        ensures { GivesTickets result self.new (tickets_at count self.old) }
+    // Whether the bytes are so many tickets, by their starts. Takes no memory.
+    fn are_tickets(&self, count: usize) -> bool
+        ensures { result ≡ is_ok (tickets_of count self.now) }
     {
-        if self.bytes.len() < count * TICKET_LEN {
-            return Err(RecordFault::BadRecord);
+        let mut rest = Fields::new(self.bytes);
+        let mut low = 0;
+        for _ in 0..count {
+            let Ok(ticket) = rest.take_ticket() else {
+                return false;
+            };
+            let start = ticket.start.count();
+            if start < low {
+                return false;
+            }
+            low = start;
         }
+        rest.is_at_end()
+    }
+
+    // So many tickets.
+    fn take_tickets(&mut self, alloc: Global, count: usize) -> Result<Vec<Drawn>, AllocError>
+        requires few { count ≤ 9999 }
+        requires there { IsOk (tickets_at count self.old) }
+        ensures { IfOk result (λ tickets. tickets_at count self.old ≡ Ok (tickets.items, self.new)) }
+    {
         let mut tickets = Vec::with_capacity(alloc, count)?;
         for _ in 0..count {
-            let ticket = self.take_ticket()?;
+            let Ok(ticket) = self.take_ticket() else {
+                unreachable!()
+            };
             tickets.push_reserved(ticket);
         }
         Ok(tickets)
     }
 
-    /// Tickets: how many they are in 4 bytes, at most 9,999, and each in 18.
-    #[tactic(auto, unfolding(crate::specs::Drawn::drawn_at))]
-    pub fn take_drawn(&mut self, alloc: Global) -> Result<DrawnList, RecordFault>
-        ensures { GivesIfRoom result self.new (drawn_at self.old) }
+    /// The tickets that the bytes are: how many they are in 4 bytes, at most 9,999, and each in 18, by
+    /// their starts. Takes memory only where the bytes are such tickets.
+    #[tactic(auto, unfolding(crate::specs::Drawn::drawn_of))]
+    pub fn into_drawn(mut self, alloc: Global) -> Result<DrawnList, RecordFault>
+        ensures { AnswersIfRoom result (drawn_of self.entry) }
     {
         let count = self.take_u32()? as usize;
-        if count > MAX_DRAWN {
+        if count > MAX_DRAWN || !self.are_tickets(count) {
             return Err(RecordFault::BadRecord);
         }
         let tickets = self.take_tickets(alloc, count)?;

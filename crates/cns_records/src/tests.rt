@@ -1,7 +1,6 @@
-use crate::{
-    Allocation, BadRecord, ClearRecord, DepRecord, Drawn, DrawnList, MAX_DRAWN, RecordFault,
-};
+use crate::{Allocation, BadRecord, ClearRecord, DepRecord, Drawn, DrawnList, MAX_DRAWN};
 use cns_ids::{Cusip, CycleId, CycleKind, Day, MemberNo, Quantity, Shares};
+use cns_journal::RecordFault;
 use cns_movements::{Asked, MoveKind, MoveNo, Order, Reply};
 use cns_trades::{Trade, TradeId};
 use std::alloc::{AllocError, Global};
@@ -258,12 +257,31 @@ static BAD_IN_ALLOCATE: [(usize, u8); 14] = [
     (60, 14),
 ];
 
+// The same in an allocation of 99 tickets: opened after its last pour, a ticket left over, one too
+// few, the last two out of order, and of the last one the member and the shares.
+static BAD_IN_99_TICKETS: [(usize, u8); 6] = [
+    (18, 6),
+    (39, 98),
+    (39, 100),
+    (1795, 1),
+    (1805, 0),
+    (1821, 0),
+];
+
+// The payload is bad with each of these bytes in its place, with one byte more, and with one less.
+fn assert_changes_bad(rt: &impl Abort, alloc: Global, payload: &[u8], changes: &[(usize, u8)]) {
+    for (place, byte) in changes {
+        assert_change_bad(rt, alloc, payload, *place, *byte);
+    }
+    assert_longer_bad(rt, alloc, payload);
+    assert_bad(rt, alloc, &payload[..payload.len().saturating_sub(1)]);
+}
+
 #[test]
 fn bad_allocations(rt: HostRuntime) {
-    for (place, byte) in &BAD_IN_ALLOCATE {
-        assert_change_bad(&rt, rt.alloc(), &ALLOCATE, *place, *byte);
-    }
-    assert_longer_bad(&rt, rt.alloc(), &ALLOCATE);
+    assert_changes_bad(&rt, rt.alloc(), &ALLOCATE, &BAD_IN_ALLOCATE);
+    let payload = many(&rt, rt.alloc(), 99);
+    assert_changes_bad(&rt, rt.alloc(), &payload, &BAD_IN_99_TICKETS);
 }
 
 // An allocation with a ticket of one share so many times.
