@@ -1,18 +1,18 @@
 -- The tickets of an allocation: what is read is what was written, and the other way round; and their order.
 use Rattle.std.proofs.Common.{◌≡◌, ℕ, zero, suc, ◌*◌, ◌^◌, ◌<◌, ◌≤◌, Bool, true, false, List, [], ◌∷◌, ◌++◌, length, add-one, Result, Ok, Err, refl, sym, ap, ap₂, subst, ◌∙◌, arith}
 use Rattle.std.specs.Prelude.{nat_le, ◌==◌, ◌&&◌, IsOk, is_ok}
-use Rattle.std.specs.Int.{w16, w32, w64, to_be_bytes}
+use Rattle.std.specs.Int.{Width, w16, w32, w64, to_be_bytes}
 use Rattle.std.specs.List.{All, AllAdjacentBelow, flat_map}
 use Rattle.std.proofs.lemmas.Bool.{leb-true, le-leb, lt-leb}
 use Rattle.std.proofs.lemmas.List.{append_assoc, append-nil}
 use Rattle.std.proofs.lemmas.List.Sorted.{IsNonDecreasingBy-from_all_adjacent, all_adjacent_from_non_decreasing}
 use Rattle.cns_records.specs.declared.bad_record.BadRecord.{BadRecord}
 use Rattle.cns_records.specs.declared.drawn.Drawn.{Drawn}
-use Rattle.cns_records.specs.Fields.{bad, ◌>>=◌, tested, tested_at, whole}
+use Rattle.cns_records.specs.Fields.{bad, ◌>>=◌, number_at, tested, tested_at, member_at, shares_at, asked_at, whole}
 use Rattle.cns_records.specs.Drawn.{IsDrawn, AreDrawn, IsByStart, starts_from, by_start, ticket_bytes, ticket_at, tickets_at, is_few, drawn_bytes, tickets_of, drawn_of}
 use Rattle.cns_movements.proofs.BytesLemmas.{IsBytes}
 use Rattle.cns_records.proofs.FieldLemmas.{bind_ok, ok_value, tested_ok, whole_ok, ok_is, Takes, IsField, step, chain, last, tested_field, wide32}
-use Rattle.cns_records.proofs.FieldLaws.{member_field, shares_field, asked_field}
+use Rattle.cns_records.proofs.FieldLaws.{is_member-sound, is_shares-sound, is_asked-sound, member_field, shares_field, asked_field}
 
 -- ---- a ticket
 
@@ -174,6 +174,36 @@ tickets_count (suc n) bytes x e =
     let first = bind_ok (ticket_at bytes) _ x e in
     let others = bind_ok (tickets_at n first.0.1) _ x first.2 in
     ap (λ (p : List Drawn × List ℕ). length p.0) (sym (ok_is (first.0.0 ∷ others.0.0, others.0.1) x others.2)) ∙ ap suc (tickets_count n first.0.1 others.0 others.1)
+
+number_passes : (w : Width) (test : ℕ → Bool) (bytes : List ℕ) (x : ℕ × List ℕ) → tested_at w test bytes ≡ Ok x → test x.0 ≡ true
+number_passes w test bytes x e =
+    let number = bind_ok (number_at w bytes) _ x e in
+    let t = tested_ok (test number.0.0) number.0 x number.2 in
+    subst (λ (p : ℕ × List ℕ). test p.0 ≡ true) t.1 t.0
+
+ticket_ranges : (bytes : List ℕ) (x : Drawn × List ℕ) → ticket_at bytes ≡ Ok x → IsDrawn x.0
+unfolding ticket_at member_at shares_at asked_at
+ticket_ranges bytes x e =
+    let member = bind_ok (member_at bytes) _ x e in
+    let start = bind_ok (shares_at member.0.1) _ x member.2 in
+    let asked = bind_ok (asked_at start.0.1) _ x start.2 in
+    let is = ok_is _ x asked.2 in
+    subst (λ (p : Drawn × List ℕ). IsDrawn p.0) is
+    (record {
+      member = is_member-sound member.0.0 (number_passes w16 _ bytes member.0 member.1);
+      start = is_shares-sound start.0.0 (number_passes w64 _ member.0.1 start.0 start.1);
+      asked = is_asked-sound asked.0.0 (number_passes w64 _ start.0.1 asked.0 asked.1);
+    })
+
+-- tickets that are read are in their ranges
+pub tickets_ranges : (n : ℕ) (bytes : List ℕ) (x : List Drawn × List ℕ) → tickets_at n bytes ≡ Ok x → All IsDrawn x.0
+unfolding tickets_at
+tickets_ranges zero bytes x e = subst (λ (p : List Drawn × List ℕ). All IsDrawn p.0) (ok_is ([], bytes) x e) (λ k d lt. absurd (omega arith))
+tickets_ranges (suc n) bytes x e =
+    let first = bind_ok (ticket_at bytes) _ x e in
+    let others = bind_ok (tickets_at n first.0.1) _ x first.2 in
+    subst (λ (p : List Drawn × List ℕ). All IsDrawn p.0) (ok_is (first.0.0 ∷ others.0.0, others.0.1) x others.2)
+    (all_cons first.0.0 others.0.0 (ticket_ranges bytes first.0 first.1) (tickets_ranges n first.0.1 others.0 others.1))
 
 -- what was read in front of the tickets that bytes are
 tickets_front : (n : ℕ) (bytes : List ℕ) (ts : List Drawn) → tickets_of n bytes ≡ Ok ts → (tickets_at n bytes ≡ Ok (ts, [])) × (by_start ts ≡ true)

@@ -25,7 +25,7 @@ use Rattle.cns_records.proofs.FieldLemmas.{bind_ok, chosen, tested_ok, ok_is, Ta
 
 -- ---- numbers
 
-is_member-sound : (n : ℕ) → is_member n ≡ true → IsMember n
+pub is_member-sound : (n : ℕ) → is_member n ≡ true → IsMember n
 is_member-sound n h = record { from = grind (arith, nat_tests); to = grind (arith, nat_tests) }
 
 is_member-complete : (n : ℕ) → IsMember n → (n < 2 ^ 16) × (is_member n ≡ true)
@@ -45,7 +45,7 @@ pub quantity_field : IsField quantity_at (to_be_bytes w64) IsQuantity
 unfolding quantity_at
 quantity_field = tested_field w64 (2 ^ 64) wide64 is_quantity IsQuantity is_quantity-sound is_quantity-complete
 
-is_shares-sound : (n : ℕ) → is_shares n ≡ true → IsShares n
+pub is_shares-sound : (n : ℕ) → is_shares n ≡ true → IsShares n
 is_shares-sound n h = grind (arith, nat_tests)
 
 is_shares-complete : (n : ℕ) → IsShares n → (n < 2 ^ 64) × (is_shares n ≡ true)
@@ -65,7 +65,7 @@ pub move_no_field : IsField move_no_at (to_be_bytes w64) IsMoveNo
 unfolding move_no_at
 move_no_field = tested_field w64 (2 ^ 64) wide64 is_move_no IsMoveNo is_move_no-sound is_move_no-complete
 
-is_asked-sound : (n : ℕ) → is_asked n ≡ true → IsAsked n
+pub is_asked-sound : (n : ℕ) → is_asked n ≡ true → IsAsked n
 is_asked-sound n h = record { from = grind (arith, nat_tests); to = grind (arith, nat_tests) }
 
 is_asked-complete : (n : ℕ) → IsAsked n → (n < 2 ^ 64) × (is_asked n ≡ true)

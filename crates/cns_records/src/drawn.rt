@@ -52,6 +52,14 @@ fn see_ranges(tickets: &[Drawn])
 }
 
 impl DrawnList {
+    // The tickets of this `Vec`, which are in their ranges.
+    pub(crate) fn new(tickets: Vec<Drawn>) -> DrawnList
+        requires { AreDrawn tickets.items }
+        ensures { result ≡ tickets.items }
+    {
+        DrawnList { tickets }
+    }
+
     /// The tickets of this `Vec`; none where there are more than 9,999. It takes no memory.
     pub fn from_vec(tickets: Vec<Drawn>) -> Option<DrawnList>
         ensures { result ≡ (if nat_le (length tickets.items) 9999 then Some tickets.items else None) }
@@ -60,7 +68,7 @@ impl DrawnList {
             return None;
         }
         see_ranges(tickets.as_slice());
-        Some(DrawnList { tickets })
+        Some(DrawnList::new(tickets))
     }
 
     /// The tickets.

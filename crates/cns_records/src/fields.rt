@@ -337,6 +337,6 @@ impl<'a> Fields<'a> {
             return Err(RecordFault::BadRecord);
         }
         let tickets = self.take_tickets(alloc, count)?;
-        DrawnList::from_vec(tickets).ok_or(RecordFault::BadRecord)
+        Ok(DrawnList::new(tickets))
     }
 }
