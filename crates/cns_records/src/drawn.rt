@@ -40,15 +40,28 @@ impl Model for DrawnList {
     ghost invariant = { λ d. AreDrawn d.tickets.items };
 }
 
-// What the types of the tickets' fields promise: a proof sees it of each ticket that is read.
-fn see_ranges(tickets: &[Drawn])
-    ensures { All IsDrawn tickets.now }
+// Whether the ticket's fields are in the ranges of their types, as they are.
+fn is_in_range(ticket: &Drawn) -> bool
+    ensures holds { IsTrue result }
+    ensures ranges { IsDrawn ticket.now }
+{
+    let member = ticket.member.number();
+    let start = ticket.start.count();
+    let asked = ticket.asked.shares();
+    member >= 1 && member <= 9_999 && start <= Shares::MAX && asked >= 1 && asked <= Shares::MAX
+}
+
+// The same of each ticket.
+fn are_in_range(tickets: &[Drawn]) -> bool
+    ensures holds { IsTrue result }
+    ensures ranges { All IsDrawn tickets.now }
 {
     for ticket in tickets {
-        let _member = ticket.member.number();
-        let _start = ticket.start.count();
-        let _asked = ticket.asked.shares();
+        if !is_in_range(ticket) {
+            return false;
+        }
     }
+    true
 }
 
 impl DrawnList {
@@ -67,7 +80,7 @@ impl DrawnList {
         if tickets.len() > MAX_DRAWN {
             return None;
         }
-        see_ranges(tickets.as_slice());
+        prove!(are_in_range(tickets.as_slice()));
         Some(DrawnList::new(tickets))
     }
 
