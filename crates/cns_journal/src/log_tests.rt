@@ -1,6 +1,5 @@
 ghost use Rattle.std.specs.Prelude.{◌≡◌, ◌≤◌, false, IfOk};
-ghost use Rattle.cns_journal.specs.Replay.{AreAllowed};
-ghost use Rattle.cns_journal.specs.RecordLog.{MayStand};
+ghost use Rattle.cns_journal.specs.RecordLog.{IsLawfulLog};
 
 use crate::{
     CommitFault, Keeper, Ledger, ListKeeper, Record, RecordFault, RecordLog, ReplayFault, Restarted,
@@ -121,7 +120,7 @@ fn an_opening_gives_what_its_keeper_has(rt: HostRuntime) -> Result<(), Fail> {
 // A failed commit of a log with one record, and the restart after it.
 fn restarted(log: &mut Log, stands: bool) -> Result<Restarted, Fail>
     requires up { log.old.down ≡ false }
-    requires allowed { AreAllowed (λ _ m. m.number ≤ LIMIT) log.old.records }
+    requires lawful { IsLawfulLog (λ _ m. m.number ≤ LIMIT) log.old }
 {
     log.plan(stands)?;
     let Err(CommitFault::Device) = log.commit(Mark { number: 7 }) else {
@@ -139,9 +138,10 @@ fn a_restart_gives_what_was_acknowledged(rt: HostRuntime) -> Result<(), Fail> {
         let Ok(mut log) = Log::open(rt.alloc(), keeper, &LIMIT, &mut count) else {
             return Err(Fail::from("an opening"));
         };
-        let records = if stands { 2 } else { 1 };
+        let (records, number) = if stands { (2, 7) } else { (1, 3) };
         let answer = restarted(&mut log, stands);
         let is_down = log.is_down();
+        let latest = log.latest().copied();
         let kept = log.into_keeper().count();
         assert_same(
             &rt,
@@ -152,6 +152,7 @@ fn a_restart_gives_what_was_acknowledged(rt: HostRuntime) -> Result<(), Fail> {
             },
         );
         assert_same(&rt, &(is_down, kept), &(false, records));
+        assert_same(&rt, &latest, &Some(Mark { number }));
     }
     Ok(())
 }
