@@ -1,17 +1,20 @@
+use crate::Depository;
 use crate::test_support::{
-    APPLE, Holder, Opened, Step, TWENTY, assert_same, openings, order, shares, tell_of,
+    APPLE, Holder, Moved, Opened, Placed, Step, TWENTY, assert_same, openings, order, shares,
+    tell_of,
 };
-use crate::{Depository, ReplayFault};
-use cns_journal::{Keeper, ListKeeper};
+use cns_journal::{Keeper, ListKeeper, Record, ReplayFault};
 use cns_movements::MoveKind;
 use cns_records::DepRecord;
 use std::alloc::Global;
 use std::process::Abort;
 
+const ORDER: Placed = (1, MoveKind::Cover, 1, APPLE, 60);
+
 // The execution of the one order, by the shares that it moved.
 fn execution(rt: &impl Abort, moved: u64) -> DepRecord {
     DepRecord::Exec {
-        order: order(rt, &(1, MoveKind::Cover, 1, APPLE, 60)),
+        order: order(rt, &ORDER),
         moved: shares(rt, moved),
     }
 }
@@ -82,5 +85,15 @@ static OPENED: [Step; 3] = [
 #[test]
 fn a_journal_that_opens(rt: HostRuntime) {
     let keeper = keeper_of(&rt, rt.alloc(), &[20]);
-    tell_of(&rt, rt.alloc(), keeper, &TWENTY, &OPENED);
+    drop(tell_of(&rt, rt.alloc(), keeper, &TWENTY, &OPENED));
+}
+
+static EXECUTED: [Step; 1] = [Step::Take(ORDER, Ok(Moved::Done(20)))];
+
+#[test]
+fn a_keeper_that_is_given_up(rt: HostRuntime) {
+    let alloc = rt.alloc();
+    let keeper = tell_of(&rt, alloc, ListKeeper::new(alloc), &TWENTY, &EXECUTED);
+    assert_same(&rt, &keeper.count(), &1);
+    drop(tell_of(&rt, alloc, keeper, &TWENTY, &OPENED));
 }

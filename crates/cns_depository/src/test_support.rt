@@ -3,9 +3,9 @@
 //! A step is plain data, and each kind of step has a function of its own, which makes one call of the
 //! depository: so a test is a table, and its proof is short.
 
-use crate::{Account, Answer, BalanceRow, DepFault, Depository, Openings, Restarted};
+use crate::{Account, Answer, BalanceRow, DepFault, Depository, Openings};
 use cns_ids::{Cusip, MemberNo, Shares};
-use cns_journal::ListKeeper;
+use cns_journal::{ListKeeper, Restarted};
 use cns_movements::{Asked, MoveKind, MoveNo, Order, Reply};
 use cns_trades::Opening;
 use std::alloc::Global;
@@ -211,22 +211,22 @@ fn depository(rt: &impl Abort, alloc: Global, keeper: ListKeeper, of: &[Opened])
     }
 }
 
-// The story of that depository.
+// The story of that depository; the keeper that it gives up at the end.
 pub(crate) fn tell_of(
     rt: &impl Abort,
     alloc: Global,
     keeper: ListKeeper,
     of: &[Opened],
     steps: &[Step],
-) {
+) -> ListKeeper {
     let mut node = depository(rt, alloc, keeper, of);
     for step in steps {
         take_step(rt, alloc, &mut node, step);
     }
-    drop(node);
+    node.into_keeper()
 }
 
 // The story of a depository with nothing executed.
 pub(crate) fn tell(rt: &impl Abort, alloc: Global, of: &[Opened], steps: &[Step]) {
-    tell_of(rt, alloc, ListKeeper::new(alloc), of, steps);
+    drop(tell_of(rt, alloc, ListKeeper::new(alloc), of, steps));
 }

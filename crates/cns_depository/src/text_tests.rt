@@ -1,5 +1,6 @@
 use crate::test_support::assert_same;
-use crate::{DepFault, OpeningFault, ReplayFault};
+use crate::{DepFault, OpeningFault};
+use cns_journal::ReplayFault;
 use std::alloc::Global;
 use std::fmt;
 use std::process::Abort;
