@@ -1,12 +1,12 @@
 use crate::lot_tests::{DELIVERIES, LATE, SECOND, THIRD};
 use crate::test_support::{
-    Draw, SALE, Sale, Step, TO_SECOND, TO_THIRD, asked, assert_same, cycle, issue, member, reply,
-    shares, tell_of, trade,
+    CYCLED, Call, Draw, SALE, Sale, Step, TO_SECOND, TO_THIRD, asked, assert_same, cycle, issue,
+    member, reply, shares, tell_of, trade,
 };
 use crate::tests::OPENED;
-use crate::{Clearing, ReplayFault};
+use crate::{Clearing, Taken};
 use cns_ids::CycleKind;
-use cns_journal::{Keeper, ListKeeper};
+use cns_journal::{Keeper, ListKeeper, Record, ReplayFault};
 use cns_records::{Allocation, ClearRecord, Drawn, DrawnList};
 use std::alloc::Global;
 use std::process::Abort;
@@ -212,7 +212,8 @@ fn tell_journal(
     steps: &[Step],
 ) -> Result<(), Fail> {
     let keeper = keeper_of(alloc, past, last)?;
-    tell_of(rt, alloc, keeper, &[], steps)
+    drop(tell_of(rt, alloc, keeper, &[], steps)?);
+    Ok(())
 }
 
 // With the last record of the journal, one of each kind but an allocation.
@@ -228,4 +229,18 @@ const SERVES_BOTH: Past = Past::Allocate(6, 40, &[SECOND, THIRD]);
 #[test]
 fn an_allocation_that_opens(rt: HostRuntime) -> Result<(), Fail> {
     tell_journal(&rt, rt.alloc(), &GROUPS, SERVES_BOTH, &DELIVERIES)
+}
+
+// The records of `EACH` and the confirmation, with those of `CYCLED`.
+static CONFIRMED: [Step; 2] = [
+    Step::Do(Call::Priority(2, Ok(()))),
+    Step::Do(Call::Reply(1, 20, Ok(Taken::Done))),
+];
+
+#[test]
+fn a_keeper_that_is_given_up(rt: HostRuntime) -> Result<(), Fail> {
+    let alloc = rt.alloc();
+    let keeper = tell_of(&rt, alloc, ListKeeper::new(alloc), &CYCLED, &CONFIRMED)?;
+    drop(tell_of(&rt, alloc, keeper, &[], &OPENED)?);
+    Ok(())
 }

@@ -5,11 +5,11 @@
 
 use crate::{
     Clearing, Closed, CycleFault, Cycled, LotCloseFault, LotOpenFault, LotPourFault, OrderFault,
-    PoolRow, ReplyFault, Restarted, SettingFault, Taken, TradeFault,
+    PoolRow, ReplyFault, SettingFault, Taken, TradeFault,
 };
 use cns_allocate::{Group, Planned};
 use cns_ids::{Cusip, CycleId, CycleKind, Day, MemberNo, Quantity, Shares};
-use cns_journal::ListKeeper;
+use cns_journal::{ListKeeper, Restarted};
 use cns_movements::{Asked, MoveKind, MoveNo, Order, Reply};
 use cns_pool::Ticket;
 use cns_trades::{Trade, TradeId};
@@ -649,19 +649,24 @@ fn play(
     take_steps(rt, alloc, node, &cast, steps)
 }
 
-// The story of the node that a keeper's journal opens, after these steps.
+// The story of the node that a keeper's journal opens, after these steps; the keeper that it gives up
+// at the end.
 pub(crate) fn tell_of(
     rt: &impl Abort,
     alloc: Global,
     keeper: ListKeeper,
     before: &[Step],
     steps: &[Step],
-) -> Result<(), Fail> {
+) -> Result<ListKeeper, Fail> {
     match Clearing::open(alloc, keeper) {
         Ok(mut node) => {
             let told = play(rt, alloc, &mut node, before, steps);
-            drop(node);
-            told
+            let keeper = node.into_keeper();
+            if let Err(fault) = told {
+                drop(keeper);
+                return Err(fault);
+            }
+            Ok(keeper)
         }
         Err(refused) => {
             let fault = refused.fault;
@@ -678,5 +683,6 @@ pub(crate) fn tell(
     before: &[Step],
     steps: &[Step],
 ) -> Result<(), Fail> {
-    tell_of(rt, alloc, ListKeeper::new(alloc), before, steps)
+    drop(tell_of(rt, alloc, ListKeeper::new(alloc), before, steps)?);
+    Ok(())
 }

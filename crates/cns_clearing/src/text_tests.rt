@@ -1,7 +1,7 @@
 use crate::test_support::assert_same;
 use crate::{
-    CycleFault, LotCloseFault, LotOpenFault, LotPourFault, OrderFault, ReplayFault, ReplyFault,
-    SettingFault, TradeFault,
+    CycleFault, LotCloseFault, LotOpenFault, LotPourFault, OrderFault, ReplyFault, SettingFault,
+    TradeFault,
 };
 use cns_trades::Verdict;
 use std::alloc::Global;
@@ -78,15 +78,6 @@ static REPLIES: [(ReplyFault, &str); 6] = [
     (ReplyFault::Device, DEVICE),
 ];
 
-static REPLAYS: [(ReplayFault, &str); 3] = [
-    (ReplayFault::OutOfMemory, MEMORY),
-    (
-        ReplayFault::BadJournal { place: 2 },
-        "record 2 of the journal is bad",
-    ),
-    (ReplayFault::Device, DEVICE),
-];
-
 static OPENINGS: [(LotOpenFault, &str); 3] = [
     (LotOpenFault::Down, DOWN),
     (LotOpenFault::LotAlready, "a lot of the issue is open"),
@@ -120,8 +111,7 @@ fn texts_of_changes(rt: HostRuntime) -> Result<(), Fail> {
 #[test]
 fn texts_of_orders(rt: HostRuntime) -> Result<(), Fail> {
     assert_texts(&rt, rt.alloc(), &ORDERS)?;
-    assert_texts(&rt, rt.alloc(), &REPLIES)?;
-    assert_texts(&rt, rt.alloc(), &REPLAYS)
+    assert_texts(&rt, rt.alloc(), &REPLIES)
 }
 
 #[test]

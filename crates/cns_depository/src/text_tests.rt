@@ -1,6 +1,5 @@
 use crate::test_support::assert_same;
 use crate::{DepFault, OpeningFault};
-use cns_journal::ReplayFault;
 use std::alloc::Global;
 use std::fmt;
 use std::process::Abort;
@@ -32,18 +31,8 @@ static ORDERS: [(DepFault, &str); 4] = [
     (DepFault::Device, "the journal's device failed"),
 ];
 
-static REPLAYS: [(ReplayFault, &str); 3] = [
-    (ReplayFault::OutOfMemory, "out of memory"),
-    (
-        ReplayFault::BadJournal { place: 2 },
-        "record 2 of the journal is bad",
-    ),
-    (ReplayFault::Device, "the journal's device failed"),
-];
-
 #[test]
 fn texts_of_faults(rt: HostRuntime) {
     assert_texts(&rt, rt.alloc(), &OPENINGS);
     assert_texts(&rt, rt.alloc(), &ORDERS);
-    assert_texts(&rt, rt.alloc(), &REPLAYS);
 }

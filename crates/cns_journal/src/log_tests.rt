@@ -5,7 +5,7 @@ use crate::{
     CommitFault, Keeper, Ledger, ListKeeper, Record, RecordFault, RecordLog, ReplayFault, Restarted,
 };
 use std::alloc::{AllocError, Global};
-use std::fmt::Debug;
+use std::fmt::{Debug, Display};
 use std::process::Abort;
 use std::test::Fail;
 
@@ -155,4 +155,46 @@ fn a_restart_gives_what_was_acknowledged(rt: HostRuntime) -> Result<(), Fail> {
         assert_same(&rt, &latest, &Some(Mark { number }));
     }
     Ok(())
+}
+
+// Faults, each with its text.
+fn assert_texts<T: Display>(
+    rt: &impl Abort,
+    alloc: Global,
+    cases: &[(T, &str)],
+) -> Result<(), Fail> {
+    for (fault, words) in cases {
+        assert_same(rt, &fault.to_string(alloc)?.as_str(), words);
+    }
+    Ok(())
+}
+
+const MEMORY: &str = "out of memory";
+
+const DEVICE: &str = "the journal's device failed";
+
+static REPLAYS: [(ReplayFault, &str); 3] = [
+    (ReplayFault::OutOfMemory, MEMORY),
+    (
+        ReplayFault::BadJournal { place: 2 },
+        "record 2 of the journal is bad",
+    ),
+    (ReplayFault::Device, DEVICE),
+];
+
+static RECORDS: [(RecordFault, &str); 2] = [
+    (RecordFault::BadRecord, "not a journal record"),
+    (RecordFault::OutOfMemory, MEMORY),
+];
+
+static COMMITS: [(CommitFault, &str); 2] = [
+    (CommitFault::OutOfMemory, MEMORY),
+    (CommitFault::Device, DEVICE),
+];
+
+#[test]
+fn faults_of_a_log_print(rt: HostRuntime) -> Result<(), Fail> {
+    assert_texts(&rt, rt.alloc(), &REPLAYS)?;
+    assert_texts(&rt, rt.alloc(), &RECORDS)?;
+    assert_texts(&rt, rt.alloc(), &COMMITS)
 }
