@@ -42,12 +42,12 @@ pub refilled_lots : (c : List ClearRecord) (lots lots' : List Lot) (issue n pour
 refilled_lots c lots lots' issue n poured are count avail is =
     subst (AreLots c) (sym (refilled_is c lots lots' issue n poured count avail is)) (lots_refilled c lots issue are)
 
-pub pour_leaves : (old : ClearNode) (lots' : List Lot) (issue shares n poured : ℕ) (lot : Lot) → IsLawful old.log.records → AreLots old.log.records old.lots → old.log.down ≡ false
+pub pour_leaves : (old : ClearNode) (lots' : List Lot) (issue shares n poured : ℕ) (lot : Lot) → IsLawful old.log.records → AreWritable old.log.records → AreLots old.log.records old.lots → old.log.down ≡ false
     → lot_of old.lots issue ≡ Some lot → n ≡ length old.log.records → poured ≡ avail_in old.log.records issue → shares ≡ poured - lot.poured
     → lots' ≡ map (refilled issue n poured) old.lots → LotPourLeaves issue (Ok shares) old (record old { lots = lots' })
-pour_leaves old lots' issue shares n poured lot lawful are up found count avail is filled = (
+pour_leaves old lots' issue shares n poured lot lawful fits are up found count avail is filled = (
   up,
-  pour_adds old issue shares lot lawful are found (is ∙ ap (λ (x : ℕ). x - lot.poured) avail),
+  pour_adds old issue shares lot lawful fits are found (is ∙ ap (λ (x : ℕ). x - lot.poured) avail),
   ap (λ (l : List Lot). record old { lots = l }) (refilled_is old.log.records old.lots lots' issue n poured count avail filled),
 )
 

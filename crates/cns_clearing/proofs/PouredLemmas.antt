@@ -73,12 +73,13 @@ pool_whole c lots issue lawful are =
     omega (arith, lent_most c lots issue lawful are, taken_covered c issue lawful, taken_whole (orders_of c) issue)
 
 -- what a pour adds is what was free
-pub pour_adds : (node : ClearNode) (issue shares : ℕ) (lot : Lot) → IsLawful node.log.records → AreLots node.log.records node.lots → lot_of node.lots issue ≡ Some lot
+pub pour_adds : (node : ClearNode) (issue shares : ℕ) (lot : Lot) → IsLawful node.log.records → AreWritable node.log.records → AreLots node.log.records node.lots → lot_of node.lots issue ≡ Some lot
     → shares ≡ avail_in node.log.records issue - lot.poured → IsPoured node issue shares
-pour_adds node issue shares lot lawful are found is =
+pour_adds node issue shares lot lawful fits are found is =
     let most = found_most node.log.records node.lots issue lot lawful are found in
     let lent = lent_found node.lots issue lot found in
-    record { lot = lot; found = found; free = omega (arith, is, lent); all = omega (arith, is, most) }
+    let there = avail_most node.log.records issue lawful fits in
+    record { lot = lot; found = found; free = omega (arith, is, lent); all = omega (arith, is, most); few = omega (arith, is, most, there) }
 
 -- so many shares are a count of shares
 pub shares_fit : (n : ℕ) (answer : Option ℕ) → n ≤ 1000000000000000000 → answer ≡ (if is_shares n then Some n else None) → answer ≡ None → ⊥

@@ -1,6 +1,6 @@
 -- What each call of a clearing node answers, and what it leaves (this project's own rules). A refusal tells that those named
 -- before it did not apply; only `Device` leaves anything changed.
-use Rattle.std.specs.Prelude.{◌≡◌, ◌≢◌, ℕ, ◌+◌, ◌==◌, min, Bool, true, false, List, [], ◌∷◌, ◌++◌, length, map, Some, None, Result, Ok, Err, if◌then◌else◌}
+use Rattle.std.specs.Prelude.{◌≡◌, ◌≢◌, ℕ, ◌+◌, ◌==◌, ◌^◌, ◌≤◌, min, Bool, true, false, List, [], ◌∷◌, ◌++◌, length, map, sum_by, Some, None, Result, Ok, Err, if◌then◌else◌}
 use Rattle.cns_ids.specs.declared.cycle.CycleId.{CycleId}
 use Rattle.cns_trades.specs.Verdicts.{verdict}
 use Rattle.cns_trades.specs.declared.list.Verdict.{Verdict}
@@ -97,12 +97,13 @@ LotOpenLeaves issue (Err opening.Down) old new = (old.log.down ≡ true) × (new
 LotOpenLeaves issue (Err opening.LotAlready) old new = (old.log.down ≡ false) × (lot_of old.lots issue ≢ None) × (new ≡ old)
 LotOpenLeaves issue (Err opening.OutOfMemory) old new = (old.log.down ≡ false) × (lot_of old.lots issue ≡ None) × (new ≡ old)
 
--- shares poured into a lot are those that were free, and with those it had it has all that are there
+-- shares poured into a lot are those that were free, and with those it had it has all that are there, at most 10^18
 pub record IsPoured (node : ClearNode) (issue shares : ℕ) : Type 0 where
   pub lot : Lot
   pub found : lot_of node.lots issue ≡ Some lot
   pub free : shares ≡ free_of (orders_of node.log.records) node.lots issue
   pub all : lot.poured + shares ≡ avail_in node.log.records issue
+  pub few : lot.poured + shares ≤ 10 ^ 18
 
 -- what a pour leaves, by its answer
 abbrev pub LotPourLeaves : ℕ → Result ℕ LotPourFault → ClearNode → ClearNode → Type 0
@@ -141,9 +142,10 @@ ClosingGives issue tickets sealed (Err closing.NumbersSpent) node = ⊥
 ClosingGives issue tickets sealed (Err closing.OutOfMemory) node = lot_of node.lots issue ≢ None
 ClosingGives issue tickets sealed (Err closing.Device) node = ⊥
 
--- how many shares a close granted, the number of its first order, and how many it ordered
+-- how many shares a close granted, which its orders ask for in all; the number of the first of these, and how many they are
 pub record IsClosed (c : List ClearRecord) (tickets : List Ticket) (a : Allocation) (done : Closed) : Type 0 where
   pub granted : done.granted ≡ min a.poured (asked_sum tickets)
+  pub sum : sum_by (λ (x : Ask). x.asked) (deliveries_in a) ≡ done.granted
   pub count : done.count ≡ length (deliveries_in a)
   pub first : done.first ≡ (if done.count == 0 then None else Some (length (orders_of c).orders + 1))
 

@@ -1,6 +1,7 @@
 ghost use Rattle.std.specs.Prelude.{◌≡◌, ℕ, ◌≤◌, ◌^◌, ◌+◌, ◌==◌, true, false, [], length, option_map, Some, None, IfOk, IfErr, if◌then◌else◌};
 ghost use Rattle.cns_records.specs.declared.clear_record.ClearRecord.TheVariants.{Exempt, Priority};
 ghost use Rattle.cns_records.specs.Clear.{AreWritable, spelling};
+ghost use Rattle.cns_netting.specs.Book.{IsBook};
 ghost use Rattle.cns_netting.specs.History.{due, longs_of, shorts_of};
 ghost use Rattle.cns_clearing.specs.Books.{AreEffects, AreSound, IsAllowed, IsLawful, are_spent, asks_of, books_of, history_of, latest_of, orders_of, rows_after};
 ghost use Rattle.cns_clearing.specs.Lots.{AreLots, DoesNotDisturb, avail_in, plan_in};
@@ -443,6 +444,9 @@ impl<K: Keeper> Clearing<K> {
         ensures balanced { (issue : ℕ) → longs_of (history_of self.now.log.records) issue + delivered_in (orders_of self.now.log.records) issue
             ≡ shorts_of (history_of self.now.log.records) issue + covered_in (orders_of self.now.log.records) issue }
         ensures lawful { IsLawful self.now.log.records }
+
+        // Its entries keep all positions within 10^18 shares of 0.
+        ensures small { IsBook result.now.history }
     {
         self.books().book()
     }

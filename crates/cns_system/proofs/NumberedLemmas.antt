@@ -126,17 +126,14 @@ pour_never old new lots n issue pouring.NoLot are has up h =
     no_twin old.lots lots n issue at.lot are at.found at.going at.holds h.1
 
 -- what is poured into a lot stays small
-pub pour_small : (old new : ClearNode) (lots : List LotState) (n issue shares free : ℕ) → AreTied old.lots lots → HasOpenLot lots n (λ (l : LotState). issue ≡ l.issue)
-    → free ≡ free_of (orders_of old.log.records) old.lots issue → free + lent_of old.lots issue ≤ 1000000000000000000
+pub pour_small : (old new : ClearNode) (lots : List LotState) (n issue shares : ℕ) → AreTied old.lots lots → HasOpenLot lots n (λ (l : LotState). issue ≡ l.issue)
     → LotPourLeaves issue (Ok shares) old new → HasOpenLot lots n (λ (l : LotState). l.poured + shares ≤ 1000000000000000000)
-pour_small old new lots n issue shares free are has is_free few h =
+pour_small old new lots n issue shares are has h =
     let at = open-parts lots n (λ (l : LotState). issue ≡ l.issue) has in
     let tied = are.each n at.lot at.found at.going in
-    let found : lot_of old.lots issue ≡ Some tied.twin = ap (lot_of old.lots) at.holds ∙ tied.found in
-    let lent : lent_of old.lots issue ≡ tied.twin.poured = ap (λ (o : Option Lot). unwrap_or (option_map (λ (l : Lot). l.poured) o) 0) found in
-    let shares_are : shares ≡ free = h.1.free ∙ sym is_free in
-    let same : tied.twin.poured ≡ at.lot.poured = tied.poured in
-    open-from lots n (λ (l : LotState). l.poured + shares ≤ 1000000000000000000) at.lot at.found at.going (omega (arith, few, lent, shares_are, same))
+    let same : h.1.lot ≡ tied.twin = same_Some h.1.lot tied.twin (sym h.1.found ∙ ap (lot_of old.lots) at.holds ∙ tied.found) in
+    let poured : h.1.lot.poured ≡ at.lot.poured = ap (λ (l : Lot). l.poured) same ∙ tied.poured in
+    open-from lots n (λ (l : LotState). l.poured + shares ≤ 1000000000000000000) at.lot at.found at.going (omega (arith, h.1.few, poured))
 
 poured_same : (c : List ClearRecord) (issue : ℕ) (l : Lot) → l.issue ≡ issue → poured_into c issue l ≡ record l { upto = length c; poured = avail_in c issue }
 poured_same c issue l is = ap (λ b. if b then record l { upto = length c; poured = avail_in c issue } else l) (eq-eqb l.issue issue is)

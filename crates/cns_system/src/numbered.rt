@@ -182,8 +182,6 @@ impl<K: Keeper> NumberedClearing<K> {
         if self.node.is_down() {
             return Err(PourFault::Down);
         }
-        // What is free and what the lot has are together few enough for it.
-        let _free = self.node.free(issue);
         let Ok(shares) = self.node.lot_pour(issue) else {
             unreachable!()
         };
@@ -300,11 +298,7 @@ fn plan_of<K: Keeper>(node: &Clearing<K>, issue: Cusip) -> Result<Plan, AllocErr
     ensures small { IfOk result (λ plan. planned_sum plan ≤ 10 ^ 18) }
 {
     let plan = node.lot_plan(issue)?;
-    let book = node.book();
-    let [first, ..] = plan.as_slice() else {
-        return Ok(plan);
-    };
-    // As all positions are bounded, so is what the plan asks for in all.
-    let _position = book.position(first.member, issue);
+    // As the book is small, so is what the plan asks for in all.
+    let _book = node.book();
     Ok(plan)
 }

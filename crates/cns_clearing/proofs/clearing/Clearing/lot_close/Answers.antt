@@ -1,4 +1,8 @@
 use Rattle.std.proofs.Common.{◌≡◌, ◌∙◌, ℕ, length, refl, ap, sym, subst, rules}
+use Rattle.std.specs.Prelude.{min, sum_by}
+use Rattle.cns_movements.specs.declared.order.Ask.{Ask}
+use Rattle.cns_pool.specs.Pool.{asked_sum, intervals_of}
+use Rattle.cns_pool.proofs.TileLemmas.{AreChained-Tiles}
 use Rattle.cns_allocate.specs.Deliveries.{deliveries_of}
 use Rattle.cns_clearing.specs.Books.{deliveries_in}
 use Rattle.cns_clearing.specs.Answers.{IsClosed}
@@ -65,9 +69,12 @@ returns-in-Ok-add g c =
     let allowed = close_allowed c.args.self.now c.args.issue c.args.tickets.now c.args.sealed c.in-Ok.allocation (deliveries_in c.in-Ok.allocation) law.lawful law.fits are may refl enough in
     let count : length c.in-Ok-deliveries.asks.items ≡ c.len-count.result = search rules in
     let size : length c.as_slice-2.result.now ≡ c.len-count.result = ap length c.as_slice-2.ensures.value ∙ count in
+    let granted : c.min-granted.result ≡ min c.in-Ok.allocation.poured (asked_sum c.args.tickets.now) = search rules in
     let done : IsClosed c.args.self.now.log.records c.args.tickets.now c.in-Ok.allocation (record { granted = c.min-granted.result; first = c.first_number-first.result; count = c.len-count.result }) =
     record {
-      granted = search rules;
+      granted = granted;
+      sum = ap (sum_by (λ (x : Ask). x.asked)) (sym asks) ∙ c.in-Ok-deliveries.ensures.sum (AreChained-Tiles (intervals_of c.args.tickets.now) may.served.chained)
+          ∙ ap (λ (p : ℕ). min p (asked_sum c.args.tickets.now)) c.count-poured.ensures.value ∙ sym granted;
       count = sym count ∙ ap length asks;
       first = first_is _ c.args.self.now.log.records _ _ _ law.books size c.first_number-first.ensures;
     } in

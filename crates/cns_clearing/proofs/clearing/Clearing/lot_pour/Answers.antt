@@ -17,4 +17,4 @@ returns g c =
     let down = rw (← c.self.view_is) at c.is_down.ensures in
     let shares : c.saturating_sub.result ≡ c.avail-poured.result - c.in-Some.lot.now.poured = search rules in
     rw (← c.self.view_is)
-    (pour_leaves _ _ c.args.issue _ _ _ c.in-Some.lot.now c.self.invariant.log.allowed c.self.invariant.lots (sym down ∙ c.if-is_down.false) (sym found) count avail shares c.refill.ensures)
+    (pour_leaves _ _ c.args.issue _ _ _ c.in-Some.lot.now c.self.invariant.log.allowed c.self.invariant.fits c.self.invariant.lots (sym down ∙ c.if-is_down.false) (sym found) count avail shares c.refill.ensures)

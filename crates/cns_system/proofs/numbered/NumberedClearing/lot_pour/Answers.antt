@@ -9,8 +9,8 @@ unreachable-requires g c =
 
 pub pour-requires : goal.pour-requires
 pour-requires g c =
-    pour_small c.self.inside.node c.lot_pour.new.self c.self.inside.lots c.args.number c.in-Ok.issue c.in-Ok-lot_pour.shares c.free-free.result c.self.invariant
-    c.in-Ok.ensures c.free-free.ensures.value c.free-free.ensures.small c.in-Ok-lot_pour.ensures
+    pour_small c.self.inside.node c.lot_pour.new.self c.self.inside.lots c.args.number c.in-Ok.issue c.in-Ok-lot_pour.shares c.self.invariant
+    c.in-Ok.ensures c.in-Ok-lot_pour.ensures
 
 pub invariant_of-self : goal.invariant_of-self
 invariant_of-self g c =
