@@ -7,3 +7,4 @@ pub mod AgreementLemmas
 pub mod AccordLemmas
 pub mod KeepsLemmas
 pub mod SoundLemmas
+pub mod LinkLemmas

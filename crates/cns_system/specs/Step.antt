@@ -1,6 +1,6 @@
 -- What each event comes to, and what it leaves of the nodes and the link (this project's own rules). A node's call tells what it
 -- answers and leaves; here that is its outcome, and nothing else changes.
-use Rattle.std.specs.Prelude.{◌≡◌, ◌⊎◌, ℕ, ◌+◌, true, false, List, [], ◌∷◌, ◌++◌, length, map, Option, Some, None, Result, Ok, Err}
+use Rattle.std.specs.Prelude.{◌≡◌, ◌≢◌, ◌⊎◌, ℕ, ◌+◌, true, false, List, [], ◌∷◌, ◌++◌, length, map, Option, Some, None, Result, Ok, Err}
 use Rattle.cns_movements.specs.Order.{order_of}
 use Rattle.cns_movements.specs.declared.order.Order.{Order}
 use Rattle.cns_movements.specs.declared.order.Reply.{Reply}
@@ -8,10 +8,13 @@ use Rattle.cns_records.specs.declared.clear_record.ClearRecord.TheVariants as en
 use Rattle.cns_wire.specs.Frame.{order_frame, reply_frame}
 use Rattle.cns_wire.specs.Packet.{packet_at}
 use Rattle.cns_depository.specs.Answers.{OrderLeaves}
-use Rattle.cns_depository.specs.Node.{RestartLeaves as DepotRestartLeaves}
+use Rattle.cns_depository.specs.Node.{DepNode, RestartLeaves as DepotRestartLeaves}
+use Rattle.cns_depository.specs.Stock.{order_in, record_of}
+use Rattle.cns_records.specs.declared.dep_record.DepRecord.{DepRecord}
 use Rattle.cns_depository.specs.declared.fault.Answer.{Answer}
 use Rattle.cns_depository.specs.declared.fault.Answer.TheVariants as answer
 use Rattle.cns_depository.specs.declared.fault.DepFault.{DepFault}
+use Rattle.cns_depository.specs.declared.fault.DepFault.TheVariants as fault
 use Rattle.cns_clearing.specs.Answers.{CycleLeaves, ReplyLeaves, SettingLeaves, TradeLeaves}
 use Rattle.cns_clearing.specs.Books.{orders_of}
 use Rattle.cns_clearing.specs.Node.{ClearNode, RestartLeaves}
@@ -74,7 +77,7 @@ pub record IsSent (number packet : ℕ) (old new : World) : Type 0 where
 abbrev pub IsNotSent : ℕ → Refusal → World → Type 0
 IsNotSent number refusal.Down w = w.clear.clear.log.down ≡ true
 IsNotSent number refusal.UnknownMove w = (w.clear.clear.log.down ≡ false) × (order_at w number ≡ None)
-IsNotSent number refusal.OutOfMemory w = w.clear.clear.log.down ≡ false
+IsNotSent number refusal.OutOfMemory w = (w.clear.clear.log.down ≡ false) × (order_at w number ≢ None)
 IsNotSent number _ w = ⊥
 
 abbrev pub SendStep : ℕ → Outcome → World → World → Type 0
@@ -93,11 +96,24 @@ Puts (Ok (answer.Done r)) old new = IsPut r old new
 Puts (Ok (answer.Again r)) old new = IsPut r old new
 Puts (Err fault) old new = new.replies ≡ old.replies
 
--- an order that came to the depository: its answer, and the packet of its reply; or there was no memory for that packet
+-- no other order was executed under the number of an order
+abbrev pub IsItsOwn : Order → List DepRecord → Type 0
+IsItsOwn o p = (e : DepRecord) → record_of p o.number ≡ Some e → order_in e ≡ o
+
+-- an order that came to the depository: its answer, and the packet of its reply; or there was no memory for that packet, where
+-- nothing else refuses the order
 abbrev pub OrderTaken : Order → Outcome → World → World → Type 0
 OrderTaken o outcome old new =
     ((result : Result Answer DepFault) × (outcome ≡ order_outcome (length old.replies + 1) result) × OrderLeaves o result old.depot new.depot × Puts result old new)
-    ⊎ ((outcome ≡ outcomes.Refused refusal.OutOfMemory) × (new.depot ≡ old.depot) × (new.replies ≡ old.replies))
+    ⊎ ((outcome ≡ outcomes.Refused refusal.OutOfMemory) × (new.depot ≡ old.depot) × (new.replies ≡ old.replies)
+    × (old.depot.log.down ≡ false) × IsItsOwn o old.depot.log.records)
+
+-- why an order is refused for whose reply there is no room
+abbrev pub OrderRefused : Order → DepNode → Refusal → Type 0
+OrderRefused o node refusal.Down = OrderLeaves o (Err fault.Down) node node
+OrderRefused o node refusal.Conflict = OrderLeaves o (Err fault.Conflict) node node
+OrderRefused o node refusal.OutOfMemory = (node.log.down ≡ false) × IsItsOwn o node.log.records
+OrderRefused o node _ = ⊥
 
 -- a packet arrives at the depository, where it is one of an order
 abbrev pub OrderInStep : Option Order → Outcome → World → World → Type 0

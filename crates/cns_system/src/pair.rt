@@ -2,7 +2,7 @@ ghost use Rattle.std.specs.Prelude.{◌≡◌, ◌<◌, ◌+◌, ◌++◌, ◌�
 ghost use Rattle.cns_clearing.specs.Answers.{CycleLeaves, ReplyLeaves, SettingLeaves, TradeLeaves};
 ghost use Rattle.cns_wire.specs.Frame.{reply_frame};
 ghost use Rattle.cns_wire.specs.Packet.{packet_at};
-ghost use Rattle.cns_system.specs.Step.{order_at, AtClear, ByLots, ByNode, ClearRestarts, DepotRestartStep, Looks, OrderInStep, OrderTaken, ReplyInStep, SendStep, Step};
+ghost use Rattle.cns_system.specs.Step.{order_at, AtClear, ByLots, ByNode, ClearRestarts, DepotRestartStep, Looks, OrderInStep, OrderRefused, OrderTaken, ReplyInStep, SendStep, Step};
 ghost use Rattle.cns_system.specs.Start.{Opens};
 ghost use Rattle.cns_system.specs.World.{order_in_packet, reply_in_packet};
 
@@ -196,7 +196,7 @@ impl<C: Keeper, D: Keeper> Pair<C, D> {
         ensures { OrderInStep (Some order.now) result self.old self.new }
     {
         if self.replies.put_room().is_err() {
-            return Outcome::Refused(Refusal::OutOfMemory);
+            return Outcome::Refused(self.refusal_without_room(order));
         }
         match self.depot.take_order(order) {
             Ok(Answer::Done(reply)) => {
@@ -211,6 +211,20 @@ impl<C: Keeper, D: Keeper> Pair<C, D> {
             Err(DepFault::Conflict) => Outcome::Refused(Refusal::Conflict),
             Err(DepFault::OutOfMemory) => Outcome::Refused(Refusal::OutOfMemory),
             Err(DepFault::Device) => Outcome::Refused(Refusal::Device),
+        }
+    }
+
+    // Why an order is refused for whose reply there is no room: as the depository refuses it, and else for
+    // want of memory.
+    fn refusal_without_room(&self, order: &Order) -> Refusal
+        ensures { OrderRefused order.now self.now.depot result }
+    {
+        if self.depot.is_down() {
+            return Refusal::Down;
+        }
+        match self.depot.executed(order.number) {
+            Some((executed, _)) if executed != *order => Refusal::Conflict,
+            _ => Refusal::OutOfMemory,
         }
     }
 
