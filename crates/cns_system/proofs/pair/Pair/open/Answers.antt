@@ -29,6 +29,6 @@ returns g c =
       depot_opens = c.in-Ok-open.ensures.ok;
       agree = subst (λ (n : ClearNode). Agree n.log.records c.in-Ok-open.node.log.records) (sym c.new.ensures.clear) agree;
       lots = c.new.ensures.lots;
-      orders = c.new-2.ensures;
-      replies = c.new-3.ensures;
+      orders = c.new-2.ensures.packets;
+      replies = c.new-3.ensures.packets;
     }
