@@ -3,11 +3,9 @@ use super::{issue, member, ticket, trade};
 use crate::{
     CloseFault, Look, LotFault, NumberedClearing, OpenFault, Opened, PourFault, ReserveFault,
 };
-use cns_clearing::{
-    Clearing, Closed, CycleFault, Cycled, ReplayFault, Restarted, Taken, TradeFault,
-};
+use cns_clearing::{Clearing, Closed, CycleFault, Cycled, Taken, TradeFault};
 use cns_ids::{Cusip, CycleId, CycleKind, Day, Shares};
-use cns_journal::ListKeeper;
+use cns_journal::{ListKeeper, ReplayFault, Restarted};
 use cns_movements::{MoveNo, Reply};
 use cns_pool::Ticket;
 use std::alloc::Global;

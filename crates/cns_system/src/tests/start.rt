@@ -1,7 +1,7 @@
 use super::story::{Deed, Step, Told, assert_same, night, openings, shares, tell_of};
 use super::{issue, member, trade};
 use crate::{Refusal, StartFault, System};
-use cns_journal::{Keeper, ListKeeper};
+use cns_journal::{Keeper, ListKeeper, ReplayFault};
 use cns_movements::{Asked, MoveKind, MoveNo, Order, Reply};
 use cns_records::{Allocation, ClearRecord, DepRecord, Drawn, DrawnList};
 use std::alloc::Global;
@@ -169,11 +169,11 @@ fn fault_of(alloc: Global, (past, depot_past): Journals) -> Result<StartFault, F
     }
 }
 
-const BAD_CLEAR: StartFault = StartFault::Clear(cns_clearing::ReplayFault::BadJournal { place: 1 });
+const BAD_PLACE: ReplayFault = ReplayFault::BadJournal { place: 1 };
 
-const BAD_DEPOT: StartFault = StartFault::Depot(cns_depository::ReplayFault::BadJournal {
-    place: 1,
-});
+const BAD_CLEAR: StartFault = StartFault::Clear(BAD_PLACE);
+
+const BAD_DEPOT: StartFault = StartFault::Depot(BAD_PLACE);
 
 // Journals, and why they are not opened.
 type Bad = (Journals, StartFault);
