@@ -355,6 +355,7 @@ impl<K: Keeper> Clearing<K> {
         ensures keeps { self.log.honest ≡ true → Keeps spelling self.log (K.journal result) }
         ensures run { self.log.down ≡ false → (K.run result).down ≡ false }
         ensures failures { (K.run result).failures ≡ self.log.failures }
+        ensures foresight { K.foresight result ≡ self.log.foresight }
     {
         self.log.into_keeper()
     }

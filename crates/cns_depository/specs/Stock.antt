@@ -1,5 +1,5 @@
 -- The stock record: balances as sums over the executed movements, which stand newest first (this project's own rules).
-use Rattle.std.specs.Prelude.{◌≡◌, ℕ, ◌+◌, ◌-◌, min, Bool, ◌&&◌, ◌==◌, List, [], ◌∷◌, Option, None, find, sum_by, if◌then◌else◌}
+use Rattle.std.specs.Prelude.{◌≡◌, ℕ, ◌+◌, ◌-◌, min, Bool, ◌&&◌, ◌==◌, List, Option, None, find, sum_by, if◌then◌else◌}
 use Rattle.cns_journal.specs.Replay.{AreAllowed}
 use Rattle.cns_movements.specs.declared.order.Order.{Order}
 use Rattle.cns_records.specs.declared.dep_record.DepRecord.{DepRecord}

@@ -166,6 +166,7 @@ impl<K: Keeper> Depository<K> {
         ensures keeps { self.log.honest ≡ true → Keeps dep_spelling self.log (K.journal result) }
         ensures run { self.log.down ≡ false → (K.run result).down ≡ false }
         ensures failures { (K.run result).failures ≡ self.log.failures }
+        ensures foresight { K.foresight result ≡ self.log.foresight }
     {
         self.log.into_keeper()
     }

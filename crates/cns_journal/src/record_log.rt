@@ -302,6 +302,7 @@ impl<K: Keeper, R: Record> RecordLog<K, R> {
         ensures keeps { self.honest ≡ true → Keeps R.spelling self (K.journal result) }
         ensures run { self.down ≡ false → (K.run result).down ≡ false }
         ensures failures { (K.run result).failures ≡ self.failures }
+        ensures foresight { K.foresight result ≡ self.foresight }
     {
         self.keeper
     }
