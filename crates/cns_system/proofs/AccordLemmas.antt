@@ -35,6 +35,14 @@ order_stays (entry.Cycle id) c n o found = order_of-append (orders_of c).orders 
 order_stays (entry.Allocate a) c n o found = order_of-append (orders_of c).orders _ n o found
 order_stays (entry.Confirm r) c n o found = found
 
+-- the order of an executed movement is found under its number
+pub ordered_found : (orders : List Order) (e : DepRecord) → IsOrdered orders e → order_of orders (order_in e).number ≡ Some (order_in e)
+ordered_found orders (Exec o moved) ordered = ordered.0
+
+-- and the movement stays that of its order
+ordered_stays : (u : ClearRecord) (c : List ClearRecord) (e : DepRecord) → IsOrdered (orders_of c).orders e → IsOrdered (orders_of (u ∷ c)).orders e
+ordered_stays u c (Exec o moved) ordered = (order_stays u c o.number o ordered.0, ordered.1)
+
 -- a movement stays executed as one of another number is executed
 pub executed_stays : (e : DepRecord) (p : List DepRecord) (r : Reply) → record_of p (order_in e).number ≡ None → IsExecuted p r → IsExecuted (e ∷ p) r
 executed_stays e p r fresh done = (done.0, by ((order_in e).number == r.number) refl, done.2)
@@ -79,7 +87,7 @@ module _ (c c' : LogState ClearRecord) (d : LogState DepRecord) (orders replies 
         known =
             subst (λ (l : List ClearRecord). All (IsKnown (orders_of l).orders) d.records) (sym more)
             (All-weaker (IsKnown (orders_of c.records).orders) (IsKnown (orders_of (u ∷ c.records)).orders)
-            (λ e found. (order_stays u c.records (order_in e).number (order_in e) found.0, found.1)) d.records a.known);
+            (λ e known. (ordered_stays u c.records e known.0, known.1)) d.records a.known);
         executed =
             subst (λ (l : List ClearRecord). All (IsExecuted d.records) (orders_of l).replies) (sym more) (replies_fit u c.records d.records fits a.executed);
         sent = λ k bytes o at reads.
@@ -89,7 +97,7 @@ module _ (c c' : LogState ClearRecord) (d : LogState DepRecord) (orders replies 
         clear_tried = λ v tried. absurd (none-some v (sym none ∙ tried));
         depot_tried = λ e tried.
             let before = a.depot_tried e tried in
-            (subst (λ (l : List ClearRecord). IsKnown (orders_of l).orders e) (sym more) (order_stays u c.records (order_in e).number (order_in e) before.0.0, before.0.1), before.1);
+            (subst (λ (l : List ClearRecord). IsKnown (orders_of l).orders e) (sym more) (ordered_stays u c.records e before.0.0, before.0.1), before.1);
         clear_up = λ up. none;
         depot_up = a.depot_up;
       }
@@ -186,7 +194,7 @@ known_all openings orders [] lawful all = All-nil (IsKnown orders)
 known_all openings orders (Exec o moved ∷ p) lawful all =
     let ordered = All-head (IsOrdered orders) (Exec o moved) p all in
     let within = subst (λ n. n ≤ o.asked) (sym (ap moved_by lawful.0.moves)) (min-le_left o.asked _) in
-    All-cons (IsKnown orders) (Exec o moved) p (ordered.0, within) (known_all openings orders p lawful.1 (All-tail (IsOrdered orders) (Exec o moved) p all))
+    All-cons (IsKnown orders) (Exec o moved) p (ordered, within) (known_all openings orders p lawful.1 (All-tail (IsOrdered orders) (Exec o moved) p all))
 
 -- nodes that were opened are in accord, as there is no packet yet
 pub started : (openings : List Opening) (clear depot : KeeperState) (w : World) → IsStarted openings clear depot w → IsInAccord w

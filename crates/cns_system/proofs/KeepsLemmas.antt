@@ -1,6 +1,5 @@
 -- Each call of a node keeps the two nodes and the link in accord, and so does each event.
-use Rattle.std.proofs.Common.{◌≡◌, ◌≤◌, ◌∙◌, inl, inr, ℕ, Bool, true, false, List, ◌∷◌, Option, Some, None, Result, Ok, Err, ap, cond, refl, subst, sym}
-use Rattle.std.proofs.Math.Nat.{min-le_left}
+use Rattle.std.proofs.Common.{◌≡◌, ◌∙◌, inl, inr, ℕ, Bool, true, false, List, ◌∷◌, Option, Some, None, Result, Ok, Err, ap, cond, refl, subst, sym}
 use Rattle.std.specs.Prelude.{◌==◌, ◌-◌, slice_get, IsSomeAnd, if◌then◌else◌}
 use Rattle.std.proofs.lemmas.Bool.{eq-eqb}
 use Rattle.std.proofs.lemmas.Option.{none-some, same_Some}
@@ -39,12 +38,12 @@ use Rattle.cns_records.specs.Clear.{spelling, HasPayload}
 use Rattle.cns_records.specs.Dep.{dep_spelling, HasDepPayload}
 use Rattle.cns_depository.specs.Answers.{OrderLeaves, next_record}
 use Rattle.cns_depository.specs.Node.{DepNode}
-use Rattle.cns_depository.specs.Stock.{IsExecutable, moved_by, order_in, record_of}
+use Rattle.cns_depository.specs.Stock.{IsExecutable, order_in, record_of}
 use Rattle.cns_depository.specs.declared.fault.Answer.{Answer}
 use Rattle.cns_depository.specs.declared.fault.Answer.TheVariants as answer
 use Rattle.cns_depository.specs.declared.fault.DepFault.{DepFault}
 use Rattle.cns_depository.specs.declared.fault.DepFault.TheVariants as fault
-use Rattle.cns_system.specs.Accord.{Accord, FitsStock, IsInAccord, IsKnown}
+use Rattle.cns_system.specs.Accord.{Accord, AreLawful, FitsStock, IsInAccord, IsKnown}
 use Rattle.cns_system.specs.Agreement.{IsExecuted}
 use Rattle.cns_system.specs.Lot.{LotState, with_seal}
 use Rattle.cns_system.specs.Lots.{LotLeaves, ReserveLeaves, lot_at}
@@ -66,6 +65,7 @@ use Rattle.cns_system.specs.declared.fault.PourFault.TheVariants as pouring
 use Rattle.cns_system.specs.declared.numbered.Opened.{Opened}
 use Rattle.cns_system.specs.declared.outcome.Outcome.{Outcome}
 use Rattle.cns_system.proofs.AccordLemmas.{executed_more, grown, kept, order_put, reply_put, stock_kept}
+use Rattle.cns_system.proofs.DeliveredLemmas.{next_known}
 
 -- what is found in an option
 some_and : {X : Type 0} (o : Option X) (P : X → Type 0) → IsSomeAnd o P → (x : X) × P x
@@ -202,27 +202,24 @@ module _ (c : LogState ClearRecord) (orders replies : List (List ℕ)) where
   stock_same : (old new : DepNode) → new ≡ old → StockKeeps old.log new.log
   stock_same old new e = (ap (λ (n : DepNode). n.log.honest) e, λ honest a. subst (λ (n : DepNode). Accord c n.log orders replies) (sym e) a)
 
-  -- a movement moves no more than is asked for
-  within : (node : DepNode) (o : Order) → moved_by (next_record node o) ≤ o.asked
-  within node o = min-le_left o.asked _
-
-  -- an order that the clearing node has
+  -- an order that the clearing node has, whose record is known where it is new
   order_keeps : (o : Order) (result : Result Answer DepFault) (old new : DepNode)
-      → (Accord c old.log orders replies → order_of (orders_of c.records).orders o.number ≡ Some o) → OrderLeaves o result old new → StockKeeps old.log new.log
-  order_keeps o (Ok (answer.Done r)) old new found h = (
+      → (Accord c old.log orders replies → record_of old.log.records o.number ≡ None → IsKnown (orders_of c.records).orders (next_record old o))
+      → OrderLeaves o result old new → StockKeeps old.log new.log
+  order_keeps o (Ok (answer.Done r)) old new known h = (
     ap (λ (l : LogState DepRecord). l.honest) h.2.1.0,
-    λ honest a. executed_more c old.log new.log orders replies (next_record old o) a h.0 (found a, within old o)
+    λ honest a. executed_more c old.log new.log orders replies (next_record old o) a h.0 (known a h.0)
         (ap (λ (l : LogState DepRecord). l.records) h.2.1.0) (ap (λ (l : LogState DepRecord). l.tried) h.2.1.0 ∙ a.depot_up h.2.0),
   )
-  order_keeps o (Ok (answer.Again r)) old new found h = stock_same old new h.3
-  order_keeps o (Err fault.Down) old new found h = stock_same old new h.1
-  order_keeps o (Err fault.Conflict) old new found h = stock_same old new h.2
-  order_keeps o (Err fault.OutOfMemory) old new found h = stock_same old new h.2
-  order_keeps o (Err fault.Device) old new found h = (
+  order_keeps o (Ok (answer.Again r)) old new known h = stock_same old new h.3
+  order_keeps o (Err fault.Down) old new known h = stock_same old new h.1
+  order_keeps o (Err fault.Conflict) old new known h = stock_same old new h.2
+  order_keeps o (Err fault.OutOfMemory) old new known h = stock_same old new h.2
+  order_keeps o (Err fault.Device) old new known h = (
     ap (λ (l : LogState DepRecord). l.honest) h.1.1.0,
     λ honest a. stock_kept c old.log new.log orders replies a (ap (λ (l : LogState DepRecord). l.records) h.1.1.0)
         (λ e tried. subst (λ (e : DepRecord). IsKnown (orders_of c.records).orders e × (record_of old.log.records (order_in e).number ≡ None))
-        (same_Some (next_record old o) e (sym (ap (λ (l : LogState DepRecord). l.tried) h.1.1.0) ∙ tried)) ((found a, within old o), h.0))
+        (same_Some (next_record old o) e (sym (ap (λ (l : LogState DepRecord). l.tried) h.1.1.0) ∙ tried)) (known a h.0, h.0))
         (λ up. cc (up, ap (λ (l : LogState DepRecord). l.down) h.1.1.0)),
   )
 
@@ -306,16 +303,17 @@ puts_keep c o (Err fault) old new h p a = subst (λ (l : List (List ℕ)). Accor
 
 -- an order arrives: it is one that the clearing node sent
 order_taken : (k : ℕ) (bytes : List ℕ) (o : Order) (outcome : Outcome) (old new : World) → slice_get old.orders k ≡ Some bytes → order_in_packet (Some bytes) ≡ Some o
-    → new.clear ≡ old.clear → new.orders ≡ old.orders → OrderTaken o outcome old new → IsInAccord old → IsInAccord new
-order_taken k bytes o outcome old new at reads clear orders (inl t) accord = λ clear_honest depot_honest.
-    let found = λ (a : Accord old.clear.clear.log old.depot.log old.orders old.replies). a.sent k bytes o at reads in
-    let now = order_keeps old.clear.clear.log old.orders old.replies o t.0 old.depot new.depot found t.2 in
+    → new.clear ≡ old.clear → new.orders ≡ old.orders → OrderTaken o outcome old new → AreLawful old → IsInAccord old → IsInAccord new
+order_taken k bytes o outcome old new at reads clear orders (inl t) lawful accord = λ clear_honest depot_honest.
+    let known = λ (a : Accord old.clear.clear.log old.depot.log old.orders old.replies) (fresh : record_of old.depot.log.records o.number ≡ None).
+    next_known old.depot.openings old.clear.clear.log.records old.depot.log.records o lawful.0 lawful.1 a.known a.executed (a.sent k bytes o at reads) fresh in
+    let now = order_keeps old.clear.clear.log old.orders old.replies o t.0 old.depot new.depot known t.2 in
     let was_honest = sym now.0 ∙ depot_honest in
     let before = accord (sym (ap (λ (n : NumberedNode). n.clear.log.honest) clear) ∙ clear_honest) was_honest in
     subst (λ (n : NumberedNode). Accord n.clear.log new.depot.log new.orders new.replies) (sym clear)
     (subst (λ (l : List (List ℕ)). Accord old.clear.clear.log new.depot.log l new.replies) (sym orders)
     (puts_keep old.clear.clear.log o t.0 old new t.2 t.3 (now.1 was_honest before)))
-order_taken k bytes o outcome old new at reads clear orders (inr t) accord = λ clear_honest depot_honest.
+order_taken k bytes o outcome old new at reads clear orders (inr t) lawful accord = λ clear_honest depot_honest.
     let before = accord (sym (ap (λ (n : NumberedNode). n.clear.log.honest) clear) ∙ clear_honest) (sym (ap (λ (n : DepNode). n.log.honest) t.1) ∙ depot_honest) in
     subst (λ (n : NumberedNode). Accord n.clear.log new.depot.log new.orders new.replies) (sym clear)
     (subst (λ (l : List (List ℕ)). Accord old.clear.clear.log new.depot.log l new.replies) (sym orders)
@@ -332,12 +330,12 @@ packet_place packets number bytes at = by (number == 0) at
 
 order_arrives : (packet : Option (List ℕ)) (held : Option Order) (outcome : Outcome) (old new : World)
     → ((bytes : List ℕ) → packet ≡ Some bytes → (k : ℕ) × (slice_get old.orders k ≡ Some bytes)) → order_in_packet packet ≡ held
-    → OrderInStep held outcome old new → IsInAccord old → IsInAccord new
-order_arrives packet None outcome old new place is h accord = subst IsInAccord (sym h.1) accord
-order_arrives None (Some o) outcome old new place is h accord = absurd (none-some o is)
-order_arrives (Some bytes) (Some o) outcome old new place is h accord =
+    → OrderInStep held outcome old new → AreLawful old → IsInAccord old → IsInAccord new
+order_arrives packet None outcome old new place is h lawful accord = subst IsInAccord (sym h.1) accord
+order_arrives None (Some o) outcome old new place is h lawful accord = absurd (none-some o is)
+order_arrives (Some bytes) (Some o) outcome old new place is h lawful accord =
     let at = place bytes refl in
-    order_taken at.0 bytes o outcome old new at.1 is h.0 h.1 h.2 accord
+    order_taken at.0 bytes o outcome old new at.1 is h.0 h.1 h.2 lawful accord
 
 -- a reply arrives: it is of a movement that the depository executed
 reply_arrives : (packet : Option (List ℕ)) (held : Option Reply) (outcome : Outcome) (old new : World)
@@ -360,35 +358,35 @@ depot_restart_step outcome old new h accord = λ clear_honest depot_honest.
     (subst (λ (l : List (List ℕ)). Accord old.clear.clear.log new.depot.log l new.replies) (sym h.1)
     (subst (λ (l : List (List ℕ)). Accord old.clear.clear.log new.depot.log old.orders l) (sym h.2) (now.1 was_honest before)))
 
--- each event keeps both nodes and the link in accord
-pub step_keeps : (e : Event) (outcome : Outcome) (old new : World) → Step e outcome old new → IsInAccord old → IsInAccord new
-step_keeps (event.Trade t) outcome old new =
+-- each event keeps both nodes and the link in accord, as the records of both are lawful
+pub step_keeps : (e : Event) (outcome : Outcome) (old new : World) → AreLawful old → Step e outcome old new → IsInAccord old → IsInAccord new
+step_keeps (event.Trade t) outcome old new lawful =
     clear_step trade_outcome (ByNode (TradeLeaves t)) outcome old new (λ result h. trade_keeps old.depot.log old.orders old.replies t result old.clear.clear new.clear.clear h.0)
-step_keeps (event.Exempt m i s) outcome old new =
+step_keeps (event.Exempt m i s) outcome old new lawful =
     clear_step setting_outcome (ByNode (SettingLeaves (entry.Exempt m i s))) outcome old new
     (λ result h. setting_keeps old.depot.log old.orders old.replies (entry.Exempt m i s) result old.clear.clear new.clear.clear (λ a. tt) h.0)
-step_keeps (event.Priority m i on) outcome old new =
+step_keeps (event.Priority m i on) outcome old new lawful =
     clear_step setting_outcome (ByNode (SettingLeaves (entry.Priority m i on))) outcome old new
     (λ result h. setting_keeps old.depot.log old.orders old.replies (entry.Priority m i on) result old.clear.clear new.clear.clear (λ a. tt) h.0)
-step_keeps (event.Cycle id) outcome old new =
+step_keeps (event.Cycle id) outcome old new lawful =
     clear_step cycle_outcome (ByNode (CycleLeaves id)) outcome old new (λ result h. cycle_keeps old.depot.log old.orders old.replies id result old.clear.clear new.clear.clear h.0)
-step_keeps (event.LotOpen issue) outcome old new =
+step_keeps (event.LotOpen issue) outcome old new lawful =
     clear_step open_outcome (OpenLeaves issue) outcome old new (λ result h. open_keeps old.depot.log old.orders old.replies issue result old.clear new.clear h)
-step_keeps (event.LotPour lot) outcome old new =
+step_keeps (event.LotPour lot) outcome old new lawful =
     clear_step pour_outcome (PourLeaves lot) outcome old new (λ result h. pour_keeps old.depot.log old.orders old.replies lot result old.clear new.clear h)
-step_keeps (event.Reserve lot member) outcome old new = same_step reserve_outcome (ReserveLeaves lot member) outcome old new
-step_keeps (event.LookPoured lot) outcome old new =
+step_keeps (event.Reserve lot member) outcome old new lawful = same_step reserve_outcome (ReserveLeaves lot member) outcome old new
+step_keeps (event.LookPoured lot) outcome old new lawful =
     clear_step poured_outcome (Looks lot) outcome old new (λ result h. by_same_lots old.depot.log old.orders old.replies old.clear new.clear h.1)
-step_keeps (event.LookAsked lot) outcome old new =
+step_keeps (event.LookAsked lot) outcome old new lawful =
     clear_step asked_outcome (Looks lot) outcome old new (λ result h. by_same_lots old.depot.log old.orders old.replies old.clear new.clear h.1)
-step_keeps (event.Seal lot) outcome old new = same_step seal_outcome (LotLeaves with_seal lot) outcome old new
-step_keeps (event.LotClose lot) outcome old new =
+step_keeps (event.Seal lot) outcome old new lawful = same_step seal_outcome (LotLeaves with_seal lot) outcome old new
+step_keeps (event.LotClose lot) outcome old new lawful =
     clear_step close_outcome (CloseLeaves lot) outcome old new (λ result h. close_keeps old.depot.log old.orders old.replies lot result old.clear new.clear h)
-step_keeps (event.Send number) outcome old new = send_step number outcome old new
-step_keeps (event.OrderIn packet) outcome old new =
-    order_arrives (packet_at old.orders packet) (order_in_packet (packet_at old.orders packet)) outcome old new (packet_place old.orders packet) refl
-step_keeps (event.ReplyIn packet) outcome old new =
+step_keeps (event.Send number) outcome old new lawful = send_step number outcome old new
+step_keeps (event.OrderIn packet) outcome old new lawful =
+    λ h. order_arrives (packet_at old.orders packet) (order_in_packet (packet_at old.orders packet)) outcome old new (packet_place old.orders packet) refl h lawful
+step_keeps (event.ReplyIn packet) outcome old new lawful =
     reply_arrives (packet_at old.replies packet) (reply_in_packet (packet_at old.replies packet)) outcome old new (packet_place old.replies packet) refl
-step_keeps (event.Restart node.Clear) outcome old new =
+step_keeps (event.Restart node.Clear) outcome old new lawful =
     clear_step restart_outcome ClearRestarts outcome old new (λ result h. restart_keeps old.depot.log old.orders old.replies result old.clear.clear.log new.clear.clear.log h.0.0)
-step_keeps (event.Restart node.Depot) outcome old new = depot_restart_step outcome old new
+step_keeps (event.Restart node.Depot) outcome old new lawful = depot_restart_step outcome old new

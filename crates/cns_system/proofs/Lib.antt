@@ -5,6 +5,7 @@ pub mod NumberedLemmas
 pub mod RunLemmas
 pub mod AgreementLemmas
 pub mod AccordLemmas
+pub mod DeliveredLemmas
 pub mod KeepsLemmas
 pub mod SoundLemmas
 pub mod LinkLemmas

@@ -1,8 +1,7 @@
 -- What no event comes to while both nodes and the link are in accord.
-use Rattle.std.proofs.Common.{◌≡◌, ◌≤◌, ◌∙◌, ◌⊎◌, inl, inr, ℕ, Bool, true, false, List, [], ◌∷◌, Option, Some, None, Result, Ok, Err, ap, cond, refl, subst, sym, arith}
-use Rattle.std.specs.Prelude.{◌≢◌, ◌==◌, All, find, nat_lt, option_map, slice_get, if◌then◌else◌}
-use Rattle.std.proofs.lemmas.Bool.{eqb-true, eq-eqb, ltb-true}
-use Rattle.std.proofs.lemmas.List.Elements.{All-head, All-tail}
+use Rattle.std.proofs.Common.{◌≡◌, ◌≤◌, ◌∙◌, ◌⊎◌, inl, inr, ℕ, Bool, true, false, List, Option, Some, None, Result, Ok, Err, ap, refl, subst, sym, arith}
+use Rattle.std.specs.Prelude.{◌≢◌, All, nat_lt, slice_get, if◌then◌else◌}
+use Rattle.std.proofs.lemmas.Bool.{eq-eqb, ltb-true}
 use Rattle.std.proofs.lemmas.Option.{none-some, same_Some}
 use Rattle.cns_movements.specs.Book.{Orders}
 use Rattle.cns_movements.specs.Confirm.{answer_by, confirm_answer}
@@ -39,52 +38,27 @@ use Rattle.cns_system.specs.World.{World, order_in_packet, reply_in_packet}
 use Rattle.cns_system.specs.declared.event.Event.{Event}
 use Rattle.cns_system.specs.declared.event.Event.TheVariants as event
 use Rattle.cns_system.specs.declared.event.NodeName.TheVariants as node
+use Rattle.cns_system.proofs.AccordLemmas.{ordered_found}
+use Rattle.cns_system.proofs.DeliveredLemmas.{confirmed_as, record_known}
 use Rattle.cns_system.proofs.KeepsLemmas.{packet_place}
 use Rattle.cns_system.specs.declared.outcome.Outcome.{Outcome}
 use Rattle.cns_system.specs.declared.outcome.Outcome.TheVariants as outcomes
 use Rattle.cns_system.specs.declared.outcome.Refusal.TheVariants as refusal
 use Rattle.cns_system.specs.Agreement.{IsExecuted}
 
--- the record of a number is of that number, and known
-pub record_known : (orders : List Order) (p : List DepRecord) (n : ℕ) (e : DepRecord) → All (IsKnown orders) p → record_of p n ≡ Some e
-    → IsKnown orders e × ((order_in e).number ≡ n)
-record_known orders [] n e all found = absurd (none-some e found)
-record_known orders (x ∷ p) n e all found =
-    by ((order_in x).number == n) refl found (record_known orders p n e (All-tail (IsKnown orders) x p all))
-  where
-    by : (b : Bool) → ((order_in x).number == n) ≡ b → cond b (Some x) (record_of p n) ≡ Some e
-        → (record_of p n ≡ Some e → IsKnown orders e × ((order_in e).number ≡ n)) → IsKnown orders e × ((order_in e).number ≡ n)
-    by true same is rest =
-        let here = same_Some x e is in
-        subst (λ (y : DepRecord). IsKnown orders y × ((order_in y).number ≡ n)) here (All-head (IsKnown orders) x p all, eqb-true (order_in x).number n same)
-    by false other is rest = rest is
-
 -- an executed order of a number is the order of that number
 pub same_order : (orders : List Order) (p : List DepRecord) (o other : Order) (moved : ℕ) → All (IsKnown orders) p → order_of orders o.number ≡ Some o
     → record_of p o.number ≡ Some (Exec other moved) → other ≡ o
 same_order orders p o other moved all found executed =
     let known = record_known orders p o.number (Exec other moved) all executed in
-    sym (same_Some o other (sym found ∙ ap (order_of orders) (sym known.1) ∙ known.0.0))
-
--- what is confirmed of a movement is what was executed of it
-pub confirmed_as : (p : List DepRecord) (replies : List Reply) (n m : ℕ) → All (IsExecuted p) replies → moved_of replies n ≡ Some m
-    → (e : DepRecord) × (record_of p n ≡ Some e) × (moved_by e ≡ m)
-confirmed_as p [] n m all found = absurd (none-some m found)
-confirmed_as p (r ∷ rs) n m all found = by (r.number == n) refl found (confirmed_as p rs n m (All-tail (IsExecuted p) r rs all))
-  where
-    by : (b : Bool) → (r.number == n) ≡ b → option_map (λ (r : Reply). r.moved) (cond b (Some r) (find (λ (r : Reply). r.number == n) rs)) ≡ Some m
-        → (moved_of rs n ≡ Some m → (e : DepRecord) × (record_of p n ≡ Some e) × (moved_by e ≡ m)) → (e : DepRecord) × (record_of p n ≡ Some e) × (moved_by e ≡ m)
-    by true same is rest =
-        let here = All-head (IsExecuted p) r rs all in
-        (here.0, subst (λ (k : ℕ). record_of p k ≡ Some here.0) (eqb-true r.number n same) here.1, here.2 ∙ same_Some r.moved m is)
-    by false other is rest = rest is
+    sym (same_Some o other (sym found ∙ ap (order_of orders) (sym known.1) ∙ known.0.0.0))
 
 -- a reply of an executed movement is a first or a repeated confirmation
 pub answer_known : (book : Orders) (p : List DepRecord) (r : Reply) → All (IsKnown book.orders) p → All (IsExecuted p) book.replies → IsExecuted p r
     → (confirm_answer book r ≡ confirm.Done) ⊎ (confirm_answer book r ≡ confirm.Again)
 answer_known book p r known executed done =
     let order = record_known book.orders p r.number done.0 known done.1 in
-    let found = ap (order_of book.orders) (sym order.1) ∙ order.0.0 in
+    let found = ap (order_of book.orders) (sym order.1) ∙ ordered_found book.orders done.0 order.0.0 in
     let most = subst (λ (n : ℕ). n ≤ (order_in done.0).asked) done.2 order.0.1 in
     subst (λ (o : Option Order). (answer_by o (moved_of book.replies r.number) r.moved ≡ confirm.Done) ⊎ (answer_by o (moved_of book.replies r.number) r.moved ≡ confirm.Again))
     (sym found) (by (moved_of book.replies r.number) refl most)

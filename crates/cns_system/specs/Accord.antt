@@ -7,9 +7,9 @@ use Rattle.cns_journal.specs.RecordLog.{LogState}
 use Rattle.cns_records.specs.declared.clear_record.ClearRecord.{ClearRecord}
 use Rattle.cns_records.specs.declared.clear_record.ClearRecord.TheVariants as entry
 use Rattle.cns_records.specs.declared.dep_record.DepRecord.{DepRecord}
-use Rattle.cns_clearing.specs.Books.{orders_of}
-use Rattle.cns_depository.specs.Stock.{moved_by, order_in, record_of}
-use Rattle.cns_system.specs.Agreement.{IsExecuted}
+use Rattle.cns_clearing.specs.Books.{IsLawful, orders_of}
+use Rattle.cns_depository.specs.Stock.{IsLawfulDepot, moved_by, order_in, record_of}
+use Rattle.cns_system.specs.Agreement.{IsExecuted, IsOrdered}
 use Rattle.cns_system.specs.World.{World, order_in_packet, reply_in_packet}
 use Rattle.cns_system.specs.declared.event.Event.{Event}
 use Rattle.cns_system.specs.declared.event.Event.TheVariants as event
@@ -18,9 +18,9 @@ use Rattle.cns_system.specs.declared.outcome.Outcome.TheVariants as outcomes
 use Rattle.cns_system.specs.declared.outcome.Refusal.TheVariants as refusal
 
 -- an executed movement is that of the order of its number, so its member, issue, kind and quantity asked for are the same in both
--- nodes; and it moved no more than that
+-- nodes; a delivery moved all of that quantity, and a cover no more than it
 abbrev pub IsKnown : List Order → DepRecord → Type 0
-IsKnown orders e = (order_of orders (order_in e).number ≡ Some (order_in e)) × (moved_by e ≤ (order_in e).asked)
+IsKnown orders e = IsOrdered orders e × (moved_by e ≤ (order_in e).asked)
 
 -- a record of the clearing node fits what was executed: a confirmation is of a movement that was executed, and moved so much
 abbrev pub FitsStock : List DepRecord → ClearRecord → Type 0
@@ -48,6 +48,10 @@ pub record Accord (clear : LogState ClearRecord) (depot : LogState DepRecord) (o
 
 abbrev pub IsInAccord : World → Type 0
 IsInAccord w = w.clear.clear.log.honest ≡ true → w.depot.log.honest ≡ true → Accord w.clear.clear.log w.depot.log w.orders w.replies
+
+-- each record of each node may stand after those before it
+abbrev pub AreLawful : World → Type 0
+AreLawful w = IsLawful w.clear.clear.log.records × IsLawfulDepot w.depot.openings w.depot.log.records
 
 -- what no event comes to where both keepers are honest: no order meets another one under its number, no reply is of a movement that
 -- is unknown, moved another quantity or more than was asked for, and no journal is bad

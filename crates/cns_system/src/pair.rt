@@ -2,6 +2,7 @@ ghost use Rattle.std.specs.Prelude.{◌≡◌, ◌<◌, ◌+◌, ◌++◌, ◌�
 ghost use Rattle.cns_clearing.specs.Answers.{CycleLeaves, ReplyLeaves, SettingLeaves, TradeLeaves};
 ghost use Rattle.cns_wire.specs.Frame.{reply_frame};
 ghost use Rattle.cns_wire.specs.Packet.{packet_at};
+ghost use Rattle.cns_system.specs.Accord.{AreLawful};
 ghost use Rattle.cns_system.specs.Step.{order_at, AtClear, ByLots, ByNode, ClearRestarts, DepotRestartStep, Looks, OrderInStep, OrderRefused, OrderTaken, ReplyInStep, SendStep, Step};
 ghost use Rattle.cns_system.specs.Start.{Opens};
 ghost use Rattle.cns_system.specs.World.{order_in_packet, reply_in_packet};
@@ -101,6 +102,15 @@ impl<C: Keeper, D: Keeper> Pair<C, D> {
         ensures { result.now ≡ self.now.depot }
     {
         &self.depot
+    }
+
+    /// Does nothing, and tells what the nodes know of their records: each of them may stand after those
+    /// before it.
+    pub(crate) fn lawful(&self)
+        ensures { AreLawful self.now }
+    {
+        let _orders = self.clear.node().orders();
+        let _records = self.depot.records();
     }
 
     /// Lets an event happen, as `System::step` does.

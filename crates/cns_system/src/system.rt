@@ -19,9 +19,10 @@ use std::marker::Model;
 ///
 /// Whatever events happened, the two nodes and the link are in accord, where both keepers are honest:
 /// each movement that the depository executed is the order of its number in the clearing node, with
-/// its member, its issue and the quantity that it asks for; each movement that the clearing node has
-/// confirmed was executed, and moved just what was confirmed; and each packet of an order is the order
-/// of its number, each packet of a reply a movement that was executed.
+/// its member, its issue and the quantity that it asks for; a delivery moved all of that quantity, and
+/// a cover no more than it; each movement that the clearing node has confirmed was executed, and moved
+/// just what was confirmed; and each packet of an order is the order of its number, each packet of a
+/// reply a movement that was executed.
 ///
 /// Contracts see the clearing node with its lots by number, the depository, and the packets that were
 /// put on the link in each direction, the oldest first.
@@ -96,6 +97,8 @@ impl<C: Keeper, D: Keeper> System<C, D> {
         // No packet is refused as one that the other node never sent, and no journal as bad.
         ensures sound { StaysSound self.old event result }
     {
+        // As the records are lawful, a new delivery finds all that it asks for in the CNS account.
+        self.pair.lawful();
         self.pair.step(event)
     }
 

@@ -5,10 +5,10 @@ use Rattle.cns_system.proofs.SoundLemmas.{step_sound}
 use Rattle.cns_system.proofs.system.System.step.Goals as goal
 
 pub invariant_of-self : goal.invariant_of-self
-invariant_of-self g c = step_keeps c.args.event c.step.result c.self.inside.pair c.step.new.self c.step.ensures c.self.invariant
+invariant_of-self g c = step_keeps c.args.event c.step.result c.self.inside.pair c.step.new.self c.lawful.ensures c.step.ensures c.self.invariant
 
 pub returns-clause-accord : goal.returns-clause-accord
-returns-clause-accord g c = step_keeps c.args.event c.step.result c.self.inside.pair c.step.new.self c.step.ensures c.self.invariant
+returns-clause-accord g c = step_keeps c.args.event c.step.result c.self.inside.pair c.step.new.self c.lawful.ensures c.step.ensures c.self.invariant
 
 pub returns-clause-sound : goal.returns-clause-sound
 returns-clause-sound g c = subst (λ w. StaysSound w c.args.event c.step.result) c.self.view_is (step_sound c.args.event c.step.result c.self.inside.pair c.step.new.self c.step.ensures c.self.invariant)
