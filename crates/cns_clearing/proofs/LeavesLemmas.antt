@@ -15,7 +15,7 @@ use Rattle.cns_records.specs.declared.allocation.Allocation.{Allocation}
 use Rattle.cns_records.specs.declared.clear_record.ClearRecord.{ClearRecord}
 use Rattle.cns_records.specs.declared.clear_record.ClearRecord.TheVariants.{Allocate}
 use Rattle.cns_clearing.specs.Answers.{LotCloseLeaves, LotOpenLeaves, LotPourLeaves, MayClose, allocation_of}
-use Rattle.cns_clearing.specs.Faults.{closing_fault}
+use Rattle.cns_records.specs.Refusals.{commit_refusal}
 use Rattle.cns_journal.specs.declared.record_log.CommitFault.{CommitFault}
 use Rattle.cns_journal.specs.declared.record_log.CommitFault.TheVariants as commit
 use Rattle.std.proofs.lemmas.Option.{none-some}
@@ -146,7 +146,7 @@ some_found node issue lot found none = none-some lot (sym none ∙ found)
 -- what a refused commit leaves of a close
 pub close_refused : (old new : ClearNode) (issue : ℕ) (tickets : List Ticket) (sealed : Bool) (a : Allocation) (fault : CommitFault) → old.log.down ≡ false
     → MayClose old issue tickets sealed a → IsAllowed old.log.records (Allocate a) → AddLeaves (Allocate a) (Err fault) old new
-    → LotCloseLeaves issue tickets sealed (Err (closing_fault fault)) old new
+    → LotCloseLeaves issue tickets sealed (Err (commit_refusal fault)) old new
 close_refused old new issue tickets sealed a commit.OutOfMemory up may allowed left = (up, some_found old issue may.lot may.found, left)
 close_refused old new issue tickets sealed a commit.Device up may allowed left = (a, may, allowed, left)
 

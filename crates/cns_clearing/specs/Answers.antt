@@ -27,45 +27,33 @@ use Rattle.cns_clearing.specs.Lots.{IsAllocation, avail_in, lots_poured, new_lot
 use Rattle.cns_clearing.specs.Node.{ClearNode, Added, Failed}
 use Rattle.cns_clearing.specs.Pools.{free_of, lot_of}
 use Rattle.cns_clearing.specs.declared.lot.Lot.{Lot}
-use Rattle.cns_clearing.specs.declared.fault.Closed.{Closed}
-use Rattle.cns_clearing.specs.declared.fault.LotOpenFault.{LotOpenFault}
-use Rattle.cns_clearing.specs.declared.fault.LotOpenFault.TheVariants as opening
-use Rattle.cns_clearing.specs.declared.fault.LotPourFault.{LotPourFault}
-use Rattle.cns_clearing.specs.declared.fault.LotPourFault.TheVariants as pouring
-use Rattle.cns_clearing.specs.declared.fault.LotCloseFault.{LotCloseFault}
-use Rattle.cns_clearing.specs.declared.fault.LotCloseFault.TheVariants as closing
-use Rattle.cns_clearing.specs.declared.fault.TradeFault.{TradeFault}
-use Rattle.cns_clearing.specs.declared.fault.TradeFault.TheVariants as trade
-use Rattle.cns_clearing.specs.declared.fault.SettingFault.{SettingFault}
-use Rattle.cns_clearing.specs.declared.fault.SettingFault.TheVariants as setting
-use Rattle.cns_clearing.specs.declared.fault.CycleFault.{CycleFault}
-use Rattle.cns_clearing.specs.declared.fault.CycleFault.TheVariants as cycle
-use Rattle.cns_clearing.specs.declared.fault.Cycled.{Cycled}
-use Rattle.cns_clearing.specs.declared.fault.OrderFault.{OrderFault}
-use Rattle.cns_clearing.specs.declared.fault.OrderFault.TheVariants as order
-use Rattle.cns_clearing.specs.declared.fault.ReplyFault.{ReplyFault}
-use Rattle.cns_clearing.specs.declared.fault.ReplyFault.TheVariants as reply
-use Rattle.cns_clearing.specs.declared.fault.Taken.{Taken}
-use Rattle.cns_clearing.specs.declared.fault.Taken.TheVariants.{Done, Again}
+use Rattle.cns_clearing.specs.declared.answer.Closed.{Closed}
+use Rattle.cns_records.specs.declared.refusal.Refusal.{Refusal}
+use Rattle.cns_records.specs.declared.refusal.Refusal.TheVariants as refusal
+use Rattle.cns_clearing.specs.declared.answer.Cycled.{Cycled}
+use Rattle.cns_clearing.specs.declared.answer.Taken.{Taken}
+use Rattle.cns_clearing.specs.declared.answer.Taken.TheVariants.{Done, Again}
 
 -- the verdict of the accepted trades on a trade
 abbrev pub verdict_in : List ClearRecord → Trade → Verdict
 verdict_in c t = verdict (accepted (history_of c)) t
 
 -- what a trade leaves, by its answer: only a new one is accepted
-abbrev pub TradeLeaves : Trade → Result (Unit {0}) TradeFault → ClearNode → ClearNode → Type 0
+abbrev pub TradeLeaves : Trade → Result (Unit {0}) Refusal → ClearNode → ClearNode → Type 0
 TradeLeaves t (Ok _) old new = IsAllowed old.log.records (entry.Accept t) × Added (entry.Accept t) old new
-TradeLeaves t (Err trade.Down) old new = (old.log.down ≡ true) × (new ≡ old)
-TradeLeaves t (Err (trade.Refused v)) old new = (old.log.down ≡ false) × (verdict_in old.log.records t ≡ v) × (v ≢ verdicts.New) × (new ≡ old)
-TradeLeaves t (Err trade.OutOfMemory) old new = (old.log.down ≡ false) × IsAllowed old.log.records (entry.Accept t) × (new ≡ old)
-TradeLeaves t (Err trade.Device) old new = IsAllowed old.log.records (entry.Accept t) × Failed (entry.Accept t) old new
+TradeLeaves t (Err refusal.Down) old new = (old.log.down ≡ true) × (new ≡ old)
+TradeLeaves t (Err (refusal.Trade v)) old new = (old.log.down ≡ false) × (verdict_in old.log.records t ≡ v) × (v ≢ verdicts.New) × (new ≡ old)
+TradeLeaves t (Err refusal.OutOfMemory) old new = (old.log.down ≡ false) × IsAllowed old.log.records (entry.Accept t) × (new ≡ old)
+TradeLeaves t (Err refusal.Device) old new = IsAllowed old.log.records (entry.Accept t) × Failed (entry.Accept t) old new
+TradeLeaves t (Err _) old new = ⊥
 
 -- what the record of a setting leaves, by its answer
-abbrev pub SettingLeaves : ClearRecord → Result (Unit {0}) SettingFault → ClearNode → ClearNode → Type 0
+abbrev pub SettingLeaves : ClearRecord → Result (Unit {0}) Refusal → ClearNode → ClearNode → Type 0
 SettingLeaves r (Ok _) old new = Added r old new
-SettingLeaves r (Err setting.Down) old new = (old.log.down ≡ true) × (new ≡ old)
-SettingLeaves r (Err setting.OutOfMemory) old new = (old.log.down ≡ false) × (new ≡ old)
-SettingLeaves r (Err setting.Device) old new = Failed r old new
+SettingLeaves r (Err refusal.Down) old new = (old.log.down ≡ true) × (new ≡ old)
+SettingLeaves r (Err refusal.OutOfMemory) old new = (old.log.down ≡ false) × (new ≡ old)
+SettingLeaves r (Err refusal.Device) old new = Failed r old new
+SettingLeaves r (Err _) old new = ⊥
 
 -- the covers that a cycle of this date orders after these records
 abbrev pub covers_in : List ClearRecord → ℕ → List Ask
@@ -78,24 +66,26 @@ pub record IsCycled (c : List ClearRecord) (day : ℕ) (done : Cycled) : Type 0 
   pub first : done.first ≡ (if done.count == 0 then None else Some (length (orders_of c).orders + 1))
 
 -- what a cycle leaves, by its answer
-abbrev pub CycleLeaves : CycleId → Result Cycled CycleFault → ClearNode → ClearNode → Type 0
+abbrev pub CycleLeaves : CycleId → Result Cycled Refusal → ClearNode → ClearNode → Type 0
 CycleLeaves id (Ok done) old new =
     IsAllowed old.log.records (entry.Cycle id) × (old.lots ≡ []) × IsCycled old.log.records id.day done × Added (entry.Cycle id) old new
-CycleLeaves id (Err cycle.Down) old new = (old.log.down ≡ true) × (new ≡ old)
-CycleLeaves id (Err cycle.CycleOrder) old new = (old.log.down ≡ false) × (is_later (latest_of old.log.records) id ≡ false) × (new ≡ old)
-CycleLeaves id (Err cycle.LotsOpen) old new = (old.log.down ≡ false) × (is_later (latest_of old.log.records) id ≡ true) × (old.lots ≢ []) × (new ≡ old)
-CycleLeaves id (Err cycle.NumbersSpent) old new =
+CycleLeaves id (Err refusal.Down) old new = (old.log.down ≡ true) × (new ≡ old)
+CycleLeaves id (Err refusal.CycleOrder) old new = (old.log.down ≡ false) × (is_later (latest_of old.log.records) id ≡ false) × (new ≡ old)
+CycleLeaves id (Err refusal.LotsOpen) old new = (old.log.down ≡ false) × (is_later (latest_of old.log.records) id ≡ true) × (old.lots ≢ []) × (new ≡ old)
+CycleLeaves id (Err refusal.NumbersSpent) old new =
     (old.log.down ≡ false) × (is_later (latest_of old.log.records) id ≡ true) × (old.lots ≡ []) × (are_spent (orders_of old.log.records) (covers_in old.log.records id.day) ≡ true) × (new ≡ old)
-CycleLeaves id (Err cycle.OutOfMemory) old new = (old.log.down ≡ false) × (is_later (latest_of old.log.records) id ≡ true) × (old.lots ≡ []) × (new ≡ old)
-CycleLeaves id (Err cycle.Device) old new = IsAllowed old.log.records (entry.Cycle id) × (old.lots ≡ []) × Failed (entry.Cycle id) old new
+CycleLeaves id (Err refusal.OutOfMemory) old new = (old.log.down ≡ false) × (is_later (latest_of old.log.records) id ≡ true) × (old.lots ≡ []) × (new ≡ old)
+CycleLeaves id (Err refusal.Device) old new = IsAllowed old.log.records (entry.Cycle id) × (old.lots ≡ []) × Failed (entry.Cycle id) old new
+CycleLeaves id (Err _) old new = ⊥
 
 -- what the opening of a lot leaves, by its answer: the lot has all shares of the issue that are there, and its plan
-abbrev pub LotOpenLeaves : ℕ → Result (List Planned) LotOpenFault → ClearNode → ClearNode → Type 0
+abbrev pub LotOpenLeaves : ℕ → Result (List Planned) Refusal → ClearNode → ClearNode → Type 0
 LotOpenLeaves issue (Ok plan) old new =
     (old.log.down ≡ false) × (lot_of old.lots issue ≡ None) × (plan ≡ (new_lot old.log.records issue).plan) × (new ≡ record old { lots = old.lots ++ new_lot old.log.records issue ∷ [] })
-LotOpenLeaves issue (Err opening.Down) old new = (old.log.down ≡ true) × (new ≡ old)
-LotOpenLeaves issue (Err opening.LotAlready) old new = (old.log.down ≡ false) × (lot_of old.lots issue ≢ None) × (new ≡ old)
-LotOpenLeaves issue (Err opening.OutOfMemory) old new = (old.log.down ≡ false) × (lot_of old.lots issue ≡ None) × (new ≡ old)
+LotOpenLeaves issue (Err refusal.Down) old new = (old.log.down ≡ true) × (new ≡ old)
+LotOpenLeaves issue (Err refusal.LotAlready) old new = (old.log.down ≡ false) × (lot_of old.lots issue ≢ None) × (new ≡ old)
+LotOpenLeaves issue (Err refusal.OutOfMemory) old new = (old.log.down ≡ false) × (lot_of old.lots issue ≡ None) × (new ≡ old)
+LotOpenLeaves issue (Err _) old new = ⊥
 
 -- shares poured into a lot are those that were free, and with those it had it has all that are there, at most 10^18
 pub record IsPoured (node : ClearNode) (issue shares : ℕ) : Type 0 where
@@ -106,11 +96,12 @@ pub record IsPoured (node : ClearNode) (issue shares : ℕ) : Type 0 where
   pub few : lot.poured + shares ≤ 10 ^ 18
 
 -- what a pour leaves, by its answer
-abbrev pub LotPourLeaves : ℕ → Result ℕ LotPourFault → ClearNode → ClearNode → Type 0
+abbrev pub LotPourLeaves : ℕ → Result ℕ Refusal → ClearNode → ClearNode → Type 0
 LotPourLeaves issue (Ok shares) old new =
     (old.log.down ≡ false) × IsPoured old issue shares × (new ≡ record old { lots = lots_poured old.log.records issue old.lots })
-LotPourLeaves issue (Err pouring.Down) old new = (old.log.down ≡ true) × (new ≡ old)
-LotPourLeaves issue (Err pouring.NoLot) old new = (old.log.down ≡ false) × (lot_of old.lots issue ≡ None) × (new ≡ old)
+LotPourLeaves issue (Err refusal.Down) old new = (old.log.down ≡ true) × (new ≡ old)
+LotPourLeaves issue (Err refusal.NoLot) old new = (old.log.down ≡ false) × (lot_of old.lots issue ≡ None) × (new ≡ old)
+LotPourLeaves issue (Err _) old new = ⊥
 
 -- the tickets of a pool as those of a record
 abbrev pub drawn_in_record : Ticket → Drawn
@@ -133,14 +124,12 @@ pub record MayClose (node : ClearNode) (issue : ℕ) (tickets : List Ticket) (se
   pub lawful : IsAllocation node.log.records a
 
 -- what is answered for the allocation that closes the lot of an issue
-abbrev pub ClosingGives : ℕ → List Ticket → Bool → Result Allocation LotCloseFault → ClearNode → Type 0
+abbrev pub ClosingGives : ℕ → List Ticket → Bool → Result Allocation Refusal → ClearNode → Type 0
 ClosingGives issue tickets sealed (Ok a) node = MayClose node issue tickets sealed a
-ClosingGives issue tickets sealed (Err closing.Down) node = ⊥
-ClosingGives issue tickets sealed (Err closing.NoLot) node = lot_of node.lots issue ≡ None
-ClosingGives issue tickets sealed (Err closing.BadTickets) node = (lot : Lot) × (lot_of node.lots issue ≡ Some lot) × (IsServed lot.plan tickets sealed → ⊥)
-ClosingGives issue tickets sealed (Err closing.NumbersSpent) node = ⊥
-ClosingGives issue tickets sealed (Err closing.OutOfMemory) node = lot_of node.lots issue ≢ None
-ClosingGives issue tickets sealed (Err closing.Device) node = ⊥
+ClosingGives issue tickets sealed (Err refusal.NoLot) node = lot_of node.lots issue ≡ None
+ClosingGives issue tickets sealed (Err refusal.BadTickets) node = (lot : Lot) × (lot_of node.lots issue ≡ Some lot) × (IsServed lot.plan tickets sealed → ⊥)
+ClosingGives issue tickets sealed (Err refusal.OutOfMemory) node = lot_of node.lots issue ≢ None
+ClosingGives issue tickets sealed (Err _) node = ⊥
 
 -- how many shares a close granted, which its orders ask for in all; the number of the first of these, and how many they are
 pub record IsClosed (c : List ClearRecord) (tickets : List Ticket) (a : Allocation) (done : Closed) : Type 0 where
@@ -150,36 +139,39 @@ pub record IsClosed (c : List ClearRecord) (tickets : List Ticket) (a : Allocati
   pub first : done.first ≡ (if done.count == 0 then None else Some (length (orders_of c).orders + 1))
 
 -- what the close of a lot leaves, by its answer
-abbrev pub LotCloseLeaves : ℕ → List Ticket → Bool → Result Closed LotCloseFault → ClearNode → ClearNode → Type 0
+abbrev pub LotCloseLeaves : ℕ → List Ticket → Bool → Result Closed Refusal → ClearNode → ClearNode → Type 0
 LotCloseLeaves issue tickets sealed (Ok done) old new =
     (a : Allocation) × MayClose old issue tickets sealed a × IsAllowed old.log.records (entry.Allocate a) × IsClosed old.log.records tickets a done × Added (entry.Allocate a) old new
-LotCloseLeaves issue tickets sealed (Err closing.Down) old new = (old.log.down ≡ true) × (new ≡ old)
-LotCloseLeaves issue tickets sealed (Err closing.NoLot) old new = (old.log.down ≡ false) × (lot_of old.lots issue ≡ None) × (new ≡ old)
-LotCloseLeaves issue tickets sealed (Err closing.BadTickets) old new =
+LotCloseLeaves issue tickets sealed (Err refusal.Down) old new = (old.log.down ≡ true) × (new ≡ old)
+LotCloseLeaves issue tickets sealed (Err refusal.NoLot) old new = (old.log.down ≡ false) × (lot_of old.lots issue ≡ None) × (new ≡ old)
+LotCloseLeaves issue tickets sealed (Err refusal.BadTickets) old new =
     (old.log.down ≡ false) × ((lot : Lot) × (lot_of old.lots issue ≡ Some lot) × (IsServed lot.plan tickets sealed → ⊥)) × (new ≡ old)
-LotCloseLeaves issue tickets sealed (Err closing.NumbersSpent) old new =
+LotCloseLeaves issue tickets sealed (Err refusal.NumbersSpent) old new =
     (old.log.down ≡ false) × ((a : Allocation) × MayClose old issue tickets sealed a × (are_spent (orders_of old.log.records) (deliveries_in a) ≡ true)) × (new ≡ old)
-LotCloseLeaves issue tickets sealed (Err closing.OutOfMemory) old new = (old.log.down ≡ false) × (lot_of old.lots issue ≢ None) × (new ≡ old)
-LotCloseLeaves issue tickets sealed (Err closing.Device) old new =
+LotCloseLeaves issue tickets sealed (Err refusal.OutOfMemory) old new = (old.log.down ≡ false) × (lot_of old.lots issue ≢ None) × (new ≡ old)
+LotCloseLeaves issue tickets sealed (Err refusal.Device) old new =
     (a : Allocation) × MayClose old issue tickets sealed a × IsAllowed old.log.records (entry.Allocate a) × Failed (entry.Allocate a) old new
+LotCloseLeaves issue tickets sealed (Err _) old new = ⊥
 
 -- what is answered for the number of an order
-abbrev pub OrderGives : ℕ → Result Order OrderFault → ClearNode → Type 0
+abbrev pub OrderGives : ℕ → Result Order Refusal → ClearNode → Type 0
 OrderGives n (Ok o) node = (node.log.down ≡ false) × (order_of (orders_of node.log.records).orders n ≡ Some o)
-OrderGives n (Err order.Down) node = node.log.down ≡ true
-OrderGives n (Err order.UnknownMove) node = (node.log.down ≡ false) × (order_of (orders_of node.log.records).orders n ≡ None)
+OrderGives n (Err refusal.Down) node = node.log.down ≡ true
+OrderGives n (Err refusal.UnknownMove) node = (node.log.down ≡ false) × (order_of (orders_of node.log.records).orders n ≡ None)
+OrderGives n (Err _) node = ⊥
 
 -- what the orders and confirmations say of a reply
 abbrev pub answer_in : List ClearRecord → Reply → Confirm
 answer_in c r = confirm_answer (orders_of c) r
 
 -- what a reply leaves, by its answer: only the first one of an order adds a record
-abbrev pub ReplyLeaves : Reply → Result Taken ReplyFault → ClearNode → ClearNode → Type 0
+abbrev pub ReplyLeaves : Reply → Result Taken Refusal → ClearNode → ClearNode → Type 0
 ReplyLeaves r (Ok Done) old new = IsAllowed old.log.records (entry.Confirm r) × Added (entry.Confirm r) old new
 ReplyLeaves r (Ok Again) old new = (old.log.down ≡ false) × (answer_in old.log.records r ≡ answers.Again) × (new ≡ old)
-ReplyLeaves r (Err reply.Down) old new = (old.log.down ≡ true) × (new ≡ old)
-ReplyLeaves r (Err reply.UnknownMove) old new = (old.log.down ≡ false) × (answer_in old.log.records r ≡ answers.UnknownMove) × (new ≡ old)
-ReplyLeaves r (Err reply.Conflict) old new = (old.log.down ≡ false) × (answer_in old.log.records r ≡ answers.Conflict) × (new ≡ old)
-ReplyLeaves r (Err reply.TooMuch) old new = (old.log.down ≡ false) × (answer_in old.log.records r ≡ answers.TooMuch) × (new ≡ old)
-ReplyLeaves r (Err reply.OutOfMemory) old new = (old.log.down ≡ false) × IsAllowed old.log.records (entry.Confirm r) × (new ≡ old)
-ReplyLeaves r (Err reply.Device) old new = IsAllowed old.log.records (entry.Confirm r) × Failed (entry.Confirm r) old new
+ReplyLeaves r (Err refusal.Down) old new = (old.log.down ≡ true) × (new ≡ old)
+ReplyLeaves r (Err refusal.UnknownMove) old new = (old.log.down ≡ false) × (answer_in old.log.records r ≡ answers.UnknownMove) × (new ≡ old)
+ReplyLeaves r (Err refusal.Conflict) old new = (old.log.down ≡ false) × (answer_in old.log.records r ≡ answers.Conflict) × (new ≡ old)
+ReplyLeaves r (Err refusal.TooMuch) old new = (old.log.down ≡ false) × (answer_in old.log.records r ≡ answers.TooMuch) × (new ≡ old)
+ReplyLeaves r (Err refusal.OutOfMemory) old new = (old.log.down ≡ false) × IsAllowed old.log.records (entry.Confirm r) × (new ≡ old)
+ReplyLeaves r (Err refusal.Device) old new = IsAllowed old.log.records (entry.Confirm r) × Failed (entry.Confirm r) old new
+ReplyLeaves r (Err _) old new = ⊥

@@ -5,6 +5,5 @@ pub mod Position
 pub mod Room
 pub mod Lots
 pub mod Closing
-pub mod Faults
 pub mod Node
 pub mod Answers

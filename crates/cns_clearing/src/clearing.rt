@@ -1,4 +1,4 @@
-ghost use Rattle.std.specs.Prelude.{◌≡◌, ℕ, ◌≤◌, ◌^◌, ◌+◌, ◌==◌, true, false, [], length, option_map, Some, None, IfOk, IfErr, if◌then◌else◌};
+ghost use Rattle.std.specs.Prelude.{◌≡◌, ℕ, ◌≤◌, ◌^◌, ◌+◌, ◌==◌, true, false, [], length, option_map, Some, None, IfOk, IfErr, OnOk, if◌then◌else◌};
 ghost use Rattle.cns_records.specs.declared.clear_record.ClearRecord.TheVariants.{Exempt, Priority};
 ghost use Rattle.cns_records.specs.Clear.{AreWritable, spelling};
 ghost use Rattle.cns_netting.specs.Book.{IsBook};
@@ -11,13 +11,10 @@ ghost use Rattle.cns_clearing.specs.Answers.{ClosingGives, CycleLeaves, LotClose
 ghost use Rattle.cns_clearing.specs.Node.{AddLeaves, IsOpened, IsUnread, NodePlanned, RestartLeaves};
 ghost use Rattle.cns_journal.specs.RecordLog.{Keeps};
 
+use crate::answer::{Closed, Cycled, Taken};
 use crate::books::Books;
 use crate::closing::{allocation_of, asked_in_all};
 use crate::effects::Effects;
-use crate::fault::{
-    Closed, CycleFault, Cycled, LotCloseFault, LotOpenFault, LotPourFault, OrderFault, ReplyFault,
-    SettingFault, Taken, TradeFault,
-};
 use crate::lot::{Lot, Lots};
 use crate::pools::{PoolRows, free_of, lent_of, out_of, pool_rows};
 use cns_allocate::{Plan, are_served, deliveries};
@@ -26,7 +23,7 @@ use cns_journal::{CommitFault, Keeper, NotPlanned, RecordLog, Refused, ReplayFau
 use cns_movements::{Ask, Confirm as Confirmed, MoveNo, Order, OrderBook, Reply};
 use cns_netting::NetBook;
 use cns_pool::Ticket;
-use cns_records::{Allocation, ClearRecord};
+use cns_records::{Allocation, ClearRecord, Refusal};
 use cns_trades::{Trade, Verdict};
 use std::alloc::{AllocError, Global};
 use std::marker::Model;
@@ -94,18 +91,14 @@ impl<K: Keeper> Clearing<K> {
 
     /// Accepts a trade.
     ///
-    /// Refuses `Down`, then `Refused` with the verdict of the accepted trades where that is not
-    /// `New`. After `Device` the trade is not accepted, and the node is down until it is restarted.
+    /// Refuses `Down`, then `Trade` with the verdict of the accepted trades where that is not `New`. After `Device` the trade is not accepted, and the node is down until it is restarted.
     /// (This project's own rule.)
-    pub fn take_trade(&mut self, trade: &Trade) -> Result<(), TradeFault>
+    pub fn take_trade(&mut self, trade: &Trade) -> Result<(), Refusal>
         ensures { TradeLeaves trade.now result self.old self.new }
     {
-        if self.is_down() {
-            return Err(TradeFault::Down);
-        }
-        let verdict = self.books().verdict(trade);
+        let verdict = self.up()?.verdict(trade);
         if verdict != Verdict::New {
-            return Err(TradeFault::Refused(verdict));
+            return Err(Refusal::Trade(verdict));
         }
         let nothing = Effects::none(self.alloc);
         self.add(ClearRecord::Accept(*trade), nothing)?;
@@ -117,31 +110,24 @@ impl<K: Keeper> Clearing<K> {
     ///
     /// Refuses `Down`. After `Device` nothing is exempted, and the node is down until it is
     /// restarted. (This project's own rule.)
-    pub fn exempt(
-        &mut self,
-        member: MemberNo,
-        issue: Cusip,
-        shares: Shares,
-    ) -> Result<(), SettingFault>
+    pub fn exempt(&mut self, member: MemberNo, issue: Cusip, shares: Shares) -> Result<(), Refusal>
         ensures { SettingLeaves (Exempt member issue shares) result self.old self.new }
     {
-        let entry = ClearRecord::Exempt {
+        self.set(ClearRecord::Exempt {
             member,
             issue,
             shares,
-        };
-        self.set(entry)
+        })
     }
 
     /// Sets whether a member has priority in an issue, in place of what was set before.
     ///
     /// Refuses `Down`. After `Device` nothing is set, and the node is down until it is restarted.
     /// (This project's own rule.)
-    pub fn priority(&mut self, member: MemberNo, issue: Cusip, on: bool) -> Result<(), SettingFault>
+    pub fn priority(&mut self, member: MemberNo, issue: Cusip, on: bool) -> Result<(), Refusal>
         ensures { SettingLeaves (Priority member issue on) result self.old self.new }
     {
-        let entry = ClearRecord::Priority { member, issue, on };
-        self.set(entry)
+        self.set(ClearRecord::Priority { member, issue, on })
     }
 
     /// Runs a cycle: makes the trades due that settle by its date, and orders covers of what is then
@@ -150,26 +136,21 @@ impl<K: Keeper> Clearing<K> {
     /// Refuses `Down`, then `CycleOrder`, then `LotsOpen`, then `NumbersSpent`, which never comes where
     /// there is nothing to cover. After `Device` the cycle was not run and nothing is ordered, and the
     /// node is down until it is restarted. (This project's own rule.)
-    pub fn cycle(&mut self, id: CycleId) -> Result<Cycled, CycleFault>
+    pub fn cycle(&mut self, id: CycleId) -> Result<Cycled, Refusal>
         ensures { CycleLeaves id result self.old self.new }
     {
-        if self.is_down() {
-            return Err(CycleFault::Down);
-        }
         let alloc = self.alloc;
-        let books = self.books();
+        let books = self.up()?;
         if !books.is_later(&id) {
-            return Err(CycleFault::CycleOrder);
+            return Err(Refusal::CycleOrder);
         }
         if !self.lots().is_empty() {
-            return Err(CycleFault::LotsOpen);
+            return Err(Refusal::LotsOpen);
         }
-        let Ok(effects) = books.cycle_effects(alloc, &id) else {
-            return Err(CycleFault::OutOfMemory);
-        };
+        let effects = books.cycle_effects(alloc, &id)?;
         let asks = effects.asks.as_slice();
         if books.are_spent(asks) {
-            return Err(CycleFault::NumbersSpent);
+            return Err(Refusal::NumbersSpent);
         }
         let first = first_number(books, asks);
         let count = asks.len();
@@ -180,27 +161,19 @@ impl<K: Keeper> Clearing<K> {
     /// Opens a lot of an issue: all its free shares are poured into it, and its plan is fixed.
     ///
     /// Refuses `Down`, then `LotAlready`. It adds no record. (This project's own rule.)
-    pub fn lot_open(&mut self, issue: Cusip) -> Result<Plan, LotOpenFault>
+    pub fn lot_open(&mut self, issue: Cusip) -> Result<Plan, Refusal>
         ensures { LotOpenLeaves issue result self.old self.new }
     {
-        if self.is_down() {
-            return Err(LotOpenFault::Down);
-        }
+        self.up()?;
         if self.lot(issue).is_some() {
-            return Err(LotOpenFault::LotAlready);
+            return Err(Refusal::LotAlready);
         }
         let alloc = self.alloc;
-        let Ok(plan) = self.books().plan(alloc, issue) else {
-            return Err(LotOpenFault::OutOfMemory);
-        };
-        let Ok(answer) = plan.copy(alloc) else {
-            return Err(LotOpenFault::OutOfMemory);
-        };
+        let plan = self.books().plan(alloc, issue)?;
+        let answer = plan.copy(alloc)?;
         let records = self.record_count();
         let poured = self.avail(issue);
-        if self.lots.room().is_err() {
-            return Err(LotOpenFault::OutOfMemory);
-        }
+        self.lots.room()?;
         self.lots.open(Lot {
             issue,
             opened: records,
@@ -214,14 +187,12 @@ impl<K: Keeper> Clearing<K> {
     /// Pours the shares of an issue into its lot that have become free, and answers how many.
     ///
     /// Refuses `Down`, then `NoLot`. It adds no record and takes no memory. (This project's own rule.)
-    pub fn lot_pour(&mut self, issue: Cusip) -> Result<u64, LotPourFault>
+    pub fn lot_pour(&mut self, issue: Cusip) -> Result<u64, Refusal>
         ensures { LotPourLeaves issue result self.old self.new }
     {
-        if self.is_down() {
-            return Err(LotPourFault::Down);
-        }
+        self.up()?;
         let Some(lot) = self.lot(issue) else {
-            return Err(LotPourFault::NoLot);
+            return Err(Refusal::NoLot);
         };
         let before = lot.poured;
         let records = self.record_count();
@@ -243,52 +214,38 @@ impl<K: Keeper> Clearing<K> {
         issue: Cusip,
         tickets: &[Ticket],
         sealed: bool,
-    ) -> Result<Closed, LotCloseFault>
+    ) -> Result<Closed, Refusal>
         ensures { LotCloseLeaves issue tickets.now sealed result self.old self.new }
     {
-        if self.is_down() {
-            return Err(LotCloseFault::Down);
-        }
+        self.up()?;
         let alloc = self.alloc;
-        let allocation = match self.closing(issue, tickets, sealed) {
-            Ok(allocation) => allocation,
-            Err(fault) => return Err(fault),
-        };
+        let allocation = self.closing(issue, tickets, sealed)?;
         let poured = allocation.poured.count();
-        let Ok(asks) = deliveries(alloc, issue, tickets, poured) else {
-            return Err(LotCloseFault::OutOfMemory);
-        };
+        let asks = deliveries(alloc, issue, tickets, poured)?;
         let books = self.books();
         if books.are_spent(asks.as_slice()) {
-            return Err(LotCloseFault::NumbersSpent);
+            return Err(Refusal::NumbersSpent);
         }
         let first = first_number(books, asks.as_slice());
         let count = asks.len();
         let granted = poured.min(asked_in_all(tickets));
         let effects = Effects::of_asks(alloc, asks);
-        match self.add(ClearRecord::Allocate(allocation), effects) {
-            Ok(_) => Ok(Closed {
-                granted,
-                first,
-                count,
-            }),
-            Err(fault) => Err(LotCloseFault::from(fault)),
-        }
+        self.add(ClearRecord::Allocate(allocation), effects)?;
+        Ok(Closed {
+            granted,
+            first,
+            count,
+        })
     }
 
     /// The order of this number, where its record was acknowledged.
     ///
     /// Refuses `Down`, then `UnknownMove`.
-    pub fn order(&self, number: MoveNo) -> Result<Order, OrderFault>
+    pub fn order(&self, number: MoveNo) -> Result<Order, Refusal>
         ensures { OrderGives number result self.now }
     {
-        if self.is_down() {
-            return Err(OrderFault::Down);
-        }
-        match self.books().orders().get(number) {
-            Some(order) => Ok(order),
-            None => Err(OrderFault::UnknownMove),
-        }
+        let orders = self.up()?.orders();
+        orders.get(number).ok_or(Refusal::UnknownMove)
     }
 
     /// Takes the depository's reply to an order. The first one confirms the order, and what was moved
@@ -297,18 +254,15 @@ impl<K: Keeper> Clearing<K> {
     ///
     /// Refuses `Down`, then `UnknownMove`, then `Conflict`, then `TooMuch`. After `Device` nothing is
     /// confirmed, and the node is down until it is restarted. (This project's own rule.)
-    pub fn take_reply(&mut self, reply: &Reply) -> Result<Taken, ReplyFault>
+    pub fn take_reply(&mut self, reply: &Reply) -> Result<Taken, Refusal>
         ensures { ReplyLeaves reply.now result self.old self.new }
     {
-        if self.is_down() {
-            return Err(ReplyFault::Down);
-        }
-        match self.books().answer(reply) {
+        match self.up()?.answer(reply) {
             Confirmed::Done => {}
             Confirmed::Again => return Ok(Taken::Again),
-            Confirmed::UnknownMove => return Err(ReplyFault::UnknownMove),
-            Confirmed::Conflict => return Err(ReplyFault::Conflict),
-            Confirmed::TooMuch => return Err(ReplyFault::TooMuch),
+            Confirmed::UnknownMove => return Err(Refusal::UnknownMove),
+            Confirmed::Conflict => return Err(Refusal::Conflict),
+            Confirmed::TooMuch => return Err(Refusal::TooMuch),
         }
         let nothing = Effects::none(self.alloc);
         self.add(ClearRecord::Confirm(*reply), nothing)?;
@@ -473,6 +427,19 @@ impl<K: Keeper> Clearing<K> {
         &self.books
     }
 
+    // The books of a node that is up.
+    fn up(&self) -> Result<&Books, Refusal>
+        ensures books { IfOk result (λ books. books.now.books ≡ books_of self.now.log.records) }
+        ensures sound { IfOk result (λ books. AreSound books.now.books) }
+        ensures up { OnOk result (self.now.log.down ≡ false) }
+        ensures down { IfErr result (λ refusal. (refusal ≡ Refusal.Down) × (self.now.log.down ≡ true)) }
+    {
+        if self.is_down() {
+            return Err(Refusal::Down);
+        }
+        Ok(self.books())
+    }
+
     // The open lots.
     fn lots(&self) -> &Lots
         ensures lots { result.now.lots ≡ self.now.lots }
@@ -511,28 +478,18 @@ impl<K: Keeper> Clearing<K> {
     }
 
     // The allocation that closes the lot of an issue with these tickets.
-    fn closing(
-        &self,
-        issue: Cusip,
-        tickets: &[Ticket],
-        sealed: bool,
-    ) -> Result<Allocation, LotCloseFault>
+    fn closing(&self, issue: Cusip, tickets: &[Ticket], sealed: bool) -> Result<Allocation, Refusal>
         ensures { ClosingGives issue tickets.now sealed result self.now }
     {
         let alloc = self.alloc;
         let lots = self.lots();
         let Some(lot) = lots.get(issue) else {
-            return Err(LotCloseFault::NoLot);
+            return Err(Refusal::NoLot);
         };
-        match are_served(alloc, lot.plan.as_slice(), tickets, sealed) {
-            Ok(true) => {}
-            Ok(false) => return Err(LotCloseFault::BadTickets),
-            Err(_) => return Err(LotCloseFault::OutOfMemory),
+        if !are_served(alloc, lot.plan.as_slice(), tickets, sealed)? {
+            return Err(Refusal::BadTickets);
         }
-        let Ok(allocation) = allocation_of(alloc, lot, tickets, sealed) else {
-            return Err(LotCloseFault::OutOfMemory);
-        };
-        Ok(allocation)
+        Ok(allocation_of(alloc, lot, tickets, sealed)?)
     }
 
     // Adds a record that may stand after the others and makes this besides itself: commits it, and
@@ -557,16 +514,14 @@ impl<K: Keeper> Clearing<K> {
     }
 
     // Adds the record of a setting.
-    fn set(&mut self, entry: ClearRecord) -> Result<(), SettingFault>
+    fn set(&mut self, entry: ClearRecord) -> Result<(), Refusal>
         requires allowed { IsAllowed self.old.log.records entry }
         requires quiet { DoesNotDisturb entry self.old.lots }
         requires asks { [] ≡ asks_of (books_of self.old.log.records) entry }
         requires rows { [] ≡ rows_after (books_of self.old.log.records) entry }
         ensures { SettingLeaves entry result self.old self.new }
     {
-        if self.is_down() {
-            return Err(SettingFault::Down);
-        }
+        self.up()?;
         let nothing = Effects::none(self.alloc);
         self.add(entry, nothing)?;
         Ok(())

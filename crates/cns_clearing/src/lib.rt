@@ -6,20 +6,17 @@
 #![tactic(auto)]
 
 mod admission;
+mod answer;
 mod books;
 mod clearing;
 mod closing;
 mod effects;
-mod fault;
 mod ledger;
 mod lot;
 mod pools;
 
+pub use answer::{Closed, Cycled, Taken};
 pub use clearing::Clearing;
-pub use fault::{
-    Closed, CycleFault, Cycled, LotCloseFault, LotOpenFault, LotPourFault, OrderFault, ReplyFault,
-    SettingFault, Taken, TradeFault,
-};
 pub use lot::Lot;
 pub use pools::{PoolRow, PoolRows};
 
@@ -31,5 +28,3 @@ mod lot_tests;
 mod test_support;
 #[cfg(test)]
 mod tests;
-#[cfg(test)]
-mod text_tests;

@@ -2,9 +2,9 @@ use crate::test_support::{
     COVERED, Call, Draw, FIRST_REPLY, GROUPED, LENT, LOST, Look, LotCall, OPEN, SECOND_REPLY, Step,
     tell,
 };
-use crate::{CycleFault, LotCloseFault, LotOpenFault, LotPourFault, OrderFault};
 use cns_ids::CycleKind;
 use cns_movements::MoveKind;
+use cns_records::Refusal;
 use std::test::Fail;
 
 const ALL_FREE: Step = Step::See(Look::Shares(40, 0, 0));
@@ -15,9 +15,9 @@ static OPENS: [Step; 7] = [
     ALL_FREE,
     OPEN,
     ALL_LENT,
-    Step::Lot(LotCall::NotOpened(LotOpenFault::LotAlready)),
-    Step::Do(Call::Cycle(5, CycleKind::Day, Err(CycleFault::LotsOpen))),
-    Step::Do(Call::Cycle(5, CycleKind::Night, Err(CycleFault::CycleOrder))),
+    Step::Lot(LotCall::NotOpened(Refusal::LotAlready)),
+    Step::Do(Call::Cycle(5, CycleKind::Day, Err(Refusal::LotsOpen))),
+    Step::Do(Call::Cycle(5, CycleKind::Night, Err(Refusal::CycleOrder))),
     ALL_LENT,
 ];
 
@@ -67,7 +67,7 @@ const SECOND_AT_LAST: Draw = Draw {
     asked: 30,
 };
 
-const BAD: Result<(u64, u64, usize), LotCloseFault> = Err(LotCloseFault::BadTickets);
+const BAD: Result<(u64, u64, usize), Refusal> = Err(Refusal::BadTickets);
 
 static UNSERVED: [Step; 6] = [
     Step::Lot(LotCall::Close(&[THIRD_AT_FIRST, SECOND_AT_LAST], false, BAD)),
@@ -87,7 +87,7 @@ const FIRST_DELIVERY: Step = Step::See(Look::Order(3, MoveKind::Delivery, 2, 30)
 
 const SECOND_DELIVERY: Step = Step::See(Look::Order(4, MoveKind::Delivery, 3, 10));
 
-const NO_OTHER: Step = Step::See(Look::NoOrder(5, OrderFault::UnknownMove));
+const NO_OTHER: Step = Step::See(Look::NoOrder(5, Refusal::UnknownMove));
 
 const ALL_OUT: Step = Step::See(Look::Shares(0, 0, 40));
 
@@ -136,9 +136,9 @@ fn a_lot_that_is_poured_into(rt: HostRuntime) -> Result<(), Fail> {
     tell(&rt, rt.alloc(), &GROUPED, &POURS)
 }
 
-const NO_POUR: Step = Step::Lot(LotCall::Pour(Err(LotPourFault::NoLot)));
+const NO_POUR: Step = Step::Lot(LotCall::Pour(Err(Refusal::NoLot)));
 
-const NO_CLOSE: Step = Step::Lot(LotCall::Close(&[SECOND], true, Err(LotCloseFault::NoLot)));
+const NO_CLOSE: Step = Step::Lot(LotCall::Close(&[SECOND], true, Err(Refusal::NoLot)));
 
 static NO_LOT: [Step; 3] = [NO_POUR, NO_CLOSE, ALL_FREE];
 
@@ -148,9 +148,9 @@ fn a_node_without_a_lot(rt: HostRuntime) -> Result<(), Fail> {
 }
 
 static LOTS_DOWN: [Step; 3] = [
-    Step::Lot(LotCall::NotOpened(LotOpenFault::Down)),
-    Step::Lot(LotCall::Pour(Err(LotPourFault::Down))),
-    Step::Lot(LotCall::Close(&[], true, Err(LotCloseFault::Down))),
+    Step::Lot(LotCall::NotOpened(Refusal::Down)),
+    Step::Lot(LotCall::Pour(Err(Refusal::Down))),
+    Step::Lot(LotCall::Close(&[], true, Err(Refusal::Down))),
 ];
 
 #[test]
@@ -159,11 +159,7 @@ fn lots_of_a_node_that_is_down(rt: HostRuntime) -> Result<(), Fail> {
 }
 
 // A close that the device fails leaves the lot open, until a restart ends it.
-const CLOSE_FAILS: Step = Step::Lot(LotCall::Close(
-    &[SECOND, THIRD],
-    false,
-    Err(LotCloseFault::Device),
-));
+const CLOSE_FAILS: Step = Step::Lot(LotCall::Close(&[SECOND, THIRD], false, Err(Refusal::Device)));
 
 static CLOSE_STANDS: [Step; 10] = [
     Step::Do(Call::Plan(true)),
@@ -188,7 +184,7 @@ static CLOSE_IS_LOST: [Step; 6] = [
     CLOSE_FAILS,
     ALL_LENT,
     Step::Do(Call::Restart(6, false)),
-    Step::See(Look::NoOrder(3, OrderFault::UnknownMove)),
+    Step::See(Look::NoOrder(3, Refusal::UnknownMove)),
     ALL_FREE,
 ];
 

@@ -3,15 +3,13 @@
 //! A step is plain data, and each kind of step has a function of its own, which makes one call of the
 //! node: so a test is a table, and its proof is short.
 
-use crate::{
-    Clearing, Closed, CycleFault, Cycled, LotCloseFault, LotOpenFault, LotPourFault, OrderFault,
-    PoolRow, ReplyFault, SettingFault, Taken, TradeFault,
-};
+use crate::{Clearing, PoolRow, Taken};
 use cns_allocate::{Group, Planned};
 use cns_ids::{Cusip, CycleId, CycleKind, Day, MemberNo, Quantity, Shares};
 use cns_journal::{ListKeeper, Restarted};
 use cns_movements::{Asked, MoveKind, MoveNo, Order, Reply};
 use cns_pool::Ticket;
+use cns_records::Refusal;
 use cns_trades::{Trade, TradeId};
 use std::alloc::Global;
 use std::fmt;
@@ -43,15 +41,15 @@ pub(crate) type Ordered = (u64, u64, usize);
 // A call that changes a node, and its answer.
 #[derive(Clone, Copy)]
 pub(crate) enum Call {
-    Trade(Sale, Result<(), TradeFault>),
+    Trade(Sale, Result<(), Refusal>),
     // Shares of member 1.
-    Exempt(u64, Result<(), SettingFault>),
+    Exempt(u64, Result<(), Refusal>),
     // Of this member.
-    Priority(u16, Result<(), SettingFault>),
+    Priority(u16, Result<(), Refusal>),
     // Of this day in March.
-    Cycle(u8, CycleKind, Result<Ordered, CycleFault>),
+    Cycle(u8, CycleKind, Result<Ordered, Refusal>),
     // The order's number, and the shares that were moved.
-    Reply(u64, u64, Result<Taken, ReplyFault>),
+    Reply(u64, u64, Result<Taken, Refusal>),
     // The next commit fails, and its record stands or does not.
     Plan(bool),
     // How many records the journal has, and whether the undecided one was kept; then the node is up.
@@ -63,10 +61,10 @@ pub(crate) enum Call {
 pub(crate) enum LotCall {
     // It has the plan of members 2 and 3.
     Open,
-    NotOpened(LotOpenFault),
-    Pour(Result<u64, LotPourFault>),
+    NotOpened(Refusal),
+    Pour(Result<u64, Refusal>),
     // The tickets, and whether the lot was sealed.
-    Close(&'static [Draw], bool, Result<Ordered, LotCloseFault>),
+    Close(&'static [Draw], bool, Result<Ordered, Refusal>),
     // After how many records it was opened and last poured into, and its shares.
     Holds(u64, u64, u64),
     NoLot,
@@ -82,7 +80,7 @@ pub(crate) enum Look {
     // The order of this number: its kind, its member, and what it asks for.
     Order(u64, MoveKind, u16, u64),
     // Why the order of this number is not shown.
-    NoOrder(u64, OrderFault),
+    NoOrder(u64, Refusal),
     // The shares that are free, lent and out in the one pool.
     Pool(u128, u128, u128),
     NoPool,
@@ -201,7 +199,7 @@ fn take_trade(
     rt: &impl Abort,
     node: &mut Node,
     sale: &Sale,
-    wanted: Result<(), TradeFault>,
+    wanted: Result<(), Refusal>,
 ) -> Result<(), Fail> {
     let trade = trade(sale)?;
     assert_same(rt, &node.take_trade(&trade), &wanted);
@@ -213,7 +211,7 @@ fn exempt(
     node: &mut Node,
     cast: &Cast,
     count: u64,
-    wanted: Result<(), SettingFault>,
+    wanted: Result<(), Refusal>,
 ) -> Result<(), Fail> {
     let shares = shares(count)?;
     assert_same(rt, &node.exempt(cast.first, cast.issue, shares), &wanted);
@@ -225,7 +223,7 @@ fn prioritize(
     node: &mut Node,
     cast: &Cast,
     of: u16,
-    wanted: Result<(), SettingFault>,
+    wanted: Result<(), Refusal>,
 ) -> Result<(), Fail> {
     let member = member(of)?;
     assert_same(rt, &node.priority(member, cast.issue, true), &wanted);
@@ -233,17 +231,9 @@ fn prioritize(
 }
 
 // What a cycle answers.
-fn cycled(node: &mut Node, id: CycleId) -> Result<Ordered, CycleFault> {
-    match node.cycle(id) {
-        Ok(
-            Cycled {
-                due,
-                first: number,
-                count,
-            },
-        ) => Ok((due, first(number), count)),
-        Err(fault) => Err(fault),
-    }
+fn cycled(node: &mut Node, id: CycleId) -> Result<Ordered, Refusal> {
+    let cycled = node.cycle(id)?;
+    Ok((cycled.due, first(cycled.first), cycled.count))
 }
 
 fn run_cycle(
@@ -251,7 +241,7 @@ fn run_cycle(
     node: &mut Node,
     day: u8,
     kind: CycleKind,
-    wanted: Result<Ordered, CycleFault>,
+    wanted: Result<Ordered, Refusal>,
 ) -> Result<(), Fail> {
     let id = cycle(day, kind)?;
     assert_same(rt, &cycled(node, id), &wanted);
@@ -263,7 +253,7 @@ fn take_reply(
     node: &mut Node,
     of: u64,
     moved: u64,
-    wanted: Result<Taken, ReplyFault>,
+    wanted: Result<Taken, Refusal>,
 ) -> Result<(), Fail> {
     let reply = reply(of, moved)?;
     assert_same(rt, &node.take_reply(&reply), &wanted);
@@ -315,12 +305,7 @@ fn planned(member: MemberNo, group: Group) -> Planned {
     }
 }
 
-fn open_no_lot(
-    rt: &impl Abort,
-    node: &mut Node,
-    cast: &Cast,
-    fault: LotOpenFault,
-) -> Result<(), Fail> {
+fn open_no_lot(rt: &impl Abort, node: &mut Node, cast: &Cast, fault: Refusal) -> Result<(), Fail> {
     assert_same(rt, &node.lot_open(cast.issue).err(), &Some(fault));
     Ok(())
 }
@@ -329,7 +314,7 @@ fn pour(
     rt: &impl Abort,
     node: &mut Node,
     cast: &Cast,
-    wanted: Result<u64, LotPourFault>,
+    wanted: Result<u64, Refusal>,
 ) -> Result<(), Fail> {
     assert_same(rt, &node.lot_pour(cast.issue), &wanted);
     Ok(())
@@ -341,17 +326,9 @@ fn closed(
     issue: Cusip,
     tickets: &[Ticket],
     sealed: bool,
-) -> Result<Ordered, LotCloseFault> {
-    match node.lot_close(issue, tickets, sealed) {
-        Ok(
-            Closed {
-                granted,
-                first: number,
-                count,
-            },
-        ) => Ok((granted, first(number), count)),
-        Err(fault) => Err(fault),
-    }
+) -> Result<Ordered, Refusal> {
+    let closed = node.lot_close(issue, tickets, sealed)?;
+    Ok((closed.granted, first(closed.first), closed.count))
 }
 
 fn close(
@@ -361,7 +338,7 @@ fn close(
     cast: &Cast,
     draws: &[Draw],
     sealed: bool,
-    wanted: Result<Ordered, LotCloseFault>,
+    wanted: Result<Ordered, Refusal>,
 ) -> Result<(), Fail> {
     let tickets = tickets(alloc, draws)?;
     let answer = closed(node, cast.issue, tickets.as_slice(), sealed);
@@ -458,7 +435,7 @@ fn see_order(
     Ok(())
 }
 
-fn see_no_order(rt: &impl Abort, node: &Node, of: u64, fault: OrderFault) -> Result<(), Fail> {
+fn see_no_order(rt: &impl Abort, node: &Node, of: u64, fault: Refusal) -> Result<(), Fail> {
     let number = number(of)?;
     assert_same(rt, &node.order(number), &Err(fault));
     Ok(())
@@ -554,7 +531,7 @@ pub(crate) const TO_THIRD: Sale = Sale {
 // The cycle that covers what was sold, without the shares that are exempt.
 pub(crate) const NIGHT: Step = Step::Do(Call::Cycle(2, CycleKind::Night, Ok((1, 1, 1))));
 
-const NIGHT_FAILS: Step = Step::Do(Call::Cycle(2, CycleKind::Night, Err(CycleFault::Device)));
+const NIGHT_FAILS: Step = Step::Do(Call::Cycle(2, CycleKind::Night, Err(Refusal::Device)));
 
 const TRADE: Step = Step::Do(Call::Trade(SALE, Ok(())));
 

@@ -4,9 +4,10 @@ use crate::test_support::{
     CYCLED, Call, FAILED, FILLED, LOST, Look, NIGHT, SALE, Sale, Step, asked, assert_same, issue,
     member, pool, shares, tell,
 };
-use crate::{CycleFault, OrderFault, PoolRow, ReplyFault, SettingFault, Taken, TradeFault};
+use crate::{PoolRow, Taken};
 use cns_ids::{Cusip, CycleKind};
 use cns_movements::{Ask, Confirm, MoveKind, MoveNo, OrderBook, Reply};
+use cns_records::Refusal;
 use cns_trades::Verdict;
 use std::alloc::Global;
 use std::process::Abort;
@@ -35,12 +36,12 @@ const NEXT: Sale = Sale {
 
 const FIRST_ORDER: Step = Step::See(Look::Order(1, MoveKind::Cover, 1, 35));
 
-const NO_OTHER: Step = Step::See(Look::NoOrder(2, OrderFault::UnknownMove));
+const NO_OTHER: Step = Step::See(Look::NoOrder(2, Refusal::UnknownMove));
 
 static CYCLES: [Step; 8] = [
     Step::See(Look::Shows(0, 0)),
     NIGHT,
-    Step::Do(Call::Cycle(2, CycleKind::Night, Err(CycleFault::CycleOrder))),
+    Step::Do(Call::Cycle(2, CycleKind::Night, Err(Refusal::CycleOrder))),
     Step::Do(Call::Cycle(2, CycleKind::Day, Ok((0, 0, 0)))),
     Step::See(Look::Latest(2, CycleKind::Day)),
     Step::See(Look::Shows(-60, 0)),
@@ -54,15 +55,15 @@ fn cycles_in_turn(rt: HostRuntime) -> Result<(), Fail> {
 }
 
 static REPLIES: [Step; 12] = [
-    Step::Do(Call::Reply(2, 20, Err(ReplyFault::UnknownMove))),
+    Step::Do(Call::Reply(2, 20, Err(Refusal::UnknownMove))),
     Step::See(Look::Shows(-60, 0)),
-    Step::Do(Call::Reply(1, 36, Err(ReplyFault::TooMuch))),
+    Step::Do(Call::Reply(1, 36, Err(Refusal::TooMuch))),
     Step::See(Look::Shows(-60, 0)),
     Step::Do(Call::Reply(1, 20, Ok(Taken::Done))),
     Step::See(Look::Shows(-40, 20)),
     Step::Do(Call::Reply(1, 20, Ok(Taken::Again))),
     Step::See(Look::Shows(-40, 20)),
-    Step::Do(Call::Reply(1, 35, Err(ReplyFault::Conflict))),
+    Step::Do(Call::Reply(1, 35, Err(Refusal::Conflict))),
     Step::See(Look::Shows(-40, 20)),
     Step::Do(Call::Cycle(2, CycleKind::Day, Ok((0, 2, 1)))),
     Step::See(Look::Order(2, MoveKind::Cover, 1, 15)),
@@ -73,14 +74,11 @@ fn replies_in_turn(rt: HostRuntime) -> Result<(), Fail> {
     tell(&rt, rt.alloc(), &CYCLED, &REPLIES)
 }
 
-const SAME: Step = Step::Do(Call::Trade(SALE, Err(TradeFault::Refused(Verdict::Same))));
+const SAME: Step = Step::Do(Call::Trade(SALE, Err(Refusal::Trade(Verdict::Same))));
 
-const CONFLICT: Step = Step::Do(Call::Trade(OTHER, Err(TradeFault::Refused(Verdict::Conflict))));
+const CONFLICT: Step = Step::Do(Call::Trade(OTHER, Err(Refusal::Trade(Verdict::Conflict))));
 
-const SAME_MEMBER: Step = Step::Do(Call::Trade(
-    ALONE,
-    Err(TradeFault::Refused(Verdict::SameMember)),
-));
+const SAME_MEMBER: Step = Step::Do(Call::Trade(ALONE, Err(Refusal::Trade(Verdict::SameMember))));
 
 const ACCEPTED: Step = Step::Do(Call::Trade(NEXT, Ok(())));
 
@@ -190,12 +188,12 @@ fn pools_of_a_node(rt: HostRuntime) -> Result<(), Fail> {
 
 static ALL_DOWN: [Step; 8] = [
     Step::See(Look::Down),
-    Step::See(Look::NoOrder(1, OrderFault::Down)),
-    Step::Do(Call::Cycle(2, CycleKind::Night, Err(CycleFault::Down))),
-    Step::Do(Call::Reply(1, 20, Err(ReplyFault::Down))),
-    Step::Do(Call::Trade(NEXT, Err(TradeFault::Down))),
-    Step::Do(Call::Exempt(0, Err(SettingFault::Down))),
-    Step::Do(Call::Priority(1, Err(SettingFault::Down))),
+    Step::See(Look::NoOrder(1, Refusal::Down)),
+    Step::Do(Call::Cycle(2, CycleKind::Night, Err(Refusal::Down))),
+    Step::Do(Call::Reply(1, 20, Err(Refusal::Down))),
+    Step::Do(Call::Trade(NEXT, Err(Refusal::Down))),
+    Step::Do(Call::Exempt(0, Err(Refusal::Down))),
+    Step::Do(Call::Priority(1, Err(Refusal::Down))),
     Step::See(Look::Shows(0, 0)),
 ];
 
@@ -230,7 +228,7 @@ fn a_failed_cycle_does_not_stand(rt: HostRuntime) -> Result<(), Fail> {
     tell(&rt, rt.alloc(), &LOST, &DOES_NOT_STAND)
 }
 
-const REPLY_FAILS: Step = Step::Do(Call::Reply(1, 20, Err(ReplyFault::Device)));
+const REPLY_FAILS: Step = Step::Do(Call::Reply(1, 20, Err(Refusal::Device)));
 
 static REPLY_STANDS: [Step; 6] = [
     Step::Do(Call::Plan(true)),

@@ -6,6 +6,8 @@ use Rattle.cns_journal.specs.declared.record_log.CommitFault.{CommitFault}
 use Rattle.cns_journal.specs.declared.record_log.CommitFault.TheVariants as commit
 use Rattle.cns_records.specs.declared.dep_record.DepRecord.{DepRecord}
 use Rattle.cns_records.specs.declared.dep_record.DepRecord.TheVariants.{Exec}
+use Rattle.cns_records.specs.declared.refusal.Refusal.{Refusal}
+use Rattle.cns_records.specs.declared.refusal.Refusal.TheVariants as refusal
 use Rattle.cns_depository.specs.declared.fault.DepFault.{DepFault}
 use Rattle.cns_depository.specs.declared.fault.DepFault.TheVariants.{Down, Conflict, OutOfMemory, Device}
 use Rattle.cns_depository.specs.declared.fault.Answer.{Answer}
@@ -17,6 +19,13 @@ use Rattle.cns_depository.specs.Node.{DepNode, Added, Failed}
 abbrev pub dep_fault : CommitFault → DepFault
 dep_fault commit.OutOfMemory = OutOfMemory
 dep_fault commit.Device = Device
+
+-- the same refusal, among those of both nodes
+abbrev pub dep_refusal : DepFault → Refusal
+dep_refusal Down = refusal.Down
+dep_refusal Conflict = refusal.Conflict
+dep_refusal OutOfMemory = refusal.OutOfMemory
+dep_refusal Device = refusal.Device
 
 -- the record of an order that the node executes next
 abbrev pub next_record : DepNode → Order → DepRecord

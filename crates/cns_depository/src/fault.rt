@@ -1,5 +1,6 @@
 use cns_journal::CommitFault;
 use cns_movements::Reply;
+use cns_records::Refusal;
 use thiserror::Error;
 
 /// What the depository answers to an order.
@@ -38,6 +39,22 @@ impl From<CommitFault> for DepFault {
         match fault {
             CommitFault::OutOfMemory => DepFault::OutOfMemory,
             CommitFault::Device => DepFault::Device,
+        }
+    }
+}
+
+impl From<DepFault> for Refusal {
+    ghost use Rattle.std.specs.Prelude.{◌≡◌};
+    ghost use Rattle.cns_depository.specs.Answers.{dep_refusal};
+
+    ghost from_gives = { λ fault given. given ≡ dep_refusal fault };
+
+    fn from(fault: DepFault) -> Refusal {
+        match fault {
+            DepFault::Down => Refusal::Down,
+            DepFault::Conflict => Refusal::Conflict,
+            DepFault::OutOfMemory => Refusal::OutOfMemory,
+            DepFault::Device => Refusal::Device,
         }
     }
 }

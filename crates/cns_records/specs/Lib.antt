@@ -2,3 +2,4 @@ pub mod Fields
 pub mod Drawn
 pub mod Clear
 pub mod Dep
+pub mod Refusals

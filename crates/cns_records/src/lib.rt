@@ -1,5 +1,5 @@
 //! Journal records: what the clearing node and the depository write into their journals, and the
-//! exact bytes of each.
+//! exact bytes of each; and why a node refuses.
 //!
 //! A payload begins with the version and the record's kind, a byte each. Numbers are unsigned and
 //! big-endian; a date is the year in two bytes, the month and the day in one each. A payload is the
@@ -13,12 +13,14 @@ mod clear_record;
 mod dep_record;
 mod drawn;
 mod fields;
+mod refusal;
 
 pub use allocation::Allocation;
 pub use bad_record::BadRecord;
 pub use clear_record::ClearRecord;
 pub use dep_record::DepRecord;
 pub use drawn::{Drawn, DrawnList, MAX_DRAWN};
+pub use refusal::Refusal;
 
 #[cfg(test)]
 mod tests;

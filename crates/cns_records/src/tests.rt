@@ -1,8 +1,8 @@
-use crate::{Allocation, BadRecord, ClearRecord, DepRecord, Drawn, DrawnList, MAX_DRAWN};
+use crate::{Allocation, BadRecord, ClearRecord, DepRecord, Drawn, DrawnList, MAX_DRAWN, Refusal};
 use cns_ids::{Cusip, CycleId, CycleKind, Day, MemberNo, Quantity, Shares};
 use cns_journal::RecordFault;
 use cns_movements::{Asked, MoveKind, MoveNo, Order, Reply};
-use cns_trades::{Trade, TradeId};
+use cns_trades::{Trade, TradeId, Verdict};
 use std::alloc::{AllocError, Global};
 use std::fmt::{Debug, Display};
 use std::process::Abort;
@@ -417,4 +417,63 @@ fn what_faults_say(rt: HostRuntime) {
     assert_prints(&rt, rt.alloc(), &BadRecord, "not a journal record");
     assert_prints(&rt, rt.alloc(), &bad, "not a journal record");
     assert_prints(&rt, rt.alloc(), &no_memory, "out of memory");
+}
+
+static OF_NODES: [(Refusal, &str); 12] = [
+    (Refusal::Down, "the node is down"),
+    (Refusal::Trade(Verdict::Full), "the trade is not new"),
+    (
+        Refusal::CycleOrder,
+        "the cycle is not later than the latest one",
+    ),
+    (Refusal::NumbersSpent, "movement numbers are spent"),
+    (Refusal::UnknownMove, "no order has this number"),
+    (Refusal::NoPacket, "the link has no packet of this number"),
+    (
+        Refusal::Conflict,
+        "another order or confirmation has this number",
+    ),
+    (
+        Refusal::TooMuch,
+        "the shares are more than the order asked for",
+    ),
+    (
+        Refusal::BadJournal { place: 7 },
+        "record 7 of the journal is bad",
+    ),
+    (Refusal::OutOfMemory, "out of memory"),
+    (Refusal::Device, "the journal's device failed"),
+    (Refusal::LotsOpen, "a lot is open"),
+];
+
+static OF_LOTS: [(Refusal, &str); 10] = [
+    (Refusal::LotAlready, "a lot of the issue is open"),
+    (Refusal::LotsSpent, "the numbers of lots are spent"),
+    (Refusal::NoLot, "there is no such lot"),
+    (Refusal::StaleLot, "the lot has ended"),
+    (Refusal::LotBusy, "the lot is being served"),
+    (
+        Refusal::NotLong,
+        "the member is not to receive shares of the lot",
+    ),
+    (
+        Refusal::EarlierGroup,
+        "a member of an earlier group has no ticket yet",
+    ),
+    (Refusal::Sealed, "the lot is sealed"),
+    (Refusal::Unserved, "a member of the plan has no ticket yet"),
+    (
+        Refusal::BadTickets,
+        "the tickets do not serve the plan of the lot",
+    ),
+];
+
+#[test]
+fn what_refusals_say(rt: HostRuntime) {
+    for (refusal, words) in &OF_NODES {
+        assert_prints(&rt, rt.alloc(), refusal, words);
+    }
+    for (refusal, words) in &OF_LOTS {
+        assert_prints(&rt, rt.alloc(), refusal, words);
+    }
 }

@@ -5,6 +5,8 @@ use Rattle.cns_ids.specs.declared.cusip.CusipFault.{CusipFault}
 use Rattle.cns_ids.specs.declared.cusip.CusipFault.TheVariants as cusip
 use Rattle.cns_ids.specs.declared.number.ReadFault.{ReadFault}
 use Rattle.cns_ids.specs.declared.number.ReadFault.TheVariants as number
+use Rattle.cns_depository.specs.declared.openings.OpeningFault.{OpeningFault}
+use Rattle.cns_depository.specs.declared.openings.OpeningFault.TheVariants as opening
 use Rattle.cns_trades.specs.declared.fault.RowFault.{RowFault}
 use Rattle.cns_trades.specs.declared.fault.RowFault.TheVariants as fault
 use Rattle.cns_trades.specs.declared.list.Verdict.{Verdict}
@@ -29,6 +31,11 @@ row_fault_text (fault.Cusip e) = codes "Cusip " ++ cusip_fault_text e
 row_fault_text (fault.Quantity e) = codes "Quantity " ++ read_fault_text e
 row_fault_text (fault.Account e) = codes "Account " ++ read_fault_text e
 row_fault_text (fault.Shares e) = codes "Shares " ++ read_fault_text e
+
+abbrev pub opening_fault_text : OpeningFault → List ℕ
+opening_fault_text opening.Double = codes "Double"
+opening_fault_text opening.IssueSum = codes "IssueSum"
+opening_fault_text opening.OutOfMemory = codes "OutOfMemory"
 
 abbrev pub verdict_text : Verdict → List ℕ
 verdict_text verdicts.New = codes "New"

@@ -9,29 +9,20 @@ use Rattle.cns_ids.specs.declared.cycle.CycleId.{CycleId}
 use Rattle.cns_movements.specs.Order.{kind_text as move_kind_text}
 use Rattle.cns_movements.specs.declared.order.Order.{Order}
 use Rattle.cns_pool.specs.declared.ticket.Ticket.{Ticket}
+use Rattle.cns_depository.specs.declared.openings.OpeningFault.{OpeningFault}
+use Rattle.cns_records.specs.declared.refusal.Refusal.{Refusal}
 use Rattle.cns_trades.specs.declared.fault.RowFault.{RowFault}
-use Rattle.cns_trades.specs.declared.list.Verdict.{Verdict}
-use Rattle.cns_trades.specs.declared.list.Verdict.TheVariants as verdicts
-use Rattle.cns_report.specs.Refusals.{subject_text, refusal_text, node_text, opening_refusal_text}
-use Rattle.cns_report.specs.declared.refusal.NodeName.{NodeName}
-use Rattle.cns_report.specs.declared.refusal.OpeningRefusal.{OpeningRefusal}
-use Rattle.cns_report.specs.declared.refusal.Subject.{Subject}
-use Rattle.cns_report.specs.declared.refusal.Refusal.{Refusal}
-use Rattle.cns_report.specs.Faults.{row_fault_text, verdict_text}
+use Rattle.cns_report.specs.Refusals.{subject_text, refusal_text, node_text}
+use Rattle.cns_report.specs.declared.subject.NodeName.{NodeName}
+use Rattle.cns_report.specs.declared.subject.Subject.{Subject}
+use Rattle.cns_report.specs.Faults.{opening_fault_text, row_fault_text}
 
 abbrev pub line_end : List ℕ
 line_end = 10 ∷ []
 
-abbrev pub answer_text : Verdict → List ℕ
-answer_text verdicts.New = codes " accepted"
-answer_text verdicts.Same = codes " refused " ++ verdict_text verdicts.Same
-answer_text verdicts.Conflict = codes " refused " ++ verdict_text verdicts.Conflict
-answer_text verdicts.SameMember = codes " refused " ++ verdict_text verdicts.SameMember
-answer_text verdicts.Full = codes " refused " ++ verdict_text verdicts.Full
-
--- trade ID accepted, or: trade ID refused NAME
-unfoldable pub trade_line : List ℕ → Verdict → List ℕ
-trade_line id verdict = codes "trade " ++ id ++ answer_text verdict ++ line_end
+-- trade ID accepted
+unfoldable pub trade_line : List ℕ → List ℕ
+trade_line id = codes "trade " ++ id ++ codes " accepted" ++ line_end
 
 -- row N fault ..
 unfoldable pub row_fault_line : ℕ → RowFault → List ℕ
@@ -71,8 +62,8 @@ unfoldable pub opening_row_fault_line : ℕ → RowFault → List ℕ
 opening_row_fault_line row fault = codes "opening row " ++ decimal row ++ codes " fault " ++ row_fault_text fault ++ line_end
 
 -- opening row N fault NAME
-unfoldable pub opening_refused_line : ℕ → OpeningRefusal → List ℕ
-opening_refused_line row refusal = codes "opening row " ++ decimal row ++ codes " fault " ++ opening_refusal_text refusal ++ line_end
+unfoldable pub opening_refused_line : ℕ → OpeningFault → List ℕ
+opening_refused_line row fault = codes "opening row " ++ decimal row ++ codes " fault " ++ opening_fault_text fault ++ line_end
 
 -- send N packet K
 unfoldable pub send_line : ℕ → ℕ → List ℕ

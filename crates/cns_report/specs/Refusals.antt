@@ -1,13 +1,12 @@
 -- The names of commands and refusals, as lines show them (this project's own format).
 use Rattle.std.specs.Prelude.{ℕ, List, codes}
-use Rattle.cns_report.specs.declared.refusal.Subject.{Subject}
-use Rattle.cns_report.specs.declared.refusal.Subject.TheVariants as subject
-use Rattle.cns_report.specs.declared.refusal.OpeningRefusal.{OpeningRefusal}
-use Rattle.cns_report.specs.declared.refusal.OpeningRefusal.TheVariants as opening
-use Rattle.cns_report.specs.declared.refusal.NodeName.{NodeName}
-use Rattle.cns_report.specs.declared.refusal.NodeName.TheVariants as node
-use Rattle.cns_report.specs.declared.refusal.Refusal.{Refusal}
-use Rattle.cns_report.specs.declared.refusal.Refusal.TheVariants as refusal
+use Rattle.cns_records.specs.declared.refusal.Refusal.{Refusal}
+use Rattle.cns_records.specs.declared.refusal.Refusal.TheVariants as refusal
+use Rattle.cns_report.specs.Faults.{verdict_text}
+use Rattle.cns_report.specs.declared.subject.Subject.{Subject}
+use Rattle.cns_report.specs.declared.subject.Subject.TheVariants as subject
+use Rattle.cns_report.specs.declared.subject.NodeName.{NodeName}
+use Rattle.cns_report.specs.declared.subject.NodeName.TheVariants as node
 
 abbrev pub subject_text : Subject → List ℕ
 subject_text subject.Exempt = codes "exempt"
@@ -23,7 +22,9 @@ subject_text subject.Look = codes "look"
 subject_text subject.Seal = codes "seal"
 subject_text subject.Close = codes "close"
 
+-- a trade is refused by the name of its verdict
 abbrev pub refusal_text : Refusal → List ℕ
+refusal_text (refusal.Trade verdict) = verdict_text verdict
 refusal_text refusal.Down = codes "Down"
 refusal_text refusal.Device = codes "Device"
 refusal_text refusal.CycleOrder = codes "CycleOrder"
@@ -42,11 +43,10 @@ refusal_text refusal.NotLong = codes "NotLong"
 refusal_text refusal.EarlierGroup = codes "EarlierGroup"
 refusal_text refusal.Sealed = codes "Sealed"
 refusal_text refusal.Unserved = codes "Unserved"
+refusal_text refusal.BadTickets = codes "BadTickets"
+refusal_text (refusal.BadJournal place) = codes "BadJournal"
+refusal_text refusal.OutOfMemory = codes "OutOfMemory"
 
 abbrev pub node_text : NodeName → List ℕ
 node_text node.Clear = codes "CLEAR"
 node_text node.Depot = codes "DEPOT"
-
-abbrev pub opening_refusal_text : OpeningRefusal → List ℕ
-opening_refusal_text opening.Double = codes "Double"
-opening_refusal_text opening.IssueSum = codes "IssueSum"

@@ -1,7 +1,10 @@
 ghost use Rattle.std.specs.Prelude.{Some};
-ghost use Rattle.cns_report.specs.Faults.{read_fault_text, cusip_fault_text, row_fault_text, verdict_text};
+ghost use Rattle.cns_report.specs.Faults.{read_fault_text, cusip_fault_text, opening_fault_text, row_fault_text, verdict_text};
+ghost use Rattle.cns_report.specs.Refusals.{refusal_text};
 
+use cns_depository::OpeningFault;
 use cns_ids::{CusipFault, ReadFault};
+use cns_records::Refusal;
 use cns_trades::{RowFault, Verdict};
 use std::fmt;
 
@@ -76,9 +79,25 @@ impl fmt::Display for RowFaultName {
     }
 }
 
-/// The name of a verdict.
+/// The name of an opening's fault.
 #[derive(Clone, Copy)]
-pub(crate) struct VerdictName(pub(crate) Verdict);
+pub(crate) struct OpeningFaultName(pub(crate) OpeningFault);
+
+impl fmt::Display for OpeningFaultName {
+    ghost output = { λ name. Some (opening_fault_text name.0) };
+
+    fn fmt<W: fmt::Write>(&self, f: &mut fmt::Formatter<W>) -> fmt::Result {
+        f.write_str(match self.0 {
+            OpeningFault::Double => "Double",
+            OpeningFault::IssueSum => "IssueSum",
+            OpeningFault::OutOfMemory => "OutOfMemory",
+        })
+    }
+}
+
+// The name of a verdict.
+#[derive(Clone, Copy)]
+struct VerdictName(Verdict);
 
 impl fmt::Display for VerdictName {
     ghost output = { λ name. Some (verdict_text name.0) };
@@ -90,6 +109,44 @@ impl fmt::Display for VerdictName {
             Verdict::Conflict => "Conflict",
             Verdict::SameMember => "SameMember",
             Verdict::Full => "Full",
+        })
+    }
+}
+
+/// The name of a refusal. That of a trade is the name of its verdict.
+#[derive(Clone, Copy)]
+pub(crate) struct RefusalName(pub(crate) Refusal);
+
+impl fmt::Display for RefusalName {
+    ghost output = { λ name. Some (refusal_text name.0) };
+
+    fn fmt<W: fmt::Write>(&self, f: &mut fmt::Formatter<W>) -> fmt::Result {
+        f.write_str(match self.0 {
+            Refusal::Trade(verdict) => {
+                let name = VerdictName(verdict);
+                return write!(f, "{name}");
+            }
+            Refusal::Down => "Down",
+            Refusal::CycleOrder => "CycleOrder",
+            Refusal::LotsOpen => "LotsOpen",
+            Refusal::LotAlready => "LotAlready",
+            Refusal::LotsSpent => "LotsSpent",
+            Refusal::NoLot => "NoLot",
+            Refusal::StaleLot => "StaleLot",
+            Refusal::LotBusy => "LotBusy",
+            Refusal::NotLong => "NotLong",
+            Refusal::EarlierGroup => "EarlierGroup",
+            Refusal::Sealed => "Sealed",
+            Refusal::Unserved => "Unserved",
+            Refusal::BadTickets => "BadTickets",
+            Refusal::NumbersSpent => "NumbersSpent",
+            Refusal::UnknownMove => "UnknownMove",
+            Refusal::NoPacket => "NoPacket",
+            Refusal::Conflict => "Conflict",
+            Refusal::TooMuch => "TooMuch",
+            Refusal::BadJournal { .. } => "BadJournal",
+            Refusal::OutOfMemory => "OutOfMemory",
+            Refusal::Device => "Device",
         })
     }
 }

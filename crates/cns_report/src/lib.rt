@@ -9,8 +9,8 @@ mod append;
 mod fault;
 mod line;
 mod position;
-mod refusal;
 mod report;
+mod subject;
 
 pub use line::{
     write_again, write_bad_command, write_close, write_confirm_again, write_confirm_done,
@@ -19,8 +19,8 @@ pub use line::{
     write_refused, write_restart, write_row_fault, write_seal, write_send, write_ticket,
     write_trade, write_trade_refused,
 };
-pub use refusal::{NodeName, OpeningRefusal, Refusal, Subject};
 pub use report::{write_balance_report, write_cycle_report, write_report_end};
+pub use subject::{NodeName, Subject};
 
 #[cfg(test)]
 mod tests;

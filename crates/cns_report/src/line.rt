@@ -2,27 +2,23 @@ ghost use Rattle.std.specs.Prelude.{◌≡◌, ◌++◌, OnOk, OnErr, string_byt
 ghost use Rattle.cns_report.specs.Lines.{trade_line, row_fault_line, bad_command_line, cycle_line, refused_line, exempt_line, priority_line, order_line, order_lines, opening_row_fault_line, opening_refused_line, send_line, exec_line, again_line, confirm_done_line, confirm_again_line, trade_refused_line, fail_line, restart_line, lot_line, pour_line, ticket_line, look_line, seal_line, close_line};
 
 use crate::append::append;
-use crate::fault::{RowFaultName, VerdictName};
-use crate::refusal::{NodeName, OpeningRefusal, Refusal, Subject};
+use crate::fault::{OpeningFaultName, RefusalName, RowFaultName};
+use crate::subject::{NodeName, Subject};
+use cns_depository::OpeningFault;
 use cns_ids::CycleId;
 use cns_movements::Order;
 use cns_pool::Ticket;
-use cns_trades::{RowFault, TradeId, Verdict};
+use cns_records::Refusal;
+use cns_trades::{RowFault, TradeId};
 use std::alloc::AllocError;
 
-/// The line of a trade: `trade ID accepted`, or `trade ID refused NAME`.
+/// The line of a trade that was accepted: `trade ID accepted`.
 #[tactic(auto, unfolding(crate::specs::Lines::trade_line))]
-pub fn write_trade(out: &mut String, id: TradeId, verdict: Verdict) -> Result<(), AllocError>
-    ensures ok { OnOk result (string_bytes out.new ≡ string_bytes out.old ++ trade_line id verdict) }
+pub fn write_trade(out: &mut String, id: TradeId) -> Result<(), AllocError>
+    ensures ok { OnOk result (string_bytes out.new ≡ string_bytes out.old ++ trade_line id) }
     ensures err { OnErr result (string_bytes out.new ≡ string_bytes out.old) }
 {
-    match verdict {
-        Verdict::New => append(out, format_args!("trade {id} accepted\n")),
-        _ => {
-            let name = VerdictName(verdict);
-            append(out, format_args!("trade {id} refused {name}\n"))
-        }
-    }
+    append(out, format_args!("trade {id} accepted\n"))
 }
 
 /// The line of a faulty row of trades: `row N fault ..`.
@@ -61,6 +57,7 @@ pub fn write_refused(out: &mut String, subject: Subject, refusal: Refusal) -> Re
     ensures ok { OnOk result (string_bytes out.new ≡ string_bytes out.old ++ refused_line subject refusal) }
     ensures err { OnErr result (string_bytes out.new ≡ string_bytes out.old) }
 {
+    let refusal = RefusalName(refusal);
     append(out, format_args!("{subject} refused {refusal}\n"))
 }
 
@@ -128,11 +125,12 @@ pub fn write_opening_row_fault(
 pub fn write_opening_refused(
     out: &mut String,
     row: u64,
-    refusal: OpeningRefusal,
+    fault: OpeningFault,
 ) -> Result<(), AllocError>
-    ensures ok { OnOk result (string_bytes out.new ≡ string_bytes out.old ++ opening_refused_line row refusal) }
+    ensures ok { OnOk result (string_bytes out.new ≡ string_bytes out.old ++ opening_refused_line row fault) }
     ensures err { OnErr result (string_bytes out.new ≡ string_bytes out.old) }
 {
+    let refusal = OpeningFaultName(fault);
     append(out, format_args!("opening row {row} fault {refusal}\n"))
 }
 
@@ -187,7 +185,7 @@ pub fn write_confirm_again(out: &mut String, number: u64, moved: u64) -> Result<
     append(out, format_args!("confirm {number} moved {moved} again\n"))
 }
 
-/// The line of a trade that a node did not take: `trade ID refused NAME`.
+/// The line of a trade that was refused: `trade ID refused NAME`.
 #[tactic(auto, unfolding(crate::specs::Lines::trade_refused_line))]
 pub fn write_trade_refused(
     out: &mut String,
@@ -197,6 +195,7 @@ pub fn write_trade_refused(
     ensures ok { OnOk result (string_bytes out.new ≡ string_bytes out.old ++ trade_refused_line id refusal) }
     ensures err { OnErr result (string_bytes out.new ≡ string_bytes out.old) }
 {
+    let refusal = RefusalName(refusal);
     append(out, format_args!("trade {id} refused {refusal}\n"))
 }
 

@@ -1,17 +1,18 @@
 use crate::{
-    NodeName, OpeningRefusal, Refusal, Subject, write_again, write_bad_command,
-    write_balance_report, write_close, write_confirm_again, write_confirm_done, write_cycle,
-    write_cycle_report, write_exec, write_exempt, write_fail, write_look, write_lot,
-    write_opening_refused, write_opening_row_fault, write_orders, write_pour, write_priority,
-    write_refused, write_report_end, write_restart, write_row_fault, write_seal, write_send,
-    write_ticket, write_trade, write_trade_refused,
+    NodeName, Subject, write_again, write_bad_command, write_balance_report, write_close,
+    write_confirm_again, write_confirm_done, write_cycle, write_cycle_report, write_exec,
+    write_exempt, write_fail, write_look, write_lot, write_opening_refused,
+    write_opening_row_fault, write_orders, write_pour, write_priority, write_refused,
+    write_report_end, write_restart, write_row_fault, write_seal, write_send, write_ticket,
+    write_trade, write_trade_refused,
 };
 use cns_clearing::PoolRow;
-use cns_depository::{Account, BalanceRow};
+use cns_depository::{Account, BalanceRow, OpeningFault};
 use cns_ids::{Cusip, CusipFault, CycleId, CycleKind, Day, MemberNo, ReadFault};
 use cns_movements::{Asked, MoveKind, MoveNo, Order};
 use cns_netting::PositionRow;
 use cns_pool::Ticket;
+use cns_records::Refusal;
 use cns_trades::{RowFault, TradeId, Verdict};
 use std::test::Fail;
 
@@ -43,11 +44,11 @@ fn lines(rt: HostRuntime) -> Result<(), Fail> {
         kind: CycleKind::Night,
     };
     let mut out = String::new(rt.alloc());
-    write_trade(&mut out, id, Verdict::New)?;
-    write_trade(&mut out, id, Verdict::Same)?;
-    write_trade(&mut out, id, Verdict::Conflict)?;
-    write_trade(&mut out, id, Verdict::SameMember)?;
-    write_trade(&mut out, id, Verdict::Full)?;
+    write_trade(&mut out, id)?;
+    write_trade_refused(&mut out, id, Refusal::Trade(Verdict::Same))?;
+    write_trade_refused(&mut out, id, Refusal::Trade(Verdict::Conflict))?;
+    write_trade_refused(&mut out, id, Refusal::Trade(Verdict::SameMember))?;
+    write_trade_refused(&mut out, id, Refusal::Trade(Verdict::Full))?;
     write_row_fault(&mut out, 5, RowFault::Settle)?;
     write_row_fault(&mut out, 6, RowFault::Fields)?;
     write_row_fault(&mut out, 7, RowFault::Id)?;
@@ -80,8 +81,8 @@ fn lines(rt: HostRuntime) -> Result<(), Fail> {
     write_confirm_again(&mut out, 1, 20)?;
     write_opening_row_fault(&mut out, 4, RowFault::Account(ReadFault::OutOfRange))?;
     write_opening_row_fault(&mut out, 5, RowFault::Shares(ReadFault::BadNumber))?;
-    write_opening_refused(&mut out, 6, OpeningRefusal::Double)?;
-    write_opening_refused(&mut out, 7, OpeningRefusal::IssueSum)?;
+    write_opening_refused(&mut out, 6, OpeningFault::Double)?;
+    write_opening_refused(&mut out, 7, OpeningFault::IssueSum)?;
     write_exempt(&mut out)?;
     write_priority(&mut out)?;
     write_trade_refused(&mut out, id, Refusal::Down)?;

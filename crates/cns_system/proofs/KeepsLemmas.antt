@@ -16,18 +16,12 @@ use Rattle.cns_records.specs.declared.dep_record.DepRecord.TheVariants.{Exec}
 use Rattle.cns_clearing.specs.Answers.{CycleLeaves, ReplyLeaves, SettingLeaves, TradeLeaves}
 use Rattle.cns_clearing.specs.Books.{IsAllowed, orders_of}
 use Rattle.cns_clearing.specs.Node.{ClearNode, Added, Failed}
-use Rattle.cns_clearing.specs.declared.fault.CycleFault.{CycleFault}
-use Rattle.cns_clearing.specs.declared.fault.CycleFault.TheVariants as cycle
-use Rattle.cns_clearing.specs.declared.fault.Cycled.{Cycled}
-use Rattle.cns_clearing.specs.declared.fault.Closed.{Closed}
-use Rattle.cns_clearing.specs.declared.fault.ReplyFault.{ReplyFault}
-use Rattle.cns_clearing.specs.declared.fault.ReplyFault.TheVariants as reply
-use Rattle.cns_clearing.specs.declared.fault.SettingFault.{SettingFault}
-use Rattle.cns_clearing.specs.declared.fault.SettingFault.TheVariants as setting
-use Rattle.cns_clearing.specs.declared.fault.Taken.{Taken}
-use Rattle.cns_clearing.specs.declared.fault.Taken.TheVariants as taken
-use Rattle.cns_clearing.specs.declared.fault.TradeFault.{TradeFault}
-use Rattle.cns_clearing.specs.declared.fault.TradeFault.TheVariants as trade
+use Rattle.cns_clearing.specs.declared.answer.Cycled.{Cycled}
+use Rattle.cns_clearing.specs.declared.answer.Closed.{Closed}
+use Rattle.cns_clearing.specs.declared.answer.Taken.{Taken}
+use Rattle.cns_clearing.specs.declared.answer.Taken.TheVariants as taken
+use Rattle.cns_records.specs.declared.refusal.Refusal.{Refusal}
+use Rattle.cns_records.specs.declared.refusal.Refusal.TheVariants as refusal
 use Rattle.cns_clearing.specs.declared.lot.Lot.{Lot}
 use Rattle.cns_journal.specs.RecordLog.{LogRestarts, LogState, Restarts}
 use Rattle.cns_journal.specs.declared.record_log.ReplayFault.{ReplayFault}
@@ -47,7 +41,7 @@ use Rattle.cns_system.specs.Accord.{Accord, AreLawful, FitsStock, IsInAccord, Is
 use Rattle.cns_system.specs.Agreement.{IsExecuted}
 use Rattle.cns_system.specs.Lot.{LotState, with_seal}
 use Rattle.cns_system.specs.Lots.{LotLeaves, ReserveLeaves, lot_at}
-use Rattle.cns_system.specs.Outcomes.{asked_outcome, close_outcome, cycle_outcome, open_outcome, pour_outcome, poured_outcome, reply_outcome, reserve_outcome, restart_outcome, seal_outcome, setting_outcome, trade_outcome}
+use Rattle.cns_system.specs.Outcomes.{asked_outcome, close_outcome, cycle_outcome, done_outcome, open_outcome, pour_outcome, poured_outcome, reply_outcome, reserve_outcome, restart_outcome, trade_outcome}
 use Rattle.cns_system.specs.Numbered.{NumberedNode, CloseLeaves, OpenLeaves, PourLeaves}
 use Rattle.cns_wire.specs.Frame.{order_frame, reply_frame}
 use Rattle.cns_wire.specs.Packet.{packet_at}
@@ -56,12 +50,6 @@ use Rattle.cns_system.specs.World.{World, order_in_packet, reply_in_packet}
 use Rattle.cns_system.specs.declared.event.Event.{Event}
 use Rattle.cns_system.specs.declared.event.Event.TheVariants as event
 use Rattle.cns_system.specs.declared.event.NodeName.TheVariants as node
-use Rattle.cns_system.specs.declared.fault.CloseFault.{CloseFault}
-use Rattle.cns_system.specs.declared.fault.CloseFault.TheVariants as close
-use Rattle.cns_system.specs.declared.fault.OpenFault.{OpenFault}
-use Rattle.cns_system.specs.declared.fault.OpenFault.TheVariants as opening
-use Rattle.cns_system.specs.declared.fault.PourFault.{PourFault}
-use Rattle.cns_system.specs.declared.fault.PourFault.TheVariants as pouring
 use Rattle.cns_system.specs.declared.numbered.Opened.{Opened}
 use Rattle.cns_system.specs.declared.outcome.Outcome.{Outcome}
 use Rattle.cns_system.proofs.AccordLemmas.{executed_more, grown, kept, order_put, reply_put, stock_kept}
@@ -103,37 +91,41 @@ module _ (d : LogState DepRecord) (orders replies : List (List ℕ)) where
   by_lots : (old new : ClearNode) (lots : List Lot) → new ≡ record old { lots = lots } → Keeps old.log new.log
   by_lots old new lots e = by_log old new (ap (λ (n : ClearNode). n.log) e)
 
-  trade_keeps : (t : Trade) (result : Result (Unit {0}) TradeFault) (old new : ClearNode) → TradeLeaves t result old new → Keeps old.log new.log
+  trade_keeps : (t : Trade) (result : Result (Unit {0}) Refusal) (old new : ClearNode) → TradeLeaves t result old new → Keeps old.log new.log
   trade_keeps t (Ok x) old new h = by_added old new (entry.Accept t) (λ a. tt) h.1
-  trade_keeps t (Err trade.Down) old new h = by_same old new h.1
-  trade_keeps t (Err (trade.Refused v)) old new h = by_same old new h.3
-  trade_keeps t (Err trade.OutOfMemory) old new h = by_same old new h.2
-  trade_keeps t (Err trade.Device) old new h = by_failed old new (entry.Accept t) (λ a. tt) h.1
+  trade_keeps t (Err refusal.Down) old new h = by_same old new h.1
+  trade_keeps t (Err (refusal.Trade v)) old new h = by_same old new h.3
+  trade_keeps t (Err refusal.OutOfMemory) old new h = by_same old new h.2
+  trade_keeps t (Err refusal.Device) old new h = by_failed old new (entry.Accept t) (λ a. tt) h.1
+  trade_keeps t (Err _) old new h = absurd h
 
-  setting_keeps : (u : ClearRecord) (result : Result (Unit {0}) SettingFault) (old new : ClearNode) → (Accord old.log d orders replies → FitsStock d.records u) → SettingLeaves u result old new → Keeps old.log new.log
+  setting_keeps : (u : ClearRecord) (result : Result (Unit {0}) Refusal) (old new : ClearNode) → (Accord old.log d orders replies → FitsStock d.records u) → SettingLeaves u result old new → Keeps old.log new.log
   setting_keeps u (Ok x) old new fits h = by_added old new u fits h
-  setting_keeps u (Err setting.Down) old new fits h = by_same old new h.1
-  setting_keeps u (Err setting.OutOfMemory) old new fits h = by_same old new h.1
-  setting_keeps u (Err setting.Device) old new fits h = by_failed old new u fits h
+  setting_keeps u (Err refusal.Down) old new fits h = by_same old new h.1
+  setting_keeps u (Err refusal.OutOfMemory) old new fits h = by_same old new h.1
+  setting_keeps u (Err refusal.Device) old new fits h = by_failed old new u fits h
+  setting_keeps u (Err _) old new fits h = absurd h
 
-  cycle_keeps : (id : CycleId) (result : Result Cycled CycleFault) (old new : ClearNode) → CycleLeaves id result old new → Keeps old.log new.log
+  cycle_keeps : (id : CycleId) (result : Result Cycled Refusal) (old new : ClearNode) → CycleLeaves id result old new → Keeps old.log new.log
   cycle_keeps id (Ok done) old new h = by_added old new (entry.Cycle id) (λ a. tt) h.3
-  cycle_keeps id (Err cycle.Down) old new h = by_same old new h.1
-  cycle_keeps id (Err cycle.CycleOrder) old new h = by_same old new h.2
-  cycle_keeps id (Err cycle.LotsOpen) old new h = by_same old new h.3
-  cycle_keeps id (Err cycle.NumbersSpent) old new h = by_same old new h.4
-  cycle_keeps id (Err cycle.OutOfMemory) old new h = by_same old new h.3
-  cycle_keeps id (Err cycle.Device) old new h = by_failed old new (entry.Cycle id) (λ a. tt) h.2
+  cycle_keeps id (Err refusal.Down) old new h = by_same old new h.1
+  cycle_keeps id (Err refusal.CycleOrder) old new h = by_same old new h.2
+  cycle_keeps id (Err refusal.LotsOpen) old new h = by_same old new h.3
+  cycle_keeps id (Err refusal.NumbersSpent) old new h = by_same old new h.4
+  cycle_keeps id (Err refusal.OutOfMemory) old new h = by_same old new h.3
+  cycle_keeps id (Err refusal.Device) old new h = by_failed old new (entry.Cycle id) (λ a. tt) h.2
+  cycle_keeps id (Err _) old new h = absurd h
 
-  reply_keeps : (r : Reply) (result : Result Taken ReplyFault) (old new : ClearNode) → (Accord old.log d orders replies → IsExecuted d.records r) → ReplyLeaves r result old new → Keeps old.log new.log
+  reply_keeps : (r : Reply) (result : Result Taken Refusal) (old new : ClearNode) → (Accord old.log d orders replies → IsExecuted d.records r) → ReplyLeaves r result old new → Keeps old.log new.log
   reply_keeps r (Ok taken.Done) old new done h = by_added old new (entry.Confirm r) done h.1
   reply_keeps r (Ok taken.Again) old new done h = by_same old new h.2
-  reply_keeps r (Err reply.Down) old new done h = by_same old new h.1
-  reply_keeps r (Err reply.UnknownMove) old new done h = by_same old new h.2
-  reply_keeps r (Err reply.Conflict) old new done h = by_same old new h.2
-  reply_keeps r (Err reply.TooMuch) old new done h = by_same old new h.2
-  reply_keeps r (Err reply.OutOfMemory) old new done h = by_same old new h.2
-  reply_keeps r (Err reply.Device) old new done h = by_failed old new (entry.Confirm r) done h.1
+  reply_keeps r (Err refusal.Down) old new done h = by_same old new h.1
+  reply_keeps r (Err refusal.UnknownMove) old new done h = by_same old new h.2
+  reply_keeps r (Err refusal.Conflict) old new done h = by_same old new h.2
+  reply_keeps r (Err refusal.TooMuch) old new done h = by_same old new h.2
+  reply_keeps r (Err refusal.OutOfMemory) old new done h = by_same old new h.2
+  reply_keeps r (Err refusal.Device) old new done h = by_failed old new (entry.Confirm r) done h.1
+  reply_keeps r (Err _) old new done h = absurd h
 
   -- a restart that reads what an honest keeper kept
   restarted : (kept_too : Bool) (old new : LogState ClearRecord) → Restarts kept_too old new → new.tried ≡ None → Accord old d orders replies → Accord new d orders replies
@@ -161,36 +153,39 @@ module _ (d : LogState DepRecord) (orders replies : List (List ℕ)) where
   by_same_lots : (old new : NumberedNode) → new ≡ old → Keeps old.clear.log new.clear.log
   by_same_lots old new e = by_same old.clear new.clear (ap (λ (n : NumberedNode). n.clear) e)
 
-  open_keeps : (issue : ℕ) (result : Result Opened OpenFault) (old new : NumberedNode) → OpenLeaves issue result old new → Keeps old.clear.log new.clear.log
+  open_keeps : (issue : ℕ) (result : Result Opened Refusal) (old new : NumberedNode) → OpenLeaves issue result old new → Keeps old.clear.log new.clear.log
   open_keeps issue (Ok opened) old new h = by_lots old.clear new.clear _ h.2.3
-  open_keeps issue (Err opening.Down) old new h = by_same_lots old new h.1
-  open_keeps issue (Err opening.LotAlready) old new h = by_same_lots old new h.2
-  open_keeps issue (Err opening.LotsSpent) old new h = by_same_lots old new h.3
-  open_keeps issue (Err opening.OutOfMemory) old new h = by_same_lots old new h.3
+  open_keeps issue (Err refusal.Down) old new h = by_same_lots old new h.1
+  open_keeps issue (Err refusal.LotAlready) old new h = by_same_lots old new h.2
+  open_keeps issue (Err refusal.LotsSpent) old new h = by_same_lots old new h.3
+  open_keeps issue (Err refusal.OutOfMemory) old new h = by_same_lots old new h.3
+  open_keeps issue (Err _) old new h = absurd h
 
-  pour_keeps : (number : ℕ) (result : Result ℕ PourFault) (old new : NumberedNode) → PourLeaves number result old new → Keeps old.clear.log new.clear.log
+  pour_keeps : (number : ℕ) (result : Result ℕ Refusal) (old new : NumberedNode) → PourLeaves number result old new → Keeps old.clear.log new.clear.log
   pour_keeps number (Ok shares) old new h =
       let lot = some_and (lot_at old.lots number) _ h in
       by_lots old.clear new.clear _ lot.1.1.0.2
-  pour_keeps number (Err pouring.NoLot) old new h = by_same_lots old new h.1
-  pour_keeps number (Err pouring.StaleLot) old new h = by_same_lots old new h.1
-  pour_keeps number (Err pouring.Down) old new h = by_same_lots old new h.1
+  pour_keeps number (Err refusal.NoLot) old new h = by_same_lots old new h.1
+  pour_keeps number (Err refusal.StaleLot) old new h = by_same_lots old new h.1
+  pour_keeps number (Err refusal.Down) old new h = by_same_lots old new h.1
+  pour_keeps number (Err _) old new h = absurd h
 
-  close_keeps : (number : ℕ) (result : Result Closed CloseFault) (old new : NumberedNode) → CloseLeaves number result old new → Keeps old.clear.log new.clear.log
+  close_keeps : (number : ℕ) (result : Result Closed Refusal) (old new : NumberedNode) → CloseLeaves number result old new → Keeps old.clear.log new.clear.log
   close_keeps number (Ok done) old new h =
       let lot = some_and (lot_at old.lots number) _ h in
       let closes = lot.1.1.1 in
       by_added old.clear new.clear (entry.Allocate closes.0) (λ a. tt) closes.4
-  close_keeps number (Err close.NoLot) old new h = by_same_lots old new h.1
-  close_keeps number (Err close.StaleLot) old new h = by_same_lots old new h.1
-  close_keeps number (Err close.Down) old new h = by_same_lots old new h.1
-  close_keeps number (Err close.Unserved) old new h = by_same_lots old new h.1
-  close_keeps number (Err close.NumbersSpent) old new h = by_same_lots old new h.1
-  close_keeps number (Err close.OutOfMemory) old new h = by_same_lots old new h.1
-  close_keeps number (Err close.Device) old new h =
+  close_keeps number (Err refusal.NoLot) old new h = by_same_lots old new h.1
+  close_keeps number (Err refusal.StaleLot) old new h = by_same_lots old new h.1
+  close_keeps number (Err refusal.Down) old new h = by_same_lots old new h.1
+  close_keeps number (Err refusal.Unserved) old new h = by_same_lots old new h.1
+  close_keeps number (Err refusal.NumbersSpent) old new h = by_same_lots old new h.1
+  close_keeps number (Err refusal.OutOfMemory) old new h = by_same_lots old new h.1
+  close_keeps number (Err refusal.Device) old new h =
       let lot = some_and (lot_at old.lots number) _ h.0 in
       let closes = lot.1.1.1 in
       by_failed old.clear new.clear (entry.Allocate closes.0) (λ a. tt) closes.3
+  close_keeps number (Err _) old new h = absurd h
 
 -- ---- the calls of the depository
 
@@ -363,10 +358,10 @@ pub step_keeps : (e : Event) (outcome : Outcome) (old new : World) → AreLawful
 step_keeps (event.Trade t) outcome old new lawful =
     clear_step trade_outcome (ByNode (TradeLeaves t)) outcome old new (λ result h. trade_keeps old.depot.log old.orders old.replies t result old.clear.clear new.clear.clear h.0)
 step_keeps (event.Exempt m i s) outcome old new lawful =
-    clear_step setting_outcome (ByNode (SettingLeaves (entry.Exempt m i s))) outcome old new
+    clear_step done_outcome (ByNode (SettingLeaves (entry.Exempt m i s))) outcome old new
     (λ result h. setting_keeps old.depot.log old.orders old.replies (entry.Exempt m i s) result old.clear.clear new.clear.clear (λ a. tt) h.0)
 step_keeps (event.Priority m i on) outcome old new lawful =
-    clear_step setting_outcome (ByNode (SettingLeaves (entry.Priority m i on))) outcome old new
+    clear_step done_outcome (ByNode (SettingLeaves (entry.Priority m i on))) outcome old new
     (λ result h. setting_keeps old.depot.log old.orders old.replies (entry.Priority m i on) result old.clear.clear new.clear.clear (λ a. tt) h.0)
 step_keeps (event.Cycle id) outcome old new lawful =
     clear_step cycle_outcome (ByNode (CycleLeaves id)) outcome old new (λ result h. cycle_keeps old.depot.log old.orders old.replies id result old.clear.clear new.clear.clear h.0)
@@ -379,7 +374,7 @@ step_keeps (event.LookPoured lot) outcome old new lawful =
     clear_step poured_outcome (Looks lot) outcome old new (λ result h. by_same_lots old.depot.log old.orders old.replies old.clear new.clear h.1)
 step_keeps (event.LookAsked lot) outcome old new lawful =
     clear_step asked_outcome (Looks lot) outcome old new (λ result h. by_same_lots old.depot.log old.orders old.replies old.clear new.clear h.1)
-step_keeps (event.Seal lot) outcome old new lawful = same_step seal_outcome (LotLeaves with_seal lot) outcome old new
+step_keeps (event.Seal lot) outcome old new lawful = same_step done_outcome (LotLeaves with_seal lot) outcome old new
 step_keeps (event.LotClose lot) outcome old new lawful =
     clear_step close_outcome (CloseLeaves lot) outcome old new (λ result h. close_keeps old.depot.log old.orders old.replies lot result old.clear new.clear h)
 step_keeps (event.Send number) outcome old new lawful = send_step number outcome old new

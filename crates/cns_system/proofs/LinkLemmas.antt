@@ -5,8 +5,8 @@ use Rattle.cns_depository.specs.declared.fault.DepFault.TheVariants as fault
 use Rattle.cns_system.specs.Step.{OrderRefused, OrderTaken}
 use Rattle.cns_system.specs.World.{World}
 use Rattle.cns_system.specs.declared.outcome.Outcome.TheVariants as outcomes
-use Rattle.cns_system.specs.declared.outcome.Refusal.{Refusal}
-use Rattle.cns_system.specs.declared.outcome.Refusal.TheVariants as refusal
+use Rattle.cns_records.specs.declared.refusal.Refusal.{Refusal}
+use Rattle.cns_records.specs.declared.refusal.Refusal.TheVariants as refusal
 
 pub taken_without_room : (o : Order) (r : Refusal) (old new : World) → OrderRefused o old.depot r → new.depot ≡ old.depot → new.replies ≡ old.replies
     → OrderTaken o (outcomes.Refused r) old new

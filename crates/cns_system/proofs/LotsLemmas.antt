@@ -5,8 +5,8 @@ use Rattle.std.proofs.lemmas.List.{set-get_or}
 use Rattle.std.proofs.lemmas.List.Elements.{All-map, All-weaker}
 use Rattle.std.proofs.lemmas.Option.{get_or_from_slice_get}
 use Rattle.cns_pool.specs.declared.ticket.Ticket.{Ticket}
-use Rattle.cns_system.specs.declared.fault.ReserveFault.{ReserveFault}
-use Rattle.cns_system.specs.declared.fault.ReserveFault.TheVariants.{NoLot, StaleLot, NotLong, EarlierGroup, Sealed}
+use Rattle.cns_records.specs.declared.refusal.Refusal.{Refusal}
+use Rattle.cns_records.specs.declared.refusal.Refusal.TheVariants.{NotLong, EarlierGroup, Sealed}
 use Rattle.cns_system.specs.Lot.{LotState, IsLot, with_end}
 use Rattle.cns_system.specs.Lots.{lot_at, update_at, AreLotsLawful, DrawLeaves, HasOpenLot, ReserveLeaves}
 
@@ -67,18 +67,17 @@ change_leaves change lots items number place l new is changed =
     (is.changed new ∙ ap (λ (k : LotState). update_at lots number k) changed)
 
 -- a reserve of a lot in its place
-pub reserve_leaves : (lots items : List LotState) (number place member : ℕ) (result : Result Ticket ReserveFault) (l new : LotState) → IsRead lots items number place l
+pub reserve_leaves : (lots items : List LotState) (number place member : ℕ) (result : Result Ticket Refusal) (l new : LotState) → IsRead lots items number place l
     → DrawLeaves member result l new → ReserveLeaves number member result lots (slice_set items place new)
 reserve_leaves lots items number place member (Ok ticket) l new is draws =
     open-from lots number _ l is.found is.going (draws.0, draws.1, draws.2, is.changed new ∙ ap (λ (k : LotState). update_at lots number k) draws.3)
-reserve_leaves lots items number place member (Err NoLot) l new is draws = absurd draws
-reserve_leaves lots items number place member (Err StaleLot) l new is draws = absurd draws
 reserve_leaves lots items number place member (Err NotLong) l new is draws =
     (open-from lots number _ l is.found is.going draws.0, ap (λ (k : LotState). slice_set items place k) draws.1 ∙ is.stays)
 reserve_leaves lots items number place member (Err EarlierGroup) l new is draws =
     (open-from lots number _ l is.found is.going draws.0, ap (λ (k : LotState). slice_set items place k) draws.1 ∙ is.stays)
 reserve_leaves lots items number place member (Err Sealed) l new is draws =
     (open-from lots number _ l is.found is.going (draws.0, draws.1), ap (λ (k : LotState). slice_set items place k) draws.2 ∙ is.stays)
+reserve_leaves lots items number place member (Err _) l new is draws = absurd draws
 
 -- lots that have all ended are lawful
 pub lawful_ended : (lots : List LotState) → AreLotsLawful lots → AreLotsLawful (map with_end lots)

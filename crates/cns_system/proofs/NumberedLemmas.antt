@@ -18,25 +18,16 @@ use Rattle.cns_clearing.specs.Answers.{LotCloseLeaves, LotOpenLeaves, LotPourLea
 use Rattle.cns_clearing.specs.Books.{IsLawful, books_of, history_of, orders_of}
 use Rattle.cns_clearing.specs.Lots.{avail_in, lots_poured, plan_in, poured_into, were_long}
 use Rattle.cns_clearing.specs.Lots as node
-use Rattle.cns_clearing.specs.Node.{ClearNode, RestartLeaves}
+use Rattle.cns_clearing.specs.Node.{ClearNode}
 use Rattle.cns_clearing.specs.Pools.{free_of, lent_of, lot_of}
 use Rattle.cns_clearing.proofs.BooksLemmas.{lawful_bounded}
-use Rattle.cns_clearing.specs.declared.fault.Closed.{Closed}
-use Rattle.cns_clearing.specs.declared.fault.LotOpenFault.{LotOpenFault}
-use Rattle.cns_clearing.specs.declared.fault.LotOpenFault.TheVariants as opening
-use Rattle.cns_clearing.specs.declared.fault.LotPourFault.{LotPourFault}
-use Rattle.cns_clearing.specs.declared.fault.LotPourFault.TheVariants as pouring
+use Rattle.cns_clearing.specs.declared.answer.Closed.{Closed}
+use Rattle.cns_records.specs.declared.refusal.Refusal.{Refusal}
+use Rattle.cns_records.specs.declared.refusal.Refusal.TheVariants as refusal
 use Rattle.cns_clearing.specs.declared.lot.Lot.{Lot}
-use Rattle.cns_journal.specs.declared.record_log.ReplayFault.{ReplayFault}
-use Rattle.cns_journal.specs.declared.record_log.ReplayFault.TheVariants.{OutOfMemory, BadJournal, Device}
-use Rattle.cns_journal.specs.declared.record_log.Restarted.{Restarted}
 use Rattle.cns_system.specs.Lot.{LotState, IsLot, new_lot, planned_sum, with_end, with_pour, with_seal, with_ticket}
 use Rattle.cns_system.specs.Lots.{lot_at, update_at, AreLotsLawful, HasOpenLot, LotLeaves, ReserveLeaves}
-use Rattle.cns_system.specs.Numbered.{AreTied}
-use Rattle.cns_system.specs.declared.fault.LotFault.{LotFault}
-use Rattle.cns_system.specs.declared.fault.LotFault.TheVariants as fault
-use Rattle.cns_system.specs.declared.fault.ReserveFault.{ReserveFault}
-use Rattle.cns_system.specs.declared.fault.ReserveFault.TheVariants as refusal
+use Rattle.cns_system.specs.Numbered.{AreTied, CloseLeaves, IsMet, NumberedNode}
 use Rattle.cns_system.proofs.LotsLemmas.{open-from, open-parts}
 use Rattle.cns_system.proofs.TiedLemmas.{at_place, found_of, found_poured, found_without, tied_changed, tied_more}
 
@@ -51,15 +42,16 @@ stays_tied open_lots lots n l x are found going issue plan poured =
     (λ up. record { twin = tied.twin; found = ap (lot_of open_lots) issue ∙ tied.found; plan = tied.plan ∙ sym plan; poured = tied.poured ∙ sym poured })
     (λ other differ. refl)
 
-pub seal_tied : (open_lots : List Lot) (n : ℕ) (r : Result (Unit {0}) LotFault) (lots after : List LotState) → AreTied open_lots lots → LotLeaves with_seal n r lots after
+pub seal_tied : (open_lots : List Lot) (n : ℕ) (r : Result (Unit {0}) Refusal) (lots after : List LotState) → AreTied open_lots lots → LotLeaves with_seal n r lots after
     → AreTied open_lots after
 seal_tied open_lots n (Ok u) lots after are h =
     let at = open-parts lots n (λ (l : LotState). after ≡ update_at lots n (with_seal l)) h in
     subst (AreTied open_lots) (sym at.holds) (stays_tied open_lots lots n at.lot (with_seal at.lot) are at.found at.going refl refl refl)
-seal_tied open_lots n (Err fault.NoLot) lots after are h = subst (AreTied open_lots) (sym h.1) are
-seal_tied open_lots n (Err fault.StaleLot) lots after are h = subst (AreTied open_lots) (sym h.1) are
+seal_tied open_lots n (Err refusal.NoLot) lots after are h = subst (AreTied open_lots) (sym h.1) are
+seal_tied open_lots n (Err refusal.StaleLot) lots after are h = subst (AreTied open_lots) (sym h.1) are
+seal_tied open_lots n (Err _) lots after are h = absurd h
 
-pub reserve_tied : (open_lots : List Lot) (n member : ℕ) (r : Result Ticket ReserveFault) (lots after : List LotState) → AreTied open_lots lots
+pub reserve_tied : (open_lots : List Lot) (n member : ℕ) (r : Result Ticket Refusal) (lots after : List LotState) → AreTied open_lots lots
     → ReserveLeaves n member r lots after → AreTied open_lots after
 reserve_tied open_lots n member (Ok ticket) lots after are h =
     let at = open-parts lots n _ h in
@@ -69,6 +61,7 @@ reserve_tied open_lots n member (Err refusal.StaleLot) lots after are h = subst 
 reserve_tied open_lots n member (Err refusal.NotLong) lots after are h = subst (AreTied open_lots) (sym h.1) are
 reserve_tied open_lots n member (Err refusal.EarlierGroup) lots after are h = subst (AreTied open_lots) (sym h.1) are
 reserve_tied open_lots n member (Err refusal.Sealed) lots after are h = subst (AreTied open_lots) (sym h.1) are
+reserve_tied open_lots n member (Err _) lots after are h = absurd h
 
 -- ---- an opening
 
@@ -96,10 +89,11 @@ open_tied old new lots after issue poured plan answer are h is_plan free is =
     (tied_more old.lots lots (node.new_lot old.log.records issue) (new_lot issue plan poured) are h.1 refl (sym is_plan) (sym there)))
 
 -- a refused opening leaves the node
-pub open_refused : (issue : ℕ) (f : LotOpenFault) (old new : ClearNode) → LotOpenLeaves issue (Err f) old new → new ≡ old
-open_refused issue opening.Down old new h = h.1
-open_refused issue opening.LotAlready old new h = h.2
-open_refused issue opening.OutOfMemory old new h = h.2
+pub open_refused : (issue : ℕ) (f : Refusal) (old new : ClearNode) → LotOpenLeaves issue (Err f) old new → new ≡ old
+open_refused issue refusal.Down old new h = h.1
+open_refused issue refusal.LotAlready old new h = h.2
+open_refused issue refusal.OutOfMemory old new h = h.2
+open_refused issue _ old new h = absurd h
 
 -- the lots without the one that was opened last
 pub taken_back : (lots more after : List LotState) (x : LotState) → more ≡ lots ++ x ∷ [] → after ≡ take (length more - 1) more → after ≡ lots
@@ -118,12 +112,13 @@ no_twin open_lots lots n issue l are found going is none =
 
 -- ---- a pour
 
-pub pour_never : (old new : ClearNode) (lots : List LotState) (n issue : ℕ) (f : LotPourFault) → AreTied old.lots lots → HasOpenLot lots n (λ (l : LotState). issue ≡ l.issue)
+pub pour_never : (old new : ClearNode) (lots : List LotState) (n issue : ℕ) (f : Refusal) → AreTied old.lots lots → HasOpenLot lots n (λ (l : LotState). issue ≡ l.issue)
     → old.log.down ≡ false → LotPourLeaves issue (Err f) old new → ⊥
-pour_never old new lots n issue pouring.Down are has up h = let no : true ≡ false = sym h.0 ∙ up in cc
-pour_never old new lots n issue pouring.NoLot are has up h =
+pour_never old new lots n issue refusal.Down are has up h = let no : true ≡ false = sym h.0 ∙ up in cc
+pour_never old new lots n issue refusal.NoLot are has up h =
     let at = open-parts lots n (λ (l : LotState). issue ≡ l.issue) has in
     no_twin old.lots lots n issue at.lot are at.found at.going at.holds h.1
+pour_never old new lots n issue _ are has up h = absurd h
 
 -- what is poured into a lot stays small
 pub pour_small : (old new : ClearNode) (lots : List LotState) (n issue shares : ℕ) → AreTied old.lots lots → HasOpenLot lots n (λ (l : LotState). issue ≡ l.issue)
@@ -179,19 +174,20 @@ pour_tied old new lots after n issue shares are has h pours =
 -- ---- a close
 
 -- what a change of an open lot leaves
-pub change_is : (change : LotState → LotState) (n : ℕ) (r : Result (Unit {0}) LotFault) (lots after : List LotState) (l : LotState) → lot_at lots n ≡ Some l → l.ended ≡ false
+pub change_is : (change : LotState → LotState) (n : ℕ) (r : Result (Unit {0}) Refusal) (lots after : List LotState) (l : LotState) → lot_at lots n ≡ Some l → l.ended ≡ false
     → LotLeaves change n r lots after → after ≡ update_at lots n (change l)
 change_is change n (Ok u) lots after l found going h =
     let at = open-parts lots n (λ (k : LotState). after ≡ update_at lots n (change k)) h in
     at.holds ∙ ap (λ (k : LotState). update_at lots n (change k)) (same_Some at.lot l (sym at.found ∙ found))
-change_is change n (Err fault.NoLot) lots after l found going h = let no : None ≡ Some l = sym h.0 ∙ found in cc
-change_is change n (Err fault.StaleLot) lots after l found going h =
+change_is change n (Err refusal.NoLot) lots after l found going h = let no : None ≡ Some l = sym h.0 ∙ found in cc
+change_is change n (Err refusal.StaleLot) lots after l found going h =
     let Q : Option LotState → Type 0 = λ o. IsSomeAnd o (λ (k : LotState). k.ended ≡ true) in
     let ended : l.ended ≡ true = subst Q found h.0 in
     let no : true ≡ false = sym ended ∙ going in cc
+change_is change n (Err _) lots after l found going h = absurd h
 
 pub close_tied : (old new : ClearNode) (lots after : List LotState) (n issue : ℕ) (tickets : List Ticket) (sealed : Bool) (done : Closed) (l : LotState)
-    (r : Result (Unit {0}) LotFault) → AreTied old.lots lots → HasOpenLot lots n (λ (k : LotState). l ≡ k) → issue ≡ l.issue
+    (r : Result (Unit {0}) Refusal) → AreTied old.lots lots → HasOpenLot lots n (λ (k : LotState). l ≡ k) → issue ≡ l.issue
     → LotCloseLeaves issue tickets sealed (Ok done) old new → LotLeaves with_end n r lots after → AreTied new.lots after
 close_tied old new lots after n issue tickets sealed done l r are has is h ends =
     let at = open-parts lots n (λ (k : LotState). l ≡ k) has in
@@ -236,3 +232,35 @@ close_no_bad open_lots lots n issue tickets sealed l are lawful has is drawn sea
     let served = met_served l (lawful_at lots (n - 1) l lawful (at_place lots n l found).1) met in
     let same : l.plan ≡ bad.0.plan = sym tied.plan ∙ ap (λ (k : Lot). k.plan) (same_Some tied.twin bad.0 (sym tied.found ∙ ap (lot_of open_lots) (sym is) ∙ bad.1)) in
     bad.2 (rw (drawn, seal) (subst (λ (ps : List Planned). IsServed ps l.tickets l.sealed) same served))
+
+-- what a close leaves that the node refused
+pub close_refused : (n : ℕ) (f : Refusal) (old new : NumberedNode) (issue : ℕ) (tickets : List Ticket) (sealed : Bool) (l : LotState)
+    → AreTied old.clear.lots old.lots → AreLotsLawful old.lots → HasOpenLot old.lots n (λ (k : LotState). l ≡ k) → issue ≡ l.issue → tickets ≡ l.tickets
+    → sealed ≡ l.sealed → IsMet l → old.clear.log.down ≡ false → LotCloseLeaves issue tickets sealed (Err f) old.clear new.clear → new.lots ≡ old.lots
+    → CloseLeaves n (Err f) old new
+close_refused n f old new issue tickets sealed l are lawful has is drawn seal met up h same = by f h
+  where
+    found : lot_at old.lots n ≡ Some l
+    found = let at = open-parts old.lots n (λ (k : LotState). l ≡ k) has in at.found ∙ ap Some (sym at.holds)
+
+    going : l.ended ≡ false
+    going = let at = open-parts old.lots n (λ (k : LotState). l ≡ k) has in ap (λ (k : LotState). k.ended) at.holds ∙ at.going
+
+    whole : new.clear ≡ old.clear → new ≡ old
+    whole e = rw (e, same) refl
+
+    -- the node's own answer, of the lot's issue, tickets and seal
+    its : (g : Refusal) → LotCloseLeaves issue tickets sealed (Err g) old.clear new.clear → LotCloseLeaves l.issue l.tickets l.sealed (Err g) old.clear new.clear
+    its g left =
+        subst (λ (b : Bool). LotCloseLeaves l.issue l.tickets b (Err g) old.clear new.clear) seal
+        (subst (λ (ts : List Ticket). LotCloseLeaves l.issue ts sealed (Err g) old.clear new.clear) drawn
+        (subst (λ (i : ℕ). LotCloseLeaves i tickets sealed (Err g) old.clear new.clear) is left))
+
+    by : (g : Refusal) → LotCloseLeaves issue tickets sealed (Err g) old.clear new.clear → CloseLeaves n (Err g) old new
+    by refusal.Down left = absurd (let no : true ≡ false = sym left.0 ∙ up in cc)
+    by refusal.NoLot left = absurd (close_no_lot old.clear.lots old.lots n issue l are has is left.1)
+    by refusal.BadTickets left = absurd (close_no_bad old.clear.lots old.lots n issue tickets sealed l are lawful has is drawn seal met left.1)
+    by refusal.NumbersSpent left = (open-from old.lots n _ l found going (met, its refusal.NumbersSpent left), whole left.2)
+    by refusal.OutOfMemory left = (open-from old.lots n _ l found going (met, up), whole left.2)
+    by refusal.Device left = (open-from old.lots n _ l found going (met, its refusal.Device left), same)
+    by _ left = absurd left

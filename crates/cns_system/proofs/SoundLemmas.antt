@@ -16,10 +16,8 @@ use Rattle.cns_depository.specs.Stock.{moved_by, order_in, record_of}
 use Rattle.cns_clearing.specs.Answers.{ReplyLeaves}
 use Rattle.cns_clearing.specs.Books.{orders_of}
 use Rattle.cns_clearing.specs.Node.{ClearNode}
-use Rattle.cns_clearing.specs.declared.fault.ReplyFault.{ReplyFault}
-use Rattle.cns_clearing.specs.declared.fault.ReplyFault.TheVariants as reply
-use Rattle.cns_clearing.specs.declared.fault.Taken.{Taken}
-use Rattle.cns_clearing.specs.declared.fault.Taken.TheVariants as taken
+use Rattle.cns_clearing.specs.declared.answer.Taken.{Taken}
+use Rattle.cns_clearing.specs.declared.answer.Taken.TheVariants as taken
 use Rattle.cns_journal.specs.declared.record_log.ReplayFault.{ReplayFault}
 use Rattle.cns_journal.specs.declared.record_log.ReplayFault.TheVariants as replay
 use Rattle.cns_journal.specs.declared.record_log.Restarted.{Restarted}
@@ -43,7 +41,8 @@ use Rattle.cns_system.proofs.DeliveredLemmas.{confirmed_as, record_known}
 use Rattle.cns_system.proofs.KeepsLemmas.{packet_place}
 use Rattle.cns_system.specs.declared.outcome.Outcome.{Outcome}
 use Rattle.cns_system.specs.declared.outcome.Outcome.TheVariants as outcomes
-use Rattle.cns_system.specs.declared.outcome.Refusal.TheVariants as refusal
+use Rattle.cns_records.specs.declared.refusal.Refusal.{Refusal}
+use Rattle.cns_records.specs.declared.refusal.Refusal.TheVariants as refusal
 use Rattle.cns_system.specs.Agreement.{IsExecuted}
 
 -- an executed order of a number is the order of that number
@@ -98,18 +97,19 @@ not_refused : (a : Confirm) → (a ≡ confirm.Done) ⊎ (a ≡ confirm.Again) �
 not_refused a (inl done) = (λ e. cc (done, e), λ e. cc (done, e), λ e. cc (done, e))
 not_refused a (inr again) = (λ e. cc (again, e), λ e. cc (again, e), λ e. cc (again, e))
 
-reply_sound : (r : Reply) (result : Result Taken ReplyFault) (old new : ClearNode)
+reply_sound : (r : Reply) (result : Result Taken Refusal) (old new : ClearNode)
     → (confirm_answer (orders_of old.log.records) r ≢ confirm.UnknownMove) × (confirm_answer (orders_of old.log.records) r ≢ confirm.Conflict)
     × (confirm_answer (orders_of old.log.records) r ≢ confirm.TooMuch)
     → ReplyLeaves r result old new → IsSoundReply (reply_outcome r result)
 reply_sound r (Ok taken.Done) old new sound h = (λ e. cc e, λ e. cc e, λ e. cc e)
 reply_sound r (Ok taken.Again) old new sound h = (λ e. cc e, λ e. cc e, λ e. cc e)
-reply_sound r (Err reply.Down) old new sound h = (λ e. cc e, λ e. cc e, λ e. cc e)
-reply_sound r (Err reply.UnknownMove) old new sound h = absurd (sound.0 h.1)
-reply_sound r (Err reply.Conflict) old new sound h = absurd (sound.1 h.1)
-reply_sound r (Err reply.TooMuch) old new sound h = absurd (sound.2 h.1)
-reply_sound r (Err reply.OutOfMemory) old new sound h = (λ e. cc e, λ e. cc e, λ e. cc e)
-reply_sound r (Err reply.Device) old new sound h = (λ e. cc e, λ e. cc e, λ e. cc e)
+reply_sound r (Err refusal.Down) old new sound h = (λ e. cc e, λ e. cc e, λ e. cc e)
+reply_sound r (Err refusal.UnknownMove) old new sound h = absurd (sound.0 h.1)
+reply_sound r (Err refusal.Conflict) old new sound h = absurd (sound.1 h.1)
+reply_sound r (Err refusal.TooMuch) old new sound h = absurd (sound.2 h.1)
+reply_sound r (Err refusal.OutOfMemory) old new sound h = (λ e. cc e, λ e. cc e, λ e. cc e)
+reply_sound r (Err refusal.Device) old new sound h = (λ e. cc e, λ e. cc e, λ e. cc e)
+reply_sound r (Err _) old new sound h = absurd h
 
 restart_sound : {R : Type 0} (spelling : R → List ℕ) (allows : List R → R → Type 0) (fits : R → Type 0) (result : Result Restarted ReplayFault)
     (old new : LogState R) (place : ℕ) → old.honest ≡ true → LogRestarts spelling allows fits result old new → restart_outcome result ≢ outcomes.Refused (refusal.BadJournal place)

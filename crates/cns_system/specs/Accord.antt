@@ -15,7 +15,7 @@ use Rattle.cns_system.specs.declared.event.Event.{Event}
 use Rattle.cns_system.specs.declared.event.Event.TheVariants as event
 use Rattle.cns_system.specs.declared.outcome.Outcome.{Outcome}
 use Rattle.cns_system.specs.declared.outcome.Outcome.TheVariants as outcomes
-use Rattle.cns_system.specs.declared.outcome.Refusal.TheVariants as refusal
+use Rattle.cns_records.specs.declared.refusal.Refusal.TheVariants as refusal
 
 -- an executed movement is that of the order of its number, so its member, issue, kind and quantity asked for are the same in both
 -- nodes; a delivery moved all of that quantity, and a cover no more than it

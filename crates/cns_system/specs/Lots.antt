@@ -3,11 +3,9 @@
 use Rattle.std.specs.Prelude.{◌≡◌, ℕ, ◌-◌, ◌==◌, true, false, List, All, Option, None, Result, Ok, Err, IsSomeAnd, slice_get, slice_set, if◌then◌else◌}
 use Rattle.cns_pool.specs.declared.ticket.Ticket.{Ticket}
 use Rattle.cns_allocate.specs.declared.turns.Turn.TheVariants as turn
+use Rattle.cns_records.specs.declared.refusal.Refusal.{Refusal}
+use Rattle.cns_records.specs.declared.refusal.Refusal.TheVariants as refusal
 use Rattle.cns_system.specs.Lot.{LotState, IsLot, turn_in, ticket_in, with_ticket}
-use Rattle.cns_system.specs.declared.fault.LotFault.{LotFault}
-use Rattle.cns_system.specs.declared.fault.LotFault.TheVariants as fault
-use Rattle.cns_system.specs.declared.fault.ReserveFault.{ReserveFault}
-use Rattle.cns_system.specs.declared.fault.ReserveFault.TheVariants as refusal
 
 -- the lot of a number, where it was given
 abbrev pub lot_at : List LotState → ℕ → Option LotState
@@ -30,23 +28,25 @@ abbrev pub HasEndedLot : List LotState → ℕ → Type 0
 HasEndedLot lots number = IsSomeAnd (lot_at lots number) (λ (lot : LotState). lot.ended ≡ true)
 
 -- what is answered about the lot of a number: of one that has not ended, an answer of which this holds
-abbrev pub LotGives : {X : Type 0} → (LotState → X → Type 0) → ℕ → Result X LotFault → List LotState → Type 0
+abbrev pub LotGives : {X : Type 0} → (LotState → X → Type 0) → ℕ → Result X Refusal → List LotState → Type 0
 LotGives P number (Ok x) lots = HasOpenLot lots number (λ (lot : LotState). P lot x)
-LotGives P number (Err fault.NoLot) lots = lot_at lots number ≡ None
-LotGives P number (Err fault.StaleLot) lots = HasEndedLot lots number
+LotGives P number (Err refusal.NoLot) lots = lot_at lots number ≡ None
+LotGives P number (Err refusal.StaleLot) lots = HasEndedLot lots number
+LotGives P number (Err _) lots = ⊥
 
 -- what a change of the lot of a number leaves
-abbrev pub LotLeaves : (LotState → LotState) → ℕ → Result (Unit {0}) LotFault → List LotState → List LotState → Type 0
+abbrev pub LotLeaves : (LotState → LotState) → ℕ → Result (Unit {0}) Refusal → List LotState → List LotState → Type 0
 LotLeaves change number (Ok _) old new = HasOpenLot old number (λ (lot : LotState). new ≡ update_at old number (change lot))
-LotLeaves change number (Err fault.NoLot) old new = (lot_at old number ≡ None) × (new ≡ old)
-LotLeaves change number (Err fault.StaleLot) old new = HasEndedLot old number × (new ≡ old)
+LotLeaves change number (Err refusal.NoLot) old new = (lot_at old number ≡ None) × (new ≡ old)
+LotLeaves change number (Err refusal.StaleLot) old new = HasEndedLot old number × (new ≡ old)
+LotLeaves change number (Err _) old new = ⊥
 
 -- a member may draw a ticket of this many shares, if the lot is not sealed
 abbrev pub IsTurnFor : ℕ → LotState → ℕ → Type 0
 IsTurnFor member lot asked = turn_in lot member ≡ turn.Next asked
 
 -- what a reserve leaves: the ticket is the member's next one, of all the shares that are planned for it
-abbrev pub ReserveLeaves : ℕ → ℕ → Result Ticket ReserveFault → List LotState → List LotState → Type 0
+abbrev pub ReserveLeaves : ℕ → ℕ → Result Ticket Refusal → List LotState → List LotState → Type 0
 ReserveLeaves number member (Ok ticket) old new =
     HasOpenLot old number
     (λ (lot : LotState).
@@ -57,18 +57,13 @@ ReserveLeaves number member (Err refusal.NotLong) old new = HasOpenLot old numbe
 ReserveLeaves number member (Err refusal.EarlierGroup) old new = HasOpenLot old number (λ (lot : LotState). turn_in lot member ≡ turn.EarlierGroup) × (new ≡ old)
 ReserveLeaves number member (Err refusal.Sealed) old new =
     HasOpenLot old number (λ (lot : LotState). (lot.sealed ≡ true) × ((asked : ℕ) × IsTurnFor member lot asked)) × (new ≡ old)
+ReserveLeaves number member (Err _) old new = ⊥
 
 -- the same of a lot that has not ended
-abbrev pub DrawLeaves : ℕ → Result Ticket ReserveFault → LotState → LotState → Type 0
+abbrev pub DrawLeaves : ℕ → Result Ticket Refusal → LotState → LotState → Type 0
 DrawLeaves member (Ok ticket) old new =
     (old.sealed ≡ false) × IsTurnFor member old ticket.asked × (ticket ≡ ticket_in old member ticket.asked) × (new ≡ with_ticket ticket old)
-DrawLeaves member (Err refusal.NoLot) old new = ⊥
-DrawLeaves member (Err refusal.StaleLot) old new = ⊥
 DrawLeaves member (Err refusal.NotLong) old new = (turn_in old member ≡ turn.NotLong) × (new ≡ old)
 DrawLeaves member (Err refusal.EarlierGroup) old new = (turn_in old member ≡ turn.EarlierGroup) × (new ≡ old)
 DrawLeaves member (Err refusal.Sealed) old new = (old.sealed ≡ true) × ((asked : ℕ) × IsTurnFor member old asked) × (new ≡ old)
-
--- the fault of a reserve, by that of the look-up of its lot
-abbrev pub reserve_fault : LotFault → ReserveFault
-reserve_fault fault.NoLot = refusal.NoLot
-reserve_fault fault.StaleLot = refusal.StaleLot
+DrawLeaves member (Err _) old new = ⊥

@@ -7,16 +7,11 @@ use Rattle.cns_clearing.specs.Lots.{avail_in, plan_in}
 use Rattle.cns_clearing.specs.Node.{ClearNode}
 use Rattle.cns_clearing.specs.Pools.{lot_of}
 use Rattle.cns_clearing.specs.declared.lot.Lot.{Lot}
-use Rattle.cns_clearing.specs.declared.fault.Closed.{Closed}
-use Rattle.cns_clearing.specs.declared.fault.LotCloseFault.TheVariants as closing
+use Rattle.cns_clearing.specs.declared.answer.Closed.{Closed}
+use Rattle.cns_records.specs.declared.refusal.Refusal.{Refusal}
+use Rattle.cns_records.specs.declared.refusal.Refusal.TheVariants as refusal
 use Rattle.cns_system.specs.Lot.{LotState, new_lot, with_end, with_pour}
 use Rattle.cns_system.specs.Lots.{lot_at, update_at, HasEndedLot, HasOpenLot}
-use Rattle.cns_system.specs.declared.fault.OpenFault.{OpenFault}
-use Rattle.cns_system.specs.declared.fault.OpenFault.TheVariants as opening
-use Rattle.cns_system.specs.declared.fault.PourFault.{PourFault}
-use Rattle.cns_system.specs.declared.fault.PourFault.TheVariants as pouring
-use Rattle.cns_system.specs.declared.fault.CloseFault.{CloseFault}
-use Rattle.cns_system.specs.declared.fault.CloseFault.TheVariants as close
 use Rattle.cns_system.specs.declared.numbered.Opened.{Opened}
 
 -- the node, and the lots in the order of their numbers
@@ -43,46 +38,49 @@ pub record IsOpened (node : NumberedNode) (issue : ℕ) (opened : Opened) : Type
   pub longs : opened.longs ≡ length (plan_in node.clear.log.records issue)
 
 -- what the opening of a lot leaves, by its answer
-abbrev pub OpenLeaves : ℕ → Result Opened OpenFault → NumberedNode → NumberedNode → Type 0
+abbrev pub OpenLeaves : ℕ → Result Opened Refusal → NumberedNode → NumberedNode → Type 0
 OpenLeaves issue (Ok opened) old new =
     (length old.lots < 1000000) × IsOpened old issue opened × LotOpenLeaves issue (Ok (plan_in old.clear.log.records issue)) old.clear new.clear
     × (new.lots ≡ old.lots ++ new_lot issue (plan_in old.clear.log.records issue) opened.poured ∷ [])
-OpenLeaves issue (Err opening.Down) old new = (old.clear.log.down ≡ true) × (new ≡ old)
-OpenLeaves issue (Err opening.LotAlready) old new = (old.clear.log.down ≡ false) × (lot_of old.clear.lots issue ≢ None) × (new ≡ old)
-OpenLeaves issue (Err opening.LotsSpent) old new =
+OpenLeaves issue (Err refusal.Down) old new = (old.clear.log.down ≡ true) × (new ≡ old)
+OpenLeaves issue (Err refusal.LotAlready) old new = (old.clear.log.down ≡ false) × (lot_of old.clear.lots issue ≢ None) × (new ≡ old)
+OpenLeaves issue (Err refusal.LotsSpent) old new =
     (old.clear.log.down ≡ false) × (lot_of old.clear.lots issue ≡ None) × (1000000 ≤ length old.lots) × (new ≡ old)
-OpenLeaves issue (Err opening.OutOfMemory) old new =
+OpenLeaves issue (Err refusal.OutOfMemory) old new =
     (old.clear.log.down ≡ false) × (lot_of old.clear.lots issue ≡ None) × (length old.lots < 1000000) × (new ≡ old)
+OpenLeaves issue (Err _) old new = ⊥
 
 -- what a pour leaves, by its answer: what the node pours into the lot of the issue is poured into the lot of the number
-abbrev pub PourLeaves : ℕ → Result ℕ PourFault → NumberedNode → NumberedNode → Type 0
+abbrev pub PourLeaves : ℕ → Result ℕ Refusal → NumberedNode → NumberedNode → Type 0
 PourLeaves number (Ok shares) old new =
     HasOpenLot old.lots number
     (λ (lot : LotState). LotPourLeaves lot.issue (Ok shares) old.clear new.clear × (new.lots ≡ update_at old.lots number (with_pour shares lot)))
-PourLeaves number (Err pouring.NoLot) old new = (lot_at old.lots number ≡ None) × (new ≡ old)
-PourLeaves number (Err pouring.StaleLot) old new = HasEndedLot old.lots number × (new ≡ old)
-PourLeaves number (Err pouring.Down) old new = HasOpenLot old.lots number (λ (lot : LotState). old.clear.log.down ≡ true) × (new ≡ old)
+PourLeaves number (Err refusal.NoLot) old new = (lot_at old.lots number ≡ None) × (new ≡ old)
+PourLeaves number (Err refusal.StaleLot) old new = HasEndedLot old.lots number × (new ≡ old)
+PourLeaves number (Err refusal.Down) old new = HasOpenLot old.lots number (λ (lot : LotState). old.clear.log.down ≡ true) × (new ≡ old)
+PourLeaves number (Err _) old new = ⊥
 
 -- a lot is sealed, or each member of its plan has a ticket
 abbrev pub IsMet : LotState → Type 0
 IsMet lot = (lot.sealed ≡ true) ⊎ (waiting lot.plan lot.tickets ≡ [])
 
 -- what a close leaves, by its answer: the node closes the lot of the issue with the tickets and the seal of the lot of the number
-abbrev pub CloseLeaves : ℕ → Result Closed CloseFault → NumberedNode → NumberedNode → Type 0
+abbrev pub CloseLeaves : ℕ → Result Closed Refusal → NumberedNode → NumberedNode → Type 0
 CloseLeaves number (Ok done) old new =
     HasOpenLot old.lots number
     (λ (lot : LotState).
     IsMet lot × LotCloseLeaves lot.issue lot.tickets lot.sealed (Ok done) old.clear new.clear × (new.lots ≡ update_at old.lots number (with_end lot)))
-CloseLeaves number (Err close.NoLot) old new = (lot_at old.lots number ≡ None) × (new ≡ old)
-CloseLeaves number (Err close.StaleLot) old new = HasEndedLot old.lots number × (new ≡ old)
-CloseLeaves number (Err close.Down) old new = HasOpenLot old.lots number (λ (lot : LotState). old.clear.log.down ≡ true) × (new ≡ old)
-CloseLeaves number (Err close.Unserved) old new =
+CloseLeaves number (Err refusal.NoLot) old new = (lot_at old.lots number ≡ None) × (new ≡ old)
+CloseLeaves number (Err refusal.StaleLot) old new = HasEndedLot old.lots number × (new ≡ old)
+CloseLeaves number (Err refusal.Down) old new = HasOpenLot old.lots number (λ (lot : LotState). old.clear.log.down ≡ true) × (new ≡ old)
+CloseLeaves number (Err refusal.Unserved) old new =
     HasOpenLot old.lots number (λ (lot : LotState). (old.clear.log.down ≡ false) × (lot.sealed ≡ false) × (waiting lot.plan lot.tickets ≢ [])) × (new ≡ old)
-CloseLeaves number (Err close.NumbersSpent) old new =
+CloseLeaves number (Err refusal.NumbersSpent) old new =
     HasOpenLot old.lots number
-    (λ (lot : LotState). IsMet lot × LotCloseLeaves lot.issue lot.tickets lot.sealed (Err closing.NumbersSpent) old.clear new.clear) × (new ≡ old)
-CloseLeaves number (Err close.OutOfMemory) old new =
+    (λ (lot : LotState). IsMet lot × LotCloseLeaves lot.issue lot.tickets lot.sealed (Err refusal.NumbersSpent) old.clear new.clear) × (new ≡ old)
+CloseLeaves number (Err refusal.OutOfMemory) old new =
     HasOpenLot old.lots number (λ (lot : LotState). IsMet lot × (old.clear.log.down ≡ false)) × (new ≡ old)
-CloseLeaves number (Err close.Device) old new =
+CloseLeaves number (Err refusal.Device) old new =
     HasOpenLot old.lots number
-    (λ (lot : LotState). IsMet lot × LotCloseLeaves lot.issue lot.tickets lot.sealed (Err closing.Device) old.clear new.clear) × (new.lots ≡ old.lots)
+    (λ (lot : LotState). IsMet lot × LotCloseLeaves lot.issue lot.tickets lot.sealed (Err refusal.Device) old.clear new.clear) × (new.lots ≡ old.lots)
+CloseLeaves number (Err _) old new = ⊥

@@ -24,17 +24,16 @@ use Rattle.cns_pool.specs.Pool.{asked_sum}
 use Rattle.cns_system.specs.Lot.{LotState, with_end, with_seal}
 use Rattle.cns_system.specs.Lots.{LotGives, LotLeaves, ReserveLeaves}
 use Rattle.cns_system.specs.Numbered.{NumberedNode, CloseLeaves, OpenLeaves, PourLeaves}
-use Rattle.cns_system.specs.Outcomes.{asked_outcome, restart_outcome, close_outcome, cycle_outcome, open_outcome, order_outcome, pour_outcome, poured_outcome, reply_outcome, reserve_outcome, seal_outcome, setting_outcome, trade_outcome}
+use Rattle.cns_system.specs.Outcomes.{asked_outcome, restart_outcome, close_outcome, cycle_outcome, done_outcome, open_outcome, order_outcome, pour_outcome, poured_outcome, reply_outcome, reserve_outcome, trade_outcome}
 use Rattle.cns_system.specs.World.{World, order_in_packet, reply_in_packet}
 use Rattle.cns_system.specs.declared.entry.Look.{Look}
 use Rattle.cns_system.specs.declared.event.Event.{Event}
 use Rattle.cns_system.specs.declared.event.Event.TheVariants as event
 use Rattle.cns_system.specs.declared.event.NodeName.TheVariants as node
-use Rattle.cns_system.specs.declared.fault.LotFault.{LotFault}
 use Rattle.cns_system.specs.declared.outcome.Outcome.{Outcome}
 use Rattle.cns_system.specs.declared.outcome.Outcome.TheVariants as outcomes
-use Rattle.cns_system.specs.declared.outcome.Refusal.{Refusal}
-use Rattle.cns_system.specs.declared.outcome.Refusal.TheVariants as refusal
+use Rattle.cns_records.specs.declared.refusal.Refusal.{Refusal}
+use Rattle.cns_records.specs.declared.refusal.Refusal.TheVariants as refusal
 
 -- an event at the clearing node: a call of it answers this, and leaves so much of it and nothing else changed
 abbrev pub AtClear : {R : Type 0} → (R → Outcome) → (R → NumberedNode → NumberedNode → Type 0) → Outcome → World → World → Type 0
@@ -53,7 +52,7 @@ abbrev pub shown : LotState → Look
 shown lot = record { poured = lot.poured; asked = asked_sum lot.tickets; sealed = lot.sealed }
 
 -- a look at a lot changes nothing
-abbrev pub Looks : ℕ → Result Look LotFault → NumberedNode → NumberedNode → Type 0
+abbrev pub Looks : ℕ → Result Look Refusal → NumberedNode → NumberedNode → Type 0
 Looks number result old new = LotGives (λ (lot : LotState) (look : Look). look ≡ shown lot) number result old.lots × (new ≡ old)
 
 -- a restart of the clearing node ends all lots, also where it is refused
@@ -134,15 +133,15 @@ DepotRestartStep outcome old new =
 -- an event comes to this, and leaves so much
 abbrev pub Step : Event → Outcome → World → World → Type 0
 Step (event.Trade t) outcome old new = AtClear trade_outcome (ByNode (TradeLeaves t)) outcome old new
-Step (event.Exempt member issue shares) outcome old new = AtClear setting_outcome (ByNode (SettingLeaves (entry.Exempt member issue shares))) outcome old new
-Step (event.Priority member issue on) outcome old new = AtClear setting_outcome (ByNode (SettingLeaves (entry.Priority member issue on))) outcome old new
+Step (event.Exempt member issue shares) outcome old new = AtClear done_outcome (ByNode (SettingLeaves (entry.Exempt member issue shares))) outcome old new
+Step (event.Priority member issue on) outcome old new = AtClear done_outcome (ByNode (SettingLeaves (entry.Priority member issue on))) outcome old new
 Step (event.Cycle id) outcome old new = AtClear cycle_outcome (ByNode (CycleLeaves id)) outcome old new
 Step (event.LotOpen issue) outcome old new = AtClear open_outcome (OpenLeaves issue) outcome old new
 Step (event.LotPour lot) outcome old new = AtClear pour_outcome (PourLeaves lot) outcome old new
 Step (event.Reserve lot member) outcome old new = AtClear reserve_outcome (ByLots (ReserveLeaves lot member)) outcome old new
 Step (event.LookPoured lot) outcome old new = AtClear poured_outcome (Looks lot) outcome old new
 Step (event.LookAsked lot) outcome old new = AtClear asked_outcome (Looks lot) outcome old new
-Step (event.Seal lot) outcome old new = AtClear seal_outcome (ByLots (LotLeaves with_seal lot)) outcome old new
+Step (event.Seal lot) outcome old new = AtClear done_outcome (ByLots (LotLeaves with_seal lot)) outcome old new
 Step (event.LotClose lot) outcome old new = AtClear close_outcome (CloseLeaves lot) outcome old new
 Step (event.Send number) outcome old new = SendStep number outcome old new
 Step (event.OrderIn packet) outcome old new = OrderInStep (order_in_packet (packet_at old.orders packet)) outcome old new

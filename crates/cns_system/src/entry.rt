@@ -4,10 +4,10 @@ ghost use Rattle.cns_allocate.specs.Served.{waiting};
 ghost use Rattle.cns_system.specs.Lot.{IsLot, new_lot, planned_sum, ticket_in, with_end, with_pour, with_seal, with_ticket};
 ghost use Rattle.cns_system.specs.Lots.{DrawLeaves, IsTurnFor};
 
-use crate::fault::ReserveFault;
 use cns_allocate::{Plan, Planned, Turn, Turns};
 use cns_ids::{Cusip, MemberNo};
 use cns_pool::{PlainPool, Pool, Reserved, Ticket};
+use cns_records::Refusal;
 use std::alloc::{AllocError, Global};
 use std::marker::Model;
 
@@ -78,14 +78,14 @@ impl LotEntry {
     }
 
     // Draws a member's ticket, if it is its turn and the lot is not sealed.
-    pub(crate) fn reserve(&mut self, member: MemberNo) -> Result<Ticket, ReserveFault>
+    pub(crate) fn reserve(&mut self, member: MemberNo) -> Result<Ticket, Refusal>
         ensures leaves { DrawLeaves member result self.old self.new }
         ensures lawful { IsLot self.new }
     {
         match self.turns.turn(member) {
-            Turn::NotLong => Err(ReserveFault::NotLong),
-            Turn::EarlierGroup => Err(ReserveFault::EarlierGroup),
-            Turn::Next { .. } if self.sealed => Err(ReserveFault::Sealed),
+            Turn::NotLong => Err(Refusal::NotLong),
+            Turn::EarlierGroup => Err(Refusal::EarlierGroup),
+            Turn::Next { .. } if self.sealed => Err(Refusal::Sealed),
             Turn::Next { asked } => Ok(self.draw(member, asked)),
         }
     }

@@ -17,10 +17,10 @@ mod system;
 
 pub use entry::Look;
 pub use event::{Event, NodeName};
-pub use fault::{CloseFault, LotFault, OpenFault, PourFault, ReserveFault, StartFault};
+pub use fault::StartFault;
 pub use lots::LotBook;
 pub use numbered::{NumberedClearing, Opened};
-pub use outcome::{Outcome, Refusal};
+pub use outcome::Outcome;
 pub use system::System;
 
 #[cfg(test)]

@@ -5,10 +5,10 @@ ghost use Rattle.cns_system.specs.Lot.{new_lot, planned_sum, with_end, with_pour
 ghost use Rattle.cns_system.specs.Lots.{lot_at, update_at, AreLotsLawful, LotGives, LotLeaves, HasOpenLot, ReserveLeaves};
 
 use crate::entry::{Look, LotEntry};
-use crate::fault::{LotFault, ReserveFault};
 use cns_allocate::{Plan, Planned};
 use cns_ids::{Cusip, MemberNo};
 use cns_pool::Ticket;
+use cns_records::Refusal;
 use std::alloc::{AllocError, Global};
 use std::marker::Model;
 
@@ -84,7 +84,7 @@ impl LotBook {
     /// It is refused where the number has no lot, the lot has ended, the member is not planned or has
     /// its ticket, a planned member of an earlier group has no ticket yet, or the lot is sealed, and
     /// told the first of these that applies. A refusal changes nothing.
-    pub fn reserve(&mut self, number: u64, member: MemberNo) -> Result<Ticket, ReserveFault>
+    pub fn reserve(&mut self, number: u64, member: MemberNo) -> Result<Ticket, Refusal>
         ensures leaves { ReserveLeaves number member result self.old self.new }
         ensures lawful { AreLotsLawful self.new }
     {
@@ -94,7 +94,7 @@ impl LotBook {
     }
 
     /// What was poured into a lot, the shares of its tickets, and whether it is sealed.
-    pub fn look(&mut self, number: u64) -> Result<Look, LotFault>
+    pub fn look(&mut self, number: u64) -> Result<Look, Refusal>
         ensures shown { LotGives (λ lot shown. shown ≡ record {
           poured = lot.poured;
           asked = asked_sum lot.tickets;
@@ -109,7 +109,7 @@ impl LotBook {
     }
 
     /// Seals a lot: no ticket is drawn from it from now on. A sealed lot stays as it is.
-    pub fn seal(&mut self, number: u64) -> Result<(), LotFault>
+    pub fn seal(&mut self, number: u64) -> Result<(), Refusal>
         ensures leaves { LotLeaves with_seal number result self.old self.new }
         ensures lawful { AreLotsLawful self.new }
     {
@@ -133,7 +133,7 @@ impl LotBook {
     }
 
     /// Ends a lot.
-    pub fn end(&mut self, number: u64) -> Result<(), LotFault>
+    pub fn end(&mut self, number: u64) -> Result<(), Refusal>
         ensures leaves { LotLeaves with_end number result self.old self.new }
         ensures lawful { AreLotsLawful self.new }
     {
@@ -152,14 +152,14 @@ impl LotBook {
     }
 
     /// The issue of a lot.
-    pub fn issue(&self, number: u64) -> Result<Cusip, LotFault>
+    pub fn issue(&self, number: u64) -> Result<Cusip, Refusal>
         ensures { LotGives (λ lot issue. issue ≡ lot.issue) number result self.now }
     {
         Ok(self.find(number)?.issue())
     }
 
     /// The members that a lot's plan has, in the plan's order.
-    pub fn planned(&self, number: u64) -> Result<&[Planned], LotFault>
+    pub fn planned(&self, number: u64) -> Result<&[Planned], Refusal>
         ensures value { LotGives (λ lot plan. plan.now ≡ lot.plan) number result self.now }
         ensures lawful { AreLotsLawful self.now }
     {
@@ -167,7 +167,7 @@ impl LotBook {
     }
 
     /// The tickets of a lot, in the order in which they were drawn.
-    pub fn tickets(&self, number: u64) -> Result<&[Ticket], LotFault>
+    pub fn tickets(&self, number: u64) -> Result<&[Ticket], Refusal>
         ensures value { LotGives (λ lot tickets. tickets.now ≡ lot.tickets) number result self.now }
         ensures lawful { AreLotsLawful self.now }
     {
@@ -175,14 +175,14 @@ impl LotBook {
     }
 
     /// Whether a lot is sealed.
-    pub fn is_sealed(&self, number: u64) -> Result<bool, LotFault>
+    pub fn is_sealed(&self, number: u64) -> Result<bool, Refusal>
         ensures { LotGives (λ lot sealed. sealed ≡ lot.sealed) number result self.now }
     {
         Ok(self.find(number)?.is_sealed())
     }
 
     /// Whether a lot is sealed, or each member of its plan has a ticket.
-    pub fn is_served(&self, number: u64) -> Result<bool, LotFault>
+    pub fn is_served(&self, number: u64) -> Result<bool, Refusal>
         ensures value { LotGives (λ lot served. IsTrue served
             ↔ ((lot.sealed ≡ true) ⊎ (waiting lot.plan lot.tickets ≡ []))) number result self.now }
         ensures lawful { AreLotsLawful self.now }
@@ -191,7 +191,7 @@ impl LotBook {
     }
 
     // The lot of a number.
-    pub(crate) fn find(&self, number: u64) -> Result<&LotEntry, LotFault>
+    pub(crate) fn find(&self, number: u64) -> Result<&LotEntry, Refusal>
         ensures gives { LotGives (λ lot entry. entry.now ≡ lot) number result self.now }
         ensures lawful { AreLotsLawful self.now }
     {
@@ -207,18 +207,18 @@ impl LotBook {
     }
 
     // The place of the lot of a number.
-    fn place(&self, number: u64) -> Result<usize, LotFault>
+    fn place(&self, number: u64) -> Result<usize, Refusal>
         ensures gives { LotGives (λ _ index. index ≡ number - 1) number result self.now }
         ensures within { IfOk result (λ index. index < length self.now) }
         ensures lawful { AreLotsLawful self.now }
     {
         let lots = &self.lots;
         if number == 0 || number > lots.len() as u64 {
-            return Err(LotFault::NoLot);
+            return Err(Refusal::NoLot);
         }
         let index = (number - 1) as usize;
         if lots[index].has_ended() {
-            return Err(LotFault::StaleLot);
+            return Err(Refusal::StaleLot);
         }
         Ok(index)
     }

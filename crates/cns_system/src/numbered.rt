@@ -9,17 +9,14 @@ ghost use Rattle.cns_system.specs.Lots.{AreLotsLawful, LotGives, LotLeaves, Rese
 ghost use Rattle.cns_system.specs.Numbered.{AreTied, CloseLeaves, OpenLeaves, PourLeaves};
 
 use crate::entry::Look;
-use crate::fault::{CloseFault, LotFault, OpenFault, PourFault, ReserveFault};
 use crate::lots::LotBook;
 use cns_allocate::Plan;
-use cns_clearing::{
-    Clearing, Closed, CycleFault, Cycled, LotCloseFault, ReplyFault, SettingFault, Taken,
-    TradeFault,
-};
+use cns_clearing::{Clearing, Closed, Cycled, Taken};
 use cns_ids::{Cusip, CycleId, MemberNo, Shares};
 use cns_journal::{Keeper, NotPlanned, ReplayFault, Restarted};
 use cns_movements::Reply;
 use cns_pool::Ticket;
+use cns_records::Refusal;
 use cns_trades::Trade;
 use std::alloc::{AllocError, Global};
 use std::marker::Model;
@@ -102,25 +99,21 @@ impl<K: Keeper> NumberedClearing<K> {
     ///
     /// Refuses `Down`, then `LotAlready`, then `LotsSpent` where 1,000,000 lots were opened. It adds no
     /// record. (This project's own rule.)
-    pub fn lot_open(&mut self, issue: Cusip) -> Result<Opened, OpenFault>
+    pub fn lot_open(&mut self, issue: Cusip) -> Result<Opened, Refusal>
         ensures { OpenLeaves issue result self.old self.new }
     {
         if self.node.is_down() {
-            return Err(OpenFault::Down);
+            return Err(Refusal::Down);
         }
         if self.node.lot(issue).is_some() {
-            return Err(OpenFault::LotAlready);
+            return Err(Refusal::LotAlready);
         }
         if self.lots.len() >= MAX_LOTS {
-            return Err(OpenFault::LotsSpent);
+            return Err(Refusal::LotsSpent);
         }
-        let Ok(plan) = plan_of(&self.node, issue) else {
-            return Err(OpenFault::OutOfMemory);
-        };
+        let plan = plan_of(&self.node, issue)?;
         let poured = self.node.free(issue) as u64;
-        let Ok(number) = self.lots.open(issue, &plan, poured) else {
-            return Err(OpenFault::OutOfMemory);
-        };
+        let number = self.lots.open(issue, &plan, poured)?;
         match self.node.lot_open(issue) {
             Ok(plan) => Ok(Opened {
                 number,
@@ -129,7 +122,7 @@ impl<K: Keeper> NumberedClearing<K> {
             }),
             Err(_) => {
                 self.lots.withdraw();
-                Err(OpenFault::OutOfMemory)
+                Err(Refusal::OutOfMemory)
             }
         }
     }
@@ -140,7 +133,7 @@ impl<K: Keeper> NumberedClearing<K> {
     /// It is refused where the number has no lot, the lot has ended, the member is not planned or has
     /// its ticket, a planned member of an earlier group has no ticket yet, or the lot is sealed, and
     /// told the first of these that applies. A refusal changes nothing. (This project's own rule.)
-    pub fn reserve(&mut self, number: u64, member: MemberNo) -> Result<Ticket, ReserveFault>
+    pub fn reserve(&mut self, number: u64, member: MemberNo) -> Result<Ticket, Refusal>
         ensures lots { ReserveLeaves number member result self.old.lots self.new.lots }
         ensures clear { self.new.clear ≡ self.old.clear }
     {
@@ -148,7 +141,7 @@ impl<K: Keeper> NumberedClearing<K> {
     }
 
     /// What was poured into a lot, the shares of its tickets, and whether it is sealed.
-    pub fn look(&mut self, number: u64) -> Result<Look, LotFault>
+    pub fn look(&mut self, number: u64) -> Result<Look, Refusal>
         ensures shown { LotGives (λ lot shown. shown ≡ record {
           poured = lot.poured;
           asked = asked_sum lot.tickets;
@@ -160,7 +153,7 @@ impl<K: Keeper> NumberedClearing<K> {
     }
 
     /// Seals a lot: no ticket is drawn from it from now on. A sealed lot stays as it is.
-    pub fn seal(&mut self, number: u64) -> Result<(), LotFault>
+    pub fn seal(&mut self, number: u64) -> Result<(), Refusal>
         ensures lots { LotLeaves with_seal number result self.old.lots self.new.lots }
         ensures clear { self.new.clear ≡ self.old.clear }
     {
@@ -171,16 +164,12 @@ impl<K: Keeper> NumberedClearing<K> {
     ///
     /// Refuses `NoLot`, then `StaleLot`, then `Down`. It adds no record and takes no memory. (This
     /// project's own rule.)
-    pub fn lot_pour(&mut self, number: u64) -> Result<u64, PourFault>
+    pub fn lot_pour(&mut self, number: u64) -> Result<u64, Refusal>
         ensures { PourLeaves number result self.old self.new }
     {
-        let issue = match self.lots.issue(number) {
-            Ok(issue) => issue,
-            Err(LotFault::NoLot) => return Err(PourFault::NoLot),
-            Err(LotFault::StaleLot) => return Err(PourFault::StaleLot),
-        };
+        let issue = self.lots.issue(number)?;
         if self.node.is_down() {
-            return Err(PourFault::Down);
+            return Err(Refusal::Down);
         }
         let Ok(shares) = self.node.lot_pour(issue) else {
             unreachable!()
@@ -197,35 +186,21 @@ impl<K: Keeper> NumberedClearing<K> {
     /// member of its plan has no ticket, then `NumbersSpent`, which never comes where nothing is
     /// granted. After `Device` the lot is open and nothing is ordered, and the node is down until it is
     /// restarted. (This project's own rule.)
-    pub fn lot_close(&mut self, number: u64) -> Result<Closed, CloseFault>
+    pub fn lot_close(&mut self, number: u64) -> Result<Closed, Refusal>
         ensures { CloseLeaves number result self.old self.new }
     {
-        let lot = match self.lots.find(number) {
-            Ok(lot) => lot,
-            Err(LotFault::NoLot) => return Err(CloseFault::NoLot),
-            Err(LotFault::StaleLot) => return Err(CloseFault::StaleLot),
-        };
+        let lot = self.lots.find(number)?;
         if self.node.is_down() {
-            return Err(CloseFault::Down);
+            return Err(Refusal::Down);
         }
         if !lot.is_served() {
-            return Err(CloseFault::Unserved);
+            return Err(Refusal::Unserved);
         }
-        match self
+        let closed = self
             .node
-            .lot_close(lot.issue(), lot.tickets(), lot.is_sealed())
-        {
-            Ok(closed) => {
-                let _ended = self.lots.end(number);
-                Ok(closed)
-            }
-            Err(LotCloseFault::NumbersSpent) => Err(CloseFault::NumbersSpent),
-            Err(LotCloseFault::OutOfMemory) => Err(CloseFault::OutOfMemory),
-            Err(LotCloseFault::Device) => Err(CloseFault::Device),
-            Err(LotCloseFault::Down) => unreachable!(),
-            Err(LotCloseFault::NoLot) => unreachable!(),
-            Err(LotCloseFault::BadTickets) => unreachable!(),
-        }
+            .lot_close(lot.issue(), lot.tickets(), lot.is_sealed())?;
+        let _ended = self.lots.end(number);
+        Ok(closed)
     }
 
     /// Restarts the node as it does itself. All lots end, also where the restart is refused.
@@ -238,7 +213,7 @@ impl<K: Keeper> NumberedClearing<K> {
     }
 
     /// Accepts a trade, as the node does itself.
-    pub fn take_trade(&mut self, trade: &Trade) -> Result<(), TradeFault>
+    pub fn take_trade(&mut self, trade: &Trade) -> Result<(), Refusal>
         ensures clear { TradeLeaves trade.now result self.old.clear self.new.clear }
         ensures lots { self.new.lots ≡ self.old.lots }
     {
@@ -246,12 +221,7 @@ impl<K: Keeper> NumberedClearing<K> {
     }
 
     /// Exempts shares of a member in an issue from covers, as the node does itself.
-    pub fn exempt(
-        &mut self,
-        member: MemberNo,
-        issue: Cusip,
-        shares: Shares,
-    ) -> Result<(), SettingFault>
+    pub fn exempt(&mut self, member: MemberNo, issue: Cusip, shares: Shares) -> Result<(), Refusal>
         ensures clear { SettingLeaves (Exempt member issue shares) result self.old.clear self.new.clear }
         ensures lots { self.new.lots ≡ self.old.lots }
     {
@@ -259,7 +229,7 @@ impl<K: Keeper> NumberedClearing<K> {
     }
 
     /// Sets whether a member has priority in an issue, as the node does itself.
-    pub fn priority(&mut self, member: MemberNo, issue: Cusip, on: bool) -> Result<(), SettingFault>
+    pub fn priority(&mut self, member: MemberNo, issue: Cusip, on: bool) -> Result<(), Refusal>
         ensures clear { SettingLeaves (Priority member issue on) result self.old.clear self.new.clear }
         ensures lots { self.new.lots ≡ self.old.lots }
     {
@@ -267,7 +237,7 @@ impl<K: Keeper> NumberedClearing<K> {
     }
 
     /// Runs a cycle, as the node does itself.
-    pub fn cycle(&mut self, id: CycleId) -> Result<Cycled, CycleFault>
+    pub fn cycle(&mut self, id: CycleId) -> Result<Cycled, Refusal>
         ensures clear { CycleLeaves id result self.old.clear self.new.clear }
         ensures lots { self.new.lots ≡ self.old.lots }
     {
@@ -275,7 +245,7 @@ impl<K: Keeper> NumberedClearing<K> {
     }
 
     /// Takes the depository's reply to an order, as the node does itself.
-    pub fn take_reply(&mut self, reply: &Reply) -> Result<Taken, ReplyFault>
+    pub fn take_reply(&mut self, reply: &Reply) -> Result<Taken, Refusal>
         ensures clear { ReplyLeaves reply.now result self.old.clear self.new.clear }
         ensures lots { self.new.lots ≡ self.old.lots }
     {

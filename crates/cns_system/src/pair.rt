@@ -11,11 +11,12 @@ use crate::agreement::agree;
 use crate::event::{Event, NodeName};
 use crate::fault::StartFault;
 use crate::numbered::NumberedClearing;
-use crate::outcome::{Outcome, Refusal};
+use crate::outcome::Outcome;
 use cns_clearing::Clearing;
-use cns_depository::{Answer, DepFault, Depository, Openings};
+use cns_depository::{Answer, Depository, Openings};
 use cns_journal::Keeper;
 use cns_movements::{Order, Reply};
+use cns_records::Refusal;
 use cns_wire::{Frame, Wire, read_frame, write_order, write_reply};
 use std::alloc::Global;
 use std::marker::Model;
@@ -123,9 +124,9 @@ impl<C: Keeper, D: Keeper> Pair<C, D> {
                 member,
                 issue,
                 shares,
-            } => Outcome::of_setting(self.clear.exempt(*member, *issue, *shares)),
+            } => Outcome::of_done(self.clear.exempt(*member, *issue, *shares)),
             Event::Priority { member, issue, on } => {
-                Outcome::of_setting(self.clear.priority(*member, *issue, *on))
+                Outcome::of_done(self.clear.priority(*member, *issue, *on))
             }
             Event::Cycle(id) => Outcome::of_cycle(self.clear.cycle(*id)),
             Event::LotOpen { issue } => Outcome::of_lot_open(self.clear.lot_open(*issue)),
@@ -135,7 +136,7 @@ impl<C: Keeper, D: Keeper> Pair<C, D> {
             }
             Event::LookPoured { lot } => Outcome::of_look_poured(self.clear.look(*lot)),
             Event::LookAsked { lot } => Outcome::of_look_asked(self.clear.look(*lot)),
-            Event::Seal { lot } => Outcome::of_seal(self.clear.seal(*lot)),
+            Event::Seal { lot } => Outcome::of_done(self.clear.seal(*lot)),
             Event::LotClose { lot } => Outcome::of_lot_close(self.clear.lot_close(*lot)),
             Event::Send { number } => self.send(*number),
             Event::OrderIn { packet } => self.order_in(*packet),
@@ -217,10 +218,7 @@ impl<C: Keeper, D: Keeper> Pair<C, D> {
                 let packet = put_reply(&mut self.replies, &reply);
                 Outcome::ExecutedAgain { reply, packet }
             }
-            Err(DepFault::Down) => Outcome::Refused(Refusal::Down),
-            Err(DepFault::Conflict) => Outcome::Refused(Refusal::Conflict),
-            Err(DepFault::OutOfMemory) => Outcome::Refused(Refusal::OutOfMemory),
-            Err(DepFault::Device) => Outcome::Refused(Refusal::Device),
+            Err(fault) => Outcome::Refused(Refusal::from(fault)),
         }
     }
 

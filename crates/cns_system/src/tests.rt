@@ -2,13 +2,14 @@ ghost use Rattle.std.specs.Prelude.{◌≡◌, ◌^◌, ◌≤◌, IfOk, IsTrue}
 ghost use Rattle.cns_allocate.specs.Plan.{LongsFit};
 ghost use Rattle.cns_system.specs.Lot.{planned_sum};
 
-use crate::{Look, LotBook, LotFault, ReserveFault};
+use crate::{Look, LotBook};
 use cns_allocate::{Plan, Planned};
 use cns_covers::Priorities;
 use cns_ids::{Cusip, Day, MemberNo, Quantity};
 use cns_movements::OrderBook;
 use cns_netting::NetBook;
 use cns_pool::Ticket;
+use cns_records::Refusal;
 use cns_trades::{Trade, TradeId};
 use std::alloc::Global;
 use std::process::Abort;
@@ -113,18 +114,18 @@ enum Step {
     Open(u64),
     Count(u64),
     // Whether the lot is of the issue.
-    Issue(u64, Result<(), LotFault>),
+    Issue(u64, Result<(), Refusal>),
     // The lot has the plan of the two groups.
     Planned(u64),
     // The member draws a ticket of the lot.
-    Reserve(u64, u16, Result<Place, ReserveFault>),
+    Reserve(u64, u16, Result<Place, Refusal>),
     // The tickets of the lot, each with its member.
     Tickets(u64, &'static [(u16, Place)]),
     Look(u64, Look),
     Seal(u64),
     Sealed(u64, bool),
     Served(u64, bool),
-    End(u64, Result<(), LotFault>),
+    End(u64, Result<(), Refusal>),
     EndAll,
 }
 
@@ -139,7 +140,7 @@ fn see_issue(
     rt: &impl Abort,
     book: &LotBook,
     number: u64,
-    wanted: Result<(), LotFault>,
+    wanted: Result<(), Refusal>,
 ) -> Result<(), Fail> {
     let issue = issue()?;
     assert_same(rt, &book.issue(number), &wanted.map(|()| issue));
@@ -153,10 +154,7 @@ fn see_plan(rt: &impl Abort, alloc: Global, book: &LotBook, number: u64) -> Resu
 }
 
 // What a draw has to answer to this member.
-fn wanted_ticket(
-    of: u16,
-    wanted: Result<Place, ReserveFault>,
-) -> Result<Result<Ticket, ReserveFault>, Fail> {
+fn wanted_ticket(of: u16, wanted: Result<Place, Refusal>) -> Result<Result<Ticket, Refusal>, Fail> {
     match wanted {
         Ok((start, asked)) => Ok(Ok(ticket(of, start, asked)?)),
         Err(fault) => Ok(Err(fault)),
@@ -168,7 +166,7 @@ fn reserve(
     book: &mut LotBook,
     number: u64,
     of: u16,
-    wanted: Result<Place, ReserveFault>,
+    wanted: Result<Place, Refusal>,
 ) -> Result<(), Fail> {
     let (member, wanted) = (member(of)?, wanted_ticket(of, wanted)?);
     assert_same(rt, &book.reserve(number, member), &wanted);
@@ -222,10 +220,10 @@ fn tell(rt: &impl Abort, alloc: Global, steps: &[Step]) -> Result<(), Fail> {
 
 const IN_TURN: [Step; 9] = [
     Step::Open(1),
-    Step::Reserve(1, 2, Err(ReserveFault::EarlierGroup)),
-    Step::Reserve(1, 4, Err(ReserveFault::NotLong)),
+    Step::Reserve(1, 2, Err(Refusal::EarlierGroup)),
+    Step::Reserve(1, 4, Err(Refusal::NotLong)),
     Step::Reserve(1, 3, Ok((0, 30))),
-    Step::Reserve(1, 3, Err(ReserveFault::NotLong)),
+    Step::Reserve(1, 3, Err(Refusal::NotLong)),
     Step::Served(1, false),
     Step::Reserve(1, 2, Ok((30, 30))),
     Step::Served(1, true),
@@ -259,8 +257,8 @@ const SEALED: [Step; 9] = [
     ),
     Step::Sealed(1, true),
     Step::Served(1, true),
-    Step::Reserve(1, 2, Err(ReserveFault::EarlierGroup)),
-    Step::Reserve(1, 3, Err(ReserveFault::Sealed)),
+    Step::Reserve(1, 2, Err(Refusal::EarlierGroup)),
+    Step::Reserve(1, 3, Err(Refusal::Sealed)),
 ];
 
 // A book with one lot: 40 shares were poured into it as it was opened, and 5 after that.
@@ -281,12 +279,12 @@ fn a_sealed_lot_draws_no_ticket(rt: HostRuntime) -> Result<(), Fail> {
 const NOT_GIVEN: [Step; 9] = [
     Step::Open(1),
     Step::Count(1),
-    Step::Issue(0, Err(LotFault::NoLot)),
-    Step::Reserve(0, 3, Err(ReserveFault::NoLot)),
-    Step::End(0, Err(LotFault::NoLot)),
-    Step::Issue(2, Err(LotFault::NoLot)),
-    Step::Reserve(2, 3, Err(ReserveFault::NoLot)),
-    Step::End(2, Err(LotFault::NoLot)),
+    Step::Issue(0, Err(Refusal::NoLot)),
+    Step::Reserve(0, 3, Err(Refusal::NoLot)),
+    Step::End(0, Err(Refusal::NoLot)),
+    Step::Issue(2, Err(Refusal::NoLot)),
+    Step::Reserve(2, 3, Err(Refusal::NoLot)),
+    Step::End(2, Err(Refusal::NoLot)),
     Step::Issue(1, Ok(())),
 ];
 
@@ -299,10 +297,10 @@ const ENDED: [Step; 8] = [
     Step::Open(1),
     Step::Open(2),
     Step::End(1, Ok(())),
-    Step::Issue(1, Err(LotFault::StaleLot)),
+    Step::Issue(1, Err(Refusal::StaleLot)),
     Step::Planned(2),
     Step::EndAll,
-    Step::Reserve(2, 3, Err(ReserveFault::StaleLot)),
+    Step::Reserve(2, 3, Err(Refusal::StaleLot)),
     Step::Open(3),
 ];
 

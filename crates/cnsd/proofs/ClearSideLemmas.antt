@@ -13,13 +13,12 @@ use Rattle.cns_clearing.specs.Answers.{CycleLeaves, covers_in}
 use Rattle.cns_clearing.specs.Books.{are_spent, books_of, is_later, latest_of, orders_of}
 use Rattle.cns_clearing.specs.Node.{Added, Failed}
 use Rattle.cns_clearing.specs.declared.lot.Lot.{Lot}
-use Rattle.cns_clearing.specs.declared.fault.Cycled.{Cycled}
-use Rattle.cns_clearing.specs.declared.fault.CycleFault.{CycleFault}
-use Rattle.cns_clearing.specs.declared.fault.CycleFault.TheVariants as cycle
+use Rattle.cns_clearing.specs.declared.answer.Cycled.{Cycled}
 use Rattle.cns_system.specs.Numbered.{NumberedNode}
 use Rattle.cns_report.specs.Lines.{cycle_line, order_lines, refused_line}
-use Rattle.cns_report.specs.declared.refusal.Subject.TheVariants as subject
-use Rattle.cns_report.specs.declared.refusal.Refusal.TheVariants as refusal
+use Rattle.cns_report.specs.declared.subject.Subject.TheVariants as subject
+use Rattle.cns_records.specs.declared.refusal.Refusal.{Refusal}
+use Rattle.cns_records.specs.declared.refusal.Refusal.TheVariants as refusal
 use Rattle.cnsd.specs.Clear.{clear_commits, cycle_text, cycled}
 use Rattle.cnsd.specs.ClearTexts.{IsTold, cycle_answer_text}
 use Rattle.cnsd.specs.States.{ClearState, IsKnown, clear_added, clear_failed, clear_state, is_failure}
@@ -99,7 +98,7 @@ cycled_beside_lots s id up later some = by s.lots refl
     by (lot ∷ lots) e = rw (up, later, e) refl
 
 -- what a cycle leaves and tells
-pub cycle_told : (id : CycleId) (answer : Result Cycled CycleFault) (old new : NumberedNode) (out out' : List ℕ) → IsKnown old.clear.log.honest old.clear.log.tried old.clear.log.foresight
+pub cycle_told : (id : CycleId) (answer : Result Cycled Refusal) (old new : NumberedNode) (out out' : List ℕ) → IsKnown old.clear.log.honest old.clear.log.tried old.clear.log.foresight
     → CycleLeaves id answer old.clear new.clear → new.lots ≡ old.lots → IsTold (cycle_answer_text id new.clear.log.records answer) out out'
     → IsAsWanted (cycled (clear_state old) id) (clear_state new) out out'
 cycle_told id (Ok done) old new out out' known (allowed, none, made, added) lots told =
@@ -107,17 +106,18 @@ cycle_told id (Ok done) old new out out' known (allowed, none, made, added) lots
     ≡ cycle_text (clear_state old) id (covers_in old.clear.log.records id.day) =
     rw (made.due, last_orders old.clear.log.records new.clear.log.records id done.count (ap (λ (l : LogState ClearRecord). l.records) added.1.0) made.count) refl in
     as_wanted _ _ _ out out' (commit_done old new (entry.Cycle id) _ _ added lots ∙ cycled_up (clear_state old) id added.0 allowed.0 none allowed.1) (told ∙ ap (λ l. out ++ l) lines)
-cycle_told id (Err cycle.Down) old new out out' known (down, same) lots told =
+cycle_told id (Err refusal.Down) old new out out' known (down, same) lots told =
     as_wanted _ _ _ out out' (rw (clear_unchanged old new same lots) (cycled_down (clear_state old) id down)) told
-cycle_told id (Err cycle.CycleOrder) old new out out' known (up, early, same) lots told =
+cycle_told id (Err refusal.CycleOrder) old new out out' known (up, early, same) lots told =
     as_wanted _ _ _ out out' (rw (clear_unchanged old new same lots) (cycled_early (clear_state old) id up early)) told
-cycle_told id (Err cycle.LotsOpen) old new out out' known (up, later, some, same) lots told =
+cycle_told id (Err refusal.LotsOpen) old new out out' known (up, later, some, same) lots told =
     as_wanted _ _ _ out out' (rw (clear_unchanged old new same lots) (cycled_beside_lots (clear_state old) id up later some)) told
-cycle_told id (Err cycle.NumbersSpent) old new out out' known (up, later, none, spent, same) lots told =
+cycle_told id (Err refusal.NumbersSpent) old new out out' known (up, later, none, spent, same) lots told =
     as_wanted _ _ _ out out' (rw (clear_unchanged old new same lots) (cycled_spent (clear_state old) id up later none spent)) told
-cycle_told id (Err cycle.OutOfMemory) old new out out' known left lots told = absurd told
-cycle_told id (Err cycle.Device) old new out out' known (allowed, none, failed) lots told =
+cycle_told id (Err refusal.OutOfMemory) old new out out' known left lots told = absurd told
+cycle_told id (Err refusal.Device) old new out out' known (allowed, none, failed) lots told =
     as_wanted _ _ _ out out' (commit_failed old new (entry.Cycle id) _ _ known failed lots ∙ cycled_up (clear_state old) id failed.0 allowed.0 none allowed.1) told
+cycle_told id (Err _) old new out out' known left lots told = absurd left
 
 -- what follows from what holds where an answer is Ok holds there
 pub on_ok : {A E : Type 0} (r : Result A E) (P Q : Type 0) → (P → Q) → OnOk r P → OnOk r Q

@@ -15,33 +15,23 @@ use Rattle.cns_journal.specs.RecordLog.{LogState}
 use Rattle.cns_records.specs.declared.clear_record.ClearRecord.{ClearRecord}
 use Rattle.cns_records.specs.declared.clear_record.ClearRecord.TheVariants as entry
 use Rattle.cns_clearing.specs.Answers.{allocation_of, IsClosed, LotCloseLeaves}
-use Rattle.cns_clearing.specs.declared.fault.LotCloseFault.TheVariants as node_closing
 use Rattle.cns_clearing.specs.Books.{are_spent, books_of, deliveries_in, orders_of}
 use Rattle.cns_clearing.specs.Lots.{avail_in, lots_poured, new_lot, plan_in}
 use Rattle.cns_clearing.specs.Pools.{free_of, lot_of}
 use Rattle.cns_clearing.specs.Node.{ClearNode}
 use Rattle.cns_clearing.specs.declared.lot.Lot.{Lot}
-use Rattle.cns_clearing.specs.declared.fault.Closed.{Closed}
+use Rattle.cns_clearing.specs.declared.answer.Closed.{Closed}
 use Rattle.cns_system.specs.Lot.{LotState, turn_in, ticket_in, with_end, with_pour, with_seal, with_ticket}
 use Rattle.cns_system.specs.Lot.{new_lot as numbered_lot}
 use Rattle.cns_system.specs.Lots.{lot_at, update_at, HasEndedLot, HasOpenLot, LotGives, LotLeaves, ReserveLeaves}
 use Rattle.cns_system.specs.Numbered.{NumberedNode, CloseLeaves, IsMet, IsOpened, OpenLeaves, PourLeaves}
 use Rattle.cns_system.specs.declared.entry.Look.{Look}
 use Rattle.cns_system.specs.declared.numbered.Opened.{Opened}
-use Rattle.cns_system.specs.declared.fault.LotFault.{LotFault}
-use Rattle.cns_system.specs.declared.fault.LotFault.TheVariants as fault
-use Rattle.cns_system.specs.declared.fault.OpenFault.{OpenFault}
-use Rattle.cns_system.specs.declared.fault.OpenFault.TheVariants as opening
-use Rattle.cns_system.specs.declared.fault.PourFault.{PourFault}
-use Rattle.cns_system.specs.declared.fault.PourFault.TheVariants as pouring
-use Rattle.cns_system.specs.declared.fault.ReserveFault.{ReserveFault}
-use Rattle.cns_system.specs.declared.fault.ReserveFault.TheVariants as reserving
-use Rattle.cns_system.specs.declared.fault.CloseFault.{CloseFault}
-use Rattle.cns_system.specs.declared.fault.CloseFault.TheVariants as closing
 use Rattle.cns_system.proofs.LotsLemmas.{open-parts}
 use Rattle.cns_report.specs.Lines.{close_line, lot_line, order_lines, pour_line, refused_line, seal_line, ticket_line}
-use Rattle.cns_report.specs.declared.refusal.Refusal.TheVariants as refusal
-use Rattle.cns_report.specs.declared.refusal.Subject.TheVariants as subject
+use Rattle.cns_records.specs.declared.refusal.Refusal.{Refusal}
+use Rattle.cns_records.specs.declared.refusal.Refusal.TheVariants as refusal
+use Rattle.cns_report.specs.declared.subject.Subject.TheVariants as subject
 use Rattle.cnsd.specs.ClearTexts.{IsTold, after_draw, close_answer_text, draw_text, look_text, lot_text, pour_text, seal_text}
 use Rattle.cnsd.specs.LotCommands.{LotTold, Drawn, closed, close_text, drawn, found, looked_at, lot_added, lot_allocated, lot_closed_of, lot_for, lot_opened, lot_refused, members_of, poured, sealed, with_lot}
 use Rattle.cnsd.specs.States.{ClearState, IsKnown, clear_added, clear_failed, clear_state, is_failure}
@@ -52,30 +42,31 @@ use Rattle.cnsd.proofs.StateLemmas.{clear_unchanged, clear_when_added, clear_whe
 
 -- ---- what a number finds
 
-none_for : (s : ClearState) (n : ℕ) → lot_at s.numbered n ≡ None → lot_for s n ≡ Err fault.NoLot
+none_for : (s : ClearState) (n : ℕ) → lot_at s.numbered n ≡ None → lot_for s n ≡ Err refusal.NoLot
 none_for s n none = rw none refl
 
 open_for : (s : ClearState) (n : ℕ) (lot : LotState) → lot_at s.numbered n ≡ Some lot → lot.ended ≡ false → lot_for s n ≡ Ok lot
 open_for s n lot found going = rw (found, going) refl
 
-stale_for : (s : ClearState) (n : ℕ) → HasEndedLot s.numbered n → lot_for s n ≡ Err fault.StaleLot
+stale_for : (s : ClearState) (n : ℕ) → HasEndedLot s.numbered n → lot_for s n ≡ Err refusal.StaleLot
 stale_for s n is = by (lot_at s.numbered n) refl is
   where
-    by : (o : Option LotState) → lot_at s.numbered n ≡ o → IsSomeAnd o (λ (lot : LotState). lot.ended ≡ true) → lot_for s n ≡ Err fault.StaleLot
+    by : (o : Option LotState) → lot_at s.numbered n ≡ o → IsSomeAnd o (λ (lot : LotState). lot.ended ≡ true) → lot_for s n ≡ Err refusal.StaleLot
     by None e h = absurd h
     by (Some lot) e h = rw (e, h) refl
 
 -- ---- a look, and a seal
 
-pub look_told : (n : ℕ) (answer : Result Look LotFault) (s : ClearState)
+pub look_told : (n : ℕ) (answer : Result Look Refusal) (s : ClearState)
     → LotGives (λ (lot : LotState) (shown : Look). shown ≡ record { poured = lot.poured; asked = asked_sum lot.tickets; sealed = lot.sealed }) n answer s.numbered
     → look_text answer ≡ looked_at s n
 unfolding looked_at
 look_told n (Ok shown) s is =
     let at = open-parts s.numbered n (λ (lot : LotState). shown ≡ record { poured = lot.poured; asked = asked_sum lot.tickets; sealed = lot.sealed }) is in
     rw (at.holds, open_for s n at.lot at.found at.going) refl
-look_told n (Err fault.NoLot) s none = rw (none_for s n none) refl
-look_told n (Err fault.StaleLot) s stale = rw (stale_for s n stale) refl
+look_told n (Err refusal.NoLot) s none = rw (none_for s n none) refl
+look_told n (Err refusal.StaleLot) s stale = rw (stale_for s n stale) refl
+look_told n (Err _) s is = absurd is
 
 sealed_open : (s s' : ClearState) (n : ℕ) (lot : LotState) → lot_for s n ≡ Ok lot → s' ≡ with_lot s n (with_seal lot) → (s', seal_line) ≡ sealed s n
 unfolding sealed
@@ -85,17 +76,18 @@ sealed_open s s' n lot found same = rw (same, found) refl
 by_number : (old new : NumberedNode) (n : ℕ) (lot : LotState) → new.clear ≡ old.clear → new.lots ≡ update_at old.lots n lot → clear_state new ≡ with_lot (clear_state old) n lot
 by_number old new n lot same lots = rw (same, lots) refl
 
-pub seal_told : (n : ℕ) (answer : Result (Unit {0}) LotFault) (old new : NumberedNode) (out out' : List ℕ) → LotLeaves with_seal n answer old.lots new.lots → new.clear ≡ old.clear
+pub seal_told : (n : ℕ) (answer : Result (Unit {0}) Refusal) (old new : NumberedNode) (out out' : List ℕ) → LotLeaves with_seal n answer old.lots new.lots → new.clear ≡ old.clear
     → out' ≡ out ++ seal_text answer → IsAsWanted (sealed (clear_state old) n) (clear_state new) out out'
 unfolding sealed
 seal_told n (Ok u) old new out out' is same told =
     let at = open-parts old.lots n (λ (lot : LotState). new.lots ≡ update_at old.lots n (with_seal lot)) is in
     as_wanted _ _ _ out out'
     (sealed_open (clear_state old) (clear_state new) n at.lot (open_for (clear_state old) n at.lot at.found at.going) (by_number old new n (with_seal at.lot) same at.holds)) told
-seal_told n (Err fault.NoLot) old new out out' (none, lots) same told =
+seal_told n (Err refusal.NoLot) old new out out' (none, lots) same told =
     as_wanted _ _ _ out out' (rw (clear_unchanged old new same lots, none_for (clear_state old) n none) refl) told
-seal_told n (Err fault.StaleLot) old new out out' (stale, lots) same told =
+seal_told n (Err refusal.StaleLot) old new out out' (stale, lots) same told =
     as_wanted _ _ _ out out' (rw (clear_unchanged old new same lots, stale_for (clear_state old) n stale) refl) told
+seal_told n (Err _) old new out out' is same told = absurd is
 
 -- ---- a pour
 
@@ -108,11 +100,11 @@ poured_down : (s : ClearState) (n : ℕ) (lot : LotState) → lot_for s n ≡ Ok
 unfolding poured
 poured_down s n lot found down = rw (found, down) refl
 
-poured_at_none : (s : ClearState) (n : ℕ) → lot_for s n ≡ Err fault.NoLot → (s, refused_line subject.Pour refusal.NoLot) ≡ poured s n
+poured_at_none : (s : ClearState) (n : ℕ) → lot_for s n ≡ Err refusal.NoLot → (s, refused_line subject.Pour refusal.NoLot) ≡ poured s n
 unfolding poured
 poured_at_none s n none = rw none refl
 
-poured_at_stale : (s : ClearState) (n : ℕ) → lot_for s n ≡ Err fault.StaleLot → (s, refused_line subject.Pour refusal.StaleLot) ≡ poured s n
+poured_at_stale : (s : ClearState) (n : ℕ) → lot_for s n ≡ Err refusal.StaleLot → (s, refused_line subject.Pour refusal.StaleLot) ≡ poured s n
 unfolding poured
 poured_at_stale s n stale = rw stale refl
 
@@ -121,20 +113,21 @@ poured_state : (old new : NumberedNode) (n shares : ℕ) (lot : LotState) → ne
     → clear_state new ≡ record (clear_state old) { lots = lots_poured old.clear.log.records lot.issue old.clear.lots; numbered = update_at old.lots n (with_pour shares lot) }
 poured_state old new n shares lot clear lots = rw (clear, lots) refl
 
-pub pour_told : (n : ℕ) (answer : Result ℕ PourFault) (old new : NumberedNode) (out out' : List ℕ) → PourLeaves n answer old new → IsTold (pour_text answer) out out'
+pub pour_told : (n : ℕ) (answer : Result ℕ Refusal) (old new : NumberedNode) (out out' : List ℕ) → PourLeaves n answer old new → IsTold (pour_text answer) out out'
     → IsAsWanted (poured (clear_state old) n) (clear_state new) out out'
 pour_told n (Ok shares) old new out out' is told =
     let at = open-parts old.lots n _ is in
     as_wanted _ _ _ out out'
     (poured_open (clear_state old) (clear_state new) n shares at.lot (open_for (clear_state old) n at.lot at.found at.going) at.holds.0.0 at.holds.0.1.free
     (poured_state old new n shares at.lot at.holds.0.2 at.holds.1)) told
-pour_told n (Err pouring.NoLot) old new out out' (none, same) told =
+pour_told n (Err refusal.NoLot) old new out out' (none, same) told =
     as_wanted _ _ _ out out' (rw same (poured_at_none (clear_state old) n (none_for (clear_state old) n none))) told
-pour_told n (Err pouring.StaleLot) old new out out' (stale, same) told =
+pour_told n (Err refusal.StaleLot) old new out out' (stale, same) told =
     as_wanted _ _ _ out out' (rw same (poured_at_stale (clear_state old) n (stale_for (clear_state old) n stale))) told
-pour_told n (Err pouring.Down) old new out out' (is, same) told =
+pour_told n (Err refusal.Down) old new out out' (is, same) told =
     let at = open-parts old.lots n _ is in
     as_wanted _ _ _ out out' (rw same (poured_down (clear_state old) n at.lot (open_for (clear_state old) n at.lot at.found at.going) at.holds)) told
+pour_told n (Err _) old new out out' is told = absurd is
 
 -- ---- a member's ticket
 
@@ -172,41 +165,42 @@ too_late : (s : ClearState) (n m asked : ℕ) (lot : LotState) → lot_for s n �
 unfolding drawn
 too_late s n m asked lot found turn shut = rw (found, turn, shut) refl
 
-drawn_at_none : (s : ClearState) (n m : ℕ) → lot_for s n ≡ Err fault.NoLot → record { state = s; text = refused_line subject.Reserve refusal.NoLot; after = Nothing } ≡ drawn s n m
+drawn_at_none : (s : ClearState) (n m : ℕ) → lot_for s n ≡ Err refusal.NoLot → record { state = s; text = refused_line subject.Reserve refusal.NoLot; after = Nothing } ≡ drawn s n m
 unfolding drawn
 drawn_at_none s n m none = rw none refl
 
-drawn_at_stale : (s : ClearState) (n m : ℕ) → lot_for s n ≡ Err fault.StaleLot → record { state = s; text = refused_line subject.Reserve refusal.StaleLot; after = Nothing } ≡ drawn s n m
+drawn_at_stale : (s : ClearState) (n m : ℕ) → lot_for s n ≡ Err refusal.StaleLot → record { state = s; text = refused_line subject.Reserve refusal.StaleLot; after = Nothing } ≡ drawn s n m
 unfolding drawn
 drawn_at_stale s n m stale = rw stale refl
 
-pub draw_told : (n m : ℕ) (answer : Result Ticket ReserveFault) (old new : NumberedNode) (out out' : List ℕ) (follows : After) → ReserveLeaves n m answer old.lots new.lots
+pub draw_told : (n m : ℕ) (answer : Result Ticket Refusal) (old new : NumberedNode) (out out' : List ℕ) (follows : After) → ReserveLeaves n m answer old.lots new.lots
     → new.clear ≡ old.clear → out' ≡ out ++ draw_text answer → follows ≡ after_draw answer → IsDrawn (drawn (clear_state old) n m) (clear_state new) out out' follows
 draw_told n m (Ok t) old new out out' follows is same told after =
     let at = open-parts old.lots n _ is in
     as_drawn _ _ _ out out' follows _
     (ticket_drawn (clear_state old) (clear_state new) n m at.lot t (open_for (clear_state old) n at.lot at.found at.going) at.holds.1 at.holds.0 at.holds.2
     (by_number old new n (with_ticket t at.lot) same at.holds.3)) told after
-draw_told n m (Err reserving.NoLot) old new out out' follows (none, lots) same told after =
+draw_told n m (Err refusal.NoLot) old new out out' follows (none, lots) same told after =
     as_drawn _ _ _ out out' follows _ (rw (clear_unchanged old new same lots) (drawn_at_none (clear_state old) n m (none_for (clear_state old) n none))) told after
-draw_told n m (Err reserving.StaleLot) old new out out' follows (stale, lots) same told after =
+draw_told n m (Err refusal.StaleLot) old new out out' follows (stale, lots) same told after =
     as_drawn _ _ _ out out' follows _ (rw (clear_unchanged old new same lots) (drawn_at_stale (clear_state old) n m (stale_for (clear_state old) n stale))) told after
-draw_told n m (Err reserving.NotLong) old new out out' follows (is, lots) same told after =
+draw_told n m (Err refusal.NotLong) old new out out' follows (is, lots) same told after =
     let at = open-parts old.lots n _ is in
     as_drawn _ _ _ out out' follows _
     (rw (clear_unchanged old new same lots) (turned_down (clear_state old) n m at.lot (open_for (clear_state old) n at.lot at.found at.going) at.holds)) told after
-draw_told n m (Err reserving.EarlierGroup) old new out out' follows (is, lots) same told after =
+draw_told n m (Err refusal.EarlierGroup) old new out out' follows (is, lots) same told after =
     let at = open-parts old.lots n _ is in
     as_drawn _ _ _ out out' follows _
     (rw (clear_unchanged old new same lots) (too_early (clear_state old) n m at.lot (open_for (clear_state old) n at.lot at.found at.going) at.holds)) told after
-draw_told n m (Err reserving.Sealed) old new out out' follows (is, lots) same told after =
+draw_told n m (Err refusal.Sealed) old new out out' follows (is, lots) same told after =
     let at = open-parts old.lots n _ is in
     as_drawn _ _ _ out out' follows _
     (rw (clear_unchanged old new same lots)
     (too_late (clear_state old) n m at.holds.1.0 at.lot (open_for (clear_state old) n at.lot at.found at.going) at.holds.1.1 at.holds.0)) told after
+draw_told n m (Err _) old new out out' follows is same told after = absurd is
 
 -- where a ticket or its refusal was told
-pub all_drawn : {E : Type 0} (n m : ℕ) (answer : Result Ticket ReserveFault) (result : Result After E) (old new : NumberedNode) (out out' : List ℕ)
+pub all_drawn : {E : Type 0} (n m : ℕ) (answer : Result Ticket Refusal) (result : Result After E) (old new : NumberedNode) (out out' : List ℕ)
     → ReserveLeaves n m answer old.lots new.lots → new.clear ≡ old.clear → OnOk result (out' ≡ out ++ draw_text answer) → IfOk result (λ (a : After). a ≡ after_draw answer)
     → IfOk result (IsDrawn (drawn (clear_state old) n m) (clear_state new) out out')
 all_drawn n m answer (Ok a) old new out out' is same told after = draw_told n m answer old new out out' a is same told after
@@ -266,31 +260,33 @@ lot_open_text : (old : NumberedNode) (issue : ℕ) (opened : Opened) → IsOpene
     → lot_line opened.number opened.poured opened.longs ≡ (lot_added (clear_state old) (length old.lots + 1) (new_lot old.clear.log.records issue)).text
 lot_open_text old issue opened is = rw (is.number, is.poured, is.longs) refl
 
-pub lot_told : (issue : ℕ) (answer : Result Opened OpenFault) (old new : NumberedNode) (out out' : List ℕ) → OpenLeaves issue answer old new → IsTold (lot_text answer) out out'
+pub lot_told : (issue : ℕ) (answer : Result Opened Refusal) (old new : NumberedNode) (out out' : List ℕ) → OpenLeaves issue answer old new → IsTold (lot_text answer) out out'
     → IsLotTold (lot_opened (clear_state old) issue) (clear_state new) out out'
 lot_told issue (Ok opened) old new out out' (room, is, (up, none, plan, clear), lots) told =
     let added = lot_open_added (clear_state old) issue up none room in
     as_told _ _ _ out out'
     (lot_open_state old new issue opened.poured is.poured clear lots ∙ ap (λ (t : LotTold). t.state) (sym added))
     (lot_open_text old issue opened is ∙ ap (λ (t : LotTold). t.text) (sym added)) told
-lot_told issue (Err opening.Down) old new out out' (down, same) told =
+lot_told issue (Err refusal.Down) old new out out' (down, same) told =
     let is = lot_open_down (clear_state old) issue down in
     as_told _ _ _ out out' (ap clear_state same ∙ ap (λ (t : LotTold). t.state) (sym is)) (ap (λ (t : LotTold). t.text) (sym is)) told
-lot_told issue (Err opening.LotAlready) old new out out' (up, some, same) told =
+lot_told issue (Err refusal.LotAlready) old new out out' (up, some, same) told =
     let is = lot_open_beside (clear_state old) issue up some in
     as_told _ _ _ out out' (ap clear_state same ∙ ap (λ (t : LotTold). t.state) (sym is)) (ap (λ (t : LotTold). t.text) (sym is)) told
-lot_told issue (Err opening.LotsSpent) old new out out' (up, none, spent, same) told =
+lot_told issue (Err refusal.LotsSpent) old new out out' (up, none, spent, same) told =
     let is = lot_open_spent (clear_state old) issue up none spent in
     as_told _ _ _ out out' (ap clear_state same ∙ ap (λ (t : LotTold). t.state) (sym is)) (ap (λ (t : LotTold). t.text) (sym is)) told
-lot_told issue (Err opening.OutOfMemory) old new out out' is told = absurd told
+lot_told issue (Err refusal.OutOfMemory) old new out out' is told = absurd told
+lot_told issue (Err _) old new out out' is told = absurd is
 
 -- a refusal opens no lot
-pub refused_none : (issue : ℕ) (fault : OpenFault) (old new : NumberedNode) (out out' : List ℕ) → OpenLeaves issue (Err fault) old new → IsTold (lot_text (Err fault)) out out'
+pub refused_none : (issue : ℕ) (fault : Refusal) (old new : NumberedNode) (out out' : List ℕ) → OpenLeaves issue (Err fault) old new → IsTold (lot_text (Err fault)) out out'
     → None ≡ (lot_opened (clear_state old) issue).opened
-refused_none issue opening.Down old new out out' (down, same) told = rw (lot_open_down (clear_state old) issue down) refl
-refused_none issue opening.LotAlready old new out out' (up, some, same) told = rw (lot_open_beside (clear_state old) issue up some) refl
-refused_none issue opening.LotsSpent old new out out' (up, none, spent, same) told = rw (lot_open_spent (clear_state old) issue up none spent) refl
-refused_none issue opening.OutOfMemory old new out out' is told = absurd told
+refused_none issue refusal.Down old new out out' (down, same) told = rw (lot_open_down (clear_state old) issue down) refl
+refused_none issue refusal.LotAlready old new out out' (up, some, same) told = rw (lot_open_beside (clear_state old) issue up some) refl
+refused_none issue refusal.LotsSpent old new out out' (up, none, spent, same) told = rw (lot_open_spent (clear_state old) issue up none spent) refl
+refused_none issue refusal.OutOfMemory old new out out' is told = absurd told
+refused_none issue _ old new out out' is told = absurd is
 
 at_end : (lots : List LotState) (lot : LotState) → slice_get (lots ++ lot ∷ []) (length lots) ≡ Some lot
 at_end [] lot = refl
@@ -316,11 +312,12 @@ opened_lot issue opened old new members plan (room, is, (up, none, planned, clea
     rw (added, of, from, is.number) refl
 
 -- a lot that is there and has not ended is not told to be missing, and its plan is its own
-pub not_missing : {X : Type 0} (P : LotState → X → Type 0) (f : LotFault) (lots : List LotState) (n : ℕ) (lot : LotState) → lot_at lots n ≡ Some lot → lot.ended ≡ false
+pub not_missing : {X : Type 0} (P : LotState → X → Type 0) (f : Refusal) (lots : List LotState) (n : ℕ) (lot : LotState) → lot_at lots n ≡ Some lot → lot.ended ≡ false
     → LotGives P n (Err f) lots → ⊥
-not_missing P fault.NoLot lots n lot found going none = none-some lot (sym none ∙ found)
-not_missing P fault.StaleLot lots n lot found going stale =
+not_missing P refusal.NoLot lots n lot found going none = none-some lot (sym none ∙ found)
+not_missing P refusal.StaleLot lots n lot found going stale =
     let ended : lot.ended ≡ true = rw found at stale in absurd (cc (sym going ∙ ended))
+not_missing P _ lots n lot found going is = is
 
 pub plan_found : (lots : List LotState) (n : ℕ) (lot : LotState) (plan : List Planned) → lot_at lots n ≡ Some lot → HasOpenLot lots n (λ (l : LotState). plan ≡ l.plan) → plan ≡ lot.plan
 plan_found lots n lot plan found is =
@@ -374,11 +371,11 @@ close_early s n lot found up unsealed some = by (waiting lot.plan lot.tickets) r
     by [] e = absurd (some e)
     by (p ∷ left) e = rw (found, up, unsealed, e) refl
 
-close_at_none : (s : ClearState) (n : ℕ) → lot_for s n ≡ Err fault.NoLot → (s, refused_line subject.Close refusal.NoLot) ≡ closed s n
+close_at_none : (s : ClearState) (n : ℕ) → lot_for s n ≡ Err refusal.NoLot → (s, refused_line subject.Close refusal.NoLot) ≡ closed s n
 unfolding closed
 close_at_none s n none = rw none refl
 
-close_at_stale : (s : ClearState) (n : ℕ) → lot_for s n ≡ Err fault.StaleLot → (s, refused_line subject.Close refusal.StaleLot) ≡ closed s n
+close_at_stale : (s : ClearState) (n : ℕ) → lot_for s n ≡ Err refusal.StaleLot → (s, refused_line subject.Close refusal.StaleLot) ≡ closed s n
 unfolding closed
 close_at_stale s n stale = rw stale refl
 
@@ -413,14 +410,14 @@ closed_done n lot done old new out out' found met (a, may, allowed, made, added)
     (told ∙ ap (λ l. out ++ l) lines)
 
 closed_spent : (n : ℕ) (lot : LotState) (old : NumberedNode) (new : ClearNode) (out out' : List ℕ) → lot_for (clear_state old) n ≡ Ok lot → IsMet lot
-    → LotCloseLeaves lot.issue lot.tickets lot.sealed (Err node_closing.NumbersSpent) old.clear new
+    → LotCloseLeaves lot.issue lot.tickets lot.sealed (Err refusal.NumbersSpent) old.clear new
     → out' ≡ out ++ refused_line subject.Close refusal.NumbersSpent → IsAsWanted (closed (clear_state old) n) (clear_state old) out out'
 closed_spent n lot old new out out' found met (up, (a, may, spent), same) told =
     as_wanted _ _ _ out out'
     (close_spent (clear_state old) n lot a spent ∙ sym (close_of (clear_state old) n lot may.lot a may.found may.closes) ∙ sym (close_met (clear_state old) n lot found up met)) told
 
 closed_failed : (n : ℕ) (lot : LotState) (old new : NumberedNode) (out out' : List ℕ) → IsKnown old.clear.log.honest old.clear.log.tried old.clear.log.foresight → lot_for (clear_state old) n ≡ Ok lot → IsMet lot
-    → LotCloseLeaves lot.issue lot.tickets lot.sealed (Err node_closing.Device) old.clear new.clear → new.lots ≡ old.lots
+    → LotCloseLeaves lot.issue lot.tickets lot.sealed (Err refusal.Device) old.clear new.clear → new.lots ≡ old.lots
     → out' ≡ out ++ refused_line subject.Close refusal.Device → IsAsWanted (closed (clear_state old) n) (clear_state new) out out'
 closed_failed n lot old new out out' known found met (a, may, allowed, failed) lots told =
     let commit = clear_when_failed (entry.Allocate a) old new known.foreseen failed lots in
@@ -428,27 +425,28 @@ closed_failed n lot old new out out' known found met (a, may, allowed, failed) l
     (close_failed (clear_state old) (clear_state new) n lot a allowed.numbers commit.0 commit.1 ∙ sym (close_of (clear_state old) n lot may.lot a may.found may.closes)
     ∙ sym (close_met (clear_state old) n lot found failed.0 met)) told
 
-pub close_told : (n : ℕ) (answer : Result Closed CloseFault) (old new : NumberedNode) (out out' : List ℕ) → IsKnown old.clear.log.honest old.clear.log.tried old.clear.log.foresight
+pub close_told : (n : ℕ) (answer : Result Closed Refusal) (old new : NumberedNode) (out out' : List ℕ) → IsKnown old.clear.log.honest old.clear.log.tried old.clear.log.foresight
     → CloseLeaves n answer old new → IsTold (close_answer_text new.clear.log.records answer) out out' → IsAsWanted (closed (clear_state old) n) (clear_state new) out out'
 close_told n (Ok done) old new out out' known is told =
     let at = open-parts old.lots n _ is in
     closed_done n at.lot done old new out out' (open_for (clear_state old) n at.lot at.found at.going) at.holds.0 at.holds.1 at.holds.2 told
-close_told n (Err closing.NoLot) old new out out' known (none, same) told =
+close_told n (Err refusal.NoLot) old new out out' known (none, same) told =
     as_wanted _ _ _ out out' (rw same (close_at_none (clear_state old) n (none_for (clear_state old) n none))) told
-close_told n (Err closing.StaleLot) old new out out' known (stale, same) told =
+close_told n (Err refusal.StaleLot) old new out out' known (stale, same) told =
     as_wanted _ _ _ out out' (rw same (close_at_stale (clear_state old) n (stale_for (clear_state old) n stale))) told
-close_told n (Err closing.Down) old new out out' known (is, same) told =
+close_told n (Err refusal.Down) old new out out' known (is, same) told =
     let at = open-parts old.lots n _ is in
     as_wanted _ _ _ out out' (rw same (close_down (clear_state old) n at.lot (open_for (clear_state old) n at.lot at.found at.going) at.holds)) told
-close_told n (Err closing.Unserved) old new out out' known (is, same) told =
+close_told n (Err refusal.Unserved) old new out out' known (is, same) told =
     let at = open-parts old.lots n _ is in
     as_wanted _ _ _ out out'
     (rw same (close_early (clear_state old) n at.lot (open_for (clear_state old) n at.lot at.found at.going) at.holds.0 at.holds.1 at.holds.2)) told
-close_told n (Err closing.NumbersSpent) old new out out' known (is, same) told =
+close_told n (Err refusal.NumbersSpent) old new out out' known (is, same) told =
     let at = open-parts old.lots n _ is in
     subst (λ (x : NumberedNode). IsAsWanted (closed (clear_state old) n) (clear_state x) out out') (sym same)
     (closed_spent n at.lot old new.clear out out' (open_for (clear_state old) n at.lot at.found at.going) at.holds.0 at.holds.1 told)
-close_told n (Err closing.OutOfMemory) old new out out' known is told = absurd told
-close_told n (Err closing.Device) old new out out' known (is, lots) told =
+close_told n (Err refusal.OutOfMemory) old new out out' known is told = absurd told
+close_told n (Err refusal.Device) old new out out' known (is, lots) told =
     let at = open-parts old.lots n _ is in
     closed_failed n at.lot old new out out' known (open_for (clear_state old) n at.lot at.found at.going) at.holds.0 at.holds.1 lots told
+close_told n (Err _) old new out out' known is told = absurd is

@@ -19,12 +19,11 @@ use Rattle.cns_records.specs.declared.clear_record.ClearRecord.TheVariants as en
 use Rattle.cns_clearing.specs.Answers.{verdict_in, covers_in, answer_in}
 use Rattle.cns_clearing.specs.Books.{are_spent, history_of, is_later, latest_of, orders_of}
 use Rattle.cns_clearing.specs.declared.lot.Lot.{Lot}
-use Rattle.cns_clearing.specs.declared.fault.OrderFault.{OrderFault}
-use Rattle.cns_clearing.specs.declared.fault.OrderFault.TheVariants as order
 use Rattle.cns_report.specs.Lines.{trade_line, trade_refused_line, row_fault_line, cycle_line, refused_line, exempt_line, priority_line, order_lines, confirm_done_line, confirm_again_line}
-use Rattle.cns_report.specs.declared.refusal.Subject.{Subject}
-use Rattle.cns_report.specs.declared.refusal.Subject.TheVariants as subject
-use Rattle.cns_report.specs.declared.refusal.Refusal.TheVariants as refusal
+use Rattle.cns_report.specs.declared.subject.Subject.{Subject}
+use Rattle.cns_report.specs.declared.subject.Subject.TheVariants as subject
+use Rattle.cns_records.specs.declared.refusal.Refusal.{Refusal}
+use Rattle.cns_records.specs.declared.refusal.Refusal.TheVariants as refusal
 use Rattle.cnsd.specs.States.{ClearState, clear_added, clear_failed, is_failure}
 
 -- a record is committed, and one text or the other is told
@@ -33,11 +32,11 @@ clear_commits s r done failed = if is_failure s.foresight.next then (clear_faile
 
 -- a trade, by the verdict on it: only a new one is accepted
 abbrev pub trade_judged : ClearState → Trade → Verdict → ClearState × List ℕ
-trade_judged s t verdicts.New = clear_commits s (entry.Accept t) (trade_line t.id verdicts.New) (trade_refused_line t.id refusal.Device)
-trade_judged s t verdicts.Same = (s, trade_line t.id verdicts.Same)
-trade_judged s t verdicts.Conflict = (s, trade_line t.id verdicts.Conflict)
-trade_judged s t verdicts.SameMember = (s, trade_line t.id verdicts.SameMember)
-trade_judged s t verdicts.Full = (s, trade_line t.id verdicts.Full)
+trade_judged s t verdicts.New = clear_commits s (entry.Accept t) (trade_line t.id) (trade_refused_line t.id refusal.Device)
+trade_judged s t verdicts.Same = (s, trade_refused_line t.id (refusal.Trade verdicts.Same))
+trade_judged s t verdicts.Conflict = (s, trade_refused_line t.id (refusal.Trade verdicts.Conflict))
+trade_judged s t verdicts.SameMember = (s, trade_refused_line t.id (refusal.Trade verdicts.SameMember))
+trade_judged s t verdicts.Full = (s, trade_refused_line t.id (refusal.Trade verdicts.Full))
 
 abbrev pub told_trade : ClearState → Trade → ClearState × List ℕ
 told_trade s t = if s.down then (s, trade_refused_line t.id refusal.Down) else trade_judged s t (verdict_in s.records t)
@@ -87,15 +86,15 @@ unfoldable pub cycled : ClearState → CycleId → ClearState × List ℕ
 cycled s cycle = if s.down then (s, refused_line subject.Cycle refusal.Down) else cycled_up s cycle
 
 -- the order of this number, of a node that is up; numbers are 1 to 1,000,000
-abbrev pub order_found : Option Order → Result Order OrderFault
-order_found None = Err order.UnknownMove
+abbrev pub order_found : Option Order → Result Order Refusal
+order_found None = Err refusal.UnknownMove
 order_found (Some o) = Ok o
 
-abbrev pub order_at : ClearState → ℕ → Result Order OrderFault
+abbrev pub order_at : ClearState → ℕ → Result Order Refusal
 order_at s n =
-    if s.down then Err order.Down
+    if s.down then Err refusal.Down
     else if is_move_no n then order_found (order_of (orders_of s.records).orders n)
-    else Err order.UnknownMove
+    else Err refusal.UnknownMove
 
 -- a reply, by the answer to it: the first one of an order is recorded
 abbrev pub reply_judged : ClearState → Reply → Confirm → ClearState × List ℕ

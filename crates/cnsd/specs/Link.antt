@@ -5,19 +5,19 @@ use Rattle.cns_movements.specs.declared.order.Order.{Order}
 use Rattle.cns_movements.specs.declared.order.Reply.{Reply}
 use Rattle.cns_wire.specs.Frame.{order_frame, reply_frame}
 use Rattle.cns_wire.specs.Packet.{packet_at}
+use Rattle.cns_depository.specs.Answers.{dep_refusal}
 use Rattle.cns_depository.specs.declared.fault.Answer.{Answer}
 use Rattle.cns_depository.specs.declared.fault.Answer.TheVariants as answer
 use Rattle.cns_depository.specs.declared.fault.DepFault.{DepFault}
 use Rattle.cns_depository.specs.declared.fault.DepFault.TheVariants as stock
 use Rattle.cns_report.specs.Lines.{refused_line, send_line, exec_line, again_line, restart_line}
-use Rattle.cns_report.specs.declared.refusal.Subject.TheVariants as subject
-use Rattle.cns_report.specs.declared.refusal.Refusal.TheVariants as refusal
-use Rattle.cns_report.specs.declared.refusal.NodeName.{NodeName}
-use Rattle.cns_report.specs.declared.refusal.NodeName.TheVariants as node
+use Rattle.cns_report.specs.declared.subject.Subject.TheVariants as subject
+use Rattle.cns_records.specs.declared.refusal.Refusal.{Refusal}
+use Rattle.cns_records.specs.declared.refusal.Refusal.TheVariants as refusal
+use Rattle.cns_report.specs.declared.subject.NodeName.{NodeName}
+use Rattle.cns_report.specs.declared.subject.NodeName.TheVariants as node
 use Rattle.cns_journal.specs.Keeper.{Foresight, Succeeds}
 use Rattle.cns_clearing.specs.Books.{orders_of}
-use Rattle.cns_clearing.specs.declared.fault.OrderFault.{OrderFault}
-use Rattle.cns_clearing.specs.declared.fault.OrderFault.TheVariants as fault
 use Rattle.cns_system.specs.World.{order_in_packet, reply_in_packet}
 use Rattle.cnsd.specs.Clear.{order_at, told_reply, unconfirmed}
 use Rattle.cnsd.specs.Depot.{order_reached}
@@ -53,9 +53,8 @@ abbrev pub refused : World → List ℕ → Told
 refused w text = record { world = w; text = text; packet = None }
 
 -- an order is put on the link of orders
-abbrev pub order_sent : World → Result Order OrderFault → Told
-order_sent w (Err fault.Down) = refused w (refused_line subject.Send refusal.Down)
-order_sent w (Err fault.UnknownMove) = refused w (refused_line subject.Send refusal.UnknownMove)
+abbrev pub order_sent : World → Result Order Refusal → Told
+order_sent w (Err r) = refused w (refused_line subject.Send r)
 order_sent w (Ok o) =
     let packet = length w.orders + 1 in
     record { world = record w { orders = w.orders ++ order_frame o ∷ [] }; text = send_line o.number packet; packet = Some packet }
@@ -73,10 +72,8 @@ reply_put w r line =
 abbrev pub order_answered : World → Result Answer DepFault → Told
 order_answered w (Ok (answer.Done r)) = reply_put w r exec_line
 order_answered w (Ok (answer.Again r)) = reply_put w r again_line
-order_answered w (Err stock.Down) = refused w (refused_line subject.Order refusal.Down)
-order_answered w (Err stock.Conflict) = refused w (refused_line subject.Order refusal.Conflict)
 order_answered w (Err stock.OutOfMemory) = refused w []
-order_answered w (Err stock.Device) = refused w (refused_line subject.Order refusal.Device)
+order_answered w (Err fault) = refused w (refused_line subject.Order (dep_refusal fault))
 
 abbrev pub order_handed : World → Order → Told
 order_handed w o = order_answered (record w { depot = (order_reached w.depot o).0 }) (order_reached w.depot o).1

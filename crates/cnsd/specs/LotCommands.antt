@@ -16,31 +16,25 @@ use Rattle.cns_clearing.specs.declared.lot.Lot.{Lot}
 use Rattle.cns_system.specs.Lot.{LotState, ticket_in, turn_in, with_end, with_pour, with_seal, with_ticket}
 use Rattle.cns_system.specs.Lot.{new_lot as numbered_lot}
 use Rattle.cns_system.specs.Lots.{lot_at, update_at}
-use Rattle.cns_system.specs.declared.fault.LotFault.{LotFault}
-use Rattle.cns_system.specs.declared.fault.LotFault.TheVariants as fault
 use Rattle.cns_report.specs.Lines.{close_line, look_line, lot_line, order_lines, pour_line, refused_line, seal_line, ticket_line}
-use Rattle.cns_report.specs.declared.refusal.Refusal.{Refusal}
-use Rattle.cns_report.specs.declared.refusal.Refusal.TheVariants as refusal
-use Rattle.cns_report.specs.declared.refusal.Subject.TheVariants as subject
+use Rattle.cns_records.specs.declared.refusal.Refusal.{Refusal}
+use Rattle.cns_records.specs.declared.refusal.Refusal.TheVariants as refusal
+use Rattle.cns_report.specs.declared.subject.Subject.TheVariants as subject
 use Rattle.cnsd.specs.States.{ClearState, clear_added, clear_failed, is_failure}
 use Rattle.cnsd.specs.declared.serving.After.{After}
 use Rattle.cnsd.specs.declared.serving.After.TheVariants.{Next, Close, Nothing}
 
 -- the lot that a number finds: it has not ended
-abbrev pub found : Option LotState → Result LotState LotFault
-found None = Err fault.NoLot
-found (Some lot) = if lot.ended then Err fault.StaleLot else Ok lot
+abbrev pub found : Option LotState → Result LotState Refusal
+found None = Err refusal.NoLot
+found (Some lot) = if lot.ended then Err refusal.StaleLot else Ok lot
 
-abbrev pub lot_for : ClearState → ℕ → Result LotState LotFault
+abbrev pub lot_for : ClearState → ℕ → Result LotState Refusal
 lot_for s number = found (lot_at s.numbered number)
 
 -- the lots with this one in the place of the number
 abbrev pub with_lot : ClearState → ℕ → LotState → ClearState
 with_lot s number lot = record s { numbered = update_at s.numbered number lot }
-
-abbrev pub not_found : LotFault → Refusal
-not_found fault.NoLot = refusal.NoLot
-not_found fault.StaleLot = refusal.StaleLot
 
 -- a lot that is opened to be served: its number, and the members of its plan in the plan's order
 pub record OpenedLot : Type 0 where
@@ -82,8 +76,8 @@ abbrev pub shares_poured : ClearState → ℕ → LotState → ℕ → ClearStat
 shares_poured s number lot shares =
     (record s { lots = lots_poured s.records lot.issue s.lots; numbered = update_at s.numbered number (with_pour shares lot) }, pour_line shares)
 
-abbrev pub lot_poured : ClearState → ℕ → Result LotState LotFault → ClearState × List ℕ
-lot_poured s number (Err f) = (s, refused_line subject.Pour (not_found f))
+abbrev pub lot_poured : ClearState → ℕ → Result LotState Refusal → ClearState × List ℕ
+lot_poured s number (Err f) = (s, refused_line subject.Pour f)
 lot_poured s number (Ok lot) =
     if s.down then (s, refused_line subject.Pour refusal.Down)
     else shares_poured s number lot (free_of (orders_of s.records) s.lots lot.issue)
@@ -92,15 +86,15 @@ unfoldable pub poured : ClearState → ℕ → ClearState × List ℕ
 poured s number = lot_poured s number (lot_for s number)
 
 -- what was poured into a lot, the shares of its tickets, and whether it is sealed
-abbrev pub lot_looked_at : Result LotState LotFault → List ℕ
-lot_looked_at (Err f) = refused_line subject.Look (not_found f)
+abbrev pub lot_looked_at : Result LotState Refusal → List ℕ
+lot_looked_at (Err f) = refused_line subject.Look f
 lot_looked_at (Ok lot) = look_line lot.poured (asked_sum lot.tickets) lot.sealed
 
 unfoldable pub looked_at : ClearState → ℕ → List ℕ
 looked_at s number = lot_looked_at (lot_for s number)
 
-abbrev pub lot_sealed : ClearState → ℕ → Result LotState LotFault → ClearState × List ℕ
-lot_sealed s number (Err f) = (s, refused_line subject.Seal (not_found f))
+abbrev pub lot_sealed : ClearState → ℕ → Result LotState Refusal → ClearState × List ℕ
+lot_sealed s number (Err f) = (s, refused_line subject.Seal f)
 lot_sealed s number (Ok lot) = (with_lot s number (with_seal lot), seal_line)
 
 unfoldable pub sealed : ClearState → ℕ → ClearState × List ℕ
@@ -126,8 +120,8 @@ turn_taken s number member lot turn.NotLong = not_drawn s refusal.NotLong Nothin
 turn_taken s number member lot turn.EarlierGroup = not_drawn s refusal.EarlierGroup Nothing
 turn_taken s number member lot (turn.Next asked) = if lot.sealed then not_drawn s refusal.Sealed Close else ticket_drawn s number member lot asked
 
-abbrev pub lot_drawn : ClearState → ℕ → ℕ → Result LotState LotFault → Drawn
-lot_drawn s number member (Err f) = not_drawn s (not_found f) Nothing
+abbrev pub lot_drawn : ClearState → ℕ → ℕ → Result LotState Refusal → Drawn
+lot_drawn s number member (Err f) = not_drawn s f Nothing
 lot_drawn s number member (Ok lot) = turn_taken s number member lot (turn_in lot member)
 
 unfoldable pub drawn : ClearState → ℕ → ℕ → Drawn
@@ -160,8 +154,8 @@ lot_closed_up s number lot =
     if lot.sealed then lot_closed_of s number lot (lot_of s.lots lot.issue)
     else lot_closed_beside (waiting lot.plan lot.tickets) s number lot
 
-abbrev pub lot_closed : ClearState → ℕ → Result LotState LotFault → ClearState × List ℕ
-lot_closed s number (Err f) = (s, refused_line subject.Close (not_found f))
+abbrev pub lot_closed : ClearState → ℕ → Result LotState Refusal → ClearState × List ℕ
+lot_closed s number (Err f) = (s, refused_line subject.Close f)
 lot_closed s number (Ok lot) = if s.down then (s, refused_line subject.Close refusal.Down) else lot_closed_up s number lot
 
 unfoldable pub closed : ClearState → ℕ → ClearState × List ℕ

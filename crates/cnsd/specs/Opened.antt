@@ -7,14 +7,12 @@ use Rattle.cns_depository.specs.Openings.{opening_fault}
 use Rattle.cns_depository.specs.declared.openings.OpeningFault.{OpeningFault}
 use Rattle.cns_depository.specs.declared.openings.OpeningFault.TheVariants as fault
 use Rattle.cns_report.specs.Lines.{opening_row_fault_line, opening_refused_line}
-use Rattle.cns_report.specs.declared.refusal.OpeningRefusal.TheVariants as refusal
 
 -- an opening is held where nothing speaks against it, and else refused; want of memory is no fault of an opening
 abbrev pub told_by_fault : ℕ → List Opening → Opening → Option OpeningFault → List Opening × List ℕ
 told_by_fault n held o None = (held ++ o ∷ [], [])
-told_by_fault n held o (Some fault.Double) = (held, opening_refused_line n refusal.Double)
-told_by_fault n held o (Some fault.IssueSum) = (held, opening_refused_line n refusal.IssueSum)
 told_by_fault n held o (Some fault.OutOfMemory) = (held, [])
+told_by_fault n held o (Some f) = (held, opening_refused_line n f)
 
 -- a row by its number: the openings that are held after it, and its line where it is not held
 abbrev pub told_opening : ℕ → List Opening → OpeningRow → List Opening × List ℕ

@@ -4,8 +4,8 @@ use Rattle.cns_trades.specs.declared.opening.Opening.{Opening}
 use Rattle.cns_trades.specs.declared.row.Row.{Row}
 use Rattle.cns_netting.specs.Rows.{rows_of}
 use Rattle.cns_report.specs.Lines.{bad_command_line, fail_line, refused_line}
-use Rattle.cns_report.specs.declared.refusal.Refusal.TheVariants as refusal
-use Rattle.cns_report.specs.declared.refusal.Subject.TheVariants as subject
+use Rattle.cns_records.specs.declared.refusal.Refusal.TheVariants as refusal
+use Rattle.cns_report.specs.declared.subject.Subject.TheVariants as subject
 use Rattle.cns_clearing.specs.Pools.{rows_of as pools_of}
 use Rattle.cns_depository.specs.Balances.{balance_rows}
 use Rattle.cns_report.specs.Report.{cycle_report_text, balance_lines, report_end}

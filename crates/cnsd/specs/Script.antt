@@ -9,8 +9,8 @@ use Rattle.cns_ids.specs.declared.day.BadDate.{BadDate}
 use Rattle.cns_ids.specs.declared.cycle.CycleKind.{CycleKind}
 use Rattle.cns_ids.specs.declared.cycle.CycleKind.TheVariants.{Night, Day}
 use Rattle.cns_trades.specs.Fields.{same_text}
-use Rattle.cns_report.specs.declared.refusal.NodeName.{NodeName}
-use Rattle.cns_report.specs.declared.refusal.NodeName.TheVariants as node
+use Rattle.cns_report.specs.declared.subject.NodeName.{NodeName}
+use Rattle.cns_report.specs.declared.subject.NodeName.TheVariants as node
 use Rattle.cnsd.specs.Words.{words_of}
 use Rattle.cnsd.specs.declared.command.Command.{Command}
 use Rattle.cnsd.specs.declared.command.Command.TheVariants as command

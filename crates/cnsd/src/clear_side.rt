@@ -4,7 +4,7 @@ ghost use Rattle.cns_clearing.specs.Books.{history_of, latest_of, orders_of};
 ghost use Rattle.cns_netting.specs.Rows.{rows_of};
 ghost use Rattle.cns_report.specs.Lines.{restart_line};
 ghost use Rattle.cns_report.specs.Report.{cycle_report_text};
-ghost use Rattle.cns_report.specs.declared.refusal.NodeName.TheVariants as node;
+ghost use Rattle.cns_report.specs.declared.subject.NodeName.TheVariants as node;
 ghost use Rattle.cnsd.specs.Clear.{told_trade, told_row, told_rows, exempted, prioritized, cycled, order_at, told_reply, unconfirmed as unconfirmed_of};
 ghost use Rattle.cnsd.specs.Link.{sure};
 ghost use Rattle.cnsd.specs.LotCommands.{allocated, closed, drawn, looked_at, lot_opened, members_of, poured, sealed, served};
@@ -16,10 +16,11 @@ use crate::tell::{
     tell_reserve, tell_seal, tell_trade,
 };
 use cns_allocate::Planned;
-use cns_clearing::{Clearing, OrderFault};
+use cns_clearing::Clearing;
 use cns_ids::{Cusip, CycleId, MemberNo, Shares};
 use cns_journal::ListKeeper;
 use cns_movements::{MoveNo, Order, Reply};
+use cns_records::Refusal;
 use cns_report::{NodeName, write_cycle_report, write_restart, write_row_fault};
 use cns_system::NumberedClearing;
 use cns_trades::{Row, Trade};
@@ -121,13 +122,13 @@ impl ClearSide {
     }
 
     /// The order of this number.
-    pub(crate) fn order(&self, number: u64) -> Result<Order, OrderFault>
+    pub(crate) fn order(&self, number: u64) -> Result<Order, Refusal>
         ensures { result ≡ order_at self.now number }
     {
         match MoveNo::new(number) {
             Some(number) => self.node.node().order(number),
-            None if self.node.node().is_down() => Err(OrderFault::Down),
-            None => Err(OrderFault::UnknownMove),
+            None if self.node.node().is_down() => Err(Refusal::Down),
+            None => Err(Refusal::UnknownMove),
         }
     }
 

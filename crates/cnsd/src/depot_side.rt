@@ -2,7 +2,7 @@ ghost use Rattle.std.specs.Prelude.{◌≡◌, ◌++◌, length, [], None, false
 ghost use Rattle.cns_depository.specs.Balances.{balance_rows};
 ghost use Rattle.cns_report.specs.Lines.{restart_line};
 ghost use Rattle.cns_report.specs.Report.{balance_lines};
-ghost use Rattle.cns_report.specs.declared.refusal.NodeName.TheVariants as node;
+ghost use Rattle.cns_report.specs.declared.subject.NodeName.TheVariants as node;
 ghost use Rattle.cnsd.specs.Depot.{order_reached, IsAnswered};
 ghost use Rattle.cnsd.specs.Link.{sure};
 ghost use Rattle.cnsd.specs.States.{depot_restarted, is_returned, planned};

@@ -6,7 +6,8 @@ use crate::clear_side::take_rows;
 use crate::command::{Command, command_of};
 use crate::course::{Beside, Course, count_line, is_busy, run_beside};
 use crate::nodes::Nodes;
-use cns_report::{Refusal, Subject, write_bad_command, write_fail, write_refused};
+use cns_records::Refusal;
+use cns_report::{Subject, write_bad_command, write_fail, write_refused};
 use cns_trades::Row;
 use std::alloc::AllocError;
 

@@ -6,12 +6,11 @@ ghost use Rattle.cnsd.specs.Run.{report_text};
 
 use crate::clear_side::ClearSide;
 use crate::depot_side::DepotSide;
-use cns_clearing::OrderFault;
 use cns_depository::{Answer, DepFault, Openings};
 use cns_movements::{Order, Reply};
+use cns_records::Refusal;
 use cns_report::{
-    NodeName, Refusal, Subject, write_again, write_exec, write_refused, write_report_end,
-    write_send,
+    NodeName, Subject, write_again, write_exec, write_refused, write_report_end, write_send,
 };
 use cns_wire::{Frame, Wire, read_frame, write_order, write_reply};
 use std::alloc::{AllocError, Global};
@@ -75,12 +74,8 @@ impl Nodes {
     {
         let order = match self.clear.order(number) {
             Ok(order) => order,
-            Err(OrderFault::Down) => {
-                write_refused(out, Subject::Send, Refusal::Down)?;
-                return Ok(None);
-            }
-            Err(OrderFault::UnknownMove) => {
-                write_refused(out, Subject::Send, Refusal::UnknownMove)?;
+            Err(refusal) => {
+                write_refused(out, Subject::Send, refusal)?;
                 return Ok(None);
             }
         };
@@ -126,19 +121,11 @@ impl Nodes {
                 write_again(out, reply.number.number(), reply.moved.count(), packet)?;
                 Ok(Some(packet))
             }
-            Err(DepFault::Down) => {
-                write_refused(out, Subject::Order, Refusal::Down)?;
-                Ok(None)
-            }
-            Err(DepFault::Conflict) => {
-                write_refused(out, Subject::Order, Refusal::Conflict)?;
-                Ok(None)
-            }
-            Err(DepFault::Device) => {
-                write_refused(out, Subject::Order, Refusal::Device)?;
-                Ok(None)
-            }
             Err(DepFault::OutOfMemory) => Err(AllocError),
+            Err(fault) => {
+                write_refused(out, Subject::Order, Refusal::from(fault))?;
+                Ok(None)
+            }
         }
     }
 

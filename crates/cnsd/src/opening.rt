@@ -2,7 +2,7 @@ ghost use Rattle.std.specs.Prelude.{◌≡◌, ◌++◌, ℕ, [], length, IfOk, 
 ghost use Rattle.cnsd.specs.Opened.{told_opening, told_openings};
 
 use cns_depository::{OpeningFault, Openings};
-use cns_report::{OpeningRefusal, write_opening_refused, write_opening_row_fault};
+use cns_report::{write_opening_refused, write_opening_row_fault};
 use cns_trades::OpeningRow;
 use std::alloc::{AllocError, Global};
 
@@ -20,11 +20,8 @@ fn take_opening(
         OpeningRow::Fault { row, fault } => write_opening_row_fault(out, *row, *fault),
         OpeningRow::Opening(opening) => match openings.add(opening) {
             Ok(()) => Ok(()),
-            Err(OpeningFault::Double) => write_opening_refused(out, number, OpeningRefusal::Double),
-            Err(OpeningFault::IssueSum) => {
-                write_opening_refused(out, number, OpeningRefusal::IssueSum)
-            }
             Err(OpeningFault::OutOfMemory) => Err(AllocError),
+            Err(fault) => write_opening_refused(out, number, fault),
         },
     }
 }

@@ -1,13 +1,12 @@
 use super::story::assert_same;
 use super::{issue, member, ticket, trade};
-use crate::{
-    CloseFault, Look, LotFault, NumberedClearing, OpenFault, Opened, PourFault, ReserveFault,
-};
-use cns_clearing::{Clearing, Closed, CycleFault, Cycled, Taken, TradeFault};
+use crate::{Look, NumberedClearing, Opened};
+use cns_clearing::{Clearing, Closed, Cycled, Taken};
 use cns_ids::{Cusip, CycleId, CycleKind, Day, Shares};
 use cns_journal::{ListKeeper, ReplayFault, Restarted};
 use cns_movements::{MoveNo, Reply};
 use cns_pool::Ticket;
+use cns_records::Refusal;
 use std::alloc::Global;
 use std::process::Abort;
 use std::test::Fail;
@@ -108,7 +107,7 @@ fn open(node: &mut Node) -> Result<(), Fail> {
 fn assert_opens(
     rt: &impl Abort,
     node: &mut Node,
-    wanted: Result<Opened, OpenFault>,
+    wanted: Result<Opened, Refusal>,
 ) -> Result<(), Fail> {
     let issue = issue()?;
     assert_same(rt, &node.lot_open(issue), &wanted);
@@ -119,27 +118,22 @@ fn assert_draws(
     rt: &impl Abort,
     node: &mut Node,
     of: u16,
-    wanted: Result<Ticket, ReserveFault>,
+    wanted: Result<Ticket, Refusal>,
 ) -> Result<(), Fail> {
     let member = member(of)?;
     assert_same(rt, &node.reserve(1, member), &wanted);
     Ok(())
 }
 
-fn assert_looks(rt: &impl Abort, node: &mut Node, wanted: Result<Look, LotFault>) {
+fn assert_looks(rt: &impl Abort, node: &mut Node, wanted: Result<Look, Refusal>) {
     assert_same(rt, &node.look(1), &wanted);
 }
 
-fn assert_pours(rt: &impl Abort, node: &mut Node, number: u64, wanted: Result<u64, PourFault>) {
+fn assert_pours(rt: &impl Abort, node: &mut Node, number: u64, wanted: Result<u64, Refusal>) {
     assert_same(rt, &node.lot_pour(number), &wanted);
 }
 
-fn assert_closes(
-    rt: &impl Abort,
-    node: &mut Node,
-    number: u64,
-    wanted: Result<Closed, CloseFault>,
-) {
+fn assert_closes(rt: &impl Abort, node: &mut Node, number: u64, wanted: Result<Closed, Refusal>) {
     assert_same(rt, &node.lot_close(number), &wanted);
 }
 
@@ -153,16 +147,16 @@ fn fail_next(node: &mut Node) -> Result<(), Fail> {
 fn fall(rt: &impl Abort, node: &mut Node) -> Result<(), Fail> {
     fail_next(node)?;
     let late = trade(b"A3", 2)?;
-    assert_same(rt, &node.take_trade(&late), &Err(TradeFault::Device));
+    assert_same(rt, &node.take_trade(&late), &Err(Refusal::Device));
     Ok(())
 }
 
 fn tell_open(rt: &impl Abort, node: &mut Node) -> Result<(), Fail> {
     stock(node)?;
     assert_opens(rt, node, Ok(opened(1, 30, 2)))?;
-    assert_opens(rt, node, Err(OpenFault::LotAlready))?;
+    assert_opens(rt, node, Err(Refusal::LotAlready))?;
     fall(rt, node)?;
-    assert_opens(rt, node, Err(OpenFault::Down))?;
+    assert_opens(rt, node, Err(Refusal::Down))?;
     assert_same(rt, &node.lot_count(), &1);
     Ok(())
 }
@@ -177,9 +171,9 @@ fn a_lot_of_a_node_opens(rt: HostRuntime) -> Result<(), Fail> {
 
 // The tickets of members 2 and 3 in turn.
 fn draw(rt: &impl Abort, node: &mut Node) -> Result<(), Fail> {
-    assert_draws(rt, node, 3, Err(ReserveFault::EarlierGroup))?;
+    assert_draws(rt, node, 3, Err(Refusal::EarlierGroup))?;
     assert_draws(rt, node, 2, Ok(ticket(2, 0, 30)?))?;
-    assert_draws(rt, node, 2, Err(ReserveFault::NotLong))?;
+    assert_draws(rt, node, 2, Err(Refusal::NotLong))?;
     assert_draws(rt, node, 3, Ok(ticket(3, 30, 30)?))
 }
 
@@ -204,9 +198,9 @@ fn seal(node: &mut Node) -> Result<(), Fail> {
 }
 
 fn assert_sealed(rt: &impl Abort, node: &mut Node) -> Result<(), Fail> {
-    assert_draws(rt, node, 2, Err(ReserveFault::Sealed))?;
-    assert_draws(rt, node, 3, Err(ReserveFault::EarlierGroup))?;
-    assert_draws(rt, node, 4, Err(ReserveFault::NotLong))
+    assert_draws(rt, node, 2, Err(Refusal::Sealed))?;
+    assert_draws(rt, node, 3, Err(Refusal::EarlierGroup))?;
+    assert_draws(rt, node, 4, Err(Refusal::NotLong))
 }
 
 fn tell_seal(rt: &impl Abort, node: &mut Node) -> Result<(), Fail> {
@@ -227,8 +221,8 @@ fn a_sealed_lot_of_a_node_draws_no_ticket(rt: HostRuntime) -> Result<(), Fail> {
 
 fn tell_pours(rt: &impl Abort, node: &mut Node) -> Result<(), Fail> {
     lend(node)?;
-    assert_pours(rt, node, 0, Err(PourFault::NoLot));
-    assert_pours(rt, node, 7, Err(PourFault::NoLot));
+    assert_pours(rt, node, 0, Err(Refusal::NoLot));
+    assert_pours(rt, node, 7, Err(Refusal::NoLot));
     assert_pours(rt, node, 1, Ok(0));
     cover(node, 2, 10)?;
     assert_pours(rt, node, 1, Ok(10));
@@ -252,8 +246,8 @@ fn assert_ends(rt: &impl Abort, node: &mut Node) -> Result<(), Fail> {
         count: 2,
     };
     assert_closes(rt, node, 1, Ok(done));
-    assert_closes(rt, node, 1, Err(CloseFault::StaleLot));
-    assert_pours(rt, node, 1, Err(PourFault::StaleLot));
+    assert_closes(rt, node, 1, Err(Refusal::StaleLot));
+    assert_pours(rt, node, 1, Err(Refusal::StaleLot));
     Ok(())
 }
 
@@ -266,8 +260,8 @@ fn serve(rt: &impl Abort, node: &mut Node) -> Result<(), Fail> {
 
 fn tell_close(rt: &impl Abort, node: &mut Node) -> Result<(), Fail> {
     lend(node)?;
-    assert_closes(rt, node, 0, Err(CloseFault::NoLot));
-    assert_closes(rt, node, 1, Err(CloseFault::Unserved));
+    assert_closes(rt, node, 0, Err(Refusal::NoLot));
+    assert_closes(rt, node, 1, Err(Refusal::Unserved));
     serve(rt, node)?;
     assert_ends(rt, node)?;
     // Member 3 is to receive 20 more.
@@ -284,8 +278,8 @@ fn a_lot_of_a_node_closes(rt: HostRuntime) -> Result<(), Fail> {
 
 // While the node is down its lots take no shares and do not close.
 fn assert_stays(rt: &impl Abort, node: &mut Node) {
-    assert_pours(rt, node, 1, Err(PourFault::Down));
-    assert_closes(rt, node, 1, Err(CloseFault::Down));
+    assert_pours(rt, node, 1, Err(Refusal::Down));
+    assert_closes(rt, node, 1, Err(Refusal::Down));
 }
 
 fn tell_down(rt: &impl Abort, node: &mut Node) -> Result<(), Fail> {
@@ -311,7 +305,7 @@ fn fail_close(rt: &impl Abort, node: &mut Node) -> Result<(), Fail> {
     assert_draws(rt, node, 2, Ok(ticket(2, 0, 30)?))?;
     seal(node)?;
     fail_next(node)?;
-    assert_closes(rt, node, 1, Err(CloseFault::Device));
+    assert_closes(rt, node, 1, Err(Refusal::Device));
     Ok(())
 }
 
@@ -320,7 +314,7 @@ fn tell_failed_close(rt: &impl Abort, node: &mut Node) -> Result<(), Fail> {
     fail_close(rt, node)?;
     assert_stays(rt, node);
     assert_looks(rt, node, Ok(shown(30, 30, true)));
-    assert_draws(rt, node, 3, Err(ReserveFault::Sealed))?;
+    assert_draws(rt, node, 3, Err(Refusal::Sealed))?;
     seal(node)
 }
 
@@ -344,7 +338,7 @@ fn tell_restart(rt: &impl Abort, node: &mut Node) -> Result<(), Fail> {
         kept: false,
     };
     assert_restarts(rt, node, Ok(done));
-    assert_looks(rt, node, Err(LotFault::StaleLot));
+    assert_looks(rt, node, Err(Refusal::StaleLot));
     assert_opens(rt, node, Ok(opened(2, 30, 2)))
 }
 
@@ -375,7 +369,7 @@ fn assert_closes_empty(rt: &impl Abort, node: &mut Node) {
 fn assert_cycles(
     rt: &impl Abort,
     node: &mut Node,
-    wanted: Result<Cycled, CycleFault>,
+    wanted: Result<Cycled, Refusal>,
 ) -> Result<(), Fail> {
     let id = night(b"2025-03-06")?;
     assert_same(rt, &node.cycle(id), &wanted);
@@ -385,7 +379,7 @@ fn assert_cycles(
 fn tell_cycle(rt: &impl Abort, node: &mut Node) -> Result<(), Fail> {
     stock(node)?;
     assert_empty_lot(rt, node)?;
-    assert_cycles(rt, node, Err(CycleFault::LotsOpen))?;
+    assert_cycles(rt, node, Err(Refusal::LotsOpen))?;
     assert_closes_empty(rt, node);
     // The second cover, which is not confirmed yet, is of all that member 1 is short of.
     let none = Cycled {
@@ -423,7 +417,7 @@ fn tell_settings(rt: &impl Abort, node: &mut Node) -> Result<(), Fail> {
     run(node, b"2025-03-05", 1)?;
     assert_set(rt, node)?;
     assert_opens(rt, node, Ok(opened(1, 0, 2)))?;
-    assert_draws(rt, node, 2, Err(ReserveFault::EarlierGroup))
+    assert_draws(rt, node, 2, Err(Refusal::EarlierGroup))
 }
 
 #[test]

@@ -1,9 +1,9 @@
 use super::story::{Deed, Step, Told, assert_same, night, openings, shares, tell_of};
 use super::{issue, member, trade};
-use crate::{Refusal, StartFault, System};
+use crate::{StartFault, System};
 use cns_journal::{Keeper, ListKeeper, ReplayFault};
 use cns_movements::{Asked, MoveKind, MoveNo, Order, Reply};
-use cns_records::{Allocation, ClearRecord, DepRecord, Drawn, DrawnList};
+use cns_records::{Allocation, ClearRecord, DepRecord, Drawn, DrawnList, Refusal};
 use std::alloc::Global;
 use std::process::Abort;
 use std::test::Fail;

@@ -4,13 +4,14 @@
 //! is short.
 
 use super::{issue, member, trade};
-use crate::{Event, NodeName, Opened, Outcome, Refusal, System};
+use crate::{Event, NodeName, Opened, Outcome, System};
 use cns_clearing::{Closed, Cycled};
 use cns_depository::{Account, Openings};
 use cns_ids::{CycleId, CycleKind, Day, Shares};
 use cns_journal::{Keeper, ListKeeper};
 use cns_movements::{MoveNo, Reply};
 use cns_pool::Ticket;
+use cns_records::Refusal;
 use cns_trades::Opening;
 use std::alloc::Global;
 use std::fmt;

@@ -2,8 +2,10 @@ use super::story::{
     Both, Deed, Step, Told, assert_same, both, event_of, failing, take_deed, take_steps, tell,
     tell_of, told_of,
 };
-use crate::{Event, NodeName, Outcome, Refusal};
+use crate::{Event, NodeName, Outcome};
 use cns_journal::ListKeeper;
+use cns_records::Refusal;
+use cns_trades::Verdict;
 use std::alloc::Global;
 use std::process::Abort;
 use std::test::Fail;
@@ -17,8 +19,14 @@ const SEND: Step = Step::Do(Deed::Send(1), Told::Sent(1));
 // Member 1 is to give 30 shares and has 20; the same packets arrive more than once.
 const A_COVER: [Step; 21] = [
     SALE,
-    Step::Do(Deed::Sell(b"A1", 2), Told::Refused(Refusal::Same)),
-    Step::Do(Deed::Sell(b"A1", 3), Told::Refused(Refusal::Conflict)),
+    Step::Do(
+        Deed::Sell(b"A1", 2),
+        Told::Refused(Refusal::Trade(Verdict::Same)),
+    ),
+    Step::Do(
+        Deed::Sell(b"A1", 3),
+        Told::Refused(Refusal::Trade(Verdict::Conflict)),
+    ),
     NIGHT,
     Step::Stands(-30),
     SEND,
@@ -93,7 +101,10 @@ const SALE_STANDS: [Step; 5] = [
     SALE_IS_REFUSED,
     SEND_IS_REFUSED,
     Step::Do(Deed::Restart(NodeName::Clear), Told::Restarted(1, true)),
-    Step::Do(Deed::Sell(b"A1", 2), Told::Refused(Refusal::Same)),
+    Step::Do(
+        Deed::Sell(b"A1", 2),
+        Told::Refused(Refusal::Trade(Verdict::Same)),
+    ),
 ];
 
 const SALE_IS_LOST: [Step; 5] = [

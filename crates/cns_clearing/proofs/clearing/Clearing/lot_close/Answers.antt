@@ -14,68 +14,68 @@ use Rattle.cns_clearing.proofs.clearing.Clearing.lot_close.Goals as goal
 pub asked_in_all-requires : goal.asked_in_all-requires
 asked_in_all-requires g c =
     let are = subst (λ (v : ClearNode). AreLots v.log.records v.lots) c.self.view_is c.self.invariant.lots in
-    close_small c.args.self.now c.args.issue c.args.tickets.now c.args.sealed c.in-Ok.allocation c.books-books.ensures.lawful c.books-books.ensures.fits are c.in-Ok.ensures
+    close_small c.args.self.now c.args.issue c.args.tickets.now c.args.sealed c.in_ok-allocation.allocation c.books-books.ensures.lawful c.books-books.ensures.fits are c.in_ok-allocation.ensures
 
 pub returns-then-are_spent : goal.returns-then-are_spent
 returns-then-are_spent g c =
-    let may = c.in-Ok.ensures in
+    let may = c.in_ok-allocation.ensures in
     let are = subst (λ (v : ClearNode). AreLots v.log.records v.lots) c.self.view_is c.self.invariant.lots in
     let law = c.books-books.ensures in
-    let asks = close_asks c.args.self.now c.args.issue c.args.tickets.now c.args.sealed c.in-Ok.allocation c.in-Ok-deliveries.asks.items are may
-    (c.in-Ok-deliveries.ensures.exact ∙ ap (λ (p : ℕ). deliveries_of c.args.issue p c.args.tickets.now) c.count-poured.ensures.value) in
-    let spent = spent_is _ c.args.self.now.log.records _ _ c.in-Ok.allocation _ _ law.books c.as_slice.ensures.value asks c.are_spent.ensures c.if-are_spent.true in
-    (sym c.is_down.ensures ∙ c.if-is_down.false, (c.in-Ok.allocation, may, spent), refl)
+    let asks = close_asks c.args.self.now c.args.issue c.args.tickets.now c.args.sealed c.in_ok-allocation.allocation c.in_ok-asks.asks.items are may
+    (c.in_ok-asks.ensures.exact ∙ ap (λ (p : ℕ). deliveries_of c.args.issue p c.args.tickets.now) c.count-poured.ensures.value) in
+    let spent = spent_is _ c.args.self.now.log.records _ _ c.in_ok-allocation.allocation _ _ law.books c.as_slice.ensures.value asks c.are_spent.ensures c.if-are_spent.true in
+    (c.in_ok-up.ensures.up, (c.in_ok-allocation.allocation, may, spent), refl)
 
 pub add-requires-clause-allowed : goal.add-requires-clause-allowed
 add-requires-clause-allowed g c =
-    let may = c.in-Ok.ensures in
+    let may = c.in_ok-allocation.ensures in
     let are = subst (λ (v : ClearNode). AreLots v.log.records v.lots) c.self.view_is c.self.invariant.lots in
     let law = c.books-books.ensures in
-    let asks = close_asks c.args.self.now c.args.issue c.args.tickets.now c.args.sealed c.in-Ok.allocation c.in-Ok-deliveries.asks.items are may
-    (c.in-Ok-deliveries.ensures.exact ∙ ap (λ (p : ℕ). deliveries_of c.args.issue p c.args.tickets.now) c.count-poured.ensures.value) in
-    let enough = spent_is _ c.args.self.now.log.records _ _ c.in-Ok.allocation _ _ law.books c.as_slice.ensures.value asks c.are_spent.ensures c.if-are_spent.false in
-    close_allowed c.args.self.now c.args.issue c.args.tickets.now c.args.sealed c.in-Ok.allocation (deliveries_in c.in-Ok.allocation) law.lawful law.fits are may refl enough
+    let asks = close_asks c.args.self.now c.args.issue c.args.tickets.now c.args.sealed c.in_ok-allocation.allocation c.in_ok-asks.asks.items are may
+    (c.in_ok-asks.ensures.exact ∙ ap (λ (p : ℕ). deliveries_of c.args.issue p c.args.tickets.now) c.count-poured.ensures.value) in
+    let enough = spent_is _ c.args.self.now.log.records _ _ c.in_ok-allocation.allocation _ _ law.books c.as_slice.ensures.value asks c.are_spent.ensures c.if-are_spent.false in
+    close_allowed c.args.self.now c.args.issue c.args.tickets.now c.args.sealed c.in_ok-allocation.allocation (deliveries_in c.in_ok-allocation.allocation) law.lawful law.fits are may refl enough
 
 pub add-requires-clause-effects : goal.add-requires-clause-effects
 add-requires-clause-effects g c =
-    let may = c.in-Ok.ensures in
+    let may = c.in_ok-allocation.ensures in
     let are = subst (λ (v : ClearNode). AreLots v.log.records v.lots) c.self.view_is c.self.invariant.lots in
     let law = c.books-books.ensures in
-    let asks = close_asks c.args.self.now c.args.issue c.args.tickets.now c.args.sealed c.in-Ok.allocation c.in-Ok-deliveries.asks.items are may
-    (c.in-Ok-deliveries.ensures.exact ∙ ap (λ (p : ℕ). deliveries_of c.args.issue p c.args.tickets.now) c.count-poured.ensures.value) in
+    let asks = close_asks c.args.self.now c.args.issue c.args.tickets.now c.args.sealed c.in_ok-allocation.allocation c.in_ok-asks.asks.items are may
+    (c.in_ok-asks.ensures.exact ∙ ap (λ (p : ℕ). deliveries_of c.args.issue p c.args.tickets.now) c.count-poured.ensures.value) in
     record { asks = c.of_asks-effects.ensures.asks ∙ asks; rows = c.of_asks-effects.ensures.rows }
 
-pub returns-in-Err-add : goal.returns-in-Err-add
-returns-in-Err-add g c =
-    let may = c.in-Ok.ensures in
+pub returns-in_err-add : goal.returns-in_err-add
+returns-in_err-add g c =
+    let may = c.in_ok-allocation.ensures in
     let are = subst (λ (v : ClearNode). AreLots v.log.records v.lots) c.self.view_is c.self.invariant.lots in
     let law = c.books-books.ensures in
-    let asks = close_asks c.args.self.now c.args.issue c.args.tickets.now c.args.sealed c.in-Ok.allocation c.in-Ok-deliveries.asks.items are may
-    (c.in-Ok-deliveries.ensures.exact ∙ ap (λ (p : ℕ). deliveries_of c.args.issue p c.args.tickets.now) c.count-poured.ensures.value) in
-    let enough = spent_is _ c.args.self.now.log.records _ _ c.in-Ok.allocation _ _ law.books c.as_slice.ensures.value asks c.are_spent.ensures c.if-are_spent.false in
-    let allowed = close_allowed c.args.self.now c.args.issue c.args.tickets.now c.args.sealed c.in-Ok.allocation (deliveries_in c.in-Ok.allocation) law.lawful law.fits are may refl enough in
-    let left = close_refused c.args.self.now c.add.new.self c.args.issue c.args.tickets.now c.args.sealed c.in-Ok.allocation c.in-Err-add.fault (sym c.is_down.ensures ∙ c.if-is_down.false)
-    may allowed c.in-Err-add.ensures in
-    rw c.from.ensures left
+    let asks = close_asks c.args.self.now c.args.issue c.args.tickets.now c.args.sealed c.in_ok-allocation.allocation c.in_ok-asks.asks.items are may
+    (c.in_ok-asks.ensures.exact ∙ ap (λ (p : ℕ). deliveries_of c.args.issue p c.args.tickets.now) c.count-poured.ensures.value) in
+    let enough = spent_is _ c.args.self.now.log.records _ _ c.in_ok-allocation.allocation _ _ law.books c.as_slice.ensures.value asks c.are_spent.ensures c.if-are_spent.false in
+    let allowed = close_allowed c.args.self.now c.args.issue c.args.tickets.now c.args.sealed c.in_ok-allocation.allocation (deliveries_in c.in_ok-allocation.allocation) law.lawful law.fits are may refl enough in
+    let left = close_refused c.args.self.now c.add.new.self c.args.issue c.args.tickets.now c.args.sealed c.in_ok-allocation.allocation _ c.in_ok-up.ensures.up
+    may allowed c.in_err-add.ensures in
+    search (rules, left)
 
-pub returns-in-Ok-add : goal.returns-in-Ok-add
-returns-in-Ok-add g c =
-    let may = c.in-Ok.ensures in
+pub returns : goal.returns
+returns g c =
+    let may = c.in_ok-allocation.ensures in
     let are = subst (λ (v : ClearNode). AreLots v.log.records v.lots) c.self.view_is c.self.invariant.lots in
     let law = c.books-books.ensures in
-    let asks = close_asks c.args.self.now c.args.issue c.args.tickets.now c.args.sealed c.in-Ok.allocation c.in-Ok-deliveries.asks.items are may
-    (c.in-Ok-deliveries.ensures.exact ∙ ap (λ (p : ℕ). deliveries_of c.args.issue p c.args.tickets.now) c.count-poured.ensures.value) in
-    let enough = spent_is _ c.args.self.now.log.records _ _ c.in-Ok.allocation _ _ law.books c.as_slice.ensures.value asks c.are_spent.ensures c.if-are_spent.false in
-    let allowed = close_allowed c.args.self.now c.args.issue c.args.tickets.now c.args.sealed c.in-Ok.allocation (deliveries_in c.in-Ok.allocation) law.lawful law.fits are may refl enough in
-    let count : length c.in-Ok-deliveries.asks.items ≡ c.len-count.result = search rules in
+    let asks = close_asks c.args.self.now c.args.issue c.args.tickets.now c.args.sealed c.in_ok-allocation.allocation c.in_ok-asks.asks.items are may
+    (c.in_ok-asks.ensures.exact ∙ ap (λ (p : ℕ). deliveries_of c.args.issue p c.args.tickets.now) c.count-poured.ensures.value) in
+    let enough = spent_is _ c.args.self.now.log.records _ _ c.in_ok-allocation.allocation _ _ law.books c.as_slice.ensures.value asks c.are_spent.ensures c.if-are_spent.false in
+    let allowed = close_allowed c.args.self.now c.args.issue c.args.tickets.now c.args.sealed c.in_ok-allocation.allocation (deliveries_in c.in_ok-allocation.allocation) law.lawful law.fits are may refl enough in
+    let count : length c.in_ok-asks.asks.items ≡ c.len-count.result = search rules in
     let size : length c.as_slice-2.result.now ≡ c.len-count.result = ap length c.as_slice-2.ensures.value ∙ count in
-    let granted : c.min-granted.result ≡ min c.in-Ok.allocation.poured (asked_sum c.args.tickets.now) = search rules in
-    let done : IsClosed c.args.self.now.log.records c.args.tickets.now c.in-Ok.allocation (record { granted = c.min-granted.result; first = c.first_number-first.result; count = c.len-count.result }) =
+    let granted : c.min-granted.result ≡ min c.in_ok-allocation.allocation.poured (asked_sum c.args.tickets.now) = search rules in
+    let done : IsClosed c.args.self.now.log.records c.args.tickets.now c.in_ok-allocation.allocation (record { granted = c.min-granted.result; first = c.first_number-first.result; count = c.len-count.result }) =
     record {
       granted = granted;
-      sum = ap (sum_by (λ (x : Ask). x.asked)) (sym asks) ∙ c.in-Ok-deliveries.ensures.sum (AreChained-Tiles (intervals_of c.args.tickets.now) may.served.chained)
+      sum = ap (sum_by (λ (x : Ask). x.asked)) (sym asks) ∙ c.in_ok-asks.ensures.sum (AreChained-Tiles (intervals_of c.args.tickets.now) may.served.chained)
           ∙ ap (λ (p : ℕ). min p (asked_sum c.args.tickets.now)) c.count-poured.ensures.value ∙ sym granted;
       count = sym count ∙ ap length asks;
       first = first_is _ c.args.self.now.log.records _ _ _ law.books size c.first_number-first.ensures;
     } in
-    (c.in-Ok.allocation, may, allowed, done, c.in-Ok-add.ensures.1)
+    (c.in_ok-allocation.allocation, may, allowed, done, c.in_ok-add.ensures.1)

@@ -1,4 +1,4 @@
-use Rattle.std.proofs.Common.{◌≡◌, ◌∙◌, None, sym, rules}
+use Rattle.std.proofs.Common.{◌≡◌, None, rules}
 use Rattle.cns_clearing.specs.Pools.{lot_of}
 use Rattle.cns_clearing.proofs.LeavesLemmas.{open_leaves, opened_lots, plan_is}
 use Rattle.cns_clearing.proofs.NodeLemmas.{node_lots}
@@ -9,19 +9,19 @@ invariant_of-self-2 g c =
     let count = rw (← c.self.view_is) at c.record_count-records.ensures in
     let avail = rw (← c.self.view_is) at c.avail-poured.ensures in
     let books = rw (← c.self.view_is) at c.books.ensures.books in
-    let plan = plan_is _ c.args.issue _ c.in-Ok.plan books c.in-Ok.ensures in
+    let plan = plan_is _ c.args.issue _ c.in_ok-plan.plan books c.in_ok-plan.ensures in
     let none : lot_of c.args.self.now.lots c.args.issue ≡ None = search rules in
     let none' = rw (← c.self.view_is) at none in
-    node_lots _ _ _ c.self.invariant (opened_lots _ _ _ _ c.args.issue _ _ c.in-Ok.plan c.self.invariant.lots none' count avail plan c.room.ensures.same c.open.ensures)
+    node_lots _ _ _ c.self.invariant (opened_lots _ _ _ _ c.args.issue _ _ c.in_ok-plan.plan c.self.invariant.lots none' count avail plan c.in_ok-room.ensures.same c.open.ensures)
 
 pub returns : goal.returns
 returns g c =
     let count = rw (← c.self.view_is) at c.record_count-records.ensures in
     let avail = rw (← c.self.view_is) at c.avail-poured.ensures in
     let books = rw (← c.self.view_is) at c.books.ensures.books in
-    let plan = plan_is _ c.args.issue _ c.in-Ok.plan books c.in-Ok.ensures in
+    let plan = plan_is _ c.args.issue _ c.in_ok-plan.plan books c.in_ok-plan.ensures in
     let none : lot_of c.args.self.now.lots c.args.issue ≡ None = search rules in
     let none' = rw (← c.self.view_is) at none in
-    let down = rw (← c.self.view_is) at c.is_down.ensures in
+    let up = rw (← c.self.view_is) at c.in_ok-up.ensures.up in
     rw (← c.self.view_is)
-    (open_leaves _ _ _ c.args.issue _ _ c.in-Ok.plan c.in-Ok-copy.answer (sym down ∙ c.if-is_down.false) none' count avail plan c.in-Ok-copy.ensures c.room.ensures.same c.open.ensures)
+    (open_leaves _ _ _ c.args.issue _ _ c.in_ok-plan.plan c.in_ok-answer.answer up none' count avail plan c.in_ok-answer.ensures c.in_ok-room.ensures.same c.open.ensures)

@@ -1,4 +1,4 @@
-use Rattle.std.proofs.Common.{◌≡◌, ◌∙◌, ◌-◌, sym, rules}
+use Rattle.std.proofs.Common.{◌≡◌, ◌-◌, sym, rules}
 use Rattle.cns_clearing.proofs.LeavesLemmas.{pour_leaves, refilled_lots}
 use Rattle.cns_clearing.proofs.NodeLemmas.{node_lots}
 use Rattle.cns_clearing.proofs.clearing.Clearing.lot_pour.Goals as goal
@@ -14,7 +14,7 @@ returns g c =
     let count = rw (← c.self.view_is) at c.record_count-records.ensures in
     let avail = rw (← c.self.view_is) at c.avail-poured.ensures in
     let found = rw (← c.self.view_is) at c.in-Some.ensures in
-    let down = rw (← c.self.view_is) at c.is_down.ensures in
+    let up = rw (← c.self.view_is) at c.in_ok-up.ensures.up in
     let shares : c.saturating_sub.result ≡ c.avail-poured.result - c.in-Some.lot.now.poured = search rules in
     rw (← c.self.view_is)
-    (pour_leaves _ _ c.args.issue _ _ _ c.in-Some.lot.now c.self.invariant.log.allowed c.self.invariant.fits c.self.invariant.lots (sym down ∙ c.if-is_down.false) (sym found) count avail shares c.refill.ensures)
+    (pour_leaves _ _ c.args.issue _ _ _ c.in-Some.lot.now c.self.invariant.log.allowed c.self.invariant.fits c.self.invariant.lots up (sym found) count avail shares c.refill.ensures)
