@@ -18,7 +18,8 @@ use Rattle.cns_journal.specs.Replay.{KeeperState}
 use Rattle.cns_journal.specs.RecordLog.{LogState}
 use Rattle.cns_trades.specs.declared.opening.Opening.{Opening}
 use Rattle.cns_depository.specs.Stock.{IsLawfulDepot, moved_by, order_in, record_of}
-use Rattle.cns_system.specs.Accord.{Accord, FitsStock, IsInAccord, IsKnown}
+use Rattle.cns_wire.specs.Frame.{order_frame, reply_frame}
+use Rattle.cns_system.specs.Accord.{Accord, FitsStock, IsInAccord, IsKnown, IsOrderPacket, IsReplyPacket}
 use Rattle.cns_system.specs.Agreement.{IsExecuted, IsOrdered}
 use Rattle.cns_system.specs.Start.{IsStarted}
 use Rattle.cns_system.specs.World.{World, order_in_packet, reply_in_packet}
@@ -77,6 +78,23 @@ packet_cases P [] y all here (suc k) x e = absurd (none-some x e)
 packet_cases P (z ∷ zs) y all here zero x e = all zero x e
 packet_cases P (z ∷ zs) y all here (suc k) x e = packet_cases P zs y (λ j. all (suc j)) here k x e
 
+-- a packet stays one of an order as records are added, and one of a reply as a movement of another number is executed
+order_packet_stays : (u : ClearRecord) (c : List ClearRecord) (bytes : List ℕ) → IsOrderPacket (orders_of c).orders bytes
+    → IsOrderPacket (orders_of (u ∷ c)).orders bytes
+order_packet_stays u c bytes i = record { order = i.order; found = order_stays u c i.order.number i.order i.found; frame = i.frame; reads = i.reads }
+
+reply_packet_stays : (e : DepRecord) (p : List DepRecord) (bytes : List ℕ) → record_of p (order_in e).number ≡ None → IsReplyPacket p bytes
+    → IsReplyPacket (e ∷ p) bytes
+reply_packet_stays e p bytes fresh i = record { reply = i.reply; done = executed_stays e p i.reply fresh i.done; frame = i.frame; reads = i.reads }
+
+-- the order that is read from a packet is that of its number, and the reply that is read from one tells of an executed movement
+pub packet_found : (orders : List Order) (bytes : List ℕ) (o : Order) → IsOrderPacket orders bytes → order_in_packet (Some bytes) ≡ Some o
+    → order_of orders o.number ≡ Some o
+packet_found orders bytes o i reads = subst (λ (q : Order). order_of orders q.number ≡ Some q) (same_Some i.order o (sym i.reads ∙ reads)) i.found
+
+pub packet_done : (p : List DepRecord) (bytes : List ℕ) (r : Reply) → IsReplyPacket p bytes → reply_in_packet (Some bytes) ≡ Some r → IsExecuted p r
+packet_done p bytes r i reads = subst (IsExecuted p) (same_Some i.reply r (sym i.reads ∙ reads)) i.done
+
 -- ---- what one node leaves
 
 module _ (c c' : LogState ClearRecord) (d : LogState DepRecord) (orders replies : List (List ℕ)) where
@@ -90,9 +108,8 @@ module _ (c c' : LogState ClearRecord) (d : LogState DepRecord) (orders replies 
             (λ e known. (ordered_stays u c.records e known.0, known.1)) d.records a.known);
         executed =
             subst (λ (l : List ClearRecord). All (IsExecuted d.records) (orders_of l).replies) (sym more) (replies_fit u c.records d.records fits a.executed);
-        sent = λ k bytes o at reads.
-            subst (λ (l : List ClearRecord). order_of (orders_of l).orders o.number ≡ Some o) (sym more)
-            (order_stays u c.records o.number o (a.sent k bytes o at reads));
+        sent = λ k bytes at.
+            subst (λ (l : List ClearRecord). IsOrderPacket (orders_of l).orders bytes) (sym more) (order_packet_stays u c.records bytes (a.sent k bytes at));
         answered = a.answered;
         clear_tried = λ v tried. absurd (none-some v (sym none ∙ tried));
         depot_tried = λ e tried.
@@ -108,7 +125,7 @@ module _ (c c' : LogState ClearRecord) (d : LogState DepRecord) (orders replies 
   kept a same fits up = record {
     known = subst (λ (l : List ClearRecord). All (IsKnown (orders_of l).orders) d.records) (sym same) a.known;
     executed = subst (λ (l : List ClearRecord). All (IsExecuted d.records) (orders_of l).replies) (sym same) a.executed;
-    sent = λ k bytes o at reads. subst (λ (l : List ClearRecord). order_of (orders_of l).orders o.number ≡ Some o) (sym same) (a.sent k bytes o at reads);
+    sent = λ k bytes at. subst (λ (l : List ClearRecord). IsOrderPacket (orders_of l).orders bytes) (sym same) (a.sent k bytes at);
     answered = a.answered;
     clear_tried = fits;
     depot_tried = λ e tried.
@@ -130,8 +147,7 @@ module _ (c : LogState ClearRecord) (d d' : LogState DepRecord) (orders replies 
         subst (λ (l : List DepRecord). All (IsExecuted l) (orders_of c.records).replies) (sym more)
         (All-weaker (IsExecuted d.records) (IsExecuted (e ∷ d.records)) (λ r done. executed_stays e d.records r fresh done) (orders_of c.records).replies a.executed);
     sent = a.sent;
-    answered = λ k bytes r at reads.
-        subst (λ (l : List DepRecord). IsExecuted l r) (sym more) (executed_stays e d.records r fresh (a.answered k bytes r at reads));
+    answered = λ k bytes at. subst (λ (l : List DepRecord). IsReplyPacket l bytes) (sym more) (reply_packet_stays e d.records bytes fresh (a.answered k bytes at));
     clear_tried = λ u tried. subst (λ (l : List DepRecord). FitsStock l u) (sym more) (fits_stays e d.records u fresh (a.clear_tried u tried));
     depot_tried = λ f tried. absurd (none-some f (sym none ∙ tried));
     clear_up = a.clear_up;
@@ -146,7 +162,7 @@ module _ (c : LogState ClearRecord) (d d' : LogState DepRecord) (orders replies 
     known = subst (λ (l : List DepRecord). All (IsKnown (orders_of c.records).orders) l) (sym same) a.known;
     executed = subst (λ (l : List DepRecord). All (IsExecuted l) (orders_of c.records).replies) (sym same) a.executed;
     sent = a.sent;
-    answered = λ k bytes r at reads. subst (λ (l : List DepRecord). IsExecuted l r) (sym same) (a.answered k bytes r at reads);
+    answered = λ k bytes at. subst (λ (l : List DepRecord). IsReplyPacket l bytes) (sym same) (a.answered k bytes at);
     clear_tried = λ u tried. subst (λ (l : List DepRecord). FitsStock l u) (sym same) (a.clear_tried u tried);
     depot_tried = λ e tried.
         let now = fits e tried in
@@ -156,15 +172,12 @@ module _ (c : LogState ClearRecord) (d d' : LogState DepRecord) (orders replies 
   }
 
 -- a packet more on the link of orders, and one on that of replies
-pub order_put : (c : LogState ClearRecord) (d : LogState DepRecord) (orders replies : List (List ℕ)) (o : Order) (bytes : List ℕ) → Accord c d orders replies
-    → order_of (orders_of c.records).orders o.number ≡ Some o → order_in_packet (Some bytes) ≡ Some o → Accord c d (orders ++ bytes ∷ []) replies
-order_put c d orders replies o bytes a found reads = record {
+pub order_put : (c : LogState ClearRecord) (d : LogState DepRecord) (orders replies : List (List ℕ)) (o : Order) → Accord c d orders replies
+    → order_of (orders_of c.records).orders o.number ≡ Some o → order_in_packet (Some (order_frame o)) ≡ Some o → Accord c d (orders ++ order_frame o ∷ []) replies
+order_put c d orders replies o a found reads = record {
   known = a.known;
   executed = a.executed;
-  sent = λ k b p at holds.
-      packet_cases (λ (b : List ℕ). (p : Order) → order_in_packet (Some b) ≡ Some p → order_of (orders_of c.records).orders p.number ≡ Some p)
-      orders bytes (λ j x here q e. a.sent j x q here e)
-      (λ q e. subst (λ (q : Order). order_of (orders_of c.records).orders q.number ≡ Some q) (same_Some o q (sym reads ∙ e)) found) k b at p holds;
+  sent = packet_cases (IsOrderPacket (orders_of c.records).orders) orders (order_frame o) a.sent (record { order = o; found = found; frame = refl; reads = reads });
   answered = a.answered;
   clear_tried = a.clear_tried;
   depot_tried = a.depot_tried;
@@ -172,16 +185,13 @@ order_put c d orders replies o bytes a found reads = record {
   depot_up = a.depot_up;
 }
 
-pub reply_put : (c : LogState ClearRecord) (d : LogState DepRecord) (orders replies : List (List ℕ)) (r : Reply) (bytes : List ℕ) → Accord c d orders replies
-    → IsExecuted d.records r → reply_in_packet (Some bytes) ≡ Some r → Accord c d orders (replies ++ bytes ∷ [])
-reply_put c d orders replies r bytes a done reads = record {
+pub reply_put : (c : LogState ClearRecord) (d : LogState DepRecord) (orders replies : List (List ℕ)) (r : Reply) → Accord c d orders replies
+    → IsExecuted d.records r → reply_in_packet (Some (reply_frame r)) ≡ Some r → Accord c d orders (replies ++ reply_frame r ∷ [])
+reply_put c d orders replies r a done reads = record {
   known = a.known;
   executed = a.executed;
   sent = a.sent;
-  answered = λ k b p at holds.
-      packet_cases (λ (b : List ℕ). (p : Reply) → reply_in_packet (Some b) ≡ Some p → IsExecuted d.records p)
-      replies bytes (λ j x here q e. a.answered j x q here e)
-      (λ q e. subst (IsExecuted d.records) (same_Some r q (sym reads ∙ e)) done) k b at p holds;
+  answered = packet_cases (IsReplyPacket d.records) replies (reply_frame r) a.answered (record { reply = r; done = done; frame = refl; reads = reads });
   clear_tried = a.clear_tried;
   depot_tried = a.depot_tried;
   clear_up = a.clear_up;
@@ -204,8 +214,8 @@ started openings clear depot w s =
     λ clear_honest depot_honest. record {
       known = known_all openings (orders_of w.clear.clear.log.records).orders w.depot.log.records s.depot_opens.0.allowed s.agree.ordered;
       executed = s.agree.executed;
-      sent = λ k bytes o at reads. absurd (none-some bytes (ap (λ (l : List (List ℕ)). slice_get l k) (sym s.orders) ∙ at));
-      answered = λ k bytes r at reads. absurd (none-some bytes (ap (λ (l : List (List ℕ)). slice_get l k) (sym s.replies) ∙ at));
+      sent = λ k bytes at. absurd (none-some bytes (ap (λ (l : List (List ℕ)). slice_get l k) (sym s.orders) ∙ at));
+      answered = λ k bytes at. absurd (none-some bytes (ap (λ (l : List (List ℕ)). slice_get l k) (sym s.replies) ∙ at));
       clear_tried = λ u tried. absurd (none-some u (sym none ∙ tried));
       depot_tried = λ e tried. absurd (none-some e (sym stock_none ∙ tried));
       clear_up = λ up. none;

@@ -43,7 +43,6 @@ use Rattle.cns_system.specs.Lot.{LotState, with_seal}
 use Rattle.cns_system.specs.Lots.{LotLeaves, ReserveLeaves, lot_at}
 use Rattle.cns_system.specs.Outcomes.{asked_outcome, close_outcome, cycle_outcome, done_outcome, open_outcome, pour_outcome, poured_outcome, reply_outcome, reserve_outcome, restart_outcome, trade_outcome}
 use Rattle.cns_system.specs.Numbered.{NumberedNode, CloseLeaves, OpenLeaves, PourLeaves}
-use Rattle.cns_wire.specs.Frame.{order_frame, reply_frame}
 use Rattle.cns_wire.specs.Packet.{packet_at}
 use Rattle.cns_system.specs.Step.{AtClear, ByLots, ByNode, ClearRestarts, DepotRestartStep, Looks, OrderInStep, OrderTaken, Puts, ReplyInStep, SendStep, Step}
 use Rattle.cns_system.specs.World.{World, order_in_packet, reply_in_packet}
@@ -52,7 +51,7 @@ use Rattle.cns_system.specs.declared.event.Event.TheVariants as event
 use Rattle.cns_system.specs.declared.event.NodeName.TheVariants as node
 use Rattle.cns_system.specs.declared.numbered.Opened.{Opened}
 use Rattle.cns_system.specs.declared.outcome.Outcome.{Outcome}
-use Rattle.cns_system.proofs.AccordLemmas.{executed_more, grown, kept, order_put, reply_put, stock_kept}
+use Rattle.cns_system.proofs.AccordLemmas.{executed_more, grown, kept, order_put, packet_done, packet_found, reply_put, stock_kept}
 use Rattle.cns_system.proofs.DeliveredLemmas.{next_known}
 
 -- what is found in an option
@@ -279,7 +278,7 @@ send_step number outcome old new (inl h) accord =
     let sent = h.2 in
     subst IsInAccord (sym sent.put)
     (λ clear_honest depot_honest.
-    order_put old.clear.clear.log old.depot.log old.orders old.replies sent.order (order_frame sent.order) (accord clear_honest depot_honest)
+    order_put old.clear.clear.log old.depot.log old.orders old.replies sent.order (accord clear_honest depot_honest)
     (subst (λ (n : ℕ). order_of (orders_of old.clear.clear.log.records).orders n ≡ Some sent.order)
     (sym (order_of_number (orders_of old.clear.clear.log.records).orders number sent.order sent.found)) sent.found)
     sent.reads)
@@ -290,10 +289,10 @@ puts_keep : (c : LogState ClearRecord) (o : Order) (result : Result Answer DepFa
     → Accord c new.depot.log old.orders old.replies → Accord c new.depot.log old.orders new.replies
 puts_keep c o (Ok (answer.Done r)) old new h p a =
     subst (λ (l : List (List ℕ)). Accord c new.depot.log old.orders l) (sym p.put)
-    (reply_put c new.depot.log old.orders old.replies r (reply_frame r) a (done_executed o r old.depot new.depot h) p.reads)
+    (reply_put c new.depot.log old.orders old.replies r a (done_executed o r old.depot new.depot h) p.reads)
 puts_keep c o (Ok (answer.Again r)) old new h p a =
     subst (λ (l : List (List ℕ)). Accord c new.depot.log old.orders l) (sym p.put)
-    (reply_put c new.depot.log old.orders old.replies r (reply_frame r) a (again_executed o r old.depot new.depot h) p.reads)
+    (reply_put c new.depot.log old.orders old.replies r a (again_executed o r old.depot new.depot h) p.reads)
 puts_keep c o (Err fault) old new h p a = subst (λ (l : List (List ℕ)). Accord c new.depot.log old.orders l) (sym p) a
 
 -- an order arrives: it is one that the clearing node sent
@@ -301,7 +300,8 @@ order_taken : (k : ℕ) (bytes : List ℕ) (o : Order) (outcome : Outcome) (old 
     → new.clear ≡ old.clear → new.orders ≡ old.orders → OrderTaken o outcome old new → AreLawful old → IsInAccord old → IsInAccord new
 order_taken k bytes o outcome old new at reads clear orders (inl t) lawful accord = λ clear_honest depot_honest.
     let known = λ (a : Accord old.clear.clear.log old.depot.log old.orders old.replies) (fresh : record_of old.depot.log.records o.number ≡ None).
-    next_known old.depot.openings old.clear.clear.log.records old.depot.log.records o lawful.0 lawful.1 a.known a.executed (a.sent k bytes o at reads) fresh in
+    next_known old.depot.openings old.clear.clear.log.records old.depot.log.records o lawful.0 lawful.1 a.known a.executed
+    (packet_found (orders_of old.clear.clear.log.records).orders bytes o (a.sent k bytes at) reads) fresh in
     let now = order_keeps old.clear.clear.log old.orders old.replies o t.0 old.depot new.depot known t.2 in
     let was_honest = sym now.0 ∙ depot_honest in
     let before = accord (sym (ap (λ (n : NumberedNode). n.clear.log.honest) clear) ∙ clear_honest) was_honest in
@@ -341,7 +341,8 @@ reply_arrives None (Some r) outcome old new place is h accord = absurd (none-som
 reply_arrives (Some bytes) (Some r) outcome old new place is h accord =
     let at = place bytes refl in
     clear_step (reply_outcome r) (ByNode (ReplyLeaves r)) outcome old new
-    (λ result leaves. reply_keeps old.depot.log old.orders old.replies r result old.clear.clear new.clear.clear (λ a. a.answered at.0 bytes r at.1 is) leaves.0) h accord
+    (λ result leaves. reply_keeps old.depot.log old.orders old.replies r result old.clear.clear new.clear.clear
+    (λ a. packet_done old.depot.log.records bytes r (a.answered at.0 bytes at.1) is) leaves.0) h accord
 
 -- the depository restarts
 depot_restart_step : (outcome : Outcome) (old new : World) → DepotRestartStep outcome old new → IsInAccord old → IsInAccord new

@@ -36,7 +36,7 @@ use Rattle.cns_system.specs.World.{World, order_in_packet, reply_in_packet}
 use Rattle.cns_system.specs.declared.event.Event.{Event}
 use Rattle.cns_system.specs.declared.event.Event.TheVariants as event
 use Rattle.cns_system.specs.declared.event.NodeName.TheVariants as node
-use Rattle.cns_system.proofs.AccordLemmas.{ordered_found}
+use Rattle.cns_system.proofs.AccordLemmas.{ordered_found, packet_done, packet_found}
 use Rattle.cns_system.proofs.DeliveredLemmas.{confirmed_as, record_known}
 use Rattle.cns_system.proofs.KeepsLemmas.{packet_place}
 use Rattle.cns_system.specs.declared.outcome.Outcome.{Outcome}
@@ -130,7 +130,8 @@ order_in_sound (Some bytes) (Some o) outcome old new place is h a = taken_sound 
 
     taken_sound : OrderTaken o outcome old new → outcome ≢ outcomes.Refused refusal.Conflict
     taken_sound (inl t) = λ e.
-        order_sound o _ t.0 old.depot new.depot (orders_of old.clear.clear.log.records).orders a.known (a.sent at.0 bytes o at.1 is) t.2 (sym t.1 ∙ e)
+        order_sound o _ t.0 old.depot new.depot (orders_of old.clear.clear.log.records).orders a.known
+        (packet_found (orders_of old.clear.clear.log.records).orders bytes o (a.sent at.0 bytes at.1) is) t.2 (sym t.1 ∙ e)
     taken_sound (inr t) = λ e. cc (t.0, e)
 
 reply_in_sound : (packet : Option (List ℕ)) (held : Option Reply) (outcome : Outcome) (old new : World)
@@ -140,7 +141,8 @@ reply_in_sound packet None outcome old new place is h a = (λ e. cc (h.0, e), λ
 reply_in_sound None (Some r) outcome old new place is h a = absurd (none-some r is)
 reply_in_sound (Some bytes) (Some r) outcome old new place is h a =
     let at = place bytes refl in
-    let known = answer_known (orders_of old.clear.clear.log.records) old.depot.log.records r a.known a.executed (a.answered at.0 bytes r at.1 is) in
+    let done = packet_done old.depot.log.records bytes r (a.answered at.0 bytes at.1) is in
+    let known = answer_known (orders_of old.clear.clear.log.records) old.depot.log.records r a.known a.executed done in
     subst IsSoundReply (sym h.3.1)
     (reply_sound r h.3.0 old.clear.clear new.clear.clear (not_refused (confirm_answer (orders_of old.clear.clear.log.records) r) known) h.3.2.0)
 

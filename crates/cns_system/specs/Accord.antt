@@ -3,6 +3,7 @@ use Rattle.std.specs.Prelude.{◌≡◌, ◌≢◌, ◌≤◌, ℕ, true, false,
 use Rattle.cns_movements.specs.Order.{order_of}
 use Rattle.cns_movements.specs.declared.order.Order.{Order}
 use Rattle.cns_movements.specs.declared.order.Reply.{Reply}
+use Rattle.cns_wire.specs.Frame.{order_frame, reply_frame}
 use Rattle.cns_journal.specs.RecordLog.{LogState}
 use Rattle.cns_records.specs.declared.clear_record.ClearRecord.{ClearRecord}
 use Rattle.cns_records.specs.declared.clear_record.ClearRecord.TheVariants as entry
@@ -31,15 +32,27 @@ FitsStock p (entry.Cycle id) = Unit {0}
 FitsStock p (entry.Allocate a) = Unit {0}
 FitsStock p (entry.Confirm r) = IsExecuted p r
 
--- the two nodes' records agree, each packet of an order is the order of its number and each packet of a reply a movement that was
--- executed, and so it stays where a record whose commit failed comes back; a node that is up has no such record
+-- a packet of an order is the frame of an order that is found under its number, and reads as it
+pub record IsOrderPacket (orders : List Order) (bytes : List ℕ) : Type 0 where
+  pub order : Order
+  pub found : order_of orders order.number ≡ Some order
+  pub frame : bytes ≡ order_frame order
+  pub reads : order_in_packet (Some bytes) ≡ Some order
+
+-- a packet of a reply is the frame of a reply that tells of an executed movement, and reads as it
+pub record IsReplyPacket (p : List DepRecord) (bytes : List ℕ) : Type 0 where
+  pub reply : Reply
+  pub done : IsExecuted p reply
+  pub frame : bytes ≡ reply_frame reply
+  pub reads : reply_in_packet (Some bytes) ≡ Some reply
+
+-- the two nodes' records agree, each packet is the frame of the order of its number or of the reply to a movement that was executed,
+-- and so it stays where a record whose commit failed comes back; a node that is up has no such record
 pub record Accord (clear : LogState ClearRecord) (depot : LogState DepRecord) (orders replies : List (List ℕ)) : Type 0 where
   pub known : All (IsKnown (orders_of clear.records).orders) depot.records
   pub executed : All (IsExecuted depot.records) (orders_of clear.records).replies
-  pub sent : (k : ℕ) (bytes : List ℕ) (o : Order) → slice_get orders k ≡ Some bytes → order_in_packet (Some bytes) ≡ Some o
-      → order_of (orders_of clear.records).orders o.number ≡ Some o
-  pub answered : (k : ℕ) (bytes : List ℕ) (r : Reply) → slice_get replies k ≡ Some bytes → reply_in_packet (Some bytes) ≡ Some r
-      → IsExecuted depot.records r
+  pub sent : (k : ℕ) (bytes : List ℕ) → slice_get orders k ≡ Some bytes → IsOrderPacket (orders_of clear.records).orders bytes
+  pub answered : (k : ℕ) (bytes : List ℕ) → slice_get replies k ≡ Some bytes → IsReplyPacket depot.records bytes
   pub clear_tried : (u : ClearRecord) → clear.tried ≡ Some u → FitsStock depot.records u
   pub depot_tried : (e : DepRecord) → depot.tried ≡ Some e
       → IsKnown (orders_of clear.records).orders e × (record_of depot.records (order_in e).number ≡ None)

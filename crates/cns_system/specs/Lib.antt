@@ -8,3 +8,4 @@ pub mod Step
 pub mod Agreement
 pub mod Start
 pub mod Accord
+pub mod Run

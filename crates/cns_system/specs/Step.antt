@@ -148,10 +148,3 @@ Step (event.OrderIn packet) outcome old new = OrderInStep (order_in_packet (pack
 Step (event.ReplyIn packet) outcome old new = ReplyInStep (reply_in_packet (packet_at old.replies packet)) outcome old new
 Step (event.Restart node.Clear) outcome old new = AtClear restart_outcome ClearRestarts outcome old new
 Step (event.Restart node.Depot) outcome old new = DepotRestartStep outcome old new
-
--- events come to these outcomes, one after another
-abbrev pub Run : List Event → List Outcome → World → World → Type 0
-Run [] [] old new = new ≡ old
-Run (event ∷ events) (outcome ∷ outcomes) old new = (between : World) × Step event outcome old between × Run events outcomes between new
-Run [] (outcome ∷ outcomes) old new = ⊥
-Run (event ∷ events) [] old new = ⊥

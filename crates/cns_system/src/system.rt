@@ -1,7 +1,8 @@
 ghost use Rattle.std.specs.Prelude.{◌≡◌, IfOk, OnErr};
 ghost use Rattle.cns_system.specs.Accord.{IsInAccord, StaysSound};
+ghost use Rattle.cns_system.specs.Run.{Run};
 ghost use Rattle.cns_system.specs.Start.{Opens};
-ghost use Rattle.cns_system.specs.Step.{Run, Step};
+ghost use Rattle.cns_system.specs.Step.{Step};
 
 use crate::event::Event;
 use crate::fault::StartFault;
@@ -21,8 +22,8 @@ use std::marker::Model;
 /// each movement that the depository executed is the order of its number in the clearing node, with
 /// its member, its issue and the quantity that it asks for; a delivery moved all of that quantity, and
 /// a cover no more than it; each movement that the clearing node has confirmed was executed, and moved
-/// just what was confirmed; and each packet of an order is the order of its number, each packet of a
-/// reply a movement that was executed.
+/// just what was confirmed; and each packet is a frame, on the link of orders that of the order of its
+/// number, on the link of replies that of the reply to a movement that was executed.
 ///
 /// Contracts see the clearing node with its lots by number, the depository, and the packets that were
 /// put on the link in each direction, the oldest first.
@@ -102,7 +103,7 @@ impl<C: Keeper, D: Keeper> System<C, D> {
         self.pair.step(event)
     }
 
-    /// Lets events happen one after another, and answers what each of them came to.
+    /// Lets events happen one after another, as `step` does, and answers what each of them came to.
     ///
     /// Where there is no memory for the outcomes, no event happens.
     pub fn run(&mut self, alloc: Global, events: &[Event]) -> Result<Vec<Outcome>, AllocError>

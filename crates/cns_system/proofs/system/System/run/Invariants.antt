@@ -1,6 +1,6 @@
 use Rattle.std.proofs.Common.{◌≡◌, ◌≤◌, take, length, vec_capacity}
 use Rattle.cns_system.specs.Accord.{IsInAccord}
-use Rattle.cns_system.specs.Step.{Run}
+use Rattle.cns_system.specs.Run.{Run}
 use Rattle.cns_system.proofs.system.System.run.Given as goal
 
 abbrev pub invariant-loop-event : goal.invariant-loop-event
