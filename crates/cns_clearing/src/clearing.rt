@@ -91,8 +91,9 @@ impl<K: Keeper> Clearing<K> {
 
     /// Accepts a trade.
     ///
-    /// Refuses `Down`, then `Trade` with the verdict of the accepted trades where that is not `New`. After `Device` the trade is not accepted, and the node is down until it is restarted.
-    /// (This project's own rule.)
+    /// Refuses `Down`, then `Trade` with the verdict of the accepted trades where that is not `New`.
+    /// After `Device` the trade is not accepted, and the node is down until it is restarted. (This
+    /// project's own rule.)
     pub fn take_trade(&mut self, trade: &Trade) -> Result<(), Refusal>
         ensures { TradeLeaves trade.now result self.old self.new }
     {
