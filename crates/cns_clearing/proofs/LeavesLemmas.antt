@@ -1,10 +1,12 @@
 -- What the calls of lots leave.
-use Rattle.std.proofs.Common.{◌≡◌, ◌≤◌, ◌+◌, ◌-◌, ℕ, Bool, false, List, [], ◌∷◌, ◌++◌, length, map, Option, Some, None, Ok, Err, ◌≢◌, refl, sym, ap, ◌∙◌, subst}
-use Rattle.std.specs.Prelude.{◌==◌, IfOk, Result, if◌then◌else◌}
+use Rattle.std.proofs.Common.{◌≡◌, ◌≤◌, ◌+◌, ◌-◌, ℕ, Bool, false, List, [], ◌∷◌, ◌++◌, length, map, Some, None, Ok, Err, ◌≢◌, refl, sym, ap, ◌∙◌, subst}
+use Rattle.std.specs.Prelude.{IfOk, Result}
 use Rattle.std.specs.declared.alloc.AllocError.{AllocError}
 use Rattle.cns_pool.specs.Pool.{asked_sum}
 use Rattle.cns_pool.specs.declared.ticket.Ticket.{Ticket}
+use Rattle.cns_movements.specs.Order.{numbered}
 use Rattle.cns_movements.specs.declared.order.Ask.{Ask}
+use Rattle.cns_movements.specs.declared.order.Order.{Order}
 use Rattle.cns_allocate.specs.Deliveries.{deliveries_of}
 use Rattle.cns_allocate.specs.Served.{IsServed}
 use Rattle.cns_allocate.specs.Plan.{plan_of}
@@ -150,9 +152,8 @@ pub close_refused : (old new : ClearNode) (issue : ℕ) (tickets : List Ticket) 
 close_refused old new issue tickets sealed a commit.OutOfMemory up may allowed left = (up, some_found old issue may.lot may.found, left)
 close_refused old new issue tickets sealed a commit.Device up may allowed left = (a, may, allowed, left)
 
--- the number of the first order, of the records
-pub first_is : (b : Books) (c : List ClearRecord) (l : List Ask) (n : ℕ) (r : Option ℕ) → b ≡ books_of c → length l ≡ n
-    → r ≡ (if length l == 0 then None else Some (length b.orders.orders + 1)) → r ≡ (if n == 0 then None else Some (length (orders_of c).orders + 1))
-first_is b c l n r same count is =
-    is ∙ ap (λ (m : ℕ). if m == 0 then None else Some (length b.orders.orders + 1)) count
-    ∙ ap (λ (x : Books). if n == 0 then None else Some (length x.orders.orders + 1)) same
+-- the orders under the next numbers, of the records
+pub orders_are : (b : Books) (c : List ClearRecord) (l : List Ask) (a : Allocation) (orders : List Order) → b ≡ books_of c → l ≡ deliveries_in a
+    → orders ≡ numbered (length b.orders.orders + 1) l → orders ≡ numbered (length (orders_of c).orders + 1) (deliveries_in a)
+orders_are b c l a orders same list is =
+    is ∙ ap (λ (x : Books). numbered (length x.orders.orders + 1) l) same ∙ ap (numbered (length (orders_of c).orders + 1)) list

@@ -11,5 +11,6 @@ pub mod DrawnLemmas
 pub mod PlanLemmas
 pub mod AllocationLemmas
 pub mod PouredLemmas
+pub mod NumberedLemmas
 pub mod LeavesLemmas
 pub mod BalanceLemmas

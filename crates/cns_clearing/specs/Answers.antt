@@ -1,6 +1,6 @@
 -- What each call of a clearing node answers, and what it leaves (this project's own rules). A refusal tells that those named
 -- before it did not apply; only `Device` leaves anything changed.
-use Rattle.std.specs.Prelude.{◌≡◌, ◌≢◌, ℕ, ◌+◌, ◌==◌, ◌^◌, ◌≤◌, min, Bool, true, false, List, [], ◌∷◌, ◌++◌, length, map, sum_by, Some, None, Result, Ok, Err, if◌then◌else◌}
+use Rattle.std.specs.Prelude.{◌≡◌, ◌≢◌, ℕ, ◌+◌, ◌^◌, ◌≤◌, min, Bool, true, false, List, [], ◌∷◌, ◌++◌, length, map, sum_by, Some, None, Result, Ok, Err}
 use Rattle.cns_ids.specs.declared.cycle.CycleId.{CycleId}
 use Rattle.cns_trades.specs.Verdicts.{verdict}
 use Rattle.cns_trades.specs.declared.list.Verdict.{Verdict}
@@ -8,7 +8,7 @@ use Rattle.cns_trades.specs.declared.list.Verdict.TheVariants as verdicts
 use Rattle.cns_trades.specs.declared.trade.Trade.{Trade}
 use Rattle.cns_netting.specs.History.{accepted, becoming_due}
 use Rattle.cns_movements.specs.Confirm.{confirm_answer}
-use Rattle.cns_movements.specs.Order.{order_of}
+use Rattle.cns_movements.specs.Order.{numbered, order_of}
 use Rattle.cns_movements.specs.declared.book.Confirm.{Confirm}
 use Rattle.cns_movements.specs.declared.book.Confirm.TheVariants as answers
 use Rattle.cns_movements.specs.declared.order.Ask.{Ask}
@@ -59,11 +59,10 @@ SettingLeaves r (Err _) old new = ⊥
 abbrev pub covers_in : List ClearRecord → ℕ → List Ask
 covers_in c day = covers_on (books_of c) day
 
--- how many trades a cycle made due, the number of its first order, and how many it ordered
+-- how many trades a cycle made due, and the orders of its covers, under the next numbers
 pub record IsCycled (c : List ClearRecord) (day : ℕ) (done : Cycled) : Type 0 where
   pub due : done.due ≡ becoming_due (history_of c) day
-  pub count : done.count ≡ length (covers_in c day)
-  pub first : done.first ≡ (if done.count == 0 then None else Some (length (orders_of c).orders + 1))
+  pub orders : done.orders ≡ numbered (length (orders_of c).orders + 1) (covers_in c day)
 
 -- what a cycle leaves, by its answer
 abbrev pub CycleLeaves : CycleId → Result Cycled Refusal → ClearNode → ClearNode → Type 0
@@ -131,12 +130,11 @@ ClosingGives issue tickets sealed (Err refusal.BadTickets) node = (lot : Lot) ×
 ClosingGives issue tickets sealed (Err refusal.OutOfMemory) node = lot_of node.lots issue ≢ None
 ClosingGives issue tickets sealed (Err _) node = ⊥
 
--- how many shares a close granted, which its orders ask for in all; the number of the first of these, and how many they are
+-- how many shares a close granted, which its orders ask for in all, and these orders, under the next numbers
 pub record IsClosed (c : List ClearRecord) (tickets : List Ticket) (a : Allocation) (done : Closed) : Type 0 where
   pub granted : done.granted ≡ min a.poured (asked_sum tickets)
   pub sum : sum_by (λ (x : Ask). x.asked) (deliveries_in a) ≡ done.granted
-  pub count : done.count ≡ length (deliveries_in a)
-  pub first : done.first ≡ (if done.count == 0 then None else Some (length (orders_of c).orders + 1))
+  pub orders : done.orders ≡ numbered (length (orders_of c).orders + 1) (deliveries_in a)
 
 -- what the close of a lot leaves, by its answer
 abbrev pub LotCloseLeaves : ℕ → List Ticket → Bool → Result Closed Refusal → ClearNode → ClearNode → Type 0

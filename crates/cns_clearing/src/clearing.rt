@@ -1,6 +1,7 @@
-ghost use Rattle.std.specs.Prelude.{◌≡◌, ℕ, ◌≤◌, ◌^◌, ◌+◌, ◌==◌, true, false, [], length, option_map, Some, None, IfOk, IfErr, OnOk, if◌then◌else◌};
+ghost use Rattle.std.specs.Prelude.{◌≡◌, ℕ, ◌≤◌, ◌^◌, ◌+◌, true, false, [], length, option_map, IfOk, IfErr, OnOk};
 ghost use Rattle.cns_records.specs.declared.clear_record.ClearRecord.TheVariants.{Exempt, Priority};
 ghost use Rattle.cns_records.specs.Clear.{AreWritable, spelling};
+ghost use Rattle.cns_movements.specs.Order.{numbered};
 ghost use Rattle.cns_netting.specs.Book.{IsBook};
 ghost use Rattle.cns_netting.specs.History.{due, longs_of, shorts_of};
 ghost use Rattle.cns_clearing.specs.Books.{AreEffects, AreSound, IsAllowed, IsLawful, are_spent, asks_of, books_of, history_of, latest_of, orders_of, rows_after};
@@ -11,7 +12,7 @@ ghost use Rattle.cns_clearing.specs.Answers.{ClosingGives, CycleLeaves, LotClose
 ghost use Rattle.cns_clearing.specs.Node.{AddLeaves, IsOpened, IsUnread, NodePlanned, RestartLeaves};
 ghost use Rattle.cns_journal.specs.RecordLog.{Keeps};
 
-use crate::answer::{Closed, Cycled, Taken};
+use crate::answer::{Closed, Cycled, Orders, Taken};
 use crate::books::Books;
 use crate::closing::{allocation_of, asked_in_all};
 use crate::effects::Effects;
@@ -153,10 +154,9 @@ impl<K: Keeper> Clearing<K> {
         if books.are_spent(asks) {
             return Err(Refusal::NumbersSpent);
         }
-        let first = first_number(books, asks);
-        let count = asks.len();
+        let orders = numbered_orders(alloc, books, asks)?;
         let due = self.add(ClearRecord::Cycle(id), effects)?;
-        Ok(Cycled { due, first, count })
+        Ok(Cycled { due, orders })
     }
 
     /// Opens a lot of an issue: all its free shares are poured into it, and its plan is fixed.
@@ -227,16 +227,11 @@ impl<K: Keeper> Clearing<K> {
         if books.are_spent(asks.as_slice()) {
             return Err(Refusal::NumbersSpent);
         }
-        let first = first_number(books, asks.as_slice());
-        let count = asks.len();
+        let orders = numbered_orders(alloc, books, asks.as_slice())?;
         let granted = poured.min(asked_in_all(tickets));
         let effects = Effects::of_asks(alloc, asks);
         self.add(ClearRecord::Allocate(allocation), effects)?;
-        Ok(Closed {
-            granted,
-            first,
-            count,
-        })
+        Ok(Closed { granted, orders })
     }
 
     /// The order of this number, where its record was acknowledged.
@@ -529,14 +524,25 @@ impl<K: Keeper> Clearing<K> {
     }
 }
 
-// The number of the first of these orders, where there is one.
-fn first_number(books: &Books, asks: &[Ask]) -> Option<MoveNo>
+// The orders of these asks, under the next numbers of the books.
+fn numbered_orders(alloc: Global, books: &Books, asks: &[Ask]) -> Result<Orders, AllocError>
     requires { are_spent books.now.books.orders asks.now ≡ false }
     ensures { let next = length books.now.books.orders.orders + 1 in
-        result ≡ (if length asks.now == 0 then None else Some next) }
+        IfOk result (λ orders. orders ≡ numbered next asks.now) }
 {
-    if asks.is_empty() {
-        return None;
+    let issued = books.orders().len();
+    let mut list = Vec::with_capacity(alloc, asks.len())?;
+    for ask in asks {
+        let Some(number) = MoveNo::new((issued + list.len()) as u64 + 1) else {
+            unreachable!()
+        };
+        list.push(Order {
+            number,
+            kind: ask.kind,
+            member: ask.member,
+            issue: ask.issue,
+            asked: ask.asked,
+        })?;
     }
-    books.orders().next_number()
+    Ok(Orders::of(list))
 }

@@ -15,7 +15,7 @@ mod ledger;
 mod lot;
 mod pools;
 
-pub use answer::{Closed, Cycled, Taken};
+pub use answer::{Closed, Cycled, Orders, Taken};
 pub use clearing::Clearing;
 pub use lot::Lot;
 pub use pools::{PoolRow, PoolRows};

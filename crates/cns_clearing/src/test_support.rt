@@ -149,10 +149,10 @@ pub(crate) fn reply(of: u64, moved: u64) -> Result<Reply, Fail> {
     })
 }
 
-// The number of a first order, 0 where there is none.
-fn first(number: Option<MoveNo>) -> u64 {
-    match number {
-        Some(number) => number.number(),
+// The number of the first of some orders, 0 where there is none.
+fn first(orders: &[Order]) -> u64 {
+    match orders.first() {
+        Some(order) => order.number.number(),
         None => 0,
     }
 }
@@ -233,7 +233,8 @@ fn prioritize(
 // What a cycle answers.
 fn cycled(node: &mut Node, id: CycleId) -> Result<Ordered, Refusal> {
     let cycled = node.cycle(id)?;
-    Ok((cycled.due, first(cycled.first), cycled.count))
+    let orders = cycled.orders.as_slice();
+    Ok((cycled.due, first(orders), orders.len()))
 }
 
 fn run_cycle(
@@ -328,7 +329,8 @@ fn closed(
     sealed: bool,
 ) -> Result<Ordered, Refusal> {
     let closed = node.lot_close(issue, tickets, sealed)?;
-    Ok((closed.granted, first(closed.first), closed.count))
+    let orders = closed.orders.as_slice();
+    Ok((closed.granted, first(orders), orders.len()))
 }
 
 fn close(

@@ -9,3 +9,9 @@ pub mod DeliveredLemmas
 pub mod KeepsLemmas
 pub mod SoundLemmas
 pub mod LinkLemmas
+pub mod ShownLemmas
+pub mod Decided
+pub mod LotHappens
+pub mod LinkHappens
+pub mod HappensLemmas
+pub mod DecisionLemmas

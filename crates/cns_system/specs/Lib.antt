@@ -5,7 +5,11 @@ pub mod Numbered
 pub mod Outcomes
 pub mod World
 pub mod Step
+pub mod Shown
+pub mod Happens
+pub mod Decisions
 pub mod Agreement
 pub mod Start
 pub mod Accord
 pub mod Run
+pub mod Readers

@@ -31,11 +31,11 @@ pub record AreTied (open_lots : List Lot) (lots : List LotState) : Type 0 where
   pub each : (number : ℕ) (lot : LotState) → lot_at lots number ≡ Some lot → lot.ended ≡ false → IsTied open_lots lot
   pub once : (m n : ℕ) (k l : LotState) → lot_at lots m ≡ Some k → lot_at lots n ≡ Some l → k.ended ≡ false → l.ended ≡ false → k.issue ≡ l.issue → m ≡ n
 
--- an opened lot has the next number and all shares of the issue that are there, and its plan has so many members
+-- an opened lot has the next number, all shares of the issue that are there, and its plan
 pub record IsOpened (node : NumberedNode) (issue : ℕ) (opened : Opened) : Type 0 where
   pub number : opened.number ≡ length node.lots + 1
   pub poured : opened.poured ≡ avail_in node.clear.log.records issue
-  pub longs : opened.longs ≡ length (plan_in node.clear.log.records issue)
+  pub plan : opened.plan ≡ plan_in node.clear.log.records issue
 
 -- what the opening of a lot leaves, by its answer
 abbrev pub OpenLeaves : ℕ → Result Opened Refusal → NumberedNode → NumberedNode → Type 0

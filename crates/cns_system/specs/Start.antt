@@ -1,7 +1,10 @@
 -- What the opening of both nodes gives (this project's own rule).
-use Rattle.std.specs.Prelude.{◌≡◌, List, [], Result, Ok, Err}
+use Rattle.std.specs.Prelude.{◌≡◌, ℕ, true, false, List, []}
 use Rattle.cns_trades.specs.declared.opening.Opening.{Opening}
+use Rattle.cns_journal.specs.RecordLog.{Keeps, LogState}
 use Rattle.cns_journal.specs.Replay.{KeeperState}
+use Rattle.cns_records.specs.Clear.{spelling}
+use Rattle.cns_records.specs.Dep.{dep_spelling}
 use Rattle.cns_clearing.specs.Node.{ClearNode, IsOpened, IsUnread}
 use Rattle.cns_depository.specs.Node.{DepNode, IsOpened as IsDepotOpened, IsUnread as IsDepotUnread}
 use Rattle.cns_system.specs.Agreement.{Agree}
@@ -9,7 +12,7 @@ use Rattle.cns_system.specs.World.{World}
 use Rattle.cns_system.specs.declared.fault.StartFault.{StartFault}
 use Rattle.cns_system.specs.declared.fault.StartFault.TheVariants as start
 
--- both nodes with nothing but their records
+-- what is answered where both nodes are opened: both with nothing but their records
 pub record IsStarted (openings : List Opening) (clear depot : KeeperState) (w : World) : Type 0 where
   pub clear_opens : IsOpened clear w.clear.clear
   pub depot_opens : IsDepotOpened openings depot w.depot
@@ -18,11 +21,27 @@ pub record IsStarted (openings : List Opening) (clear depot : KeeperState) (w : 
   pub orders : w.orders ≡ []
   pub replies : w.replies ≡ []
 
--- what is answered, by what the keepers of the clearing node and of the depository give
-abbrev pub Opens : List Opening → KeeperState → KeeperState → Result World StartFault → Type 0
-Opens openings clear depot (Ok w) = IsStarted openings clear depot w
-Opens openings clear depot (Err (start.Clear fault)) = (after : KeeperState) × IsUnread fault clear after
-Opens openings clear depot (Err (start.Depot fault)) =
-    (c : ClearNode) × IsOpened clear c × ((after : KeeperState) × IsDepotUnread openings fault depot after)
-Opens openings clear depot (Err start.Disagree) =
-    (c : ClearNode) × IsOpened clear c × ((p : DepNode) × IsDepotOpened openings depot p × (Agree c.log.records p.log.records → ⊥))
+-- a keeper that a node gave up: an honest one has the node's records, and where that is down at most the one besides whose commit
+-- failed
+pub record IsGivenUp {R : Type 0} (spelling : R → List ℕ) (log : LogState R) (keeper : KeeperState) : Type 0 where
+  pub honest : keeper.honest ≡ log.honest
+  pub keeps : log.honest ≡ true → Keeps spelling log keeper.journal
+  pub run : log.down ≡ false → keeper.run.down ≡ false
+  pub failures : keeper.run.failures ≡ log.failures
+  pub foresight : keeper.foresight ≡ log.foresight
+
+-- a node that was opened and gave its keeper up again
+abbrev pub IsClearReturned : KeeperState → KeeperState → ClearNode → Type 0
+IsClearReturned before after node = IsOpened before node × IsGivenUp spelling node.log after
+
+abbrev pub IsDepotReturned : List Opening → KeeperState → KeeperState → DepNode → Type 0
+IsDepotReturned openings before after node = IsDepotOpened openings before node × IsGivenUp dep_spelling node.log after
+
+-- why both nodes are not opened, by what the keepers of the clearing node and of the depository give, and what is left of these
+abbrev pub IsNotOpened : List Opening → StartFault → KeeperState → KeeperState → KeeperState → KeeperState → Type 0
+IsNotOpened openings (start.Clear fault) clear depot clear' depot' = IsUnread fault clear clear' × (depot' ≡ depot)
+IsNotOpened openings (start.Depot fault) clear depot clear' depot' =
+    ((c : ClearNode) × IsClearReturned clear clear' c) × IsDepotUnread openings fault depot depot'
+IsNotOpened openings start.Disagree clear depot clear' depot' =
+    (c : ClearNode) × IsClearReturned clear clear' c
+    × ((p : DepNode) × IsDepotReturned openings depot depot' p × (Agree c.log.records p.log.records → ⊥))

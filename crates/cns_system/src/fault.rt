@@ -14,3 +14,14 @@ pub enum StartFault {
     #[error("the records of the two nodes do not agree")]
     Disagree,
 }
+
+/// A refused opening: why, and both keepers, each as its reopening left it where it was reopened.
+#[derive(Drop)]
+pub struct Unopened<C, D> {
+    /// Why the nodes are not opened.
+    pub fault: StartFault,
+    /// The keeper of the clearing node.
+    pub clear: C,
+    /// The keeper of the depository.
+    pub depot: D,
+}

@@ -17,11 +17,11 @@ mod system;
 
 pub use entry::Look;
 pub use event::{Event, NodeName};
-pub use fault::StartFault;
+pub use fault::{StartFault, Unopened};
 pub use lots::LotBook;
 pub use numbered::{NumberedClearing, Opened};
 pub use outcome::Outcome;
-pub use system::System;
+pub use system::{Counts, System};
 
 #[cfg(test)]
 mod tests;

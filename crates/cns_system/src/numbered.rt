@@ -7,6 +7,7 @@ ghost use Rattle.cns_pool.specs.Pool.{asked_sum};
 ghost use Rattle.cns_system.specs.Lot.{planned_sum, with_end, with_seal};
 ghost use Rattle.cns_system.specs.Lots.{AreLotsLawful, LotGives, LotLeaves, ReserveLeaves};
 ghost use Rattle.cns_system.specs.Numbered.{AreTied, CloseLeaves, OpenLeaves, PourLeaves};
+ghost use Rattle.cns_system.specs.Readers.{unconfirmed, without_reply};
 
 use crate::entry::Look;
 use crate::lots::LotBook;
@@ -14,7 +15,7 @@ use cns_allocate::Plan;
 use cns_clearing::{Clearing, Closed, Cycled, Taken};
 use cns_ids::{Cusip, CycleId, MemberNo, Shares};
 use cns_journal::{Keeper, NotPlanned, ReplayFault, Restarted};
-use cns_movements::Reply;
+use cns_movements::{MoveNo, OrderBook, Reply};
 use cns_pool::Ticket;
 use cns_records::Refusal;
 use cns_trades::Trade;
@@ -25,14 +26,14 @@ use std::marker::Model;
 const MAX_LOTS: u64 = 1_000_000;
 
 /// A lot that was opened.
-#[derive(Clone, Copy, PartialEq, Eq, Debug)]
+#[derive(Debug, Drop)]
 pub struct Opened {
     /// Its number.
     pub number: u64,
     /// The shares that were poured into it.
     pub poured: u64,
-    /// How many members its plan has.
-    pub longs: usize,
+    /// The members that it serves, who are the longs of its issue.
+    pub plan: Plan,
 }
 
 /// The clearing node, with its lots by number.
@@ -77,6 +78,14 @@ impl<K: Keeper> NumberedClearing<K> {
         &self.node
     }
 
+    /// Gives the clearing node up. The lots are gone.
+    pub fn into_node(self) -> Clearing<K>
+        ensures { result ≡ self.clear }
+    {
+        drop(self.lots);
+        self.node
+    }
+
     /// The lots by number.
     pub fn book(&self) -> &LotBook
         ensures lots { result.now ≡ self.now.lots }
@@ -92,6 +101,13 @@ impl<K: Keeper> NumberedClearing<K> {
         ensures { result ≡ length self.now.lots }
     {
         self.lots.len()
+    }
+
+    /// The orders that are not confirmed, by number.
+    pub fn unconfirmed(&self, alloc: Global) -> Result<Vec<MoveNo>, AllocError>
+        ensures { IfOk result (λ numbers. numbers.items ≡ unconfirmed self.now.clear.log.records) }
+    {
+        unconfirmed_in(alloc, self.node.orders())
     }
 
     /// Opens a lot of an issue: all its free shares are poured into it, its plan is fixed, and it has
@@ -118,7 +134,7 @@ impl<K: Keeper> NumberedClearing<K> {
             Ok(plan) => Ok(Opened {
                 number,
                 poured,
-                longs: plan.len(),
+                plan,
             }),
             Err(_) => {
                 self.lots.withdraw();
@@ -271,4 +287,17 @@ fn plan_of<K: Keeper>(node: &Clearing<K>, issue: Cusip) -> Result<Plan, AllocErr
     // As the book is small, so is what the plan asks for in all.
     let _book = node.book();
     Ok(plan)
+}
+
+// The orders of a book that are not confirmed, by number.
+fn unconfirmed_in(alloc: Global, book: &OrderBook) -> Result<Vec<MoveNo>, AllocError>
+    ensures { IfOk result (λ numbers. numbers.items ≡ without_reply book.now.book.orders book.now.book.replies) }
+{
+    let mut numbers = Vec::new(alloc);
+    for order in book.orders() {
+        if book.confirmed(order.number).is_none() {
+            numbers.push(order.number)?;
+        }
+    }
+    Ok(numbers)
 }

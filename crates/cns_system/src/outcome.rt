@@ -10,7 +10,7 @@ use cns_pool::Ticket;
 use cns_records::Refusal;
 
 /// What an event came to.
-#[derive(Clone, Copy, PartialEq, Eq, Debug)]
+#[derive(Debug, Drop)]
 pub enum Outcome {
     /// The trade is accepted.
     Accepted,

@@ -1,24 +1,29 @@
-ghost use Rattle.std.specs.Prelude.{◌≡◌, ◌<◌, ◌+◌, ◌++◌, ◌∷◌, [], length, Some, IfOk, OnErr};
+ghost use Rattle.std.specs.Prelude.{◌≡◌, ◌<◌, ◌+◌, ◌++◌, ◌∷◌, [], length, Some, IfOk, IfErr};
 ghost use Rattle.cns_clearing.specs.Answers.{CycleLeaves, ReplyLeaves, SettingLeaves, TradeLeaves};
+ghost use Rattle.cns_records.specs.Clear.{spelling};
+ghost use Rattle.cns_records.specs.Dep.{dep_spelling};
 ghost use Rattle.cns_wire.specs.Frame.{reply_frame};
 ghost use Rattle.cns_wire.specs.Packet.{packet_at};
 ghost use Rattle.cns_system.specs.Accord.{AreLawful};
+ghost use Rattle.cns_system.specs.Readers.{PlanStep, counts_of, unconfirmed};
 ghost use Rattle.cns_system.specs.Step.{order_at, AtClear, ByLots, ByNode, ClearRestarts, DepotRestartStep, Looks, OrderInStep, OrderRefused, OrderTaken, ReplyInStep, SendStep, Step};
-ghost use Rattle.cns_system.specs.Start.{Opens};
+ghost use Rattle.cns_system.specs.Start.{IsGivenUp, IsNotOpened, IsStarted};
 ghost use Rattle.cns_system.specs.World.{order_in_packet, reply_in_packet};
 
 use crate::agreement::agree;
 use crate::event::{Event, NodeName};
-use crate::fault::StartFault;
+use crate::fault::{StartFault, Unopened};
+use crate::lots::LotBook;
 use crate::numbered::NumberedClearing;
 use crate::outcome::Outcome;
+use crate::system::Counts;
 use cns_clearing::Clearing;
 use cns_depository::{Answer, Depository, Openings};
-use cns_journal::Keeper;
-use cns_movements::{Order, Reply};
+use cns_journal::{Keeper, NotPlanned};
+use cns_movements::{MoveNo, Order, Reply};
 use cns_records::Refusal;
 use cns_wire::{Frame, Wire, read_frame, write_order, write_reply};
-use std::alloc::Global;
+use std::alloc::{AllocError, Global};
 use std::marker::Model;
 
 /// Both nodes and the link between them, in any state.
@@ -50,36 +55,45 @@ impl<C: Keeper + Drop, D: Keeper + Drop> Pair<C, D> {
         clear: C,
         depot: D,
         openings: Openings,
-    ) -> Result<Pair<C, D>, StartFault>
-        ensures { Opens openings (record {
-          honest = C.honest clear;
-          run = C.run clear;
-          journal = C.journal clear;
-          foresight = C.foresight clear;
-        }) (record {
-          honest = D.honest depot;
-          run = D.run depot;
-          journal = D.journal depot;
-          foresight = D.foresight depot;
-        }) result }
+    ) -> Result<Pair<C, D>, Unopened<C, D>>
+        ensures ok { IfOk result (IsStarted openings
+            (record { honest = C.honest clear; run = C.run clear; journal = C.journal clear; foresight = C.foresight clear })
+            (record { honest = D.honest depot; run = D.run depot; journal = D.journal depot; foresight = D.foresight depot })) }
+        ensures err { IfErr result (λ refused. IsNotOpened openings refused.fault
+            (record { honest = C.honest clear; run = C.run clear; journal = C.journal clear; foresight = C.foresight clear })
+            (record { honest = D.honest depot; run = D.run depot; journal = D.journal depot; foresight = D.foresight depot })
+            (record { honest = C.honest refused.clear; run = C.run refused.clear; journal = C.journal refused.clear; foresight = C.foresight refused.clear })
+            (record { honest = D.honest refused.depot; run = D.run refused.depot; journal = D.journal refused.depot; foresight = D.foresight refused.depot })) }
     {
-        // The nodes are dropped by name at an exit: the check takes a call of `drop` as one step, and
+        // The openings are dropped by name at an exit: the check takes a call of `drop` as one step, and
         // walks through each field of a value that leaves its scope.
         let clear = match Clearing::open(alloc, clear) {
             Ok(node) => node,
-            Err(refused) => return Err(StartFault::Clear(refused.fault)),
+            Err(refused) => {
+                drop(openings);
+                return Err(Unopened {
+                    fault: StartFault::Clear(refused.fault),
+                    clear: refused.keeper,
+                    depot,
+                });
+            }
         };
         let depot = match Depository::open(alloc, depot, openings) {
             Ok(node) => node,
             Err(refused) => {
-                drop(clear);
-                return Err(StartFault::Depot(refused.fault));
+                return Err(Unopened {
+                    fault: StartFault::Depot(refused.fault),
+                    clear: clear.into_keeper(),
+                    depot: refused.keeper,
+                });
             }
         };
         if !agree(&clear, &depot) {
-            drop(clear);
-            drop(depot);
-            return Err(StartFault::Disagree);
+            return Err(Unopened {
+                fault: StartFault::Disagree,
+                clear: clear.into_keeper(),
+                depot: depot.into_keeper(),
+            });
         }
         Ok(Pair {
             clear: NumberedClearing::new(alloc, clear),
@@ -87,6 +101,23 @@ impl<C: Keeper + Drop, D: Keeper + Drop> Pair<C, D> {
             orders: Wire::new(alloc),
             replies: Wire::new(alloc),
         })
+    }
+
+    /// Gives both keepers up.
+    pub(crate) fn into_keepers(self) -> (C, D)
+        ensures clear { IsGivenUp spelling self.clear.clear.log
+            (record { honest = C.honest result.0; run = C.run result.0; journal = C.journal result.0; foresight = C.foresight result.0 }) }
+        ensures depot { IsGivenUp dep_spelling self.depot.log
+            (record { honest = D.honest result.1; run = D.run result.1; journal = D.journal result.1; foresight = D.foresight result.1 }) }
+    {
+        let Pair {
+            clear,
+            depot,
+            orders,
+            replies,
+        } = self;
+        drop((orders, replies));
+        (clear.into_node().into_keeper(), depot.into_keeper())
     }
 }
 
@@ -103,6 +134,41 @@ impl<C: Keeper, D: Keeper> Pair<C, D> {
         ensures { result.now ≡ self.now.depot }
     {
         &self.depot
+    }
+
+    /// The lots by number.
+    pub(crate) fn lots(&self) -> &LotBook
+        ensures { result.now ≡ self.now.clear.lots }
+    {
+        self.clear.book()
+    }
+
+    /// The orders that are not confirmed, by number.
+    pub(crate) fn unconfirmed(&self, alloc: Global) -> Result<Vec<MoveNo>, AllocError>
+        ensures { IfOk result (λ numbers. numbers.items ≡ unconfirmed self.now.clear.clear.log.records) }
+    {
+        self.clear.unconfirmed(alloc)
+    }
+
+    /// How many orders and packets there are.
+    pub(crate) fn counts(&self) -> Counts
+        ensures { result ≡ counts_of self.now }
+    {
+        Counts {
+            orders: self.clear.node().orders().len() as u64,
+            order_packets: self.orders.len(),
+            reply_packets: self.replies.len(),
+        }
+    }
+
+    /// Makes the next commit of a node's keeper fail, as `System::plan` does.
+    pub(crate) fn plan(&mut self, node: NodeName, stands: bool) -> Result<(), NotPlanned>
+        ensures { PlanStep node stands result self.old self.new }
+    {
+        match node {
+            NodeName::Clear => self.clear.plan(stands),
+            NodeName::Depot => self.depot.plan(stands),
+        }
     }
 
     /// Does nothing, and tells what the nodes know of their records: each of them may stand after those

@@ -1,18 +1,33 @@
-ghost use Rattle.std.specs.Prelude.{◌≡◌, IfOk, OnErr};
+ghost use Rattle.std.specs.Prelude.{◌≡◌, IfOk, IfErr, OnErr};
+ghost use Rattle.cns_records.specs.Clear.{spelling};
+ghost use Rattle.cns_records.specs.Dep.{dep_spelling};
 ghost use Rattle.cns_system.specs.Accord.{IsInAccord, StaysSound};
-ghost use Rattle.cns_system.specs.Run.{Run};
-ghost use Rattle.cns_system.specs.Start.{Opens};
+ghost use Rattle.cns_system.specs.Run.{IsDecided, Run};
+ghost use Rattle.cns_system.specs.Readers.{PlanStep, counts_of, unconfirmed};
+ghost use Rattle.cns_system.specs.Start.{IsGivenUp, IsNotOpened, IsStarted};
 ghost use Rattle.cns_system.specs.Step.{Step};
 
-use crate::event::Event;
-use crate::fault::StartFault;
+use crate::event::{Event, NodeName};
+use crate::fault::Unopened;
+use crate::lots::LotBook;
 use crate::outcome::Outcome;
 use crate::pair::Pair;
 use cns_clearing::Clearing;
 use cns_depository::{Depository, Openings};
-use cns_journal::Keeper;
+use cns_journal::{Keeper, NotPlanned};
+use cns_movements::MoveNo;
 use std::alloc::{AllocError, Global};
 use std::marker::Model;
+
+/// How many orders the clearing node has, and how many packets were put on each link.
+#[derive(Clone, Copy, PartialEq, Eq, Debug)]
+pub struct Counts {
+    pub orders: u64,
+    /// On the link of orders.
+    pub order_packets: u64,
+    /// On the link of replies.
+    pub reply_packets: u64,
+}
 
 /// Both nodes and the link between them, run by events.
 ///
@@ -45,7 +60,7 @@ impl<C: Keeper, D: Keeper> Model for System<C, D> {
 
 impl<C: Keeper + Drop, D: Keeper + Drop> System<C, D> {
     /// Opens both nodes from what their keepers give, the depository with these openings. There are no
-    /// lots, and the link has no packets.
+    /// lots, and the link has no packets. A refused opening hands both keepers back.
     ///
     /// Refuses what the clearing node's opening refuses, then what the depository's refuses, then
     /// `Disagree` where their records do not agree: where an executed movement is not that of the
@@ -56,22 +71,29 @@ impl<C: Keeper + Drop, D: Keeper + Drop> System<C, D> {
         clear: C,
         depot: D,
         openings: Openings,
-    ) -> Result<System<C, D>, StartFault>
-        ensures gives { Opens openings (record {
-          honest = C.honest clear;
-          run = C.run clear;
-          journal = C.journal clear;
-          foresight = C.foresight clear;
-        }) (record {
-          honest = D.honest depot;
-          run = D.run depot;
-          journal = D.journal depot;
-          foresight = D.foresight depot;
-        }) result }
+    ) -> Result<System<C, D>, Unopened<C, D>>
+        ensures ok { IfOk result (IsStarted openings
+            (record { honest = C.honest clear; run = C.run clear; journal = C.journal clear; foresight = C.foresight clear })
+            (record { honest = D.honest depot; run = D.run depot; journal = D.journal depot; foresight = D.foresight depot })) }
+        ensures err { IfErr result (λ refused. IsNotOpened openings refused.fault
+            (record { honest = C.honest clear; run = C.run clear; journal = C.journal clear; foresight = C.foresight clear })
+            (record { honest = D.honest depot; run = D.run depot; journal = D.journal depot; foresight = D.foresight depot })
+            (record { honest = C.honest refused.clear; run = C.run refused.clear; journal = C.journal refused.clear; foresight = C.foresight refused.clear })
+            (record { honest = D.honest refused.depot; run = D.run refused.depot; journal = D.journal refused.depot; foresight = D.foresight refused.depot })) }
         ensures accord { IfOk result IsInAccord }
     {
         let pair = Pair::open(alloc, clear, depot, openings)?;
         Ok(System { pair })
+    }
+
+    /// Gives both keepers up, the clearing node's first. The lots and the packets are gone.
+    pub fn into_keepers(self) -> (C, D)
+        ensures clear { IsGivenUp spelling self.clear.clear.log
+            (record { honest = C.honest result.0; run = C.run result.0; journal = C.journal result.0; foresight = C.foresight result.0 }) }
+        ensures depot { IsGivenUp dep_spelling self.depot.log
+            (record { honest = D.honest result.1; run = D.run result.1; journal = D.journal result.1; foresight = D.foresight result.1 }) }
+    {
+        self.pair.into_keepers()
     }
 }
 
@@ -90,8 +112,41 @@ impl<C: Keeper, D: Keeper> System<C, D> {
         self.pair.depository()
     }
 
+    /// The lots by number, those that have ended among them.
+    pub fn lots(&self) -> &LotBook
+        ensures { result.now ≡ self.now.clear.lots }
+    {
+        self.pair.lots()
+    }
+
+    /// The orders that are not confirmed, by number.
+    pub fn unconfirmed(&self, alloc: Global) -> Result<Vec<MoveNo>, AllocError>
+        ensures { IfOk result (λ numbers. numbers.items ≡ unconfirmed self.now.clear.clear.log.records) }
+    {
+        self.pair.unconfirmed(alloc)
+    }
+
+    /// How many orders there are, and how many packets on each link.
+    pub fn counts(&self) -> Counts
+        ensures { result ≡ counts_of self.now }
+    {
+        self.pair.counts()
+    }
+
+    /// Makes the next commit of a node's keeper fail. Its record stands at the restart, or does not.
+    ///
+    /// Answers `NotPlanned` exactly where the keeper plans no failures. (This project's own rule.)
+    pub fn plan(&mut self, node: NodeName, stands: bool) -> Result<(), NotPlanned>
+        ensures plan { PlanStep node stands result self.old self.new }
+        ensures accord { IsInAccord self.new }
+    {
+        self.pair.plan(node, stands)
+    }
+
     /// Lets an event happen, and answers what it came to.
     pub fn step(&mut self, event: Event) -> Outcome
+        // The outcome and what is left are those of one function of what the surroundings decide.
+        ensures decided { IsDecided event result self.old self.new }
         ensures step { Step event result self.old self.new }
         ensures accord { IsInAccord self.new }
 

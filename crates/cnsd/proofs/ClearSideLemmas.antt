@@ -56,19 +56,6 @@ commit_failed old new r done failed known fails lots =
     let commit = clear_when_failed r old new known.foreseen fails lots in
     commits_failed (clear_state old) (clear_state new) r done failed commit.0 commit.1
 
--- the covers of a cycle are the last orders after it
-pub last_of : (before made : List Order) (n : ℕ) → n ≡ length made → drop (length (before ++ made) - n) (before ++ made) ≡ made
-last_of before made n is =
-    let size : length (before ++ made) - n ≡ length before = omega (arith, is, length-append before made) in
-    rw size (drop-append_seam before made)
-
-last_orders : (c new : List ClearRecord) (id : CycleId) (count : ℕ) → new ≡ entry.Cycle id ∷ c → count ≡ length (covers_in c id.day)
-    → drop (length (orders_of new).orders - count) (orders_of new).orders ≡ numbered (length (orders_of c).orders + 1) (covers_in c id.day)
-unfolding books_of
-last_orders c new id count added is =
-    rw added (last_of (orders_of c).orders (numbered (length (orders_of c).orders + 1) (covers_in c id.day)) count
-    (is ∙ sym (length-numbered (length (orders_of c).orders + 1) (covers_in c id.day))))
-
 -- a cycle by the state
 cycled_up : (s : ClearState) (id : CycleId) → s.down ≡ false → is_later (latest_of s.records) id ≡ true → s.lots ≡ [] → are_spent (orders_of s.records) (covers_in s.records id.day) ≡ false
     → clear_commits s (entry.Cycle id) (cycle_text s id (covers_in s.records id.day)) (refused_line subject.Cycle refusal.Device) ≡ cycled s id
@@ -99,12 +86,10 @@ cycled_beside_lots s id up later some = by s.lots refl
 
 -- what a cycle leaves and tells
 pub cycle_told : (id : CycleId) (answer : Result Cycled Refusal) (old new : NumberedNode) (out out' : List ℕ) → IsKnown old.clear.log.honest old.clear.log.tried old.clear.log.foresight
-    → CycleLeaves id answer old.clear new.clear → new.lots ≡ old.lots → IsTold (cycle_answer_text id new.clear.log.records answer) out out'
+    → CycleLeaves id answer old.clear new.clear → new.lots ≡ old.lots → IsTold (cycle_answer_text id answer) out out'
     → IsAsWanted (cycled (clear_state old) id) (clear_state new) out out'
 cycle_told id (Ok done) old new out out' known (allowed, none, made, added) lots told =
-    let lines : cycle_line id done.due ++ order_lines (drop (length (orders_of new.clear.log.records).orders - done.count) (orders_of new.clear.log.records).orders)
-    ≡ cycle_text (clear_state old) id (covers_in old.clear.log.records id.day) =
-    rw (made.due, last_orders old.clear.log.records new.clear.log.records id done.count (ap (λ (l : LogState ClearRecord). l.records) added.1.0) made.count) refl in
+    let lines : cycle_line id done.due ++ order_lines done.orders ≡ cycle_text (clear_state old) id (covers_in old.clear.log.records id.day) = rw (made.due, made.orders) refl in
     as_wanted _ _ _ out out' (commit_done old new (entry.Cycle id) _ _ added lots ∙ cycled_up (clear_state old) id added.0 allowed.0 none allowed.1) (told ∙ ap (λ l. out ++ l) lines)
 cycle_told id (Err refusal.Down) old new out out' known (down, same) lots told =
     as_wanted _ _ _ out out' (rw (clear_unchanged old new same lots) (cycled_down (clear_state old) id down)) told

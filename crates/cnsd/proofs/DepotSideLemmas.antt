@@ -1,9 +1,5 @@
 -- What the depository's answers leave of its state.
 use Rattle.std.proofs.Common.{◌≡◌, ◌≢◌, ℕ, true, false, Some, None, Result, Ok, Err, refl, ap, ◌∙◌}
-use Rattle.std.proofs.lemmas.Bool.{and_parts, eq-eqb, eqb-true, false_from_ne_true}
-use Rattle.cns_movements.specs.Order.{same_kind}
-use Rattle.cns_movements.specs.declared.order.MoveKind.{MoveKind}
-use Rattle.cns_movements.specs.declared.order.MoveKind.TheVariants.{Cover, Delivery}
 use Rattle.cns_movements.specs.declared.order.Order.{Order}
 use Rattle.cns_movements.specs.declared.order.Reply.{Reply}
 use Rattle.cns_records.specs.declared.dep_record.DepRecord.TheVariants.{Exec}
@@ -14,34 +10,10 @@ use Rattle.cns_depository.specs.declared.fault.Answer.{Answer}
 use Rattle.cns_depository.specs.declared.fault.Answer.TheVariants as answer
 use Rattle.cns_depository.specs.declared.fault.DepFault.{DepFault}
 use Rattle.cns_depository.specs.declared.fault.DepFault.TheVariants as fault
-use Rattle.cnsd.specs.Depot.{IsAnswered, order_reached, same_order}
+use Rattle.cns_system.proofs.LinkHappens.{differ, same_order_refl}
+use Rattle.cnsd.specs.Depot.{IsAnswered, order_reached}
 use Rattle.cnsd.specs.States.{DepotState, IsKnown, depot_added, depot_failed, depot_state, is_failure}
 use Rattle.cnsd.proofs.StateLemmas.{depot_when_added, depot_when_failed}
-
-same_kind_refl : (k : MoveKind) → same_kind k k ≡ true
-same_kind_refl Cover = refl
-same_kind_refl Delivery = refl
-
-same_kind_is : (a b : MoveKind) → same_kind a b ≡ true → a ≡ b
-same_kind_is Cover Cover e = refl
-same_kind_is Cover Delivery e = absurd (cc e)
-same_kind_is Delivery Cover e = absurd (cc e)
-same_kind_is Delivery Delivery e = refl
-
-same_order_refl : (o : Order) → same_order o o ≡ true
-same_order_refl o =
-    rw (eq-eqb o.number o.number refl, same_kind_refl o.kind, eq-eqb o.member o.member refl, eq-eqb o.issue o.issue refl, eq-eqb o.asked o.asked refl) refl
-
-same_order_is : (a b : Order) → same_order a b ≡ true → a ≡ b
-same_order_is a b e =
-    let one = and_parts _ _ e in
-    let two = and_parts _ _ one.1 in
-    let three = and_parts _ _ two.1 in
-    let four = and_parts _ _ three.1 in
-    rw (eqb-true a.number b.number one.0, same_kind_is a.kind b.kind two.0, eqb-true a.member b.member three.0, eqb-true a.issue b.issue four.0, eqb-true a.asked b.asked four.1) refl
-
-differ : (a b : Order) → a ≢ b → same_order a b ≡ false
-differ a b isnt = false_from_ne_true (same_order a b) (λ e. isnt (same_order_is a b e))
 
 -- an order by the state, the record of its number and how its commit ends
 reached_down : (s : DepotState) (o : Order) → s.down ≡ true → (s, Err fault.Down) ≡ order_reached s o

@@ -37,7 +37,7 @@ use Rattle.cnsd.specs.LotCommands.{LotTold, Drawn, closed, close_text, drawn, fo
 use Rattle.cnsd.specs.States.{ClearState, IsKnown, clear_added, clear_failed, clear_state, is_failure}
 use Rattle.cnsd.specs.declared.serving.After.{After}
 use Rattle.cnsd.specs.declared.serving.After.TheVariants.{Next, Close, Nothing}
-use Rattle.cnsd.proofs.ClearSideLemmas.{IsAsWanted, as_wanted, last_of}
+use Rattle.cnsd.proofs.ClearSideLemmas.{IsAsWanted, as_wanted}
 use Rattle.cnsd.proofs.StateLemmas.{clear_unchanged, clear_when_added, clear_when_failed}
 
 -- ---- what a number finds
@@ -257,8 +257,8 @@ lot_open_state : (old new : NumberedNode) (issue poured : ℕ) → poured ≡ av
 lot_open_state old new issue poured is clear lots = rw (clear, lots, is) refl
 
 lot_open_text : (old : NumberedNode) (issue : ℕ) (opened : Opened) → IsOpened old issue opened
-    → lot_line opened.number opened.poured opened.longs ≡ (lot_added (clear_state old) (length old.lots + 1) (new_lot old.clear.log.records issue)).text
-lot_open_text old issue opened is = rw (is.number, is.poured, is.longs) refl
+    → lot_line opened.number opened.poured (length opened.plan) ≡ (lot_added (clear_state old) (length old.lots + 1) (new_lot old.clear.log.records issue)).text
+lot_open_text old issue opened is = rw (is.number, is.poured, is.plan) refl
 
 pub lot_told : (issue : ℕ) (answer : Result Opened Refusal) (old new : NumberedNode) (out out' : List ℕ) → OpenLeaves issue answer old new → IsTold (lot_text answer) out out'
     → IsLotTold (lot_opened (clear_state old) issue) (clear_state new) out out'
@@ -288,41 +288,11 @@ refused_none issue refusal.LotsSpent old new out out' (up, none, spent, same) to
 refused_none issue refusal.OutOfMemory old new out out' is told = absurd told
 refused_none issue _ old new out out' is told = absurd is
 
-at_end : (lots : List LotState) (lot : LotState) → slice_get (lots ++ lot ∷ []) (length lots) ≡ Some lot
-at_end [] lot = refl
-at_end (l ∷ lots) lot = at_end lots lot
-
-last_found : (lots : List LotState) (lot : LotState) → lot_at (lots ++ lot ∷ []) (length lots + 1) ≡ Some lot
-last_found lots lot =
-    let some : ((length lots + 1) == 0) ≡ false = false_from_ne_true ((length lots + 1) == 0) (λ e. absurd (omega (arith, eqb-true (length lots + 1) 0 e))) in
-    let back : length lots + 1 - 1 ≡ length lots = omega arith in
-    ap (λ b. if b then None else slice_get (lots ++ lot ∷ []) (length lots + 1 - 1)) some ∙ ap (slice_get (lots ++ lot ∷ [])) back ∙ at_end lots lot
-
--- the lot that was opened is found by its number
-pub opened_found : (issue : ℕ) (opened : Opened) (old new : NumberedNode) → OpenLeaves issue (Ok opened) old new
-    → lot_at new.lots opened.number ≡ Some (numbered_lot issue (plan_in old.clear.log.records issue) opened.poured)
-opened_found issue opened old new (room, is, left, lots) =
-    rw (lots, is.number) (last_found old.lots (numbered_lot issue (plan_in old.clear.log.records issue) opened.poured))
-
-pub opened_lot : (issue : ℕ) (opened : Opened) (old new : NumberedNode) (members : List ℕ) (plan : List Planned) → OpenLeaves issue (Ok opened) old new
-    → plan ≡ plan_in old.clear.log.records issue → members ≡ members_of plan
+pub opened_lot : (issue : ℕ) (opened : Opened) (old new : NumberedNode) (members : List ℕ) → OpenLeaves issue (Ok opened) old new → members ≡ members_of opened.plan
     → Some (record { number = opened.number; members = members }) ≡ (lot_opened (clear_state old) issue).opened
-opened_lot issue opened old new members plan (room, is, (up, none, planned, clear), lots) from of =
+opened_lot issue opened old new members (room, is, (up, none, planned, clear), lots) of =
     let added = lot_open_added (clear_state old) issue up none room in
-    rw (added, of, from, is.number) refl
-
--- a lot that is there and has not ended is not told to be missing, and its plan is its own
-pub not_missing : {X : Type 0} (P : LotState → X → Type 0) (f : Refusal) (lots : List LotState) (n : ℕ) (lot : LotState) → lot_at lots n ≡ Some lot → lot.ended ≡ false
-    → LotGives P n (Err f) lots → ⊥
-not_missing P refusal.NoLot lots n lot found going none = none-some lot (sym none ∙ found)
-not_missing P refusal.StaleLot lots n lot found going stale =
-    let ended : lot.ended ≡ true = rw found at stale in absurd (cc (sym going ∙ ended))
-not_missing P _ lots n lot found going is = is
-
-pub plan_found : (lots : List LotState) (n : ℕ) (lot : LotState) (plan : List Planned) → lot_at lots n ≡ Some lot → HasOpenLot lots n (λ (l : LotState). plan ≡ l.plan) → plan ≡ lot.plan
-plan_found lots n lot plan found is =
-    let at = open-parts lots n (λ (l : LotState). plan ≡ l.plan) is in
-    at.holds ∙ ap (λ (l : LotState). l.plan) (same_Some at.lot lot (sym at.found ∙ found))
+    rw (added, of, is.plan, is.number) refl
 
 -- ---- the close of a lot
 
@@ -379,17 +349,9 @@ close_at_stale : (s : ClearState) (n : ℕ) → lot_for s n ≡ Err refusal.Stal
 unfolding closed
 close_at_stale s n stale = rw stale refl
 
--- the deliveries of an allocation are the last orders after it
-last_deliveries : (c new : List ClearRecord) (a : Allocation) (count : ℕ) → new ≡ entry.Allocate a ∷ c → count ≡ length (deliveries_in a)
-    → drop (length (orders_of new).orders - count) (orders_of new).orders ≡ numbered (length (orders_of c).orders + 1) (deliveries_in a)
-unfolding books_of
-last_deliveries c new a count added is =
-    rw added (last_of (orders_of c).orders (numbered (length (orders_of c).orders + 1) (deliveries_in a)) count
-    (is ∙ sym (length-numbered (length (orders_of c).orders + 1) (deliveries_in a))))
-
-closed_lines : (s : ClearState) (c : List ClearRecord) (lot : LotState) (a : Allocation) (done : Closed) → c ≡ entry.Allocate a ∷ s.records → IsClosed s.records lot.tickets a done
-    → close_line done.granted ++ order_lines (drop (length (orders_of c).orders - done.count) (orders_of c).orders) ≡ close_text s lot a
-closed_lines s c lot a done added is = rw (is.granted, last_deliveries s.records c a done.count added is.count) refl
+closed_lines : (s : ClearState) (lot : LotState) (a : Allocation) (done : Closed) → IsClosed s.records lot.tickets a done
+    → close_line done.granted ++ order_lines done.orders ≡ close_text s lot a
+closed_lines s lot a done is = rw (is.granted, is.orders) refl
 
 closed_state : (old new : NumberedNode) (n : ℕ) (lot : LotState) (a : Allocation) → clear_state new ≡ record (clear_added (clear_state old) (entry.Allocate a)) { numbered = new.lots }
     → new.lots ≡ update_at old.lots n (with_end lot) → clear_state new ≡ with_lot (clear_added (clear_state old) (entry.Allocate a)) n (with_end lot)
@@ -399,11 +361,11 @@ closed_state old new n lot a state lots =
 -- a lot that may close, by what the node answers
 closed_done : (n : ℕ) (lot : LotState) (done : Closed) (old new : NumberedNode) (out out' : List ℕ) → lot_for (clear_state old) n ≡ Ok lot → IsMet lot
     → LotCloseLeaves lot.issue lot.tickets lot.sealed (Ok done) old.clear new.clear → new.lots ≡ update_at old.lots n (with_end lot)
-    → IsTold (close_answer_text new.clear.log.records (Ok done)) out out' → IsAsWanted (closed (clear_state old) n) (clear_state new) out out'
+    → IsTold (close_answer_text (Ok done)) out out' → IsAsWanted (closed (clear_state old) n) (clear_state new) out out'
 closed_done n lot done old new out out' found met (a, may, allowed, made, added) lots told =
     let commit = clear_when_added (entry.Allocate a) old new added in
     let state = closed_state old new n lot a commit.1 lots in
-    let lines = closed_lines (clear_state old) new.clear.log.records lot a done (ap (λ (l : LogState ClearRecord). l.records) added.1.0) made in
+    let lines = closed_lines (clear_state old) lot a done made in
     as_wanted _ _ _ out out'
     (close_done (clear_state old) (clear_state new) n lot a allowed.numbers commit.0 state ∙ sym (close_of (clear_state old) n lot may.lot a may.found may.closes)
     ∙ sym (close_met (clear_state old) n lot found added.0 met))
@@ -426,7 +388,7 @@ closed_failed n lot old new out out' known found met (a, may, allowed, failed) l
     ∙ sym (close_met (clear_state old) n lot found failed.0 met)) told
 
 pub close_told : (n : ℕ) (answer : Result Closed Refusal) (old new : NumberedNode) (out out' : List ℕ) → IsKnown old.clear.log.honest old.clear.log.tried old.clear.log.foresight
-    → CloseLeaves n answer old new → IsTold (close_answer_text new.clear.log.records answer) out out' → IsAsWanted (closed (clear_state old) n) (clear_state new) out out'
+    → CloseLeaves n answer old new → IsTold (close_answer_text answer) out out' → IsAsWanted (closed (clear_state old) n) (clear_state new) out out'
 close_told n (Ok done) old new out out' known is told =
     let at = open-parts old.lots n _ is in
     closed_done n at.lot done old new out out' (open_for (clear_state old) n at.lot at.found at.going) at.holds.0 at.holds.1 at.holds.2 told

@@ -1,5 +1,5 @@
 -- What the commands of a script leave of the clearing node, and tell.
-use Rattle.std.specs.Prelude.{ℕ, ◌+◌, Bool, List, [], ◌∷◌, ◌++◌, length, Option, Some, None, Result, Ok, Err, if◌then◌else◌, is_some}
+use Rattle.std.specs.Prelude.{ℕ, ◌+◌, Bool, List, [], ◌∷◌, ◌++◌, length, Option, Some, None, Result, Ok, Err, if◌then◌else◌}
 use Rattle.cns_ids.specs.declared.cycle.CycleId.{CycleId}
 use Rattle.cns_trades.specs.declared.trade.Trade.{Trade}
 use Rattle.cns_trades.specs.declared.row.Row.{Row}
@@ -8,7 +8,7 @@ use Rattle.cns_trades.specs.declared.list.Verdict.{Verdict}
 use Rattle.cns_trades.specs.declared.list.Verdict.TheVariants as verdicts
 use Rattle.cns_netting.specs.History.{becoming_due}
 use Rattle.cns_movements.specs.Number.{is_move_no}
-use Rattle.cns_movements.specs.Order.{numbered, order_of, moved_of}
+use Rattle.cns_movements.specs.Order.{numbered, order_of}
 use Rattle.cns_movements.specs.declared.book.Confirm.{Confirm}
 use Rattle.cns_movements.specs.declared.book.Confirm.TheVariants as confirm
 use Rattle.cns_movements.specs.declared.order.Ask.{Ask}
@@ -107,8 +107,3 @@ reply_judged s r confirm.TooMuch = (s, refused_line subject.Reply refusal.TooMuc
 
 abbrev pub told_reply : ClearState → Reply → ClearState × List ℕ
 told_reply s r = if s.down then (s, refused_line subject.Reply refusal.Down) else reply_judged s r (answer_in s.records r)
-
--- the numbers of the orders that are not confirmed
-abbrev pub unconfirmed : List Order → List Reply → List ℕ
-unconfirmed [] replies = []
-unconfirmed (o ∷ orders) replies = if is_some (moved_of replies o.number) then unconfirmed orders replies else o.number ∷ unconfirmed orders replies

@@ -1,15 +1,12 @@
 -- The lines of the clearing node's answers. Want of memory has none.
-use Rattle.std.specs.Prelude.{◌≡◌, ℕ, ◌-◌, List, ◌++◌, length, drop, Option, Some, None, Result, Ok, Err}
+use Rattle.std.specs.Prelude.{◌≡◌, ℕ, List, ◌++◌, length, Option, Some, None, Result, Ok, Err}
 use Rattle.cns_ids.specs.declared.cycle.CycleId.{CycleId}
-use Rattle.cns_records.specs.declared.clear_record.ClearRecord.{ClearRecord}
 use Rattle.cns_records.specs.declared.refusal.Refusal.{Refusal}
 use Rattle.cns_records.specs.declared.refusal.Refusal.TheVariants as refusal
-use Rattle.cns_clearing.specs.Books.{orders_of}
 use Rattle.cns_clearing.specs.declared.answer.Closed.{Closed}
 use Rattle.cns_clearing.specs.declared.answer.Cycled.{Cycled}
 use Rattle.cns_clearing.specs.declared.answer.Taken.{Taken}
 use Rattle.cns_clearing.specs.declared.answer.Taken.TheVariants.{Done, Again}
-use Rattle.cns_movements.specs.declared.order.Order.{Order}
 use Rattle.cns_movements.specs.declared.order.Reply.{Reply}
 use Rattle.cns_pool.specs.declared.ticket.Ticket.{Ticket}
 use Rattle.cns_system.specs.declared.entry.Look.{Look}
@@ -44,17 +41,13 @@ reply_text r (Ok Done) = Some (confirm_done_line r.number r.moved)
 reply_text r (Ok Again) = Some (confirm_again_line r.number r.moved)
 reply_text r (Err why) = refused_text subject.Reply why
 
--- the last orders of these records
-abbrev pub last_orders : List ClearRecord → ℕ → List Order
-last_orders c count = drop (length (orders_of c).orders - count) (orders_of c).orders
-
--- of a cycle that was run, the trades that became due and the last orders of these records
-abbrev pub cycle_answer_text : CycleId → List ClearRecord → Result Cycled Refusal → Option (List ℕ)
-cycle_answer_text id c (Ok done) = Some (cycle_line id done.due ++ order_lines (last_orders c done.count))
-cycle_answer_text id c (Err r) = refused_text subject.Cycle r
+-- of a cycle that was run, the trades that became due and the orders
+abbrev pub cycle_answer_text : CycleId → Result Cycled Refusal → Option (List ℕ)
+cycle_answer_text id (Ok done) = Some (cycle_line id done.due ++ order_lines done.orders)
+cycle_answer_text id (Err r) = refused_text subject.Cycle r
 
 abbrev pub lot_text : Result Opened Refusal → Option (List ℕ)
-lot_text (Ok lot) = Some (lot_line lot.number lot.poured lot.longs)
+lot_text (Ok lot) = Some (lot_line lot.number lot.poured (length lot.plan))
 lot_text (Err r) = refused_text subject.Lot r
 
 abbrev pub pour_text : Result ℕ Refusal → Option (List ℕ)
@@ -79,7 +72,7 @@ abbrev pub seal_text : Result (Unit {0}) Refusal → List ℕ
 seal_text (Ok _) = seal_line
 seal_text (Err r) = refused_line subject.Seal r
 
--- of a lot that was closed, the shares granted and the last orders of these records
-abbrev pub close_answer_text : List ClearRecord → Result Closed Refusal → Option (List ℕ)
-close_answer_text c (Ok done) = Some (close_line done.granted ++ order_lines (last_orders c done.count))
-close_answer_text c (Err r) = refused_text subject.Close r
+-- of a lot that was closed, the shares granted and the orders
+abbrev pub close_answer_text : Result Closed Refusal → Option (List ℕ)
+close_answer_text (Ok done) = Some (close_line done.granted ++ order_lines done.orders)
+close_answer_text (Err r) = refused_text subject.Close r

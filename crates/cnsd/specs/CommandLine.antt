@@ -17,7 +17,7 @@ cusip_app = with_rule (new_app (codes "cusip")) text_rule
 -- cnsd run, and cnsd cusip TEXT
 abbrev pub cnsd_app : App
 cnsd_app =
-    let top = on_top (λ s. record s { has_version = true; subcommand_required = true }) (new_app (codes "cnsd")) in
+    let top = on_top (λ s. record s { has_version = true; subcommand_required = true; arg_required_else_help = true }) (new_app (codes "cnsd")) in
     with_subcommand (with_subcommand top (new_app (codes "run")).top) cusip_app.top
 
 -- the text that is to be read as a CUSIP, where the subcommand that the words name is cusip

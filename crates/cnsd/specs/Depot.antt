@@ -1,6 +1,5 @@
 -- What an order leaves of the depository, and what it is answered.
-use Rattle.std.specs.Prelude.{◌≡◌, ◌&&◌, ◌==◌, Bool, Option, Some, None, Result, Ok, Err, if◌then◌else◌}
-use Rattle.cns_movements.specs.Order.{same_kind}
+use Rattle.std.specs.Prelude.{◌≡◌, Option, Some, None, Result, Ok, Err, if◌then◌else◌}
 use Rattle.cns_movements.specs.declared.order.Order.{Order}
 use Rattle.cns_records.specs.declared.dep_record.DepRecord.{DepRecord}
 use Rattle.cns_records.specs.declared.dep_record.DepRecord.TheVariants.{Exec}
@@ -10,11 +9,8 @@ use Rattle.cns_depository.specs.declared.fault.Answer.{Answer}
 use Rattle.cns_depository.specs.declared.fault.Answer.TheVariants as answer
 use Rattle.cns_depository.specs.declared.fault.DepFault.{DepFault}
 use Rattle.cns_depository.specs.declared.fault.DepFault.TheVariants as fault
+use Rattle.cns_system.specs.Happens.{same_order}
 use Rattle.cnsd.specs.States.{DepotState, depot_added, depot_failed, is_failure}
-
--- whether two orders are the same
-abbrev pub same_order : Order → Order → Bool
-same_order a b = (a.number == b.number) && (same_kind a.kind b.kind && ((a.member == b.member) && ((a.issue == b.issue) && (a.asked == b.asked))))
 
 -- a new order's record is committed
 abbrev pub order_executed : DepotState → Order → DepRecord → DepotState × Result Answer DepFault

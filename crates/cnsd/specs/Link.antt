@@ -17,9 +17,9 @@ use Rattle.cns_records.specs.declared.refusal.Refusal.TheVariants as refusal
 use Rattle.cns_report.specs.declared.subject.NodeName.{NodeName}
 use Rattle.cns_report.specs.declared.subject.NodeName.TheVariants as node
 use Rattle.cns_journal.specs.Keeper.{Foresight, Succeeds}
-use Rattle.cns_clearing.specs.Books.{orders_of}
+use Rattle.cns_system.specs.Readers.{unconfirmed}
 use Rattle.cns_system.specs.World.{order_in_packet, reply_in_packet}
-use Rattle.cnsd.specs.Clear.{order_at, told_reply, unconfirmed}
+use Rattle.cnsd.specs.Clear.{order_at, told_reply}
 use Rattle.cnsd.specs.Depot.{order_reached}
 use Rattle.cnsd.specs.States.{ClearState, DepotState, clear_restarted, depot_restarted, is_returned, planned}
 
@@ -116,7 +116,7 @@ pumped_all w (n ∷ ns) = ((pumped_all (pumped_one w n).0 ns).0, (pumped_one w n
 
 -- each order that is unconfirmed at the start, by number
 abbrev pub pumped : World → World × List ℕ
-pumped w = pumped_all w (unconfirmed (orders_of w.clear.records).orders (orders_of w.clear.records).replies)
+pumped w = pumped_all w (unconfirmed w.clear.records)
 
 -- the next commit of a node is planned to fail
 abbrev pub failing : World → NodeName → Bool → World

@@ -3,6 +3,7 @@ ghost use Rattle.clap.specs.Words.{FailsBy, app_of, fault_of, subcommand_of, sub
 ghost use Rattle.cnsd.specs.CommandLine.{AsksFor, asked_text, cnsd_app};
 
 use crate::fault::BatchFault;
+use crate::help;
 use clap::error::ErrorKind;
 use clap::{Arg, ArgAction, ArgMatches, Command, Error};
 use std::alloc::{AllocError, Global};
@@ -26,9 +27,11 @@ pub(crate) enum Request {
 fn command<'a>(alloc: Global) -> Result<Command<'a>, AllocError>
     ensures { IfOk result (λ c. app_of c ≡ cnsd_app) }
 {
-    let run = Command::new(alloc, "run").about(
-        "Reads openings, trades and a script from standard input, and writes what they come to",
-    );
+    let run = Command::new(alloc, "run")
+        .about(
+            "Reads openings, trades and a script from standard input, and writes what they come to",
+        )
+        .after_help(help::RUN);
     let text = Arg::new(alloc, "text")
         .value_name("TEXT")
         .help("The text, such as 037833100")
@@ -41,6 +44,7 @@ fn command<'a>(alloc: Global) -> Result<Command<'a>, AllocError>
         .about("A Continuous Net Settlement book and a depository's stock record")
         .version("0.1.0")
         .subcommand_required(true)
+        .arg_required_else_help(true)
         .subcommand(run)?
         .subcommand(cusip)
 }

@@ -5,7 +5,8 @@ ghost use Rattle.cns_netting.specs.Rows.{rows_of};
 ghost use Rattle.cns_report.specs.Lines.{restart_line};
 ghost use Rattle.cns_report.specs.Report.{cycle_report_text};
 ghost use Rattle.cns_report.specs.declared.subject.NodeName.TheVariants as node;
-ghost use Rattle.cnsd.specs.Clear.{told_trade, told_row, told_rows, exempted, prioritized, cycled, order_at, told_reply, unconfirmed as unconfirmed_of};
+ghost use Rattle.cnsd.specs.Clear.{told_trade, told_row, told_rows, exempted, prioritized, cycled, order_at, told_reply};
+ghost use Rattle.cns_system.specs.Readers.{unconfirmed as unconfirmed_in};
 ghost use Rattle.cnsd.specs.Link.{sure};
 ghost use Rattle.cnsd.specs.LotCommands.{allocated, closed, drawn, looked_at, lot_opened, members_of, poured, sealed, served};
 ghost use Rattle.cnsd.specs.States.{clear_restarted, is_returned, planned};
@@ -118,7 +119,7 @@ impl ClearSide {
         ensures text { OnOk result (string_bytes out.new ≡ string_bytes out.old ++ (cycled self.old cycle.now).1) }
     {
         let answer = self.node.cycle(*cycle);
-        tell_cycle(self.node.node(), cycle, answer, out)
+        tell_cycle(cycle, answer, out)
     }
 
     /// The order of this number.
@@ -132,18 +133,11 @@ impl ClearSide {
         }
     }
 
-    /// The numbers of the orders that are not confirmed.
-    pub(crate) fn unconfirmed(&self) -> Result<Vec<u64>, AllocError>
-        ensures { IfOk result (λ numbers. numbers.items ≡ unconfirmed_of (orders_of self.now.records).orders (orders_of self.now.records).replies) }
+    /// The orders that are not confirmed, by number.
+    pub(crate) fn unconfirmed(&self) -> Result<Vec<MoveNo>, AllocError>
+        ensures { IfOk result (λ numbers. numbers.items ≡ unconfirmed_in self.now.records) }
     {
-        let book = self.node.node().orders();
-        let mut numbers = Vec::new(self.alloc);
-        for order in book.orders() {
-            if book.confirmed(order.number).is_none() {
-                numbers.push(order.number.number())?;
-            }
-        }
-        Ok(numbers)
+        self.node.unconfirmed(self.alloc)
     }
 
     /// Takes a reply to an order, and tells it.
@@ -166,16 +160,13 @@ impl ClearSide {
         ensures opened { IfOk result (λ lot. lot ≡ (lot_opened self.old issue).opened) }
     {
         let answer = self.node.lot_open(issue);
-        tell_lot(answer, out)?;
+        tell_lot(&answer, out)?;
         let Ok(opened) = answer else {
             return Ok(None);
         };
-        let Ok(plan) = self.node.book().planned(opened.number) else {
-            unreachable!()
-        };
         Ok(Some(OpenedLot {
             number: opened.number,
-            members: members(self.alloc, plan)?,
+            members: members(self.alloc, opened.plan.as_slice())?,
         }))
     }
 
@@ -227,7 +218,7 @@ impl ClearSide {
         ensures text { OnOk result (string_bytes out.new ≡ string_bytes out.old ++ (closed self.old number).1) }
     {
         let answer = self.node.lot_close(number);
-        tell_close(self.node.node(), answer, out)
+        tell_close(answer, out)
     }
 
     /// Draws a ticket for each member of an opened lot and closes it, and tells all that.

@@ -11,6 +11,7 @@ mod command;
 mod course;
 mod depot_side;
 mod fault;
+mod help;
 mod input;
 mod line;
 mod nodes;

@@ -7,7 +7,7 @@ ghost use Rattle.cnsd.specs.Run.{report_text};
 use crate::clear_side::ClearSide;
 use crate::depot_side::DepotSide;
 use cns_depository::{Answer, DepFault, Openings};
-use cns_movements::{Order, Reply};
+use cns_movements::{MoveNo, Order, Reply};
 use cns_records::Refusal;
 use cns_report::{
     NodeName, Subject, write_again, write_exec, write_refused, write_report_end, write_send,
@@ -246,12 +246,12 @@ impl Nodes {
 
 // Pumps these orders, one after another.
 #[tactic(auto, unfolding(crate::specs::Link::pumped_all))]
-fn pump_all(nodes: &mut Nodes, numbers: &[u64], out: &mut String) -> Result<(), AllocError>
+fn pump_all(nodes: &mut Nodes, numbers: &[MoveNo], out: &mut String) -> Result<(), AllocError>
     ensures after { OnOk result (nodes.new ≡ (pumped_all nodes.old numbers.now).0) }
     ensures text { OnOk result (string_bytes out.new ≡ string_bytes out.old ++ (pumped_all nodes.old numbers.now).1) }
 {
     for number in numbers {
-        nodes.pump_one(*number, out)?;
+        nodes.pump_one(number.number(), out)?;
     }
     Ok(())
 }

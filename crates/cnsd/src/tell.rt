@@ -1,12 +1,11 @@
 ghost use Rattle.std.specs.Prelude.{◌≡◌, ◌++◌, IfOk, OnOk, string_bytes};
-ghost use Rattle.cns_report.specs.Lines.{exempt_line, order_lines, priority_line};
+ghost use Rattle.cns_report.specs.Lines.{exempt_line, priority_line};
 ghost use Rattle.cns_report.specs.declared.subject.Subject.TheVariants as subject;
-ghost use Rattle.cnsd.specs.ClearTexts.{trade_text, setting_text, cycle_answer_text, reply_text, lot_text, pour_text, draw_text, after_draw, last_orders, look_text, refused_text, seal_text, close_answer_text, IsTold};
+ghost use Rattle.cnsd.specs.ClearTexts.{trade_text, setting_text, cycle_answer_text, reply_text, lot_text, pour_text, draw_text, after_draw, look_text, refused_text, seal_text, close_answer_text, IsTold};
 
 use crate::serving::After;
-use cns_clearing::{Clearing, Closed, Cycled, Taken};
+use cns_clearing::{Closed, Cycled, Taken};
 use cns_ids::CycleId;
-use cns_journal::ListKeeper;
 use cns_movements::Reply;
 use cns_pool::Ticket;
 use cns_records::Refusal;
@@ -64,32 +63,18 @@ pub(crate) fn tell_priority(answer: Result<(), Refusal>, out: &mut String) -> Re
     }
 }
 
-// Tells the last orders of a node.
-fn tell_last_orders(
-    node: &Clearing<ListKeeper>,
-    count: usize,
-    out: &mut String,
-) -> Result<(), AllocError>
-    ensures { OnOk result (string_bytes out.new ≡ string_bytes out.old ++ order_lines (last_orders node.now.log.records count)) }
-{
-    let orders = node.orders().orders();
-    let (_, last) = orders.split_at(orders.len().saturating_sub(count));
-    write_orders(out, last)
-}
-
-/// Tells what the node answered to a cycle; the orders that it made are the node's last ones.
+/// Tells what the node answered to a cycle.
 pub(crate) fn tell_cycle(
-    node: &Clearing<ListKeeper>,
     cycle: &CycleId,
     answer: Result<Cycled, Refusal>,
     out: &mut String,
 ) -> Result<(), AllocError>
-    ensures told { OnOk result (IsTold (cycle_answer_text cycle.now node.now.log.records answer) (string_bytes out.old) (string_bytes out.new)) }
+    ensures told { OnOk result (IsTold (cycle_answer_text cycle.now answer) (string_bytes out.old) (string_bytes out.new)) }
 {
     match answer {
         Ok(done) => {
             write_cycle(out, *cycle, done.due)?;
-            tell_last_orders(node, done.count, out)
+            write_orders(out, done.orders.as_slice())
         }
         Err(refusal) => tell_refusal(Subject::Cycle, refusal, out),
     }
@@ -111,12 +96,12 @@ pub(crate) fn tell_reply(
 }
 
 /// Tells what the node answered to the opening of a lot.
-pub(crate) fn tell_lot(answer: Result<Opened, Refusal>, out: &mut String) -> Result<(), AllocError>
-    ensures told { OnOk result (IsTold (lot_text answer) (string_bytes out.old) (string_bytes out.new)) }
+pub(crate) fn tell_lot(answer: &Result<Opened, Refusal>, out: &mut String) -> Result<(), AllocError>
+    ensures told { OnOk result (IsTold (lot_text answer.now) (string_bytes out.old) (string_bytes out.new)) }
 {
     match answer {
-        Ok(lot) => write_lot(out, lot.number, lot.poured, lot.longs),
-        Err(refusal) => tell_refusal(Subject::Lot, refusal, out),
+        Ok(lot) => write_lot(out, lot.number, lot.poured, lot.plan.len()),
+        Err(refusal) => tell_refusal(Subject::Lot, *refusal, out),
     }
 }
 
@@ -174,19 +159,17 @@ pub(crate) fn tell_seal(answer: Result<(), Refusal>, out: &mut String) -> Result
     }
 }
 
-/// Tells what the node answered to the close of a lot; the orders that it made are the node's last
-/// ones.
+/// Tells what the node answered to the close of a lot.
 pub(crate) fn tell_close(
-    node: &Clearing<ListKeeper>,
     answer: Result<Closed, Refusal>,
     out: &mut String,
 ) -> Result<(), AllocError>
-    ensures told { OnOk result (IsTold (close_answer_text node.now.log.records answer) (string_bytes out.old) (string_bytes out.new)) }
+    ensures told { OnOk result (IsTold (close_answer_text answer) (string_bytes out.old) (string_bytes out.new)) }
 {
     match answer {
         Ok(done) => {
             write_close(out, done.granted)?;
-            tell_last_orders(node, done.count, out)
+            write_orders(out, done.orders.as_slice())
         }
         Err(refusal) => tell_refusal(Subject::Close, refusal, out),
     }

@@ -161,7 +161,7 @@ fn fault_of(alloc: Global, (past, depot_past): Journals) -> Result<StartFault, F
     let clear = keeper_of(alloc, past)?;
     let depot = depot_keeper_of(alloc, depot_past)?;
     match System::open(alloc, clear, depot, openings(alloc, 20)?) {
-        Err(fault) => Ok(fault),
+        Err(refused) => Ok(refused.fault),
         Ok(both) => {
             drop(both);
             Err(Fail::from("the journals were opened"))

@@ -4,12 +4,12 @@
 //! is short.
 
 use super::{issue, member, trade};
-use crate::{Event, NodeName, Opened, Outcome, System};
+use crate::{Counts, Event, NodeName, Opened, Outcome, System};
 use cns_clearing::{Closed, Cycled};
 use cns_depository::{Account, Openings};
-use cns_ids::{CycleId, CycleKind, Day, Shares};
+use cns_ids::{Cusip, CycleId, CycleKind, Day, Shares};
 use cns_journal::{Keeper, ListKeeper};
-use cns_movements::{MoveNo, Reply};
+use cns_movements::{Order, Reply};
 use cns_pool::Ticket;
 use cns_records::Refusal;
 use cns_trades::Opening;
@@ -28,6 +28,8 @@ pub(super) type Text = &'static [u8];
 pub(super) enum Deed {
     // Member 1 sells 30 shares to this member, by the trade of this name.
     Sell(Text, u16),
+    // The same, to settle a day later.
+    SellLate(Text, u16),
     // Shares of member 1.
     Exempt(u64),
     // Of this member.
@@ -35,6 +37,8 @@ pub(super) enum Deed {
     // The night cycle of this day.
     Cycle(Text),
     LotOpen,
+    // Of an issue that nobody trades.
+    LotOpenIdle,
     LotPour(u64),
     // The lot and the member.
     Reserve(u64, u16),
@@ -86,6 +90,12 @@ pub(super) enum Step {
     Holds(u128),
     // The position of member 1 at the clearing node.
     Stands(i128),
+    // The next commit of this node's keeper is to fail, and its record then stands or does not.
+    Fails(NodeName, bool),
+    // How many orders there are, and how many packets of orders and of replies.
+    Counts(u64, u64, u64),
+    // The numbers of the orders that are not confirmed.
+    Unconfirmed(&'static [u64]),
 }
 
 pub(super) fn assert_same<T: PartialEq + fmt::Debug>(rt: &impl Abort, answer: &T, wanted: &T) {
@@ -107,6 +117,12 @@ pub(super) fn night(day: &[u8]) -> Result<CycleId, Fail> {
 
 fn sell(id: &[u8], buyer: u16) -> Result<Event, Fail> {
     Ok(Event::Trade(trade(id, buyer)?))
+}
+
+fn sell_late(id: &[u8], buyer: u16) -> Result<Event, Fail> {
+    let mut late = trade(id, buyer)?;
+    late.settle = Day::read(b"2025-03-05")?;
+    Ok(Event::Trade(late))
 }
 
 fn exempt(count: u64) -> Result<Event, Fail> {
@@ -133,6 +149,11 @@ fn lot_open() -> Result<Event, Fail> {
     Ok(Event::LotOpen { issue: issue()? })
 }
 
+fn lot_open_idle() -> Result<Event, Fail> {
+    let issue = Cusip::read(b"594918104")?;
+    Ok(Event::LotOpen { issue })
+}
+
 fn reserve(lot: u64, of: u16) -> Result<Event, Fail> {
     Ok(Event::Reserve {
         lot,
@@ -143,10 +164,12 @@ fn reserve(lot: u64, of: u16) -> Result<Event, Fail> {
 pub(super) fn event_of(deed: &Deed) -> Result<Event, Fail> {
     match *deed {
         Deed::Sell(id, buyer) => sell(id, buyer),
+        Deed::SellLate(id, buyer) => sell_late(id, buyer),
         Deed::Exempt(count) => exempt(count),
         Deed::Priority(of) => prioritize(of),
         Deed::Cycle(day) => cycle(day),
         Deed::LotOpen => lot_open(),
+        Deed::LotOpenIdle => lot_open_idle(),
         Deed::LotPour(lot) => Ok(Event::LotPour { lot }),
         Deed::Reserve(lot, of) => reserve(lot, of),
         Deed::LookPoured(lot) => Ok(Event::LookPoured { lot }),
@@ -160,20 +183,21 @@ pub(super) fn event_of(deed: &Deed) -> Result<Event, Fail> {
     }
 }
 
-// The number of a first order, 0 where there is none.
-fn first_of(number: Option<MoveNo>) -> u64 {
-    match number {
-        Some(number) => number.number(),
+// The number of the first of some orders, 0 where there is none.
+fn first_of(orders: &[Order]) -> u64 {
+    match orders.first() {
+        Some(order) => order.number.number(),
         None => 0,
     }
 }
 
 fn told_cycled(done: &Cycled) -> Told {
-    Told::Cycled(done.due, first_of(done.first), done.count)
+    let orders = done.orders.as_slice();
+    Told::Cycled(done.due, first_of(orders), orders.len())
 }
 
 fn told_opened(lot: &Opened) -> Told {
-    Told::LotOpened(lot.number, lot.poured, lot.longs)
+    Told::LotOpened(lot.number, lot.poured, lot.plan.len())
 }
 
 fn told_drawn(ticket: &Ticket) -> Told {
@@ -181,7 +205,8 @@ fn told_drawn(ticket: &Ticket) -> Told {
 }
 
 fn told_closed(done: &Closed) -> Told {
-    Told::Closed(done.granted, first_of(done.first), done.count)
+    let orders = done.orders.as_slice();
+    Told::Closed(done.granted, first_of(orders), orders.len())
 }
 
 // The number and the shares of a reply.
@@ -259,17 +284,56 @@ fn see_position(rt: &impl Abort, both: &Both, wanted: i128) -> Result<(), Fail> 
     Ok(())
 }
 
-fn take_step(rt: &impl Abort, both: &mut Both, step: &Step) -> Result<(), Fail> {
+fn plan_failure(both: &mut Both, node: NodeName, stands: bool) -> Result<(), Fail> {
+    both.plan(node, stands)?;
+    Ok(())
+}
+
+fn see_counts(rt: &impl Abort, both: &Both, orders: u64, order_packets: u64, reply_packets: u64) {
+    let wanted = Counts {
+        orders,
+        order_packets,
+        reply_packets,
+    };
+    assert_same(rt, &both.counts(), &wanted);
+}
+
+fn see_unconfirmed(
+    rt: &impl Abort,
+    alloc: Global,
+    both: &Both,
+    wanted: &[u64],
+) -> Result<(), Fail> {
+    let numbers = both.unconfirmed(alloc)?;
+    assert_same(rt, &numbers.len(), &wanted.len());
+    for (number, wanted) in numbers.as_slice().iter().zip(wanted) {
+        assert_same(rt, &number.number(), wanted);
+    }
+    Ok(())
+}
+
+fn take_step(rt: &impl Abort, alloc: Global, both: &mut Both, step: &Step) -> Result<(), Fail> {
     match step {
         Step::Do(deed, wanted) => take_deed(rt, both, deed, wanted),
         Step::Holds(held) => see_held(rt, both, *held),
         Step::Stands(position) => see_position(rt, both, *position),
+        Step::Fails(node, stands) => plan_failure(both, *node, *stands),
+        Step::Counts(orders, sent, answered) => {
+            see_counts(rt, both, *orders, *sent, *answered);
+            Ok(())
+        }
+        Step::Unconfirmed(wanted) => see_unconfirmed(rt, alloc, both, wanted),
     }
 }
 
-pub(super) fn take_steps(rt: &impl Abort, both: &mut Both, steps: &[Step]) -> Result<(), Fail> {
+pub(super) fn take_steps(
+    rt: &impl Abort,
+    alloc: Global,
+    both: &mut Both,
+    steps: &[Step],
+) -> Result<(), Fail> {
     for step in steps {
-        take_step(rt, both, step)?;
+        take_step(rt, alloc, both, step)?;
     }
     Ok(())
 }
@@ -306,7 +370,10 @@ pub(super) fn both(
     count: u64,
 ) -> Result<Both, Fail> {
     let openings = openings(alloc, count)?;
-    Ok(System::open(alloc, clear, depot, openings)?)
+    match System::open(alloc, clear, depot, openings) {
+        Ok(both) => Ok(both),
+        Err(refused) => Err(Fail::from(refused.fault)),
+    }
 }
 
 // The story of what the keepers' journals open, where member 1 has this many shares.
@@ -319,7 +386,7 @@ pub(super) fn tell_of(
     steps: &[Step],
 ) -> Result<(), Fail> {
     let mut both = both(alloc, clear, depot, count)?;
-    let told = take_steps(rt, &mut both, steps);
+    let told = take_steps(rt, alloc, &mut both, steps);
     // The check takes a call of `drop` as one step, and walks through each field of what leaves its scope.
     drop(both);
     told
@@ -329,4 +396,20 @@ pub(super) fn tell_of(
 pub(super) fn tell(rt: &impl Abort, alloc: Global, count: u64, steps: &[Step]) -> Result<(), Fail> {
     let (clear, depot) = (ListKeeper::new(alloc), ListKeeper::new(alloc));
     tell_of(rt, alloc, clear, depot, count, steps)
+}
+
+// The story of nodes with no records, where member 1 has 40 shares, in two parts.
+pub(super) fn tell_after(
+    rt: &impl Abort,
+    alloc: Global,
+    before: &[Step],
+    steps: &[Step],
+) -> Result<(), Fail> {
+    let mut both = both(alloc, ListKeeper::new(alloc), ListKeeper::new(alloc), 40)?;
+    let told = match take_steps(rt, alloc, &mut both, before) {
+        Ok(()) => take_steps(rt, alloc, &mut both, steps),
+        Err(fail) => Err(fail),
+    };
+    drop(both);
+    told
 }

@@ -218,9 +218,11 @@ const LIST: [Happens; 6] = [
     (Deed::ReplyIn(2), Told::Refused(Refusal::NoPacket)),
 ];
 
-const AFTER_LIST: [Step; 3] = [
+const AFTER_LIST: [Step; 5] = [
     Step::Holds(0),
     Step::Stands(-10),
+    Step::Counts(1, 1, 1),
+    Step::Unconfirmed(&[]),
     Step::Do(Deed::Send(1), Told::Sent(2)),
 ];
 
@@ -249,15 +251,15 @@ fn assert_outcomes(rt: &impl Abort, outcomes: &[Outcome], list: &[Happens]) {
 fn run_list(rt: &impl Abort, alloc: Global, both: &mut Both) -> Result<(), Fail> {
     let outcomes = both.run(alloc, &events(&LIST)?)?;
     assert_outcomes(rt, outcomes.as_slice(), &LIST);
-    take_steps(rt, both, &AFTER_LIST)
+    take_steps(rt, alloc, both, &AFTER_LIST)
 }
 
 // The events of the list one by one.
-fn step_list(rt: &impl Abort, both: &mut Both) -> Result<(), Fail> {
+fn step_list(rt: &impl Abort, alloc: Global, both: &mut Both) -> Result<(), Fail> {
     for (deed, wanted) in &LIST {
         take_deed(rt, both, deed, wanted)?;
     }
-    take_steps(rt, both, &AFTER_LIST)
+    take_steps(rt, alloc, both, &AFTER_LIST)
 }
 
 // Nodes with no records, where member 1 has 20 shares.
@@ -274,7 +276,7 @@ fn tell_at_once(rt: &impl Abort, alloc: Global) -> Result<(), Fail> {
 
 fn tell_one_by_one(rt: &impl Abort, alloc: Global) -> Result<(), Fail> {
     let mut both = fresh(alloc)?;
-    let told = step_list(rt, &mut both);
+    let told = step_list(rt, alloc, &mut both);
     drop(both);
     told
 }

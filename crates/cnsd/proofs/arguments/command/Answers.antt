@@ -8,13 +8,17 @@ use Rattle.cnsd.proofs.arguments.command.Goals as goal
 pub returns : goal.returns
 returns c =
     let text_is : rule_of c.action-text.result ≡ text_rule = search rules in
-    let run_is : app_of c.about-run.result ≡ new_app (codes "run") = ap app_of_fields c.about-run.ensures ∙ c.new.ensures.app in
-    let made_is : app_of c.about.result ≡ new_app (codes "cusip") = ap app_of_fields c.about.ensures ∙ c.new-3.ensures.app in
+    let told_is : app_of c.about.result ≡ new_app (codes "run") = ap app_of_fields c.about.ensures ∙ c.new.ensures.app in
+    let run_is : app_of c.after_help-run.result ≡ new_app (codes "run") = ap app_of_fields c.after_help-run.ensures ∙ told_is in
+    let made_is : app_of c.about-2.result ≡ new_app (codes "cusip") = ap app_of_fields c.about-2.ensures ∙ c.new-3.ensures.app in
     let cusip_is : app_of c.in_ok-cusip.cusip ≡ cusip_app = c.in_ok-cusip.ensures.shape (search rules) ∙ ap₂ with_rule made_is text_is in
-    let about_is : app_of c.about-2.result ≡ new_app (codes "cnsd") = ap app_of_fields c.about-2.ensures ∙ c.new-4.ensures.app in
+    let about_is : app_of c.about-3.result ≡ new_app (codes "cnsd") = ap app_of_fields c.about-3.ensures ∙ c.new-4.ensures.app in
     let version_is : app_of c.version.result ≡ on_top (λ s. record s { has_version = true }) (new_app (codes "cnsd")) =
     ap app_of_fields c.version.ensures ∙ ap (on_top (λ s. record s { has_version = true })) about_is in
     let top_is : app_of c.subcommand_required.result ≡ on_top (λ s. record s { has_version = true; subcommand_required = true }) (new_app (codes "cnsd")) =
     ap app_of_fields c.subcommand_required.ensures ∙ ap (on_top (λ s. record s { subcommand_required = true })) version_is in
-    let with_run = c.in_ok-subcommand.ensures.shape (search rules) ∙ ap₂ with_subcommand top_is (ap (λ (a : App). a.top) run_is) in
+    let helpful_is : app_of c.arg_required_else_help.result
+    ≡ on_top (λ s. record s { has_version = true; subcommand_required = true; arg_required_else_help = true }) (new_app (codes "cnsd")) =
+    ap app_of_fields c.arg_required_else_help.ensures ∙ ap (on_top (λ s. record s { arg_required_else_help = true })) top_is in
+    let with_run = c.in_ok-subcommand.ensures.shape (search rules) ∙ ap₂ with_subcommand helpful_is (ap (λ (a : App). a.top) run_is) in
     IfOk-weaker c.subcommand-2.result _ _ (λ r h. h.shape (search rules) ∙ ap₂ with_subcommand with_run (ap (λ (a : App). a.top) cusip_is)) c.subcommand-2.ensures

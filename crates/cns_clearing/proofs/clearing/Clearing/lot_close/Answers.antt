@@ -1,4 +1,4 @@
-use Rattle.std.proofs.Common.{◌≡◌, ◌∙◌, ℕ, length, refl, ap, sym, subst, rules}
+use Rattle.std.proofs.Common.{◌≡◌, ◌∙◌, ℕ, refl, ap, sym, subst, rules}
 use Rattle.std.specs.Prelude.{min, sum_by}
 use Rattle.cns_movements.specs.declared.order.Ask.{Ask}
 use Rattle.cns_pool.specs.Pool.{asked_sum, intervals_of}
@@ -8,7 +8,7 @@ use Rattle.cns_clearing.specs.Books.{deliveries_in}
 use Rattle.cns_clearing.specs.Answers.{IsClosed}
 use Rattle.cns_clearing.specs.Lots.{AreLots}
 use Rattle.cns_clearing.specs.Node.{ClearNode}
-use Rattle.cns_clearing.proofs.LeavesLemmas.{close_allowed, close_asks, close_refused, close_small, first_is, spent_is}
+use Rattle.cns_clearing.proofs.LeavesLemmas.{close_allowed, close_asks, close_refused, close_small, orders_are, spent_is}
 use Rattle.cns_clearing.proofs.clearing.Clearing.lot_close.Goals as goal
 
 pub asked_in_all-requires : goal.asked_in_all-requires
@@ -67,15 +67,12 @@ returns g c =
     (c.in_ok-asks.ensures.exact ∙ ap (λ (p : ℕ). deliveries_of c.args.issue p c.args.tickets.now) c.count-poured.ensures.value) in
     let enough = spent_is _ c.args.self.now.log.records _ _ c.in_ok-allocation.allocation _ _ law.books c.as_slice.ensures.value asks c.are_spent.ensures c.if-are_spent.false in
     let allowed = close_allowed c.args.self.now c.args.issue c.args.tickets.now c.args.sealed c.in_ok-allocation.allocation (deliveries_in c.in_ok-allocation.allocation) law.lawful law.fits are may refl enough in
-    let count : length c.in_ok-asks.asks.items ≡ c.len-count.result = search rules in
-    let size : length c.as_slice-2.result.now ≡ c.len-count.result = ap length c.as_slice-2.ensures.value ∙ count in
     let granted : c.min-granted.result ≡ min c.in_ok-allocation.allocation.poured (asked_sum c.args.tickets.now) = search rules in
-    let done : IsClosed c.args.self.now.log.records c.args.tickets.now c.in_ok-allocation.allocation (record { granted = c.min-granted.result; first = c.first_number-first.result; count = c.len-count.result }) =
+    let done : IsClosed c.args.self.now.log.records c.args.tickets.now c.in_ok-allocation.allocation (record { granted = c.min-granted.result; orders = c.in_ok-orders.orders }) =
     record {
       granted = granted;
       sum = ap (sum_by (λ (x : Ask). x.asked)) (sym asks) ∙ c.in_ok-asks.ensures.sum (AreChained-Tiles (intervals_of c.args.tickets.now) may.served.chained)
           ∙ ap (λ (p : ℕ). min p (asked_sum c.args.tickets.now)) c.count-poured.ensures.value ∙ sym granted;
-      count = sym count ∙ ap length asks;
-      first = first_is _ c.args.self.now.log.records _ _ _ law.books size c.first_number-first.ensures;
+      orders = orders_are _ c.args.self.now.log.records _ c.in_ok-allocation.allocation _ law.books (c.as_slice-2.ensures.value ∙ asks) c.in_ok-orders.ensures;
     } in
     (c.in_ok-allocation.allocation, may, allowed, done, c.in_ok-add.ensures.1)

@@ -4,19 +4,8 @@ use Rattle.cns_clearing.specs.Node.{ClearNode, IsOpened}
 use Rattle.cns_system.specs.Agreement.{Agree}
 use Rattle.cns_system.proofs.pair.Pair.open.Goals as goal
 
-pub returns-in-Err-open : goal.returns-in-Err-open
-returns-in-Err-open g c =
-    let keeper = c.in-Err-open.refused.keeper in
-    let after : KeeperState = record {
-      honest = g.D.Keeper.honest keeper;
-      run = g.D.Keeper.run keeper;
-      journal = g.D.Keeper.journal keeper;
-      foresight = g.D.Keeper.foresight keeper;
-    } in
-    (c.in-Ok.node, c.in-Ok.ensures.ok, (after, c.in-Err-open.ensures.err))
-
-pub returns : goal.returns
-returns g c =
+pub returns-clause-ok : goal.returns-clause-ok
+returns-clause-ok g c =
     let clear : KeeperState = record {
       honest = g.C.Keeper.honest c.args.clear;
       run = g.C.Keeper.run c.args.clear;

@@ -2,7 +2,7 @@ use Rattle.cns_system.proofs.AccordLemmas.{started}
 use Rattle.cns_system.proofs.system.System.open.Goals as goal
 
 pub invariant_of-result : goal.invariant_of-result
-invariant_of-result g c = started c.args.openings _ _ c.in_ok-pair.pair c.in_ok-pair.ensures
+invariant_of-result g c = started c.args.openings _ _ c.in_ok-pair.pair c.in_ok-pair.ensures.ok
 
 pub returns-clause-accord : goal.returns-clause-accord
-returns-clause-accord g c = started c.args.openings _ _ c.in_ok-pair.pair c.in_ok-pair.ensures
+returns-clause-accord g c = started c.args.openings _ _ c.in_ok-pair.pair c.in_ok-pair.ensures.ok

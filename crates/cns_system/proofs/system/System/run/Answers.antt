@@ -9,13 +9,13 @@ loop-event-preserved g c =
     let i = c.loop-event.event-index in
     let events = c.args.events.now in
     let more = take_more events i c.event-item.result c.loop-event-test.true ∙ ap (λ e. take i events ++ e ∷ []) (sym c.event-item.is) in
-    let happens = c.step-outcome.ensures in
+    let occurs = c.step-outcome.ensures in
     record {
       run =
           rw (more, c.push_reserved.ensures.items)
           (one_more (take i events) c.loop-event.outcomes.items c.event-item.result c.step-outcome.result c.args.self.now c.loop-event.self c.step-outcome.new.self c.loop-event.invariant.run
-          (record { step = happens.step; sound = happens.sound; accord = happens.accord }));
-      accord = happens.accord;
+          (record { step = occurs.step; decided = occurs.decided; sound = occurs.sound; accord = occurs.accord }));
+      accord = occurs.accord;
       len = omega (arith, c.push_reserved.ensures.len, c.loop-event.invariant.len);
       room = omega (arith, c.push_reserved.ensures.capacity, c.loop-event.invariant.room);
     }

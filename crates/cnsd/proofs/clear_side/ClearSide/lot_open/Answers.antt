@@ -1,8 +1,7 @@
-use Rattle.std.proofs.Common.{◌≡◌, ◌++◌, Bor, List, Some, None, refl, subst, string_bytes}
-use Rattle.cns_allocate.specs.declared.planned.Planned.{Planned}
-use Rattle.cnsd.specs.LotCommands.{lot_opened}
+use Rattle.std.proofs.Common.{◌≡◌, ◌++◌, ◌∙◌, Some, None, ap, refl, subst, string_bytes}
+use Rattle.cnsd.specs.LotCommands.{lot_opened, members_of}
 use Rattle.cnsd.specs.States.{ClearState, clear_state}
-use Rattle.cnsd.proofs.LotCommandLemmas.{lot_told, not_missing, opened_found, opened_lot, plan_found, refused_none}
+use Rattle.cnsd.proofs.LotCommandLemmas.{lot_told, opened_lot, refused_none}
 use Rattle.cnsd.proofs.clear_side.ClearSide.lot_open.Goals as goal
 
 pub returns-in_default-clause-after : goal.returns-in_default-clause-after
@@ -21,12 +20,6 @@ returns-in_default-clause-opened c =
     (refused_none c.args.issue c.in_default.field-0 _ c.lot_open-answer.new.self _ _ (rw c.in_default.is at c.lot_open-answer.ensures)
     (rw c.in_default.is at c.in_ok-tell_lot.ensures.told))
 
-pub unreachable-requires : goal.unreachable-requires
-unreachable-requires c =
-    let found = opened_found c.args.issue c.in-Ok.opened _ c.lot_open-answer.new.self (rw c.in-Ok.is at c.lot_open-answer.ensures) in
-    let told = rw (c.in_default-planned.is, c.book.ensures.lots) at c.planned.ensures.value in
-    not_missing {X = Bor (List Planned)} (λ lot plan. plan.now ≡ lot.plan) c.in_default-planned.field-0 c.lot_open-answer.new.self.lots c.in-Ok.opened.number _ found refl told
-
 pub returns-clause-after : goal.returns-clause-after
 returns-clause-after c =
     subst (λ (s : ClearState). clear_state c.lot_open-answer.new.self ≡ (lot_opened s c.args.issue).state) c.self.view_is
@@ -40,8 +33,5 @@ returns-clause-text c =
 pub returns-clause-opened : goal.returns-clause-opened
 returns-clause-opened c =
     let leaves = rw c.in-Ok.is at c.lot_open-answer.ensures in
-    let found = opened_found c.args.issue c.in-Ok.opened _ c.lot_open-answer.new.self leaves in
-    let given = rw (c.in-Ok-planned.is, c.book.ensures.lots) at c.planned.ensures.value in
-    let plan = plan_found c.lot_open-answer.new.self.lots c.in-Ok.opened.number _ c.in-Ok-planned.plan.now found given in
     subst (λ (s : ClearState). Some (record { number = c.in-Ok.opened.number; members = c.in_ok-members.field-0.items }) ≡ (lot_opened s c.args.issue).opened) c.self.view_is
-    (opened_lot c.args.issue c.in-Ok.opened _ c.lot_open-answer.new.self c.in_ok-members.field-0.items c.in-Ok-planned.plan.now leaves plan c.in_ok-members.ensures)
+    (opened_lot c.args.issue c.in-Ok.opened _ c.lot_open-answer.new.self c.in_ok-members.field-0.items leaves (c.in_ok-members.ensures ∙ ap members_of c.as_slice.ensures.value))

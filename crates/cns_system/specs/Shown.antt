@@ -1,0 +1,83 @@
+-- Both nodes and the link as events change them: all that contracts see of them but what they tell of the keepers' devices.
+use Rattle.std.specs.Prelude.{ℕ, Bool, true, false, List, [], ◌∷◌, map, Option, Some, None}
+use Rattle.cns_trades.specs.declared.opening.Opening.{Opening}
+use Rattle.cns_records.specs.declared.clear_record.ClearRecord.{ClearRecord}
+use Rattle.cns_records.specs.declared.dep_record.DepRecord.{DepRecord}
+use Rattle.cns_clearing.specs.Lots.{lots_after}
+use Rattle.cns_clearing.specs.declared.lot.Lot.{Lot}
+use Rattle.cns_depository.specs.Node.{DepNode}
+use Rattle.cns_system.specs.Lot.{LotState, with_end}
+use Rattle.cns_system.specs.Lots.{update_at}
+use Rattle.cns_system.specs.Numbered.{NumberedNode}
+use Rattle.cns_system.specs.World.{World}
+
+-- the clearing node: its records, the newest first; the record whose commit failed; whether the node is down; its open lots; and all
+-- lots in the order of their numbers
+pub record ClearShown : Type 0 where
+  pub records : List ClearRecord
+  pub tried : Option ClearRecord
+  pub down : Bool
+  pub open_lots : List Lot
+  pub lots : List LotState
+
+-- the depository: its openings, and the same
+pub record DepotShown : Type 0 where
+  pub openings : List Opening
+  pub records : List DepRecord
+  pub tried : Option DepRecord
+  pub down : Bool
+
+-- both, and the packets that were put on the link of orders and on that of replies, the oldest first
+pub record Shown : Type 0 where
+  pub clear : ClearShown
+  pub depot : DepotShown
+  pub orders : List (List ℕ)
+  pub replies : List (List ℕ)
+
+abbrev pub shown_clear : NumberedNode → ClearShown
+shown_clear n = record {
+  records = n.clear.log.records;
+  tried = n.clear.log.tried;
+  down = n.clear.log.down;
+  open_lots = n.clear.lots;
+  lots = n.lots;
+}
+
+abbrev pub shown_depot : DepNode → DepotShown
+shown_depot n = record { openings = n.openings; records = n.log.records; tried = n.log.tried; down = n.log.down }
+
+abbrev pub shown_of : World → Shown
+shown_of w = record { clear = shown_clear w.clear; depot = shown_depot w.depot; orders = w.orders; replies = w.replies }
+
+-- a record of the clearing node is added, or it is undecided and the node is down
+abbrev pub clear_added : ClearRecord → Shown → Shown
+clear_added r w = record w { clear = record w.clear { records = r ∷ w.clear.records; open_lots = lots_after r w.clear.open_lots } }
+
+abbrev pub clear_failed : ClearRecord → Shown → Shown
+clear_failed r w = record w { clear = record w.clear { tried = Some r; down = true } }
+
+-- a record of the depository likewise
+abbrev pub depot_added : DepRecord → Shown → Shown
+depot_added e w = record w { depot = record w.depot { records = e ∷ w.depot.records } }
+
+abbrev pub depot_failed : DepRecord → Shown → Shown
+depot_failed e w = record w { depot = record w.depot { tried = Some e; down = true } }
+
+-- a lot in the place of its number
+abbrev pub with_lot : ℕ → LotState → Shown → Shown
+with_lot number lot w = record w { clear = record w.clear { lots = update_at w.clear.lots number lot } }
+
+-- a node was restarted and has these records; at the clearing node all lots have ended
+abbrev pub clear_reread : List ClearRecord → Shown → Shown
+clear_reread c w =
+    record w { clear = record w.clear { records = c; tried = None; down = false; open_lots = []; lots = map with_end w.clear.lots } }
+
+abbrev pub depot_reread : List DepRecord → Shown → Shown
+depot_reread p w = record w { depot = record w.depot { records = p; tried = None; down = false } }
+
+-- a restart was refused: the node is down, and at the clearing node all lots have ended
+abbrev pub clear_unread : Shown → Shown
+clear_unread w = record w { clear = record w.clear { down = true; open_lots = []; lots = map with_end w.clear.lots } }
+
+abbrev pub depot_unread : Shown → Shown
+depot_unread w = record w { depot = record w.depot { down = true } }

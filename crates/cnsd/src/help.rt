@@ -1,0 +1,45 @@
+/// What `cnsd run --help` teaches after the options: the shape of the input with an example, the
+/// commands of a script, and the exit statuses.
+pub(crate) const RUN: &str = "\
+The input is one text of three sections, for example:
+
+  [openings]
+  account,cusip,shares
+  1,037833100,60
+  [trades]
+  trade,settle,buyer,seller,cusip,quantity
+  A1,2025-03-04,2,1,037833100,60
+  [script]
+  TAKE ALL
+  CYCLE NIGHT 2025-03-04
+  PUMP
+  ALLOCATE 037833100
+  PUMP
+  REPORT
+
+Commands of a script, one a line; blank lines and lines that begin with # are skipped:
+  TAKE n, TAKE ALL              Take the next n rows of trades, or all the rest
+  EXEMPT member cusip shares    Exempt so many shares of a member from covers
+  PRIORITY member cusip ON|OFF  Set a member's priority in an issue
+  CYCLE NIGHT|DAY date          Net the trades that settle by the date, and order covers
+  LOT cusip                     Open a lot with all free shares of an issue
+  POUR lot                      Pour into a lot what has become free
+  RESERVE lot member            Draw a member's ticket from a lot
+  LOOK lot                      Tell what was poured and drawn, and whether the lot is sealed
+  SEAL lot                      Let no more tickets be drawn from a lot
+  CLOSE lot                     Grant the shares to the tickets, and order deliveries
+  ALLOCATE cusip                Open a lot, draw each ticket of its plan, and close it
+  BESIDE cusip k                The same, with the next k lines run once the lot is open
+  SEND n                        Put order n on the link
+  ORDER k                       Let packet k of the link of orders arrive at the depository
+  REPLY k                       Let packet k of the link of replies arrive at the book
+  PUMP                          Send each unconfirmed order, and let its packets arrive
+  FAIL CLEAR|DEPOT KEEP|DROP    Let the next commit of a node fail; its record stands or not
+  RESTART CLEAR|DEPOT           Let a node read its journal again
+  REPORT                        Tell positions, pools and balances
+
+Exit status:
+  0  all was read, run and written
+  1  the command line is wrong
+  2  the input cannot be read, is too long, or has bad sections or bad rows
+  3  there was no memory, or the output failed";
