@@ -2,4 +2,5 @@ pub mod Right
 pub mod Faults
 pub mod Refusals
 pub mod Lines
+pub mod Outcomes
 pub mod Report

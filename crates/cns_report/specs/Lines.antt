@@ -12,8 +12,8 @@ use Rattle.cns_pool.specs.declared.ticket.Ticket.{Ticket}
 use Rattle.cns_depository.specs.declared.openings.OpeningFault.{OpeningFault}
 use Rattle.cns_records.specs.declared.refusal.Refusal.{Refusal}
 use Rattle.cns_trades.specs.declared.fault.RowFault.{RowFault}
+use Rattle.cns_system.specs.declared.event.NodeName.{NodeName}
 use Rattle.cns_report.specs.Refusals.{subject_text, refusal_text, node_text}
-use Rattle.cns_report.specs.declared.subject.NodeName.{NodeName}
 use Rattle.cns_report.specs.declared.subject.Subject.{Subject}
 use Rattle.cns_report.specs.Faults.{opening_fault_text, row_fault_text}
 
@@ -119,9 +119,17 @@ abbrev pub sealed_text : Bool → List ℕ
 sealed_text true = codes "yes"
 sealed_text false = codes "no"
 
+-- the first half of a look's line, with no end of line: look poured Q
+unfoldable pub look_poured_half : ℕ → List ℕ
+look_poured_half poured = codes "look poured " ++ decimal poured
+
+-- its second half: asked Q sealed yes, or .. no
+unfoldable pub look_asked_half : ℕ → Bool → List ℕ
+look_asked_half asked is_sealed = codes " asked " ++ decimal asked ++ codes " sealed " ++ sealed_text is_sealed ++ line_end
+
 -- look poured Q asked Q sealed yes, or .. no
 unfoldable pub look_line : ℕ → ℕ → Bool → List ℕ
-look_line poured asked is_sealed = codes "look poured " ++ decimal poured ++ codes " asked " ++ decimal asked ++ codes " sealed " ++ sealed_text is_sealed ++ line_end
+look_line poured asked is_sealed = look_poured_half poured ++ look_asked_half asked is_sealed
 
 -- seal ok
 unfoldable pub seal_line : List ℕ

@@ -2,13 +2,14 @@
 use Rattle.std.specs.Prelude.{ℕ, List, codes}
 use Rattle.cns_records.specs.declared.refusal.Refusal.{Refusal}
 use Rattle.cns_records.specs.declared.refusal.Refusal.TheVariants as refusal
+use Rattle.cns_system.specs.declared.event.NodeName.{NodeName}
+use Rattle.cns_system.specs.declared.event.NodeName.TheVariants as node
 use Rattle.cns_report.specs.Faults.{verdict_text}
 use Rattle.cns_report.specs.declared.subject.Subject.{Subject}
 use Rattle.cns_report.specs.declared.subject.Subject.TheVariants as subject
-use Rattle.cns_report.specs.declared.subject.NodeName.{NodeName}
-use Rattle.cns_report.specs.declared.subject.NodeName.TheVariants as node
 
 abbrev pub subject_text : Subject → List ℕ
+subject_text subject.Trade = codes "trade"
 subject_text subject.Exempt = codes "exempt"
 subject_text subject.Priority = codes "priority"
 subject_text subject.Cycle = codes "cycle"
@@ -21,6 +22,7 @@ subject_text subject.Reserve = codes "reserve"
 subject_text subject.Look = codes "look"
 subject_text subject.Seal = codes "seal"
 subject_text subject.Close = codes "close"
+subject_text subject.Restart = codes "restart"
 
 -- a trade is refused by the name of its verdict
 abbrev pub refusal_text : Refusal → List ℕ

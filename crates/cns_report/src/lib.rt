@@ -8,6 +8,7 @@ mod account;
 mod append;
 mod fault;
 mod line;
+mod outcome;
 mod position;
 mod report;
 mod subject;
@@ -19,8 +20,9 @@ pub use line::{
     write_refused, write_restart, write_row_fault, write_seal, write_send, write_ticket,
     write_trade, write_trade_refused,
 };
+pub use outcome::outcome_line;
 pub use report::{write_balance_report, write_cycle_report, write_report_end};
-pub use subject::{NodeName, Subject};
+pub use subject::Subject;
 
 #[cfg(test)]
 mod tests;

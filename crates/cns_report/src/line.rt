@@ -1,14 +1,15 @@
 ghost use Rattle.std.specs.Prelude.{◌≡◌, ◌++◌, OnOk, OnErr, string_bytes};
-ghost use Rattle.cns_report.specs.Lines.{trade_line, row_fault_line, bad_command_line, cycle_line, refused_line, exempt_line, priority_line, order_line, order_lines, opening_row_fault_line, opening_refused_line, send_line, exec_line, again_line, confirm_done_line, confirm_again_line, trade_refused_line, fail_line, restart_line, lot_line, pour_line, ticket_line, look_line, seal_line, close_line};
+ghost use Rattle.cns_report.specs.Lines.{trade_line, row_fault_line, bad_command_line, cycle_line, refused_line, exempt_line, priority_line, order_line, order_lines, opening_row_fault_line, opening_refused_line, send_line, exec_line, again_line, confirm_done_line, confirm_again_line, trade_refused_line, fail_line, restart_line, lot_line, pour_line, ticket_line, look_line, look_asked_half, look_poured_half, seal_line, close_line};
 
 use crate::append::append;
 use crate::fault::{OpeningFaultName, RefusalName, RowFaultName};
-use crate::subject::{NodeName, Subject};
+use crate::subject::{NodeWord, Subject};
 use cns_depository::OpeningFault;
 use cns_ids::CycleId;
 use cns_movements::Order;
 use cns_pool::Ticket;
 use cns_records::Refusal;
+use cns_system::NodeName;
 use cns_trades::{RowFault, TradeId};
 use std::alloc::AllocError;
 
@@ -219,6 +220,7 @@ pub fn write_restart(
     ensures ok { OnOk result (string_bytes out.new ≡ string_bytes out.old ++ restart_line node records kept) }
     ensures err { OnErr result (string_bytes out.new ≡ string_bytes out.old) }
 {
+    let node = NodeWord(node);
     let kept = if kept { "yes" } else { "no" };
     append(
         out,
@@ -268,11 +270,29 @@ pub fn write_look(out: &mut String, poured: u64, asked: u64, sealed: bool) -> Re
     ensures ok { OnOk result (string_bytes out.new ≡ string_bytes out.old ++ look_line poured asked sealed) }
     ensures err { OnErr result (string_bytes out.new ≡ string_bytes out.old) }
 {
+    let mut line = String::new(*out.allocator());
+    write_look_poured(&mut line, poured)?;
+    write_look_asked(&mut line, asked, sealed)?;
+    out.push_str(&line)
+}
+
+// The first half of a look's line, with no end of line: `look poured Q`.
+#[tactic(auto, unfolding(crate::specs::Lines::look_poured_half))]
+pub(crate) fn write_look_poured(out: &mut String, poured: u64) -> Result<(), AllocError>
+    ensures ok { OnOk result (string_bytes out.new ≡ string_bytes out.old ++ look_poured_half poured) }
+    ensures err { OnErr result (string_bytes out.new ≡ string_bytes out.old) }
+{
+    append(out, format_args!("look poured {poured}"))
+}
+
+// The second half of a look's line: ` asked Q sealed yes`, or `.. no`.
+#[tactic(auto, unfolding(crate::specs::Lines::look_asked_half))]
+pub(crate) fn write_look_asked(out: &mut String, asked: u64, sealed: bool) -> Result<(), AllocError>
+    ensures ok { OnOk result (string_bytes out.new ≡ string_bytes out.old ++ look_asked_half asked sealed) }
+    ensures err { OnErr result (string_bytes out.new ≡ string_bytes out.old) }
+{
     let sealed = if sealed { "yes" } else { "no" };
-    append(
-        out,
-        format_args!("look poured {poured} asked {asked} sealed {sealed}\n"),
-    )
+    append(out, format_args!(" asked {asked} sealed {sealed}\n"))
 }
 
 /// The line of a lot that was sealed: `seal ok`.

@@ -1,11 +1,14 @@
-ghost use Rattle.std.specs.Prelude.{Some};
+ghost use Rattle.std.specs.Prelude.{◌≡◌, Some};
+ghost use Rattle.cns_report.specs.Outcomes.{subject_of};
 ghost use Rattle.cns_report.specs.Refusals.{subject_text, node_text};
 
+use cns_system::{Event, NodeName};
 use std::fmt;
 
-/// The command that a line tells of, as its refusals name it.
+/// What a line tells of, as the word that its refusals begin with.
 #[derive(Clone, Copy, PartialEq, Eq, Debug)]
 pub enum Subject {
+    Trade,
     Exempt,
     Priority,
     Cycle,
@@ -18,6 +21,31 @@ pub enum Subject {
     Look,
     Seal,
     Close,
+    Restart,
+}
+
+impl Subject {
+    // The word that a refusal of this event begins with.
+    pub(crate) fn of(event: &Event) -> Subject
+        ensures { result ≡ subject_of event.now }
+    {
+        match event {
+            Event::Trade(_) => Subject::Trade,
+            Event::Exempt { .. } => Subject::Exempt,
+            Event::Priority { .. } => Subject::Priority,
+            Event::Cycle(_) => Subject::Cycle,
+            Event::LotOpen { .. } => Subject::Lot,
+            Event::LotPour { .. } => Subject::Pour,
+            Event::Reserve { .. } => Subject::Reserve,
+            Event::LookPoured { .. } | Event::LookAsked { .. } => Subject::Look,
+            Event::Seal { .. } => Subject::Seal,
+            Event::LotClose { .. } => Subject::Close,
+            Event::Send { .. } => Subject::Send,
+            Event::OrderIn { .. } => Subject::Order,
+            Event::ReplyIn { .. } => Subject::Reply,
+            Event::Restart(_) => Subject::Restart,
+        }
+    }
 }
 
 impl fmt::Display for Subject {
@@ -25,6 +53,7 @@ impl fmt::Display for Subject {
 
     fn fmt<W: fmt::Write>(&self, f: &mut fmt::Formatter<W>) -> fmt::Result {
         f.write_str(match self {
+            Subject::Trade => "trade",
             Subject::Exempt => "exempt",
             Subject::Priority => "priority",
             Subject::Cycle => "cycle",
@@ -37,24 +66,20 @@ impl fmt::Display for Subject {
             Subject::Look => "look",
             Subject::Seal => "seal",
             Subject::Close => "close",
+            Subject::Restart => "restart",
         })
     }
 }
 
 /// A node, as lines name it.
-#[derive(Clone, Copy, PartialEq, Eq, Debug)]
-pub enum NodeName {
-    /// The clearing node.
-    Clear,
-    /// The depository.
-    Depot,
-}
+#[derive(Clone, Copy)]
+pub(crate) struct NodeWord(pub(crate) NodeName);
 
-impl fmt::Display for NodeName {
-    ghost output = { λ n. Some (node_text n) };
+impl fmt::Display for NodeWord {
+    ghost output = { λ word. Some (node_text word.0) };
 
     fn fmt<W: fmt::Write>(&self, f: &mut fmt::Formatter<W>) -> fmt::Result {
-        f.write_str(match self {
+        f.write_str(match self.0 {
             NodeName::Clear => "CLEAR",
             NodeName::Depot => "DEPOT",
         })

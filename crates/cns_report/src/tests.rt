@@ -1,5 +1,5 @@
 use crate::{
-    NodeName, Subject, write_again, write_bad_command, write_balance_report, write_close,
+    Subject, write_again, write_bad_command, write_balance_report, write_close,
     write_confirm_again, write_confirm_done, write_cycle, write_cycle_report, write_exec,
     write_exempt, write_fail, write_look, write_lot, write_opening_refused,
     write_opening_row_fault, write_orders, write_pour, write_priority, write_refused,
@@ -13,8 +13,11 @@ use cns_movements::{Asked, MoveKind, MoveNo, Order};
 use cns_netting::PositionRow;
 use cns_pool::Ticket;
 use cns_records::Refusal;
+use cns_system::NodeName;
 use cns_trades::{RowFault, TradeId, Verdict};
 use std::test::Fail;
+
+mod outcome;
 
 // A cover of member 1, and the largest delivery under the last number.
 fn two_orders() -> Result<[Order; 2], Fail> {

@@ -1,9 +1,6 @@
 -- A line by its first word.
-use Rattle.std.proofs.Common.{◌≡◌, ◌≤◌, ◌+◌, ◌-◌, ℕ, suc, List, [], ◌∷◌, length, take, drop, Option, Some, None, Bool, true, false, refl, sym, ap, ◌∙◌, arith, add-one}
-use Rattle.std.specs.Prelude.{◌==◌, ◌||◌, slice_index, if◌then◌else◌}
-use Rattle.std.proofs.lemmas.Bool.{eqb-true}
-use Rattle.cnsd.specs.Script.{command_of, command_of_words}
-use Rattle.cnsd.specs.declared.command.Command.TheVariants as command
+use Rattle.std.proofs.Common.{◌≡◌, ◌≤◌, ◌+◌, ◌-◌, ℕ, suc, List, [], ◌∷◌, take, drop, Option, Some, None, Bool, true, false, refl, sym, ap, ◌∙◌, arith, add-one}
+use Rattle.std.specs.Prelude.{◌==◌, if◌then◌else◌}
 use Rattle.std.specs.List.{position_from}
 use Rattle.cnsd.specs.Words.{onto_first, split_at_space, words_of}
 
@@ -78,13 +75,3 @@ words-some line = by (split_at_space line) refl
     by : (p : List ℕ × Option (List ℕ)) → split_at_space line ≡ p → (w : List ℕ) × (ws : List (List ℕ)) × (words_of line ≡ w ∷ ws)
     by (w, None) e = (w, [], words-one line w (sym e))
     by (w, (Some rest)) e = (w, words_of rest, words-more line w rest (sym e))
-
--- a line that is not passed over is a command by its words
-pub command-words : (line : List ℕ) → (length line == 0) ≡ false → (slice_index line 0 ≡ 35 → ⊥) → command_of line ≡ command_of_words (words_of line)
-unfolding command_of
-command-words line some other = by (slice_index line 0 == 35) refl
-  where
-    by : (b : Bool) → (slice_index line 0 == 35) ≡ b
-        → (if (length line == 0) || (slice_index line 0 == 35) then command.Skip else command_of_words (words_of line)) ≡ command_of_words (words_of line)
-    by true e = absurd (other (eqb-true _ _ e))
-    by false e = rw (some, e) refl

@@ -14,8 +14,8 @@ use Rattle.cns_report.specs.Lines.{refused_line, send_line, exec_line, again_lin
 use Rattle.cns_report.specs.declared.subject.Subject.TheVariants as subject
 use Rattle.cns_records.specs.declared.refusal.Refusal.{Refusal}
 use Rattle.cns_records.specs.declared.refusal.Refusal.TheVariants as refusal
-use Rattle.cns_report.specs.declared.subject.NodeName.{NodeName}
-use Rattle.cns_report.specs.declared.subject.NodeName.TheVariants as node
+use Rattle.cns_system.specs.declared.event.NodeName.{NodeName}
+use Rattle.cns_system.specs.declared.event.NodeName.TheVariants as node
 use Rattle.cns_journal.specs.Keeper.{Foresight, Succeeds}
 use Rattle.cns_system.specs.Readers.{unconfirmed}
 use Rattle.cns_system.specs.World.{order_in_packet, reply_in_packet}

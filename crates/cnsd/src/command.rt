@@ -1,11 +1,10 @@
 ghost use Rattle.std.specs.Prelude.{◌≡◌, ◌==◌, ◌<◌, option_map, length, IfSome};
 ghost use Rattle.std.specs.List.{position_from};
-ghost use Rattle.cns_ids.specs.Cusip.{read_cusip};
-ghost use Rattle.cnsd.specs.Words.{split_at_space};
-ghost use Rattle.cnsd.specs.Script.{command_of as command_of_line, cycle_command as cycle_command_of, single as single_of, pair as pair_of, triple as triple_of, quadruple as quadruple_of, take_command as take_command_of, exempt_command as exempt_command_of, priority_command as priority_command_of, switch_of, number_of, send_with, order_with, reply_with, lot_with, pour_with, reserve_command as reserve_command_of, look_with, seal_with, close_with, allocate_with, beside_command as beside_command_of, lot_pair as lot_pair_of, node_of, stands_of, fail_command as fail_command_of, restart_with};
+ghost use Rattle.cnsd.specs.Words.{split_at_space, words_of};
+ghost use Rattle.cnsd.specs.Script.{command_of as command_of_line, form_of, single as single_of, pair as pair_of, triple as triple_of, quadruple as quadruple_of, take_in, one_of, place_in, member_in, issue_in, switch_in, node_in, stands_in, kind_in};
 
-use cns_ids::{Cusip, CycleId, CycleKind, Day, MemberNo, ReadFault, Shares, read_number};
-use cns_report::NodeName;
+use cns_ids::{Cusip, CycleId, CycleKind, Day, MemberNo, Shares, read_number};
+use cns_system::NodeName;
 
 /// A line of the script.
 #[derive(Clone, Copy, PartialEq, Eq, Debug)]
@@ -92,344 +91,175 @@ fn split_word(line: &[u8]) -> (&[u8], Option<&[u8]>)
     ensures { (result.0.now, option_map (λ r. r.now) result.1) ≡ split_at_space line.now }
 {
     match first_space(line) {
-        Some(place) => {
-            let (word, _) = line.split_at(place);
-            let (_, rest) = line.split_at(place + 1);
-            (word, Some(rest))
-        }
+        Some(place) => (&line[..place], Some(&line[place + 1..])),
         None => (line, None),
     }
 }
 
-// The command `TAKE argument`.
-fn take_command(argument: &[u8]) -> Command
-    ensures { result ≡ take_command_of argument.now }
-{
-    if argument == b"ALL".as_slice() {
-        return Command::TakeAll;
-    }
-    match read_number(argument, 1, 1_000_000) {
-        Ok(rows) => Command::Take(rows),
-        Err(_) => Command::Bad,
-    }
-}
-
-// The command `CYCLE kind date`.
-fn cycle_command(kind: &[u8], date: &[u8]) -> Command
-    ensures { result ≡ cycle_command_of kind.now date.now }
-{
-    let kind = if kind == b"NIGHT".as_slice() {
-        CycleKind::Night
-    } else if kind == b"DAY".as_slice() {
-        CycleKind::Day
-    } else {
-        return Command::Bad;
-    };
-    match Day::read(date) {
-        Ok(day) => Command::Cycle(CycleId { day, kind }),
-        Err(_) => Command::Bad,
-    }
-}
-
-// The command `EXEMPT member cusip shares`.
-fn exempt_command(member: &[u8], issue: &[u8], shares: &[u8]) -> Command
-    ensures { result ≡ exempt_command_of member.now issue.now shares.now }
-{
-    match (
-        MemberNo::read(member),
-        Cusip::read(issue),
-        Shares::read(shares),
-    ) {
-        (Ok(member), Ok(issue), Ok(shares)) => Command::Exempt {
-            member,
-            issue,
-            shares,
-        },
-        _ => Command::Bad,
-    }
-}
-
-// A switch: `ON` or `OFF`.
-fn read_switch(text: &[u8]) -> Option<bool>
-    ensures { result ≡ switch_of text.now }
-{
-    if text == b"ON".as_slice() {
-        Some(true)
-    } else if text == b"OFF".as_slice() {
-        Some(false)
-    } else {
-        None
-    }
-}
-
-// The command `PRIORITY member cusip switch`.
-fn priority_command(member: &[u8], issue: &[u8], switch: &[u8]) -> Command
-    ensures { result ≡ priority_command_of member.now issue.now switch.now }
-{
-    match (
-        MemberNo::read(member),
-        Cusip::read(issue),
-        read_switch(switch),
-    ) {
-        (Ok(member), Ok(issue), Some(on)) => Command::Priority { member, issue, on },
-        _ => Command::Bad,
-    }
-}
-
 // The number of an order, of a packet or of a lot.
-fn read_place(text: &[u8]) -> Result<u64, ReadFault>
-    ensures { result ≡ number_of text.now }
+fn read_place(text: &[u8]) -> Option<u64>
+    ensures { result ≡ place_in text.now }
 {
-    read_number(text, 0, 1_000_000_000)
+    read_number(text, 0, 1_000_000_000).ok()
 }
 
-// The command `SEND number`.
-fn send_command(number: &[u8]) -> Command
-    ensures { result ≡ send_with (number_of number.now) }
+fn read_member(text: &[u8]) -> Option<MemberNo>
+    ensures { result ≡ member_in text.now }
 {
-    match read_place(number) {
-        Ok(number) => Command::Send(number),
-        Err(_) => Command::Bad,
+    MemberNo::read(text).ok()
+}
+
+fn read_issue(text: &[u8]) -> Option<Cusip>
+    ensures { result ≡ issue_in text.now }
+{
+    Cusip::read(text).ok()
+}
+
+// What one of two words stands for.
+fn read_one_of<T: Drop>(text: &[u8], this: &[u8], a: T, that: &[u8], b: T) -> Option<T>
+    ensures { result ≡ one_of this.now a that.now b text.now }
+{
+    if text == this {
+        Some(a)
+    } else if text == that {
+        Some(b)
+    } else {
+        None
     }
 }
 
-// The command `ORDER packet`.
-fn order_command(packet: &[u8]) -> Command
-    ensures { result ≡ order_with (number_of packet.now) }
+fn read_kind(text: &[u8]) -> Option<CycleKind>
+    ensures { result ≡ kind_in text.now }
 {
-    match read_place(packet) {
-        Ok(packet) => Command::Order(packet),
-        Err(_) => Command::Bad,
-    }
+    read_one_of(text, b"NIGHT", CycleKind::Night, b"DAY", CycleKind::Day)
 }
 
-// The command `REPLY packet`.
-fn reply_command(packet: &[u8]) -> Command
-    ensures { result ≡ reply_with (number_of packet.now) }
+fn read_switch(text: &[u8]) -> Option<bool>
+    ensures { result ≡ switch_in text.now }
 {
-    match read_place(packet) {
-        Ok(packet) => Command::Reply(packet),
-        Err(_) => Command::Bad,
-    }
+    read_one_of(text, b"ON", true, b"OFF", false)
 }
 
-// The command `LOT cusip`.
-fn lot_command(issue: &[u8]) -> Command
-    ensures { result ≡ lot_with (read_cusip issue.now) }
-{
-    match Cusip::read(issue) {
-        Ok(issue) => Command::Lot(issue),
-        Err(_) => Command::Bad,
-    }
-}
-
-// The command `POUR lot`.
-fn pour_command(lot: &[u8]) -> Command
-    ensures { result ≡ pour_with (number_of lot.now) }
-{
-    match read_place(lot) {
-        Ok(lot) => Command::Pour(lot),
-        Err(_) => Command::Bad,
-    }
-}
-
-// The command `RESERVE lot member`.
-fn reserve_command(lot: &[u8], member: &[u8]) -> Command
-    ensures { result ≡ reserve_command_of lot.now member.now }
-{
-    match (read_place(lot), MemberNo::read(member)) {
-        (Ok(lot), Ok(member)) => Command::Reserve { lot, member },
-        _ => Command::Bad,
-    }
-}
-
-// The command `LOOK lot`.
-fn look_command(lot: &[u8]) -> Command
-    ensures { result ≡ look_with (number_of lot.now) }
-{
-    match read_place(lot) {
-        Ok(lot) => Command::Look(lot),
-        Err(_) => Command::Bad,
-    }
-}
-
-// The command `SEAL lot`.
-fn seal_command(lot: &[u8]) -> Command
-    ensures { result ≡ seal_with (number_of lot.now) }
-{
-    match read_place(lot) {
-        Ok(lot) => Command::Seal(lot),
-        Err(_) => Command::Bad,
-    }
-}
-
-// The command `CLOSE lot`.
-fn close_command(lot: &[u8]) -> Command
-    ensures { result ≡ close_with (number_of lot.now) }
-{
-    match read_place(lot) {
-        Ok(lot) => Command::Close(lot),
-        Err(_) => Command::Bad,
-    }
-}
-
-// The command `ALLOCATE cusip`.
-fn allocate_command(issue: &[u8]) -> Command
-    ensures { result ≡ allocate_with (read_cusip issue.now) }
-{
-    match Cusip::read(issue) {
-        Ok(issue) => Command::Allocate(issue),
-        Err(_) => Command::Bad,
-    }
-}
-
-// The command `BESIDE cusip lines`.
-fn beside_command(issue: &[u8], lines: &[u8]) -> Command
-    ensures { result ≡ beside_command_of issue.now lines.now }
-{
-    match (Cusip::read(issue), read_number(lines, 0, 1000)) {
-        (Ok(issue), Ok(lines)) => Command::Beside { issue, lines },
-        _ => Command::Bad,
-    }
-}
-
-// A node: `CLEAR` or `DEPOT`.
 fn read_node(text: &[u8]) -> Option<NodeName>
-    ensures { result ≡ node_of text.now }
+    ensures { result ≡ node_in text.now }
 {
-    if text == b"CLEAR".as_slice() {
-        Some(NodeName::Clear)
-    } else if text == b"DEPOT".as_slice() {
-        Some(NodeName::Depot)
-    } else {
-        None
-    }
+    read_one_of(text, b"CLEAR", NodeName::Clear, b"DEPOT", NodeName::Depot)
 }
 
-// Whether the record of a planned failure stands: `KEEP` or `DROP`.
+// Whether the record of a planned failure stands.
 fn read_stands(text: &[u8]) -> Option<bool>
-    ensures { result ≡ stands_of text.now }
+    ensures { result ≡ stands_in text.now }
 {
-    if text == b"KEEP".as_slice() {
-        Some(true)
-    } else if text == b"DROP".as_slice() {
-        Some(false)
-    } else {
-        None
-    }
+    read_one_of(text, b"KEEP", true, b"DROP", false)
 }
 
-// The command `FAIL node stands`.
-fn fail_command(node: &[u8], stands: &[u8]) -> Command
-    ensures { result ≡ fail_command_of node.now stands.now }
+// All rows, or a number of them.
+fn read_take(text: &[u8]) -> Option<Command>
+    ensures { result ≡ take_in text.now }
 {
-    match (read_node(node), read_stands(stands)) {
-        (Some(node), Some(stands)) => Command::Fail { node, stands },
-        _ => Command::Bad,
+    if text == b"ALL".as_slice() {
+        return Some(Command::TakeAll);
     }
+    read_number(text, 1, 1_000_000).ok().map(Command::Take)
 }
 
-// The command `RESTART node`.
-fn restart_command(node: &[u8]) -> Command
-    ensures { result ≡ restart_with (node_of node.now) }
-{
-    match read_node(node) {
-        Some(node) => Command::Restart(node),
-        None => Command::Bad,
-    }
-}
-
-// The command of one word.
-fn single(word: &[u8]) -> Command
+// The commands of one word.
+fn single(word: &[u8]) -> Option<Command>
     ensures { result ≡ single_of word.now }
 {
     if word == b"REPORT".as_slice() {
-        Command::Report
+        Some(Command::Report)
     } else if word == b"PUMP".as_slice() {
-        Command::Pump
+        Some(Command::Pump)
     } else {
-        Command::Bad
+        None
     }
 }
 
-// The command of lots of two words.
-fn lot_pair(word: &[u8], first: &[u8]) -> Command
-    ensures { result ≡ lot_pair_of word.now first.now }
-{
-    if word == b"LOT".as_slice() {
-        lot_command(first)
-    } else if word == b"POUR".as_slice() {
-        pour_command(first)
-    } else if word == b"LOOK".as_slice() {
-        look_command(first)
-    } else if word == b"SEAL".as_slice() {
-        seal_command(first)
-    } else if word == b"CLOSE".as_slice() {
-        close_command(first)
-    } else if word == b"ALLOCATE".as_slice() {
-        allocate_command(first)
-    } else {
-        Command::Bad
-    }
-}
-
-// The command of two words.
-fn pair(word: &[u8], first: &[u8]) -> Command
+// The commands of two words.
+fn pair(word: &[u8], first: &[u8]) -> Option<Command>
     ensures { result ≡ pair_of word.now first.now }
 {
     if word == b"TAKE".as_slice() {
-        take_command(first)
+        read_take(first)
     } else if word == b"SEND".as_slice() {
-        send_command(first)
+        read_place(first).map(Command::Send)
     } else if word == b"ORDER".as_slice() {
-        order_command(first)
+        read_place(first).map(Command::Order)
     } else if word == b"REPLY".as_slice() {
-        reply_command(first)
+        read_place(first).map(Command::Reply)
     } else if word == b"RESTART".as_slice() {
-        restart_command(first)
+        read_node(first).map(Command::Restart)
+    } else if word == b"LOT".as_slice() {
+        read_issue(first).map(Command::Lot)
+    } else if word == b"POUR".as_slice() {
+        read_place(first).map(Command::Pour)
+    } else if word == b"LOOK".as_slice() {
+        read_place(first).map(Command::Look)
+    } else if word == b"SEAL".as_slice() {
+        read_place(first).map(Command::Seal)
+    } else if word == b"CLOSE".as_slice() {
+        read_place(first).map(Command::Close)
+    } else if word == b"ALLOCATE".as_slice() {
+        read_issue(first).map(Command::Allocate)
     } else {
-        lot_pair(word, first)
+        None
     }
 }
 
-// The command of three words.
-fn triple(word: &[u8], first: &[u8], second: &[u8]) -> Command
+// The commands of three words.
+fn triple(word: &[u8], first: &[u8], second: &[u8]) -> Option<Command>
     ensures { result ≡ triple_of word.now first.now second.now }
 {
     if word == b"CYCLE".as_slice() {
-        cycle_command(first, second)
+        let kind = read_kind(first)?;
+        let day = Day::read(second).ok()?;
+        Some(Command::Cycle(CycleId { day, kind }))
     } else if word == b"FAIL".as_slice() {
-        fail_command(first, second)
+        Some(Command::Fail {
+            node: read_node(first)?,
+            stands: read_stands(second)?,
+        })
     } else if word == b"RESERVE".as_slice() {
-        reserve_command(first, second)
+        Some(Command::Reserve {
+            lot: read_place(first)?,
+            member: read_member(second)?,
+        })
     } else if word == b"BESIDE".as_slice() {
-        beside_command(first, second)
+        Some(Command::Beside {
+            issue: read_issue(first)?,
+            lines: read_number(second, 0, 1000).ok()?,
+        })
     } else {
-        Command::Bad
+        None
     }
 }
 
-// The command of four words.
-fn quadruple(word: &[u8], first: &[u8], second: &[u8], third: &[u8]) -> Command
+// The commands of four words.
+fn quadruple(word: &[u8], first: &[u8], second: &[u8], third: &[u8]) -> Option<Command>
     ensures { result ≡ quadruple_of word.now first.now second.now third.now }
 {
     if word == b"EXEMPT".as_slice() {
-        exempt_command(first, second, third)
+        Some(Command::Exempt {
+            member: read_member(first)?,
+            issue: read_issue(second)?,
+            shares: Shares::read(third).ok()?,
+        })
     } else if word == b"PRIORITY".as_slice() {
-        priority_command(first, second, third)
+        Some(Command::Priority {
+            member: read_member(first)?,
+            issue: read_issue(second)?,
+            on: read_switch(third)?,
+        })
     } else {
-        Command::Bad
+        None
     }
 }
 
-/// The command that a line of the script is.
-#[tactic(auto, unfolding(crate::specs::Script::command_of))]
-pub(crate) fn command_of(line: &[u8]) -> Command
-    ensures { result ≡ command_of_line line.now }
+// The command that the words of a line are, where they fit a form.
+fn read_command(line: &[u8]) -> Option<Command>
+    ensures { result ≡ form_of (words_of line.now) }
 {
-    if line.is_empty() || line[0] == b'#' {
-        return Command::Skip;
-    }
     let (word, rest) = split_word(line);
     let Some(rest) = rest else {
         return single(word);
@@ -445,6 +275,17 @@ pub(crate) fn command_of(line: &[u8]) -> Command
     let (third, rest) = split_word(rest);
     match rest {
         None => quadruple(word, first, second, third),
-        Some(_) => Command::Bad,
+        Some(_) => None,
     }
+}
+
+/// The command that a line of the script is.
+#[tactic(auto, unfolding(crate::specs::Script::command_of))]
+pub(crate) fn command_of(line: &[u8]) -> Command
+    ensures { result ≡ command_of_line line.now }
+{
+    if line.is_empty() || line[0] == b'#' {
+        return Command::Skip;
+    }
+    read_command(line).unwrap_or(Command::Bad)
 }

@@ -2,7 +2,7 @@ ghost use Rattle.std.specs.Prelude.{◌≡◌, ◌++◌, length, [], None, false
 ghost use Rattle.cns_depository.specs.Balances.{balance_rows};
 ghost use Rattle.cns_report.specs.Lines.{restart_line};
 ghost use Rattle.cns_report.specs.Report.{balance_lines};
-ghost use Rattle.cns_report.specs.declared.subject.NodeName.TheVariants as node;
+ghost use Rattle.cns_system.specs.declared.event.NodeName.TheVariants as node;
 ghost use Rattle.cnsd.specs.Depot.{order_reached, IsAnswered};
 ghost use Rattle.cnsd.specs.Link.{sure};
 ghost use Rattle.cnsd.specs.States.{depot_restarted, is_returned, planned};
@@ -10,7 +10,8 @@ ghost use Rattle.cnsd.specs.States.{depot_restarted, is_returned, planned};
 use cns_depository::{Answer, DepFault, Depository, Openings};
 use cns_journal::ListKeeper;
 use cns_movements::Order;
-use cns_report::{NodeName, write_balance_report, write_restart};
+use cns_report::{write_balance_report, write_restart};
+use cns_system::NodeName;
 use std::alloc::{AllocError, Global};
 use std::marker::Model;
 

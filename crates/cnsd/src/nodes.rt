@@ -9,9 +9,8 @@ use crate::depot_side::DepotSide;
 use cns_depository::{Answer, DepFault, Openings};
 use cns_movements::{MoveNo, Order, Reply};
 use cns_records::Refusal;
-use cns_report::{
-    NodeName, Subject, write_again, write_exec, write_refused, write_report_end, write_send,
-};
+use cns_report::{Subject, write_again, write_exec, write_refused, write_report_end, write_send};
+use cns_system::NodeName;
 use cns_wire::{Frame, Wire, read_frame, write_order, write_reply};
 use std::alloc::{AllocError, Global};
 use std::marker::Model;
