@@ -161,7 +161,14 @@ fn fault_of(alloc: Global, (past, depot_past): Journals) -> Result<StartFault, F
     let clear = keeper_of(alloc, past)?;
     let depot = depot_keeper_of(alloc, depot_past)?;
     match System::open(alloc, clear, depot, openings(alloc, 20)?) {
-        Err(refused) => Ok(refused.fault),
+        Err(refused) => {
+            // Both keepers come back with the records that they had.
+            let kept = (refused.clear.count(), refused.depot.count());
+            if kept != (past.len() as u64, depot_past.len() as u64) {
+                return Err(Fail::from("the keepers' records"));
+            }
+            Ok(refused.fault)
+        }
         Ok(both) => {
             drop(both);
             Err(Fail::from("the journals were opened"))
