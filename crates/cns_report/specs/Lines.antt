@@ -93,6 +93,10 @@ trade_refused_line id refusal = codes "trade " ++ id ++ codes " refused " ++ ref
 unfoldable pub fail_line : List ℕ
 fail_line = codes "fail ok" ++ line_end
 
+-- fail refused NotPlanned
+unfoldable pub fail_refused_line : List ℕ
+fail_refused_line = codes "fail refused NotPlanned" ++ line_end
+
 -- whether one record more came back
 abbrev pub kept_text : Bool → List ℕ
 kept_text true = codes "yes"

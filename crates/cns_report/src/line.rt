@@ -1,5 +1,5 @@
 ghost use Rattle.std.specs.Prelude.{◌≡◌, ◌++◌, OnOk, OnErr, string_bytes};
-ghost use Rattle.cns_report.specs.Lines.{trade_line, row_fault_line, bad_command_line, cycle_line, refused_line, exempt_line, priority_line, order_line, order_lines, opening_row_fault_line, opening_refused_line, send_line, exec_line, again_line, confirm_done_line, confirm_again_line, trade_refused_line, fail_line, restart_line, lot_line, pour_line, ticket_line, look_line, look_asked_half, look_poured_half, seal_line, close_line};
+ghost use Rattle.cns_report.specs.Lines.{trade_line, row_fault_line, bad_command_line, cycle_line, refused_line, exempt_line, priority_line, order_line, order_lines, opening_row_fault_line, opening_refused_line, send_line, exec_line, again_line, confirm_done_line, confirm_again_line, trade_refused_line, fail_line, fail_refused_line, restart_line, lot_line, pour_line, ticket_line, look_line, look_asked_half, look_poured_half, seal_line, close_line};
 
 use crate::append::append;
 use crate::fault::{OpeningFaultName, RefusalName, RowFaultName};
@@ -207,6 +207,15 @@ pub fn write_fail(out: &mut String) -> Result<(), AllocError>
     ensures err { OnErr result (string_bytes out.new ≡ string_bytes out.old) }
 {
     out.push_str("fail ok\n")
+}
+
+/// The line of a failure that the keeper does not plan: `fail refused NotPlanned`.
+#[tactic(auto, unfolding(crate::specs::Lines::fail_refused_line))]
+pub fn write_fail_refused(out: &mut String) -> Result<(), AllocError>
+    ensures ok { OnOk result (string_bytes out.new ≡ string_bytes out.old ++ fail_refused_line) }
+    ensures err { OnErr result (string_bytes out.new ≡ string_bytes out.old) }
+{
+    out.push_str("fail refused NotPlanned\n")
 }
 
 /// The line of a restart: `restart NODE records N kept yes`, or `.. no`.

@@ -15,3 +15,4 @@ pub mod LotHappens
 pub mod LinkHappens
 pub mod HappensLemmas
 pub mod DecisionLemmas
+pub mod SceneLemmas

@@ -13,3 +13,4 @@ pub mod Start
 pub mod Accord
 pub mod Run
 pub mod Readers
+pub mod Scene

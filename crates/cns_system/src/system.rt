@@ -4,6 +4,7 @@ ghost use Rattle.cns_records.specs.Dep.{dep_spelling};
 ghost use Rattle.cns_system.specs.Accord.{IsInAccord, StaysSound};
 ghost use Rattle.cns_system.specs.Run.{IsDecided, Run};
 ghost use Rattle.cns_system.specs.Readers.{PlanStep, counts_of, unconfirmed};
+ghost use Rattle.cns_system.specs.Scene.{Comes, Plans, scene_of};
 ghost use Rattle.cns_system.specs.Start.{IsGivenUp, IsNotOpened, IsStarted};
 ghost use Rattle.cns_system.specs.Step.{Step};
 
@@ -138,6 +139,7 @@ impl<C: Keeper, D: Keeper> System<C, D> {
     /// Answers `NotPlanned` exactly where the keeper plans no failures. (This project's own rule.)
     pub fn plan(&mut self, node: NodeName, stands: bool) -> Result<(), NotPlanned>
         ensures plan { PlanStep node stands result self.old self.new }
+        ensures scene { Plans node stands result (scene_of self.old) (scene_of self.new) }
         ensures accord { IsInAccord self.new }
     {
         self.pair.plan(node, stands)
@@ -147,6 +149,9 @@ impl<C: Keeper, D: Keeper> System<C, D> {
     pub fn step(&mut self, event: Event) -> Outcome
         // The outcome and what is left are those of one function of what the surroundings decide.
         ensures decided { IsDecided event result self.old self.new }
+
+        // So it is with what is known beforehand of the keepers.
+        ensures comes { Comes event result self.old self.new }
         ensures step { Step event result self.old self.new }
         ensures accord { IsInAccord self.new }
 

@@ -1,10 +1,8 @@
 pub mod BytesLemmas
+pub mod ActLemmas
 pub mod SectionLemmas
 pub mod WordLemmas
 pub mod RunLemmas
-pub mod StateLemmas
 pub mod OpenedLemmas
-pub mod ClearSideLemmas
-pub mod DepotSideLemmas
-pub mod LotCommandLemmas
+pub mod TextLemmas
 pub mod CommandLineLemmas

@@ -1,21 +1,25 @@
--- Nodes that are opened over an empty journal have no records.
-use Rattle.std.proofs.Common.{◌≡◌, ℕ, List, [], ◌∷◌, true, false, None, ◌∙◌, map, reverse, refl, ap, inl, inr, length, arith}
+-- Nodes that are opened over empty journals have no records, and these are never bad.
+use Rattle.std.proofs.Common.{◌≡◌, ℕ, List, [], ◌∷◌, true, false, None, Err, ◌∙◌, map, reverse, refl, sym, ap, inl, inr, length, length-append, arith}
 use Rattle.std.proofs.lemmas.List.{length-reverse}
+use Rattle.std.proofs.lemmas.List.Elements.{All-nil}
 use Rattle.std.proofs.lemmas.Option.{none-some}
-use Rattle.cns_journal.specs.Keeper.{Foresight, IsReopened}
+use Rattle.cns_journal.specs.Keeper.{IsReopened, Succeeds}
 use Rattle.cns_journal.specs.RecordLog.{IsOpened, LogState}
-use Rattle.cns_journal.specs.Replay.{KeeperState}
-use Rattle.cns_records.specs.Clear.{spelling}
-use Rattle.cns_records.specs.Dep.{dep_spelling}
+use Rattle.cns_journal.specs.Replay.{IsBadPlace, KeeperState, Reread}
+use Rattle.cns_journal.specs.declared.record_log.ReplayFault.TheVariants as replay
+use Rattle.cns_records.specs.Clear.{spelling, HasPayload}
+use Rattle.cns_records.specs.Dep.{dep_spelling, HasDepPayload}
+use Rattle.cns_records.specs.declared.clear_record.ClearRecord.{ClearRecord}
+use Rattle.cns_records.specs.declared.dep_record.DepRecord.{DepRecord}
 use Rattle.cns_trades.specs.declared.opening.Opening.{Opening}
-use Rattle.cnsd.specs.Link.{sure}
-use Rattle.cnsd.specs.States.{clear_state, depot_state}
-use Rattle.cns_clearing.specs.Books.{IsAllowed}
-use Rattle.cns_clearing.specs.Node.{ClearNode}
-use Rattle.cns_clearing.specs.Node as clear
-use Rattle.cns_depository.specs.Node.{DepNode}
-use Rattle.cns_depository.specs.Node as depot
+use Rattle.cns_clearing.specs.Books.{IsAllowed, books_of, orders_of}
 use Rattle.cns_depository.specs.Stock.{IsExecutable}
+use Rattle.cns_system.specs.Agreement.{Agree, IsExecuted, IsOrdered}
+use Rattle.cns_system.specs.Scene.{scene_of}
+use Rattle.cns_system.specs.Start.{IsStarted}
+use Rattle.cns_system.specs.World.{World}
+use Rattle.cns_system.specs.declared.fault.StartFault.TheVariants as start
+use Rattle.cnsd.specs.Text.{Input, IsUnopened, first_scene, new_keeper}
 
 -- no payloads are of no records
 no_items : {R : Type 0} (f : R → List ℕ) (items : List R) → map f items ≡ [] → items ≡ []
@@ -30,32 +34,71 @@ nothing_given : (given : List (List ℕ)) → IsReopened (record { kept = []; un
 nothing_given given (inl e) = e
 nothing_given given (inr more) = absurd (none-some more.0 more.1)
 
+-- ---- both nodes at the start
+
 -- a log that is opened over an empty journal has no records, and what was known of its keeper is known still
 record IsFirst {R : Type 0} (log : LogState R) : Type 0 where
   records : log.records ≡ []
   tried : log.tried ≡ None
   down : log.down ≡ false
-  foresight : log.foresight ≡ sure
+  honest : log.honest ≡ true
+  foresight : log.foresight ≡ record { next = Succeeds; stands = None }
 
-first : {R : Type 0} (spelling : R → List ℕ) (allows : List R → R → Type 0) (keeper : KeeperState) (log : LogState R) → IsOpened spelling allows keeper log
-    → keeper.honest ≡ true → keeper.journal ≡ record { kept = []; undecided = None } → keeper.foresight ≡ sure → IsFirst log
-first {R} spelling allows keeper log opened honest empty known = record {
-  records = no_records log.records (no_items spelling (reverse log.records) (nothing_given _ (rw empty at (opened.given honest))));
+first : {R : Type 0} (spelling : R → List ℕ) (allows : List R → R → Type 0) (log : LogState R) → IsOpened spelling allows new_keeper log → IsFirst log
+first {R} spelling allows log opened = record {
+  records = no_records log.records (no_items spelling (reverse log.records) (nothing_given _ (opened.given refl)));
   tried = ap (λ (l : LogState R). l.tried) opened.value;
   down = ap (λ (l : LogState R). l.down) opened.value;
-  foresight = ap (λ (l : LogState R). l.foresight) opened.value ∙ ap (λ (f : Foresight). record f { stands = None }) known;
+  honest = ap (λ (l : LogState R). l.honest) opened.value;
+  foresight = ap (λ (l : LogState R). l.foresight) opened.value;
 }
 
-pub clear_first : (keeper : KeeperState) (node : ClearNode) → clear.IsOpened keeper node → keeper.honest ≡ true
-    → keeper.journal ≡ record { kept = []; undecided = None } → keeper.foresight ≡ sure
-    → clear_state (record { clear = node; lots = [] }) ≡ record { records = []; tried = None; down = false; lots = []; numbered = []; foresight = sure }
-clear_first keeper node opened honest empty known =
-    let is = first spelling IsAllowed keeper node.log opened.0 honest empty known in
-    rw (is.records, is.tried, is.down, opened.1, is.foresight) refl
+pub started_first : (openings : List Opening) (w : World) → IsStarted openings new_keeper new_keeper w → scene_of w ≡ first_scene openings
+started_first openings w started =
+    let c = first spelling IsAllowed w.clear.clear.log started.clear_opens.0 in
+    let p = first dep_spelling (IsExecutable openings) w.depot.log started.depot_opens.0 in
+    rw (
+      c.records,
+      c.tried,
+      c.down,
+      c.honest,
+      c.foresight,
+      started.clear_opens.1,
+      started.lots,
+      p.records,
+      p.tried,
+      p.down,
+      p.honest,
+      p.foresight,
+      started.depot_opens.1,
+      started.orders,
+      started.replies,
+    ) refl
 
-pub depot_first : (openings : List Opening) (keeper : KeeperState) (node : DepNode) → depot.IsOpened openings keeper node → keeper.honest ≡ true
-    → keeper.journal ≡ record { kept = []; undecided = None } → keeper.foresight ≡ sure
-    → depot_state node ≡ record { openings = openings; records = []; tried = None; down = false; foresight = sure }
-depot_first openings keeper node opened honest empty known =
-    let is = first dep_spelling (IsExecutable openings) keeper node.log opened.0 honest empty known in
-    rw (opened.1, is.records, is.tried, is.down, is.foresight) refl
+-- ---- no opening is refused but for want of memory
+
+no_bad_place : {R : Type 0} (spelling : R → List ℕ) (allows : List R → R → Type 0) (fits : R → Type 0) (given : List (List ℕ)) (place : ℕ) → given ≡ []
+    → IsBadPlace spelling allows fits given place → ⊥
+no_bad_place spelling allows fits given place none bad =
+    omega (arith, length-append (map spelling bad.before) (bad.payload ∷ bad.after), ap (λ (l : List (List ℕ)). length l) (sym bad.given_is ∙ none))
+
+reads : {R : Type 0} (spelling : R → List ℕ) (allows : List R → R → Type 0) (fits : R → Type 0) (new : KeeperState) (place : ℕ)
+    → Reread spelling allows fits (Err (replay.BadJournal place)) new_keeper new → ⊥
+reads spelling allows fits new place (given, reopened, bad) = no_bad_place spelling allows fits given place (nothing_given given (reopened.keeps refl).0) bad
+
+nothing_agrees : (c : List ClearRecord) (p : List DepRecord) → c ≡ [] → p ≡ [] → Agree c p
+unfolding books_of
+nothing_agrees c p none nothing = rw (none, nothing) (record { ordered = All-nil (IsOrdered (orders_of []).orders); executed = All-nil (IsExecuted []) })
+
+pub none_unopened : (input : Input) (clear depot : KeeperState) → IsUnopened input new_keeper new_keeper clear depot → ⊥
+none_unopened input clear depot (start.Clear (replay.BadJournal place), long, (unread, same)) = reads spelling IsAllowed HasPayload clear place unread
+none_unopened input clear depot (start.Clear replay.OutOfMemory, long, why) = absurd (cc long)
+none_unopened input clear depot (start.Clear replay.Device, long, (reopened, same)) = absurd (cc reopened.foreseen.0)
+none_unopened input clear depot (start.Depot (replay.BadJournal place), long, (returned, unread)) =
+    reads dep_spelling (IsExecutable input.openings) HasDepPayload depot place unread
+none_unopened input clear depot (start.Depot replay.OutOfMemory, long, why) = absurd (cc long)
+none_unopened input clear depot (start.Depot replay.Device, long, (returned, reopened)) = absurd (cc reopened.foreseen.0)
+none_unopened input clear depot (start.Disagree, long, (c, opened, (p, stocked, differs))) =
+    differs
+    (nothing_agrees c.log.records p.log.records (first spelling IsAllowed c.log opened.0.0).records
+    (first dep_spelling (IsExecutable input.openings) p.log stocked.0.0).records)

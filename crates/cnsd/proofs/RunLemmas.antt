@@ -1,77 +1,100 @@
 -- A script, one line after another.
-use Rattle.std.proofs.Common.{◌≡◌, ◌≤◌, ◌<◌, ◌+◌, ℕ, List, [], ◌∷◌, ◌++◌, length, take, drop, refl, sym, ap, ◌∙◌, arith, append_assoc}
+use Rattle.std.proofs.Common.{◌≡◌, ◌≤◌, ◌<◌, ◌+◌, ℕ, true, false, List, [], ◌∷◌, length, take, drop, Option, Some, None, refl, sym, ap, ◌∙◌, subst, arith}
+use Rattle.std.specs.Prelude.{is_some}
 use Rattle.std.proofs.lemmas.List.{drop-drop, drop_all}
-use Rattle.cnsd.specs.Run.{State, counted, ended, line_counted, plain_step, run_lines, step}
-use Rattle.cns_trades.specs.declared.row.Row.{Row}
-use Rattle.cnsd.specs.declared.course.Course.{Course}
-use Rattle.cnsd.specs.declared.command.Command.{Command}
-use Rattle.cnsd.specs.declared.command.Command.TheVariants as command
+use Rattle.cns_report.specs.Lines.{bad_command_line}
+use Rattle.cns_system.specs.declared.event.Event.TheVariants as event
+use Rattle.cnsd.specs.Acts.{Act, done, followed, tells}
+use Rattle.cnsd.specs.Commands.{learned, opened_in}
+use Rattle.cnsd.specs.Run.{begun, command_run, ended, line_counted, line_run, lines_run, waited}
+use Rattle.cnsd.specs.Runs.{Continues, Place, Stops}
 use Rattle.cnsd.specs.Script.{command_of}
 use Rattle.cnsd.specs.Sections.{line_size, line_text, raw_lines}
+use Rattle.cnsd.specs.declared.command.Command.{Command}
+use Rattle.cnsd.specs.declared.command.Command.TheVariants as command
+use Rattle.cnsd.specs.declared.runner.Beside.{Beside}
+use Rattle.cnsd.proofs.ActLemmas.{continues_more, followed_gives, stops_after, stops_followed}
 use Rattle.cnsd.proofs.SectionLemmas.{lines_step}
 
 -- a line that is neither passed over nor opens a lot beside others
-pub step_counted : (n : ℕ) (s : State) (c : Command) → (c ≡ command.Skip → ⊥) → ((issue lines : ℕ) → c ≡ command.Beside issue lines → ⊥) → step n s c ≡ counted (plain_step n s c)
-step_counted n s command.Skip skip beside = absurd (skip refl)
-step_counted n s (command.Beside issue lines) skip beside = absurd (beside issue lines refl)
-step_counted n s command.TakeAll skip beside = refl
-step_counted n s (command.Take rows) skip beside = refl
-step_counted n s (command.Cycle cycle) skip beside = refl
-step_counted n s (command.Exempt member issue shares) skip beside = refl
-step_counted n s (command.Priority member issue on) skip beside = refl
-step_counted n s (command.Send number) skip beside = refl
-step_counted n s (command.Order packet) skip beside = refl
-step_counted n s (command.Reply packet) skip beside = refl
-step_counted n s (command.Lot issue) skip beside = refl
-step_counted n s (command.Pour lot) skip beside = refl
-step_counted n s (command.Reserve lot member) skip beside = refl
-step_counted n s (command.Look lot) skip beside = refl
-step_counted n s (command.Seal lot) skip beside = refl
-step_counted n s (command.Close lot) skip beside = refl
-step_counted n s (command.Allocate issue) skip beside = refl
-step_counted n s (command.Fail name stands) skip beside = refl
-step_counted n s (command.Restart name) skip beside = refl
-step_counted n s command.Pump skip beside = refl
-step_counted n s command.Report skip beside = refl
-step_counted n s command.Bad skip beside = refl
+pub line_plain : (n : ℕ) (c : Command) → (c ≡ command.Skip → ⊥) → ((issue lines : ℕ) → c ≡ command.Beside issue lines → ⊥)
+    → line_run n c ≡ followed (command_run n c) (λ _. line_counted)
+line_plain n command.Skip skip beside = absurd (skip refl)
+line_plain n (command.Beside issue lines) skip beside = absurd (beside issue lines refl)
+line_plain n command.TakeAll skip beside = refl
+line_plain n (command.Take rows) skip beside = refl
+line_plain n (command.Cycle cycle) skip beside = refl
+line_plain n (command.Exempt member issue shares) skip beside = refl
+line_plain n (command.Priority member issue on) skip beside = refl
+line_plain n (command.Send number) skip beside = refl
+line_plain n (command.Order packet) skip beside = refl
+line_plain n (command.Reply packet) skip beside = refl
+line_plain n (command.Lot issue) skip beside = refl
+line_plain n (command.Pour lot) skip beside = refl
+line_plain n (command.Reserve lot member) skip beside = refl
+line_plain n (command.Look lot) skip beside = refl
+line_plain n (command.Seal lot) skip beside = refl
+line_plain n (command.Close lot) skip beside = refl
+line_plain n (command.Allocate issue) skip beside = refl
+line_plain n (command.Fail name stands) skip beside = refl
+line_plain n (command.Restart name) skip beside = refl
+line_plain n command.Pump skip beside = refl
+line_plain n command.Report skip beside = refl
+line_plain n command.Bad skip beside = refl
 
--- such a line is run and then counted
-pub counted_step : (n : ℕ) (s : State) (c : Command) (course after : Course) (left : List Row) (out out1 out2 : List ℕ) → (c ≡ command.Skip → ⊥)
-    → ((issue lines : ℕ) → c ≡ command.Beside issue lines → ⊥) → (plain_step n s c).0 ≡ record { course = course; left = left } → out1 ≡ out ++ (plain_step n s c).1
-    → after ≡ (line_counted course).0 → out2 ≡ out1 ++ (line_counted course).1
-    → ((step n s c).0 ≡ record { course = after; left = left }) × (out2 ≡ out ++ (step n s c).1)
-counted_step n s c course after left out out1 out2 skip beside ran told counts more =
-    let is = step_counted n s c skip beside in (
-      ap (λ (p : State × List ℕ). p.0) is ∙ ap (λ (x : State). record x { course = (line_counted x.course).0 }) ran
-          ∙ ap (λ (k : Course). record { course = k; left = left }) (sym counts),
-      more ∙ ap (λ l. l ++ (line_counted course).1) told ∙ append_assoc out (plain_step n s c).1 (line_counted course).1
-          ∙ ap (λ (x : State). out ++ ((plain_step n s c).1 ++ (line_counted x.course).1)) (sym ran) ∙ ap (λ (p : State × List ℕ). out ++ p.1) (sym is),
-    )
+-- BESIDE where a lot waits, and where none does
+pub begun_again : (waits : Option Beside) (n issue lines : ℕ) → is_some waits ≡ true → begun waits n issue lines ≡ followed (tells (bad_command_line n)) (λ _. line_counted)
+begun_again None n issue lines some = absurd (cc some)
+begun_again (Some beside) n issue lines some = refl
+
+pub begun_first : (waits : Option Beside) (n issue lines : ℕ) → is_some waits ≡ false → begun waits n issue lines ≡ followed (learned (event.LotOpen issue) opened_in) (waited lines)
+begun_first None n issue lines none = refl
+begun_first (Some beside) n issue lines none = absurd (cc none)
 
 -- lines that are not empty, by the first
-first_line : (n : ℕ) (s : State) (xs : List ℕ) → 0 < length xs → run_lines n s (raw_lines xs)
-    ≡ (step n s (command_of (line_text (take (line_size xs) xs)))).1
-    ++ run_lines (n + 1) (step n s (command_of (line_text (take (line_size xs) xs)))).0 (raw_lines (drop (line_size xs) xs))
-unfolding run_lines
-first_line n s [] pos = absurd (omega (arith, pos))
-first_line n s (c ∷ cs) pos = ap (run_lines n s) (lines_step c cs)
+first_line : (n : ℕ) (xs : List ℕ) → 0 < length xs → lines_run n (raw_lines xs)
+    ≡ followed (line_run n (command_of (line_text (take (line_size xs) xs)))) (λ _. lines_run (n + 1) (raw_lines (drop (line_size xs) xs)))
+unfolding lines_run
+first_line n [] pos = absurd (omega (arith, pos))
+first_line n (c ∷ cs) pos = ap (lines_run n) (lines_step c cs)
 
-pub run_step : (n : ℕ) (s s2 : State) (script rest line text out new all : List ℕ) (at size : ℕ) → rest ≡ drop at script → 0 < length rest → size ≡ line_size rest
-    → line ≡ line_text (take size rest) → (step n s (command_of line)).0 ≡ s2 → text ≡ (step n s (command_of line)).1 → new ≡ out ++ text
-    → out ++ run_lines n s (raw_lines (drop at script)) ≡ all
-    → new ++ run_lines (n + 1) s2 (raw_lines (drop (at + size) script)) ≡ all
-run_step n s s2 script rest line text out new all at size r pos z l state t o inv =
-    let cut : line ≡ line_text (take (line_size rest) rest) = rw (← z) l in
-    let here : run_lines n s (raw_lines rest) ≡ text ++ run_lines (n + 1) s2 (raw_lines (drop (line_size rest) rest)) =
-    first_line n s rest pos ∙ rw (← cut, t, ← state) refl in
-    let back : drop (line_size rest) rest ≡ drop (at + size) script = rw (← z) (ap (drop size) r ∙ drop-drop size at script) in
-    let more : run_lines n s (raw_lines (drop at script)) ≡ text ++ run_lines (n + 1) s2 (raw_lines (drop (at + size) script)) =
-    ap (λ x. run_lines n s (raw_lines x)) (sym r) ∙ here ∙ ap (λ x. text ++ run_lines (n + 1) s2 (raw_lines x)) back in
-    rw o (append_assoc out text _ ∙ ap (λ x. out ++ x) (sym more) ∙ inv)
+-- the line of a script in this place
+pub record IsLine (script rest line : List ℕ) (c : Command) (at size : ℕ) : Type 0 where
+  pub rest_is : rest ≡ drop at script
+  pub some : 0 < length rest
+  pub size_is : size ≡ line_size rest
+  pub line_is : line ≡ take size rest
+  pub command_is : c ≡ command_of (line_text line)
 
-pub run_end : (n : ℕ) (s : State) (script out out' all : List ℕ) (at : ℕ) → length script ≤ at → out ++ run_lines n s (raw_lines (drop at script)) ≡ all
-    → out' ≡ out ++ (ended s.course).1 → out' ≡ all
-unfolding run_lines raw_lines
-run_end n s script out out' all at le inv told =
-    let none = drop_all at script le in
-    told ∙ (rw none at inv)
+pub is_line : (script rest line : List ℕ) (c : Command) (at size : ℕ) → rest ≡ drop at script → 0 < length rest → size ≡ line_size rest → line ≡ take size rest
+    → c ≡ command_of (line_text line) → IsLine script rest line c at size
+is_line script rest line c at size r some z l k = record { rest_is = r; some = some; size_is = z; line_is = l; command_is = k }
+
+here : (n : ℕ) (script rest line : List ℕ) (c : Command) (at size : ℕ) → IsLine script rest line c at size
+    → lines_run n (raw_lines (drop at script)) ≡ followed (line_run n c) (λ _. lines_run (n + 1) (raw_lines (drop (at + size) script)))
+here n script rest line c at size is =
+    let text : c ≡ command_of (line_text (take (line_size rest) rest)) = is.command_is ∙ ap (λ l. command_of (line_text l)) (is.line_is ∙ ap (λ k. take k rest) is.size_is) in
+    let back : drop (line_size rest) rest ≡ drop (at + size) script = ap (λ k. drop k rest) (sym is.size_is) ∙ ap (drop size) is.rest_is ∙ drop-drop size at script in
+    ap (λ x. lines_run n (raw_lines x)) (sym is.rest_is) ∙ first_line n rest is.some
+    ∙ ap (λ k. followed (line_run n k) (λ _. lines_run (n + 1) (raw_lines (drop (line_size rest) rest)))) (sym text)
+    ∙ ap (λ x. followed (line_run n c) (λ _. lines_run (n + 1) (raw_lines x))) back
+
+pub script_next : (all : Act (Unit {0})) (n : ℕ) (script rest line : List ℕ) (c : Command) (at size : ℕ) (p q r : Place) → IsLine script rest line c at size
+    → Continues all (lines_run n (raw_lines (drop at script))) p q → Continues (line_run n c) done q r
+    → Continues all (lines_run (n + 1) (raw_lines (drop (at + size) script))) p r
+script_next all n script rest line c at size p q r is so one =
+    let next : Unit {0} → Act (Unit {0}) = λ _. lines_run (n + 1) (raw_lines (drop (at + size) script)) in
+    continues_more all (followed (line_run n c) next) (next tt) p q r (subst (λ a. Continues all a p q) (here n script rest line c at size is) so)
+    (followed_gives (line_run n c) tt next q r one)
+
+pub script_stops : (all : Act (Unit {0})) (n : ℕ) (script rest line : List ℕ) (c : Command) (at size : ℕ) (p q r : Place) → IsLine script rest line c at size
+    → Continues all (lines_run n (raw_lines (drop at script))) p q → Stops (line_run n c) q r → Stops all p r
+script_stops all n script rest line c at size p q r is so stop =
+    let next : Unit {0} → Act (Unit {0}) = λ _. lines_run (n + 1) (raw_lines (drop (at + size) script)) in
+    stops_after all (followed (line_run n c) next) p q r (subst (λ a. Continues all a p q) (here n script rest line c at size is) so)
+    (stops_followed (line_run n c) next q r stop)
+
+pub script_done : (all : Act (Unit {0})) (n : ℕ) (script : List ℕ) (at : ℕ) (p q : Place) → length script ≤ at → Continues all (lines_run n (raw_lines (drop at script))) p q
+    → Continues all ended p q
+unfolding lines_run raw_lines
+script_done all n script at p q le so = subst (λ l. Continues all (lines_run n (raw_lines l)) p q) (drop_all at script le) so

@@ -25,3 +25,4 @@ EndsLine fault.Read line old new = ⊥
 EndsLine fault.TooLong line old new = ⊥
 EndsLine fault.Sections line old new = ⊥
 EndsLine fault.Csv line old new = ⊥
+EndsLine fault.Journal line old new = ⊥

@@ -2,12 +2,9 @@ pub mod Reading
 pub mod Sections
 pub mod Words
 pub mod Script
-pub mod States
-pub mod Clear
-pub mod LotCommands
-pub mod ClearTexts
-pub mod Depot
-pub mod Link
+pub mod Acts
+pub mod Commands
+pub mod Runs
 pub mod Run
 pub mod Opened
 pub mod Text

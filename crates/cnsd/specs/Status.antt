@@ -8,5 +8,6 @@ status_of fault.Read = 2
 status_of fault.TooLong = 2
 status_of fault.Sections = 2
 status_of fault.Csv = 2
+status_of fault.Journal = 3
 status_of fault.Memory = 3
 status_of fault.Write = 3

@@ -1,20 +1,44 @@
-ghost use Rattle.std.specs.Prelude.{◌≡◌, ◌+◌, ◌<◌, ◌≤◌, ◌++◌, ℕ, List, [], Ok, MatchResult, IfOk, IfSome, IfErr, OnOk, string_bytes};
-ghost use Rattle.std.specs.Io.KnownBytes.{Appends};
-ghost use Rattle.cnsd.specs.Opened.{told_openings};
-ghost use Rattle.cnsd.specs.Run.{script_text};
-ghost use Rattle.cnsd.specs.Text.{fault_of_rows, text_of, Tells, Ends};
+ghost use Rattle.std.specs.Prelude.{◌≡◌, ◌+◌, ◌<◌, ◌≤◌, ◌⊎◌, [], Ok, MatchResult, IfSome, OnOk, IfErr, List, ℕ, string_bytes};
+ghost use Rattle.std.specs.Io.KnownBytes.{Appends, IsAtEnd};
+ghost use Rattle.cns_trades.specs.Openings.{opening_rows};
+ghost use Rattle.cns_trades.specs.Rows.{trade_rows};
+ghost use Rattle.cnsd.specs.Reading.{batch_result};
+ghost use Rattle.cnsd.specs.Run.{lines_run};
+ghost use Rattle.cnsd.specs.Runs.{Runs};
+ghost use Rattle.cnsd.specs.Sections.{raw_lines};
+ghost use Rattle.cnsd.specs.Text.{BatchLeaves, KeptLeaves, RunsInput, Tells, WritesNothing, fault_of_rows, fault_of_start, input_under};
 
-use crate::fault::BatchFault;
+use crate::fault::{BatchFault, OutputFault};
 use crate::input::read_input;
 use crate::opening::take_openings;
-use crate::output::write_text;
-use crate::script::run_script;
+use crate::runner::Runner;
 use crate::sections::split_input;
 use crate::steps::Steps;
-use cns_trades::{CsvFault, OpeningRow, Row, read_openings, read_trades};
-use std::alloc::{AllocError, Global};
+use cns_depository::Openings;
+use cns_journal::{Keeper, ListKeeper, ReplayFault};
+use cns_system::{StartFault, System};
+use cns_trades::{CsvFault, Row, read_openings, read_trades};
+use std::alloc::Global;
 use std::io::{Read, Write};
 use std::sync::ledger::{Blank, Ledger};
+
+/// What a batch comes to, and both keepers.
+#[derive(Drop)]
+pub struct Kept<C, D> {
+    pub result: Result<(), BatchFault>,
+    /// The keeper of the clearing node.
+    pub clear: C,
+    /// The keeper of the depository.
+    pub depot: D,
+}
+
+// The rows of an input: the openings that stand, what the rows of openings tell, and the rows of trades.
+#[derive(Drop)]
+struct Rows {
+    openings: Openings,
+    told: String,
+    trades: Vec<Row>,
+}
 
 // The fault of a batch whose rows cannot be read.
 fn rows_fault(fault: CsvFault) -> BatchFault
@@ -27,64 +51,188 @@ fn rows_fault(fault: CsvFault) -> BatchFault
     }
 }
 
-// What rows of openings tell, and then what a script tells over rows of trades.
-fn tell(
-    alloc: Global,
-    openings: &[OpeningRow],
-    trades: &[Row],
-    script: &[u8],
-) -> Result<String, AllocError>
-    ensures { IfOk result (λ t. string_bytes t ≡ (told_openings 1 [] openings.now).1 ++ script_text (told_openings 1 [] openings.now).0 trades.now script.now) }
+// The fault of a batch whose nodes are not opened.
+fn start_fault(fault: StartFault) -> BatchFault
+    ensures { result ≡ fault_of_start fault }
 {
-    let mut out = String::new(alloc);
-    let openings = take_openings(alloc, openings, &mut out)?;
-    run_script(alloc, openings, trades, script, &mut out)?;
-    Ok(out)
-}
-
-// What an input text gives.
-fn answer(alloc: Global, input: &[u8]) -> Result<String, BatchFault>
-    ensures { MatchResult result (λ t. text_of input.now ≡ Ok (string_bytes t)) (λ e. Tells e (text_of input.now)) }
-{
-    let Some(sections) = split_input(input) else {
-        return Err(BatchFault::Sections);
-    };
-    let openings = match read_openings(alloc, sections.openings) {
-        Ok(rows) => rows,
-        Err(fault) => return Err(rows_fault(fault)),
-    };
-    let trades = match read_trades(alloc, sections.trades) {
-        Ok(rows) => rows,
-        Err(fault) => return Err(rows_fault(fault)),
-    };
-    match tell(
-        alloc,
-        openings.as_slice(),
-        trades.as_slice(),
-        sections.script,
-    ) {
-        Ok(text) => Ok(text),
-        Err(_) => Err(BatchFault::Memory),
+    match fault {
+        StartFault::Clear(ReplayFault::OutOfMemory) | StartFault::Depot(ReplayFault::OutOfMemory) =>
+            BatchFault::Memory,
+        _ => BatchFault::Journal,
     }
 }
 
-/// Reads an input text to its end, and writes what its script tells of its trades.
+// What the rows of an input hold.
+fn read_rows(alloc: Global, openings: &[u8], trades: &[u8]) -> Result<Rows, BatchFault>
+    ensures { MatchResult result
+        (λ rows. (script : List ℕ) → input_under script (opening_rows openings.now) (trade_rows trades.now)
+        ≡ Ok (record { openings = rows.openings; told = string_bytes rows.told; rows = rows.trades.items; script = script }))
+        (λ e. (script : List ℕ) → Tells e (input_under script (opening_rows openings.now) (trade_rows trades.now))) }
+{
+    let rows = match read_openings(alloc, openings) {
+        Ok(rows) => rows,
+        Err(fault) => return Err(rows_fault(fault)),
+    };
+    let trades = match read_trades(alloc, trades) {
+        Ok(rows) => rows,
+        Err(fault) => return Err(rows_fault(fault)),
+    };
+    let mut told = String::new(alloc);
+    let openings = take_openings(alloc, rows.as_slice(), &mut told)?;
+    Ok(Rows {
+        openings,
+        told,
+        trades,
+    })
+}
+
+// What a run comes to, as a batch.
+fn batch_result(ran: Result<(), OutputFault>) -> Result<(), BatchFault>
+    ensures { result ≡ batch_result ran }
+{
+    match ran {
+        Ok(()) => Ok(()),
+        Err(fault) => Err(fault.of_batch()),
+    }
+}
+
+// Runs a script, and writes all that is told.
+fn run_whole<C: Keeper, D: Keeper, W: Write>(
+    runner: &mut Runner<C, D>,
+    script: &[u8],
+    writer: &mut W,
+) -> Result<(), OutputFault>
+    ensures runs { Runs (lines_run 1 (raw_lines script.now)) result (record { run = runner.old; sent = W.contents writer.old }) (record { run = runner.new; sent = W.contents writer.new }) }
+    ensures none { OnOk result (runner.new.held ≡ []) }
+{
+    runner.run_script(script, writer)?;
+    runner.flush(writer)
+}
+
+// Opens both nodes, runs the script, and writes what all that tells.
+fn run_input<C: Keeper + Drop, D: Keeper + Drop, W: Write>(
+    alloc: Global,
+    rows: Rows,
+    script: &[u8],
+    clear: C,
+    depot: D,
+    writer: &mut W,
+) -> Kept<C, D>
+    ensures { RunsInput result.result
+        (record { openings = rows.openings; told = string_bytes rows.told; rows = rows.trades.items; script = script.now })
+        (record { honest = C.honest clear; run = C.run clear; journal = C.journal clear; foresight = C.foresight clear })
+        (record { honest = D.honest depot; run = D.run depot; journal = D.journal depot; foresight = D.foresight depot })
+        (record { honest = C.honest result.clear; run = C.run result.clear; journal = C.journal result.clear; foresight = C.foresight result.clear })
+        (record { honest = D.honest result.depot; run = D.run result.depot; journal = D.journal result.depot; foresight = D.foresight result.depot })
+        (W.contents writer.old) (W.contents writer.new) }
+{
+    let Rows {
+        openings,
+        told,
+        trades,
+    } = rows;
+    let system = match System::open(alloc, clear, depot, openings) {
+        Ok(system) => system,
+        Err(refused) => {
+            return Kept {
+                result: Err(start_fault(refused.fault)),
+                clear: refused.clear,
+                depot: refused.depot,
+            };
+        }
+    };
+    let mut runner = Runner::new(alloc, system, trades, told);
+    let ran = run_whole(&mut runner, script, writer);
+    let (clear, depot) = runner.into_keepers();
+    Kept {
+        result: batch_result(ran),
+        clear,
+        depot,
+    }
+}
+
+/// Reads an input text to its end, opens both nodes over these keepers with its openings, and writes what
+/// its script tells of its trades.
 ///
-/// At `Write` a first part of the text was written, at every other fault nothing. `steps` counts the
-/// read calls, at most 67,108,866.
+/// With `Read`, `TooLong`, `Sections`, `Csv` and `Journal` nothing was written, and the first four leave
+/// both keepers as they were. `Journal` comes after these, exactly where the nodes were not opened for
+/// another cause than want of memory. At `Write` and `Memory` a first part of the text was written, or
+/// none. `steps` counts the read calls, at most 67,108,866.
+pub fn run_batch_kept<R: Read, W: Write, L: Ledger, C: Keeper + Drop, D: Keeper + Drop>(
+    alloc: Global,
+    reader: &mut R,
+    writer: &mut W,
+    steps: &mut Steps<L>,
+    clear: C,
+    depot: D,
+) -> Kept<C, D>
+    ensures leaves { IfSome (R.remaining reader.old) (λ bytes. KeptLeaves result.result bytes
+        (record { honest = C.honest clear; run = C.run clear; journal = C.journal clear; foresight = C.foresight clear })
+        (record { honest = D.honest depot; run = D.run depot; journal = D.journal depot; foresight = D.foresight depot })
+        (record { honest = C.honest result.clear; run = C.run result.clear; journal = C.journal result.clear; foresight = C.foresight result.clear })
+        (record { honest = D.honest result.depot; run = D.run result.depot; journal = D.journal result.depot; foresight = D.foresight result.depot })
+        (W.contents writer.old) (W.contents writer.new)) }
+    ensures none { IfErr result.result (λ e. WritesNothing e → W.contents writer.new ≡ W.contents writer.old) }
+    ensures end { OnOk result.result (IsAtEnd (R.remaining reader.new)) }
+    ensures reads { steps.new ≤ steps.old + 67108866 }
+{
+    let bytes = match read_input(alloc, reader, steps) {
+        Ok(bytes) => bytes,
+        Err(fault) => {
+            return Kept {
+                result: Err(fault),
+                clear,
+                depot,
+            };
+        }
+    };
+    let Some(sections) = split_input(bytes.as_slice()) else {
+        return Kept {
+            result: Err(BatchFault::Sections),
+            clear,
+            depot,
+        };
+    };
+    match read_rows(alloc, sections.openings, sections.trades) {
+        Ok(rows) => run_input(alloc, rows, sections.script, clear, depot, writer),
+        Err(fault) => Kept {
+            result: Err(fault),
+            clear,
+            depot,
+        },
+    }
+}
+
+/// Reads an input text to its end, and writes what its script tells of its trades, over keepers in memory.
+///
+/// With `Read`, `TooLong`, `Sections` and `Csv` nothing was written; `Journal` is never answered. At
+/// `Write` and `Memory` a first part of the text was written, or none. `steps` counts the read calls, at
+/// most 67,108,866.
 pub fn run_batch<R: Read, W: Write, L: Ledger>(
     alloc: Global,
     reader: &mut R,
     writer: &mut W,
     steps: &mut Steps<L>,
 ) -> Result<(), BatchFault>
-    ensures ok { OnOk result (IfSome (R.remaining reader.old) (λ input. (text : List ℕ) × (text_of input ≡ Ok text) × Appends (W.contents writer.old) (W.contents writer.new) text)) }
-    ensures err { IfErr result (λ e. IfSome (R.remaining reader.old) (λ input. Ends e input (W.contents writer.old) (W.contents writer.new))) }
+    ensures leaves { IfSome (R.remaining reader.old) (λ bytes. BatchLeaves result bytes (W.contents writer.old) (W.contents writer.new)) }
+    ensures none { IfErr result (λ e. WritesNothing e → W.contents writer.new ≡ W.contents writer.old) }
+    ensures end { OnOk result (IsAtEnd (R.remaining reader.new)) }
     ensures reads { steps.new ≤ steps.old + 67108866 }
 {
-    let input = read_input(alloc, reader, steps)?;
-    let text = answer(alloc, input.as_slice())?;
-    write_text(writer, text.as_bytes())
+    let Kept {
+        result,
+        clear,
+        depot,
+    } = run_batch_kept(
+        alloc,
+        reader,
+        writer,
+        steps,
+        ListKeeper::new(alloc),
+        ListKeeper::new(alloc),
+    );
+    drop((clear, depot));
+    result
 }
 
 /// `run_batch` for a caller that counts nothing.
@@ -97,8 +245,9 @@ pub fn run_uncounted<R: Read, W: Write, L: Ledger>(
     requires name { blank.name ≡ L.name }
     requires parts { blank.parts ≡ L.parts }
     requires some { 0 < L.parts }
-    ensures ok { OnOk result (IfSome (R.remaining reader.old) (λ input. (text : List ℕ) × (text_of input ≡ Ok text) × Appends (W.contents writer.old) (W.contents writer.new) text)) }
-    ensures err { IfErr result (λ e. IfSome (R.remaining reader.old) (λ input. Ends e input (W.contents writer.old) (W.contents writer.new))) }
+    ensures leaves { IfSome (R.remaining reader.old) (λ bytes. BatchLeaves result bytes (W.contents writer.old) (W.contents writer.new)) }
+    ensures none { IfErr result (λ e. WritesNothing e → W.contents writer.new ≡ W.contents writer.old) }
+    ensures end { OnOk result (IsAtEnd (R.remaining reader.new)) }
 {
     let mut steps = Steps::<L>::new(blank);
     run_batch(alloc, reader, writer, &mut steps)

@@ -36,6 +36,8 @@ pub fn check_cusip<W: Write>(alloc: Global, text: &[u8], writer: &mut W) -> Resu
     let Ok(line) = answer_line(alloc, answer) else {
         return Err(BatchFault::Memory);
     };
-    write_text(writer, line.as_bytes())?;
-    Ok(answer.is_ok())
+    match write_text(writer, line.as_bytes()) {
+        Ok(()) => Ok(answer.is_ok()),
+        Err(_) => Err(BatchFault::Write),
+    }
 }

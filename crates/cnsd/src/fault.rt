@@ -1,5 +1,6 @@
 ghost use Rattle.std.specs.Prelude.{◌≡◌};
 
+use std::alloc::AllocError;
 use thiserror::Error;
 
 /// Why a batch ended before its text was written. A check of a CUSIP, help and the version end by
@@ -18,11 +19,62 @@ pub enum BatchFault {
     /// The first record of a section of rows is not its header.
     #[error("cnsd: bad rows")]
     Csv,
+    /// A keeper's records are bad, or those of the two do not agree, or its device failed.
+    #[error("cnsd: journal failed")]
+    Journal,
+    /// There is no memory for the batch's own part.
     #[error("cnsd: out of memory")]
     Memory,
     /// The writer failed, or took no byte.
     #[error("cnsd: output failed")]
     Write,
+}
+
+/// Why a text is not told, or not written.
+#[derive(Clone, Copy, PartialEq, Eq, Debug, Error)]
+pub(crate) enum OutputFault {
+    #[error("out of memory")]
+    Memory,
+    /// The writer failed, or took no byte.
+    #[error("output failed")]
+    Write,
+}
+
+impl From<AllocError> for OutputFault {
+    ghost use Rattle.std.specs.Prelude.{◌≡◌};
+    ghost use Rattle.cnsd.specs.declared.fault.OutputFault.TheVariants.{Memory};
+
+    ghost from_gives = { λ _ fault. fault ≡ Memory };
+
+    fn from(_: AllocError) -> OutputFault {
+        OutputFault::Memory
+    }
+}
+
+impl OutputFault {
+    ghost use Rattle.std.specs.Prelude.{◌≡◌};
+    ghost use Rattle.cnsd.specs.Reading.{fault_of_output};
+
+    /// The fault of a batch.
+    pub(crate) fn of_batch(self) -> BatchFault
+        ensures { result ≡ fault_of_output self }
+    {
+        match self {
+            OutputFault::Memory => BatchFault::Memory,
+            OutputFault::Write => BatchFault::Write,
+        }
+    }
+}
+
+impl From<AllocError> for BatchFault {
+    ghost use Rattle.std.specs.Prelude.{◌≡◌};
+    ghost use Rattle.cnsd.specs.declared.fault.BatchFault.TheVariants.{Memory};
+
+    ghost from_gives = { λ _ fault. fault ≡ Memory };
+
+    fn from(_: AllocError) -> BatchFault {
+        BatchFault::Memory
+    }
 }
 
 impl BatchFault {
@@ -34,7 +86,7 @@ impl BatchFault {
     {
         match self {
             BatchFault::Read | BatchFault::TooLong | BatchFault::Sections | BatchFault::Csv => 2,
-            BatchFault::Memory | BatchFault::Write => 3,
+            BatchFault::Journal | BatchFault::Memory | BatchFault::Write => 3,
         }
     }
 }

@@ -1,5 +1,5 @@
 ghost use Rattle.std.specs.Prelude.{◌≡◌, ◌+◌, ◌<◌, ◌≤◌, ◌⊎◌, length, vec_len, IfOk, IfErr, IfSome, OnOk};
-ghost use Rattle.std.specs.Io.KnownBytes.{ReadConsumes};
+ghost use Rattle.std.specs.Io.KnownBytes.{IsAtEnd, ReadConsumes};
 ghost use Rattle.cnsd.specs.Reading.{IsReadFault};
 ghost use Rattle.cnsd.specs.declared.fault.BatchFault.TheVariants.{TooLong};
 
@@ -35,6 +35,7 @@ pub(crate) fn read_input<R: Read, L: Ledger>(
     ensures text { IfOk result (λ t. IfSome (R.remaining reader.old) (λ input. t.items ≡ input)) }
     ensures size { IfOk result (λ t. length t.items ≤ MAX_INPUT) }
     ensures long { result ≡ Err TooLong → IfSome (R.remaining reader.old) (λ input. MAX_INPUT < length input) }
+    ensures end { OnOk result (IsAtEnd (R.remaining reader.new)) }
     ensures kind { IfErr result IsReadFault }
     ensures reads { steps.new ≤ steps.old + 67108866 }
 {

@@ -1,163 +1,173 @@
-ghost use Rattle.std.specs.Prelude.{◌≡◌, ◌≤◌, ◌++◌, drop, length, IfOk, OnOk, string_bytes};
-ghost use Rattle.cnsd.specs.Run.{step as step_of, taken, plain_step, ran_command, DoesStay};
-ghost use Rattle.cnsd.specs.Script.{command_of as command_of_line};
+ghost use Rattle.std.specs.Prelude.{◌≡◌};
+ghost use Rattle.cnsd.specs.Run.{beside_begun, beside_served, command_run, ended, ended_when_due, is_due as is_due_of, line_counted, line_run, one_line_fewer as one_line_fewer_of, waited};
+ghost use Rattle.cnsd.specs.Runs.{Runs};
 
-use crate::clear_side::take_rows;
-use crate::command::{Command, command_of};
-use crate::course::{Beside, Course, count_line, is_busy, run_beside};
-use crate::nodes::Nodes;
-use cns_records::Refusal;
-use cns_report::{Subject, write_bad_command, write_fail, write_refused};
-use cns_trades::Row;
-use std::alloc::AllocError;
+use crate::command::Command;
+use crate::fault::OutputFault;
+use crate::runner::{Beside, Runner};
+use cns_ids::Cusip;
+use cns_journal::Keeper;
+use cns_system::{Event, Opened};
+use std::io::Write;
 
-/// What a line of the script has come to, and how many of the rows that were left it took.
-#[derive(Drop)]
-pub(crate) struct Ran {
-    pub(crate) course: Course,
-    pub(crate) taken: usize,
-}
-
-/// Runs a line of the script by its number.
-pub(crate) fn run_line(
-    course: Course,
-    left: &[Row],
-    number: u64,
-    line: &[u8],
-    out: &mut String,
-) -> Result<Ran, AllocError>
-    ensures bound { IfOk result (λ ran. ran.taken ≤ length left.now) }
-    ensures after { IfOk result (λ ran. (step_of number (record { course = course; left = left.now }) (command_of_line line.now)).0 ≡ record { course = ran.course; left = drop ran.taken left.now }) }
-    ensures text { OnOk result (string_bytes out.new ≡ string_bytes out.old ++ (step_of number (record { course = course; left = left.now }) (command_of_line line.now)).1) }
+// One line fewer is to run beside the lot.
+fn one_line_fewer(beside: Option<Beside>) -> Option<Beside>
+    ensures { result ≡ one_line_fewer_of beside }
 {
-    match command_of(line) {
-        Command::Skip => Ok(Ran { course, taken: 0 }),
-        Command::Beside { issue, lines } => Ok(Ran {
-            course: run_beside(course, number, issue, lines, out)?,
-            taken: 0,
+    match beside {
+        Some(Beside { lot, lines }) => Some(Beside {
+            lot,
+            lines: lines.saturating_sub(1),
         }),
-        command => {
-            let ran = run_plain(course, left, number, &command, out)?;
-            Ok(Ran {
-                course: count_line(ran.course, out)?,
-                taken: ran.taken,
-            })
-        }
+        None => None,
     }
 }
 
-// Runs a line that begins no lines beside a lot.
-fn run_plain(
-    course: Course,
-    left: &[Row],
-    number: u64,
-    command: &Command,
-    out: &mut String,
-) -> Result<Ran, AllocError>
-    ensures bound { IfOk result (λ ran. ran.taken ≤ length left.now) }
-    ensures after { IfOk result (λ ran. (plain_step number (record { course = course; left = left.now }) command.now).0 ≡ record { course = ran.course; left = drop ran.taken left.now }) }
-    ensures text { OnOk result (string_bytes out.new ≡ string_bytes out.old ++ (plain_step number (record { course = course; left = left.now }) command.now).1) }
+// Whether a lot waits and no more lines are to run beside it.
+fn is_due(beside: &Option<Beside>) -> bool
+    ensures { result ≡ is_due_of beside.now }
 {
-    match command {
-        Command::TakeAll => take(course, left, left.len(), out),
-        Command::Take(rows) => take(course, left, (*rows as usize).min(left.len()), out),
-        Command::Restart(node) => {
-            let Course { nodes, beside } = course;
-            let nodes = nodes.restart(*node, out)?;
-            let course = Course { nodes, beside };
-            Ok(Ran { course, taken: 0 })
-        }
-        command => {
-            let Course { mut nodes, beside } = course;
-            run_command(&mut nodes, &beside, number, command, out)?;
-            let course = Course { nodes, beside };
-            Ok(Ran { course, taken: 0 })
-        }
+    match beside {
+        Some(beside) => beside.lines == 0,
+        None => false,
     }
 }
 
-// Runs a command that takes no row and restarts no node, beside the lot that waits to be served.
-fn run_command(
-    nodes: &mut Nodes,
-    beside: &Option<Beside>,
-    number: u64,
-    command: &Command,
-    out: &mut String,
-) -> Result<(), AllocError>
-    requires { DoesStay command.now }
-    ensures after { OnOk result (nodes.new ≡ (ran_command number beside.now nodes.old command.now).0) }
-    ensures text { OnOk result (string_bytes out.new ≡ string_bytes out.old ++ (ran_command number beside.now nodes.old command.now).1) }
-{
-    match command {
-        Command::Skip => Ok(()),
-        Command::Exempt {
-            member,
-            issue,
-            shares,
-        } => nodes.clear.exempt(*member, *issue, *shares, out),
-        Command::Priority { member, issue, on } => {
-            nodes.clear.prioritize(*member, *issue, *on, out)
+impl<C: Keeper, D: Keeper> Runner<C, D> {
+    // Serves the lot that waited, where one did and was opened.
+    fn serve_beside<W: Write>(
+        &mut self,
+        beside: Option<Beside>,
+        writer: &mut W,
+    ) -> Result<(), OutputFault>
+        ensures { Runs (beside_served beside) result (record { run = self.old; sent = W.contents writer.old }) (record { run = self.new; sent = W.contents writer.new }) }
+    {
+        match beside {
+            Some(Beside { lot, .. }) => self.serve_if_open(lot, writer),
+            None => Ok(()),
         }
-        Command::Cycle(cycle) => nodes.clear.cycle(cycle, out),
-        Command::Lot(issue) => {
-            nodes.clear.lot_open(*issue, out)?;
-            Ok(())
+    }
+
+    /// Serves the lot that waits, where one does.
+    pub(crate) fn end<W: Write>(&mut self, writer: &mut W) -> Result<(), OutputFault>
+        ensures { Runs ended result (record { run = self.old; sent = W.contents writer.old }) (record { run = self.new; sent = W.contents writer.new }) }
+    {
+        let beside = self.take_beside();
+        self.serve_beside(beside, writer)
+    }
+
+    // Serves the lot that waits where no more lines are to run beside it.
+    fn end_when_due<W: Write>(&mut self, writer: &mut W) -> Result<(), OutputFault>
+        ensures { Runs ended_when_due result (record { run = self.old; sent = W.contents writer.old }) (record { run = self.new; sent = W.contents writer.new }) }
+    {
+        if is_due(&self.beside) {
+            return self.end(writer);
         }
-        Command::Pour(lot) => nodes.clear.pour(*lot, out),
-        Command::Reserve { lot, member } => {
-            if is_busy(beside, *lot) {
-                return write_refused(out, Subject::Reserve, Refusal::LotBusy);
+        Ok(())
+    }
+
+    // Counts a line that has run, and serves the lot that waits where it was the last one.
+    fn count_line<W: Write>(&mut self, writer: &mut W) -> Result<(), OutputFault>
+        ensures { Runs line_counted result (record { run = self.old; sent = W.contents writer.old }) (record { run = self.new; sent = W.contents writer.new }) }
+    {
+        let beside = self.take_beside();
+        self.set_beside(one_line_fewer(beside));
+        self.end_when_due(writer)
+    }
+
+    // Lets a lot wait for so many lines.
+    fn wait_for<W: Write>(
+        &mut self,
+        lines: u64,
+        lot: Option<Opened>,
+        writer: &mut W,
+    ) -> Result<(), OutputFault>
+        ensures { Runs (waited lines lot) result (record { run = self.old; sent = W.contents writer.old }) (record { run = self.new; sent = W.contents writer.new }) }
+    {
+        self.set_beside(Some(Beside { lot, lines }));
+        self.end_when_due(writer)
+    }
+
+    // Runs the line, by its number, of a command that opens a lot beside the next lines. One of these lines
+    // can't do so again.
+    fn begin_beside<W: Write>(
+        &mut self,
+        number: u64,
+        issue: Cusip,
+        lines: u64,
+        writer: &mut W,
+    ) -> Result<(), OutputFault>
+        ensures { Runs (beside_begun number issue lines) result (record { run = self.old; sent = W.contents writer.old }) (record { run = self.new; sent = W.contents writer.new }) }
+    {
+        if self.is_beside() {
+            self.bad_command(number, writer)?;
+            return self.count_line(writer);
+        }
+        let lot = self.open_lot(issue, writer)?;
+        self.wait_for(lines, lot, writer)
+    }
+
+    // Runs a command, in the line of this number.
+    fn run_command<W: Write>(
+        &mut self,
+        number: u64,
+        command: &Command,
+        writer: &mut W,
+    ) -> Result<(), OutputFault>
+        ensures { Runs (command_run number command.now) result (record { run = self.old; sent = W.contents writer.old }) (record { run = self.new; sent = W.contents writer.new }) }
+    {
+        let event = match *command {
+            Command::Skip => return Ok(()),
+            Command::TakeAll => return self.take_all(writer),
+            Command::Take(rows) => return self.take(rows, writer),
+            Command::Look(lot) => return self.look(lot, writer),
+            Command::Reserve { lot, member } => return self.reserve(lot, member, writer),
+            Command::Close(lot) => return self.close(lot, writer),
+            Command::Allocate(issue) => return self.allocate(issue, writer),
+            Command::Pump => return self.pump(writer),
+            Command::Fail { node, stands } => return self.fail(node, stands, writer),
+            Command::Report => return self.report(writer),
+            Command::Beside { .. } | Command::Bad => return self.bad_command(number, writer),
+            Command::Cycle(cycle) => Event::Cycle(cycle),
+            Command::Exempt {
+                member,
+                issue,
+                shares,
+            } => Event::Exempt {
+                member,
+                issue,
+                shares,
+            },
+            Command::Priority { member, issue, on } => Event::Priority { member, issue, on },
+            Command::Lot(issue) => Event::LotOpen { issue },
+            Command::Pour(lot) => Event::LotPour { lot },
+            Command::Seal(lot) => Event::Seal { lot },
+            Command::Send(number) => Event::Send { number },
+            Command::Order(packet) => Event::OrderIn { packet },
+            Command::Reply(packet) => Event::ReplyIn { packet },
+            Command::Restart(node) => Event::Restart(node),
+        };
+        self.single(event, writer)
+    }
+
+    /// Runs the line of this number.
+    pub(crate) fn run_line<W: Write>(
+        &mut self,
+        number: u64,
+        command: &Command,
+        writer: &mut W,
+    ) -> Result<(), OutputFault>
+        ensures { Runs (line_run number command.now) result (record { run = self.old; sent = W.contents writer.old }) (record { run = self.new; sent = W.contents writer.new }) }
+    {
+        match command {
+            Command::Skip => Ok(()),
+            Command::Beside { issue, lines } => {
+                self.begin_beside(number, *issue, *lines, writer)
             }
-            nodes.clear.reserve(*lot, *member, out)?;
-            Ok(())
-        }
-        Command::Look(lot) => nodes.clear.look(*lot, out),
-        Command::Seal(lot) => nodes.clear.seal(*lot, out),
-        Command::Close(lot) => {
-            if is_busy(beside, *lot) {
-                return write_refused(out, Subject::Close, Refusal::LotBusy);
+            command => {
+                self.run_command(number, command, writer)?;
+                self.count_line(writer)
             }
-            nodes.clear.close(*lot, out)
-        }
-        Command::Allocate(issue) => nodes.clear.allocate(*issue, out),
-        Command::Send(number) => {
-            nodes.send(*number, out)?;
-            Ok(())
-        }
-        Command::Order(packet) => {
-            nodes.order_arrives(*packet, out)?;
-            Ok(())
-        }
-        Command::Reply(packet) => nodes.reply_arrives(*packet, out),
-        Command::Pump => nodes.pump(out),
-        Command::Fail { node, stands } => {
-            nodes.fail(*node, *stands);
-            write_fail(out)
-        }
-        Command::Report => nodes.report(out),
-        Command::Beside { .. } | Command::Bad => write_bad_command(out, number),
-        Command::TakeAll | Command::Take(_) | Command::Restart(_) => unreachable!(),
-    }
-}
-
-// Takes this many of the rows that are left.
-fn take(course: Course, left: &[Row], count: usize, out: &mut String) -> Result<Ran, AllocError>
-    requires { count ≤ length left.now }
-    ensures count { IfOk result (λ ran. ran.taken ≡ count) }
-    ensures after { IfOk result (λ ran. (taken (record { course = course; left = left.now }) count).0 ≡ record { course = ran.course; left = drop count left.now }) }
-    ensures text { OnOk result (string_bytes out.new ≡ string_bytes out.old ++ (taken (record { course = course; left = left.now }) count).1) }
-{
-    let Course { mut nodes, beside } = course;
-    let (rows, _) = left.split_at(count);
-    match take_rows(&mut nodes.clear, rows, out) {
-        Ok(()) => Ok(Ran {
-            course: Course { nodes, beside },
-            taken: count,
-        }),
-        Err(error) => {
-            drop(nodes);
-            drop(beside);
-            Err(error)
         }
     }
 }

@@ -6,22 +6,18 @@
 mod arguments;
 mod batch;
 mod check;
-mod clear_side;
 mod command;
-mod course;
-mod depot_side;
+mod commands;
 mod fault;
 mod help;
 mod input;
 mod line;
-mod nodes;
 mod opening;
 mod output;
+mod runner;
 mod script;
 mod sections;
-mod serving;
 mod steps;
-mod tell;
 
 use arguments::{Request, read_request};
 use batch::run_uncounted;

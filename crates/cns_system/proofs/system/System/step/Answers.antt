@@ -2,7 +2,9 @@ use Rattle.std.proofs.Common.{subst}
 use Rattle.cns_system.proofs.KeepsLemmas.{step_keeps}
 use Rattle.cns_system.specs.Accord.{StaysSound}
 use Rattle.cns_system.specs.Run.{IsDecided}
+use Rattle.cns_system.specs.Scene.{Comes}
 use Rattle.cns_system.proofs.DecisionLemmas.{step_decided}
+use Rattle.cns_system.proofs.SceneLemmas.{step_comes}
 use Rattle.cns_system.proofs.SoundLemmas.{step_sound}
 use Rattle.cns_system.proofs.system.System.step.Goals as goal
 
@@ -19,3 +21,8 @@ pub returns-clause-decided : goal.returns-clause-decided
 returns-clause-decided g c =
     subst (λ w. IsDecided c.args.event c.step.result w c.step.new.self) c.self.view_is
     (step_decided c.args.event c.step.result c.self.inside.pair c.step.new.self c.step.ensures)
+
+pub returns-clause-comes : goal.returns-clause-comes
+returns-clause-comes g c =
+    subst (λ w. Comes c.args.event c.step.result w c.step.new.self) c.self.view_is
+    (step_comes c.args.event c.step.result c.self.inside.pair c.step.new.self c.step.ensures)

@@ -1,0 +1,152 @@
+-- Both nodes and the link with what is known beforehand of the two keepers, and what an event comes to by what comes between (this
+-- project's own rules).
+use Rattle.std.specs.Prelude.{◌≡◌, ◌&&◌, Bool, true, false, List, ◌∷◌, Option, Some, None, Result, Ok, Err, if◌then◌else◌}
+use Rattle.cns_journal.specs.Keeper.{Foresight, Forecast, Unforeseen, Succeeds, Fails}
+use Rattle.cns_journal.specs.RecordLog.{LogState}
+use Rattle.cns_journal.specs.declared.keeper.NotPlanned.{NotPlanned}
+use Rattle.cns_records.specs.declared.refusal.Refusal.TheVariants as refusal
+use Rattle.cns_system.specs.Happens.{Decision, Goes, NoMemory, DeviceFails, ClearReads, DepotReads, Happening, happens}
+use Rattle.cns_system.specs.Shown.{Shown, shown_of}
+use Rattle.cns_system.specs.World.{World}
+use Rattle.cns_system.specs.declared.event.Event.{Event}
+use Rattle.cns_system.specs.declared.event.Event.TheVariants as event
+use Rattle.cns_system.specs.declared.event.NodeName.{NodeName}
+use Rattle.cns_system.specs.declared.event.NodeName.TheVariants as node
+use Rattle.cns_system.specs.declared.outcome.Outcome.{Outcome}
+use Rattle.cns_system.specs.declared.outcome.Outcome.TheVariants as outcomes
+
+-- whether a keeper is honest, and what is known beforehand of it
+pub record Sight : Type 0 where
+  pub honest : Bool
+  pub foresight : Foresight
+
+-- both nodes and the link, and what is known beforehand of the keeper of the clearing node and of the depository's
+pub record Scene : Type 0 where
+  pub shown : Shown
+  pub clear : Sight
+  pub depot : Sight
+
+abbrev pub sight_of : {R : Type 0} → LogState R → Sight
+sight_of log = record { honest = log.honest; foresight = log.foresight }
+
+abbrev pub scene_of : World → Scene
+scene_of w = record { shown = shown_of w; clear = sight_of w.clear.clear.log; depot = sight_of w.depot.log }
+
+-- what comes between at an event: nothing; at a restart, an undecided record comes back of which that was not known; at a restart,
+-- there is no memory, and this is known of the undecided record from then on; or the surroundings decide, of a keeper of which
+-- something is known only that there is no memory
+pub data Chance : Type 0 where
+  AsForeseen : Chance
+  ComesBack : Chance
+  Forgets : Option Bool → Chance
+  Decides : Decision → Chance
+
+-- the decision where nothing is known
+abbrev pub left_open : Chance → Decision
+left_open (Decides d) = d
+left_open _ = Goes
+
+-- the decision at a commit, by what is known of it
+abbrev pub foreseen_commit : Forecast → Chance → Decision
+foreseen_commit Unforeseen chance = left_open chance
+foreseen_commit Succeeds chance = Goes
+foreseen_commit (Fails stands) chance = DeviceFails
+
+abbrev pub commit_decision : Forecast → Chance → Decision
+commit_decision next (Decides NoMemory) = NoMemory
+commit_decision next chance = foreseen_commit next chance
+
+-- whether something is known of a keeper's commits
+abbrev pub is_foreseen : Forecast → Bool
+is_foreseen Unforeseen = false
+is_foreseen Succeeds = true
+is_foreseen (Fails stands) = true
+
+-- whether an undecided record comes back
+abbrev pub comes_back : Option Bool → Chance → Bool
+comes_back (Some stands) chance = stands
+comes_back None ComesBack = true
+comes_back None _ = false
+
+-- the records, and then the undecided one where it comes back
+abbrev pub given_back : {R : Type 0} → Option R → Bool → List R → List R
+given_back (Some r) true records = r ∷ records
+given_back (Some r) false records = records
+given_back None stands records = records
+
+-- the decision at a restart: an honest keeper of which something is known gives its journal back
+abbrev pub restart_decision : {R : Type 0} → (List R → Decision) → Sight → Option R → List R → Chance → Decision
+restart_decision reads s tried records (Decides NoMemory) = NoMemory
+restart_decision reads s tried records (Forgets known) = NoMemory
+restart_decision reads s tried records chance =
+    if s.honest && is_foreseen s.foresight.next then reads (given_back tried (comes_back s.foresight.stands chance) records)
+    else left_open chance
+
+abbrev pub decision_at : Chance → Event → Scene → Decision
+decision_at chance (event.Restart node.Clear) s = restart_decision ClearReads s.clear s.shown.clear.tried s.shown.clear.records chance
+decision_at chance (event.Restart node.Depot) s = restart_decision DepotReads s.depot s.shown.depot.tried s.shown.depot.records chance
+decision_at chance (event.OrderIn packet) s = commit_decision s.depot.foresight.next chance
+decision_at chance e s = commit_decision s.clear.foresight.next chance
+
+-- what is known after a commit that failed
+abbrev pub after_failure : Forecast → Foresight
+after_failure (Fails stands) = record { next = Succeeds; stands = Some stands }
+after_failure next = record { next = next; stands = None }
+
+abbrev pub after_commit : Outcome → Foresight → Foresight
+after_commit (outcomes.Refused refusal.Device) f = after_failure f.next
+after_commit _ f = f
+
+-- nothing is known of an undecided record once the journal was read
+abbrev pub after_restart : Chance → Outcome → Foresight → Foresight
+after_restart chance (outcomes.Restarted records kept) f = record f { stands = None }
+after_restart chance (outcomes.Refused (refusal.BadJournal place)) f = record f { stands = None }
+after_restart (Forgets known) (outcomes.Refused refusal.OutOfMemory) f = record f { stands = known }
+after_restart chance _ f = f
+
+abbrev pub clear_foresight : Chance → Event → Outcome → Foresight → Foresight
+clear_foresight chance (event.Restart node.Clear) outcome f = after_restart chance outcome f
+clear_foresight chance (event.Restart node.Depot) outcome f = f
+clear_foresight chance (event.OrderIn packet) outcome f = f
+clear_foresight chance e outcome f = after_commit outcome f
+
+abbrev pub depot_foresight : Chance → Event → Outcome → Foresight → Foresight
+depot_foresight chance (event.Restart node.Depot) outcome f = after_restart chance outcome f
+depot_foresight chance (event.OrderIn packet) outcome f = after_commit outcome f
+depot_foresight chance e outcome f = f
+
+abbrev pub with_foresights : Chance → Event → Scene → Happening → Outcome × Scene
+with_foresights chance e s happening = (
+  happening.0,
+  record {
+    shown = happening.1;
+    clear = record s.clear { foresight = clear_foresight chance e happening.0 s.clear.foresight };
+    depot = record s.depot { foresight = depot_foresight chance e happening.0 s.depot.foresight };
+  },
+)
+
+-- what an event comes to by what comes between, and leaves
+unfoldable pub comes_to : Chance → Event → Scene → Outcome × Scene
+comes_to chance e s = with_foresights chance e s (happens (decision_at chance e s) e s.shown)
+
+-- so it is by something that comes between
+abbrev pub Comes : Event → Outcome → World → World → Type 0
+Comes e outcome old new = (chance : Chance) × (comes_to chance e (scene_of old) ≡ (outcome, scene_of new))
+
+-- the next commit of a node is planned to fail
+abbrev pub planned_sight : Bool → Sight → Sight
+planned_sight stands s = record s { foresight = record s.foresight { next = Fails stands } }
+
+abbrev pub planned : NodeName → Bool → Scene → Scene
+planned node.Clear stands s = record s { clear = planned_sight stands s.clear }
+planned node.Depot stands s = record s { depot = planned_sight stands s.depot }
+
+-- whether a node's keeper plans failures
+abbrev pub is_planner : NodeName → Scene → Bool
+is_planner node.Clear s = is_foreseen s.clear.foresight.next
+is_planner node.Depot s = is_foreseen s.depot.foresight.next
+
+-- what a plan leaves of the scene, by its answer
+abbrev pub Plans : NodeName → Bool → Result (Unit {0}) NotPlanned → Scene → Scene → Type 0
+Plans name stands (Ok _) old new = (is_planner name old ≡ true) × (new ≡ planned name stands old)
+Plans name stands (Err _) old new = (is_planner name old ≡ false) × (new ≡ old)

@@ -1,0 +1,13 @@
+use Rattle.std.proofs.Common.{refl}
+use Rattle.cns_report.specs.Lines.{fail_line}
+use Rattle.cnsd.specs.Acts.{done, tells}
+use Rattle.cnsd.proofs.ActLemmas.{runs_after, runs_fault, stops_here, told_line}
+use Rattle.cnsd.proofs.runner.Runner.fail_planned.Goals as goal
+
+pub returns-in_err-write_fail : goal.returns-in_err-write_fail
+returns-in_err-write_fail g c = runs_fault _ c.from_residual.result _ _ c.from_residual.ensures.0 (stops_here (tells fail_line) _ _ refl)
+
+pub returns : goal.returns
+returns g c =
+    let line = fail_line in
+    runs_after (tells line) done _ _ _ _ (told_line line _ _ (rw (← c.self.view_is, c.in_ok-write_fail.ensures.ok) refl)) c.flush_when_full.ensures

@@ -1,0 +1,15 @@
+use Rattle.std.proofs.Common.{refl}
+use Rattle.cns_records.specs.declared.refusal.Refusal.TheVariants as refusal
+use Rattle.cns_report.specs.Lines.{refused_line}
+use Rattle.cnsd.specs.Acts.{done, tells}
+use Rattle.cnsd.proofs.ActLemmas.{runs_after, runs_fault, stops_here, told_line}
+use Rattle.cnsd.proofs.runner.Runner.lot_busy.Goals as goal
+
+pub returns-in_err-write_refused : goal.returns-in_err-write_refused
+returns-in_err-write_refused g c =
+    runs_fault _ c.from_residual.result _ _ c.from_residual.ensures.0 (stops_here (tells (refused_line c.args.command refusal.LotBusy)) _ _ refl)
+
+pub returns : goal.returns
+returns g c =
+    let line = refused_line c.args.command refusal.LotBusy in
+    runs_after (tells line) done _ _ _ _ (told_line line _ _ (rw (← c.self.view_is, c.in_ok-write_refused.ensures.ok) refl)) c.flush_when_full.ensures
