@@ -2,12 +2,14 @@
 """Says whether each name of docs/BOOK.md's tables is a definition of the crate that its section names.
 
 The first column of a table under `## .. (`crate`)` has names between backquotes; each must be a public
-definition in that crate's specs/. The last line is `N passed, M failed`.
+definition in that crate's specs/. And each definition that the output text of an input rests on
+(text_definitions.py) must be named. The last line is `N passed, M failed`.
 """
 import os
 import re
 import sys
 
+import text_definitions
 from wrong_bodies import TOP, crates
 
 DEFINITION = re.compile(r"(?m)^(?=[^\n]*\bpub\b)(?:(?:abbrev|unfoldable|opaque|pub|data|record)\s+)+([^\s:({]+)")
@@ -23,7 +25,7 @@ def definitions(crate):
 
 
 def main():
-    passed, faults, crate, known = 0, [], None, set()
+    passed, faults, crate, known, written = 0, [], None, set(), set()
     with open(os.path.join(TOP, "docs", "BOOK.md"), encoding="utf-8") as lines:
         for number, line in enumerate(lines, 1):
             if line.startswith("## "):
@@ -37,8 +39,14 @@ def main():
                 for name in re.findall(r"`([^`]+)`", line.split("|")[1]):
                     if name in known:
                         passed += 1
+                        written.add(name)
                     else:
                         faults.append(f"docs/BOOK.md:{number}: {name} is no definition of {crate}")
+    for crate, path, name in text_definitions.reached():
+        if name in written:
+            passed += 1
+        else:
+            faults.append(f"docs/BOOK.md does not name {name} of crates/{crate}/specs/{path}.antt, on which the text rests")
     for fault in faults:
         print(f"FAIL {fault}")
     print(f"{passed} passed, {len(faults)} failed")

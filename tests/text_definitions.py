@@ -1,7 +1,7 @@
 #!/usr/bin/env python3
 """Lists the definitions that the output text of an input rests on: `text_of` of crates/cnsd/specs/Text.antt,
 what that names, and so on. For each file it says how many lines they take there, without imports, comments
-and blank lines, and then how many all together, and which of them docs/BOOK.md does not name.
+and blank lines, and then how many all together. That docs/BOOK.md names them all, check_book.py sees.
 """
 import os
 import re
@@ -93,19 +93,14 @@ def reached():
 
 
 def main():
-    total, files, unnamed = 0, {}, []
-    with open(os.path.join(TOP, "docs", "BOOK.md"), encoding="utf-8") as book:
-        named = set(re.findall(r"`([^`\s]+)`", book.read()))
+    total, files = 0, {}
     for crate, path, name in reached():
         files.setdefault((crate, path), []).append(name)
-        if name not in named:
-            unnamed.append(name)
     for (crate, path), names in sorted(files.items()):
         count = sum(len(module(crate, path).lines[name]) for name in names)
         total += count
         print(f"{count:5} crates/{crate}/specs/{path}.antt: {' '.join(sorted(names))}")
     print(f"{total:5} lines in all")
-    print(f"{len(unnamed):5} definitions that docs/BOOK.md does not name: {' '.join(sorted(unnamed))}")
 
 
 if __name__ == "__main__":
