@@ -33,8 +33,8 @@ abbrev pub scene_of : World → Scene
 scene_of w = record { shown = shown_of w; clear = sight_of w.clear.clear.log; depot = sight_of w.depot.log }
 
 -- what comes between at an event: nothing; at a restart, an undecided record comes back of which that was not known; at a restart,
--- there is no memory, and this is known of the undecided record from then on; or the surroundings decide, of a keeper of which
--- something is known only that there is no memory
+-- there is no memory, and this is known of the undecided record from then on; or the surroundings decide, of a commit of which
+-- something is known, and of the restart of an honest keeper of which something is known, only that there is no memory
 pub data Chance : Type 0 where
   AsForeseen : Chance
   ComesBack : Chance

@@ -90,7 +90,7 @@ nothing_agrees : (c : List ClearRecord) (p : List DepRecord) → c ≡ [] → p 
 unfolding books_of
 nothing_agrees c p none nothing = rw (none, nothing) (record { ordered = All-nil (IsOrdered (orders_of []).orders); executed = All-nil (IsExecuted []) })
 
-pub none_unopened : (input : Input) (clear depot : KeeperState) → IsUnopened input new_keeper new_keeper clear depot → ⊥
+pub none_unopened : (input : Input) (clear depot : KeeperState) → IsUnopened false input new_keeper new_keeper clear depot → ⊥
 none_unopened input clear depot (start.Clear (replay.BadJournal place), long, (unread, same)) = reads spelling IsAllowed HasPayload clear place unread
 none_unopened input clear depot (start.Clear replay.OutOfMemory, long, why) = absurd (cc long)
 none_unopened input clear depot (start.Clear replay.Device, long, (reopened, same)) = absurd (cc reopened.foreseen.0)

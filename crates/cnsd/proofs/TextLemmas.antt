@@ -55,8 +55,7 @@ kept_by : (result : Result (Unit {0}) BatchFault) (bytes : List ℕ) (input : In
     → input_of bytes ≡ Ok input → RunsInput result input c d c' d' old new → KeptLeaves result bytes c d c' d' old new
 kept_by (Ok u) bytes input c d c' d' old new le is runs = (le, (input, is, runs))
 kept_by (Err fault.Journal) bytes input c d c' d' old new le is runs = (input, is, runs)
-kept_by (Err fault.Memory) bytes input c d c' d' old new le is (inl same) = inl same
-kept_by (Err fault.Memory) bytes input c d c' d' old new le is (inr part) = inr (input, is, part)
+kept_by (Err fault.Memory) bytes input c d c' d' old new le is runs = inr (input, is, runs)
 kept_by (Err fault.Write) bytes input c d c' d' old new le is runs = (input, is, runs)
 kept_by (Err _) bytes input c d c' d' old new le is runs = absurd runs
 
@@ -71,7 +70,7 @@ refused_by : (e : BatchFault) (bytes : List ℕ) (c d : KeeperState) (old : Opti
 refused_by fault.Read bytes c d old told = (refl, refl)
 refused_by fault.Sections bytes c d old told = (told, refl, refl)
 refused_by fault.Csv bytes c d old told = (told, refl, refl)
-refused_by fault.Memory bytes c d old told = inl refl
+refused_by fault.Memory bytes c d old told = inl (refl, refl, refl)
 refused_by _ bytes c d old told = absurd told
 
 pub kept_refused : (known : Option (List ℕ)) (bytes : List ℕ) (e : BatchFault) (c d : KeeperState) (old : Option (List ℕ)) → IfSome known (λ b. bytes ≡ b) → Tells e (input_of bytes)
@@ -100,8 +99,9 @@ batch_by (Err fault.TooLong) bytes c' d' old new left = left.0
 batch_by (Err fault.Sections) bytes c' d' old new left = ap (text_in []) left.0
 batch_by (Err fault.Csv) bytes c' d' old new left = ap (text_in []) left.0
 batch_by (Err fault.Journal) bytes c' d' old new (input, is, (unopened, same)) = absurd (none_unopened input c' d' unopened)
-batch_by (Err fault.Memory) bytes c' d' old new (inl same) = inl same
-batch_by (Err fault.Memory) bytes c' d' old new (inr (input, is, part)) = inr (part_here bytes input old new is part)
+batch_by (Err fault.Memory) bytes c' d' old new (inl left) = inl left.0
+batch_by (Err fault.Memory) bytes c' d' old new (inr (input, is, inl unopened)) = inl unopened.1
+batch_by (Err fault.Memory) bytes c' d' old new (inr (input, is, inr part)) = inr (part_here bytes input old new is part)
 batch_by (Err fault.Write) bytes c' d' old new (input, is, part) = part_here bytes input old new is part
 
 pub batch_leaves : (known : Option (List ℕ)) (result : Result (Unit {0}) BatchFault) (c d c' d' : KeeperState) (old new : Option (List ℕ)) → c ≡ new_keeper → d ≡ new_keeper

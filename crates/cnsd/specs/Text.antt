@@ -119,16 +119,17 @@ is_short (start.Clear replay.OutOfMemory) = true
 is_short (start.Depot replay.OutOfMemory) = true
 is_short _ = false
 
--- both nodes were not opened, for another cause than want of memory
-abbrev pub IsUnopened : Input → KeeperState → KeeperState → KeeperState → KeeperState → Type 0
-IsUnopened input clear depot clear' depot' =
-    (why : StartFault) × (is_short why ≡ false) × IsNotOpened input.openings why clear depot clear' depot'
+-- both nodes were not opened, for want of memory or for another cause
+abbrev pub IsUnopened : Bool → Input → KeeperState → KeeperState → KeeperState → KeeperState → Type 0
+IsUnopened for_memory input clear depot clear' depot' =
+    (why : StartFault) × (is_short why ≡ for_memory) × IsNotOpened input.openings why clear depot clear' depot'
 
 -- what a batch over the input leaves of both keepers and of what its writer holds, by its answer
 abbrev pub RunsInput : Result (Unit {0}) BatchFault → Input → KeeperState → KeeperState → KeeperState → KeeperState → Option (List ℕ) → Option (List ℕ) → Type 0
 RunsInput (Ok _) input clear depot clear' depot' old new = WritesAll input clear depot old new
-RunsInput (Err fault.Journal) input clear depot clear' depot' old new = IsUnopened input clear depot clear' depot' × (new ≡ old)
-RunsInput (Err fault.Memory) input clear depot clear' depot' old new = (new ≡ old) ⊎ WritesPart input clear depot old new
+RunsInput (Err fault.Journal) input clear depot clear' depot' old new = IsUnopened false input clear depot clear' depot' × (new ≡ old)
+RunsInput (Err fault.Memory) input clear depot clear' depot' old new =
+    (IsUnopened true input clear depot clear' depot' × (new ≡ old)) ⊎ WritesPart input clear depot old new
 RunsInput (Err fault.Write) input clear depot clear' depot' old new = WritesPart input clear depot old new
 RunsInput (Err _) input clear depot clear' depot' old new = ⊥
 
@@ -152,7 +153,8 @@ KeptLeaves (Err fault.Csv) bytes clear depot clear' depot' old new = (input_of b
 KeptLeaves (Err fault.Journal) bytes clear depot clear' depot' old new =
     (input : Input) × (input_of bytes ≡ Ok input) × RunsInput (Err fault.Journal) input clear depot clear' depot' old new
 KeptLeaves (Err fault.Memory) bytes clear depot clear' depot' old new =
-    (new ≡ old) ⊎ ((input : Input) × (input_of bytes ≡ Ok input) × WritesPart input clear depot old new)
+    ((new ≡ old) × (clear' ≡ clear) × (depot' ≡ depot))
+    ⊎ ((input : Input) × (input_of bytes ≡ Ok input) × RunsInput (Err fault.Memory) input clear depot clear' depot' old new)
 KeptLeaves (Err fault.Write) bytes clear depot clear' depot' old new =
     (input : Input) × (input_of bytes ≡ Ok input) × RunsInput (Err fault.Write) input clear depot clear' depot' old new
 

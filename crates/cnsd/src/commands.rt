@@ -288,7 +288,7 @@ impl<C: Keeper, D: Keeper> Runner<C, D> {
         Ok(())
     }
 
-    // Serves a lot, where it was opened.
+    /// Serves a lot, where it was opened.
     pub(crate) fn serve_if_open<W: Write>(
         &mut self,
         lot: Option<Opened>,

@@ -1,11 +1,15 @@
-use crate::batch::run_uncounted;
+ghost use Rattle.std.specs.Prelude.{◌≡◌, ◌<◌};
+
+use crate::batch::{Kept, run_batch_kept, run_uncounted};
 use crate::check::check_cusip;
 use crate::fault::BatchFault;
+use crate::steps::Steps;
+use cns_journal::ListKeeper;
 use std::alloc::Global;
 use std::io;
 use std::io::{Read, Write};
 use std::marker::Brand;
-use std::sync::ledger::Blank;
+use std::sync::ledger::{Blank, Ledger};
 use std::test::Fail;
 
 // A reader that gives one byte a call, and fails after a number of calls.
@@ -114,6 +118,63 @@ fn run(alloc: Global, input: &[u8]) -> Result<Vec<u8>, BatchFault> {
     let mut out = Vec::new(alloc);
     batch(alloc, &mut reader, &mut out)?;
     Ok(out)
+}
+
+// `run_batch_kept` over keepers in memory, for a caller that counts nothing.
+fn kept_uncounted<R: Read, W: Write, L: Ledger>(
+    alloc: Global,
+    reader: &mut R,
+    writer: &mut W,
+    blank: Blank,
+    keepers: (ListKeeper, ListKeeper),
+) -> Kept<ListKeeper, ListKeeper>
+    requires name { blank.name ≡ L.name }
+    requires parts { blank.parts ≡ L.parts }
+    requires some { 0 < L.parts }
+{
+    let mut steps = Steps::<L>::new(blank);
+    run_batch_kept(alloc, reader, writer, &mut steps, keepers.0, keepers.1)
+}
+
+// What an input comes to over these keepers, and both keepers then.
+fn kept(
+    alloc: Global,
+    input: &[u8],
+    keepers: (ListKeeper, ListKeeper),
+    out: &mut Vec<u8>,
+) -> Kept<ListKeeper, ListKeeper> {
+    let mut reader = input;
+    kept_uncounted::<_, _, Brand>(alloc, &mut reader, out, Blank::new(1), keepers)
+}
+
+// Of 60 shares that member 1 sells, it has the 20 with which it opens.
+const FIRST: &[u8] =
+    b"[openings]\naccount,cusip,shares\n1,037833100,20\n[trades]\ntrade,settle,buyer,seller,cusip,quantity\nA1,2025-03-04,2,1,037833100,60\n[script]\nTAKE ALL\nCYCLE NIGHT 2025-03-04\nPUMP\n";
+
+// The same openings again, and no trades.
+const SECOND: &[u8] =
+    b"[openings]\naccount,cusip,shares\n1,037833100,20\n[trades]\n[script]\nREPORT\nORDER 1\nSEND 1\nORDER 1\nREPLY 1\n";
+
+const SECOND_OUTPUT: &[u8] =
+    b"REPORT cycle 2025-03-04 NIGHT\nPOS 037833100 0001                  -40\nPOS 037833100 0002                   60\nPOOL 037833100 free 20 lent 0 out 0\nBAL 037833100 0000                   20\nEND\norder refused NoPacket\nsend 1 packet 1\nagain 1 moved 20 packet 1\nconfirm 1 moved 20 again\n";
+
+#[test]
+fn a_batch_goes_on_from_the_keepers_of_another(rt: HostRuntime) -> Result<(), Fail> {
+    let alloc = rt.alloc();
+    let new = (ListKeeper::new(alloc), ListKeeper::new(alloc));
+    let first = kept(alloc, FIRST, new, &mut Vec::new(alloc));
+    assert_eq!(rt; first.result, Ok(()));
+    let mut out = Vec::new(alloc);
+    let second = kept(alloc, SECOND, (first.clear, first.depot), &mut out);
+    assert_eq!(rt; second.result, Ok(()));
+    assert_eq!(rt; out.as_slice(), SECOND_OUTPUT);
+    // The depository's records do not fit a clearing node that has none.
+    let mut out = Vec::new(alloc);
+    let apart = (ListKeeper::new(alloc), second.depot);
+    let third = kept(alloc, SECOND, apart, &mut out);
+    assert_eq!(rt; third.result, Err(BatchFault::Journal));
+    assert_eq!(rt; out.len(), 0);
+    Ok(())
 }
 
 #[test]
