@@ -89,6 +89,15 @@ pub record IsAllocation (c : List ClearRecord) (a : Allocation) : Type 0 where
   pub lot : IsLot c (record { issue = a.issue; opened = a.opened; upto = a.upto; poured = a.poured; plan = plan })
   pub served : IsServed plan (tickets_of a.drawn) a.sealed
 
+-- an allocation may follow these records in the strict sense: not by its numbers alone, but since it closes a lot that they have
+abbrev pub ClosesLot : List ClearRecord → ClearRecord → Type 0
+ClosesLot c (Accept t) = Unit {0}
+ClosesLot c (Exempt m i s) = Unit {0}
+ClosesLot c (Priority m i is_on) = Unit {0}
+ClosesLot c (Cycle id) = Unit {0}
+ClosesLot c (Allocate a) = IsAllocation c a
+ClosesLot c (Confirm r) = Unit {0}
+
 -- the lot that is opened after these records
 abbrev pub new_lot : List ClearRecord → ℕ → Lot
 new_lot c issue = record { issue = issue; opened = length c; upto = length c; poured = avail_in c issue; plan = plan_in c issue }

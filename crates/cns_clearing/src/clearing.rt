@@ -394,6 +394,11 @@ impl<K: Keeper> Clearing<K> {
         // confirmed deliveries took.
         ensures balanced { (issue : ℕ) → longs_of (history_of self.now.log.records) issue + delivered_in (orders_of self.now.log.records) issue
             ≡ shorts_of (history_of self.now.log.records) issue + covered_in (orders_of self.now.log.records) issue }
+
+        // And those that confirmed covers brought are free, lent or out, or confirmed deliveries took
+        // them.
+        ensures whole { (issue : ℕ) → let book = orders_of self.now.log.records in
+            free_in book self.now.lots issue + lent_in self.now.lots issue + out_in book issue + delivered_in book issue ≡ covered_in book issue }
         ensures lawful { IsLawful self.now.log.records }
 
         // Its entries keep all positions within 10^18 shares of 0.

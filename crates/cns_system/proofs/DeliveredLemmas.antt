@@ -71,23 +71,23 @@ record_of_other e p n differ = cond-false ((order_in e).number == n) (Some e) (r
 -- ---- sums over executed movements, and over the orders that they executed
 
 -- no two records are of one number
-abbrev AreOnce : List DepRecord → Type 0
+abbrev pub AreOnce : List DepRecord → Type 0
 AreOnce [] = Unit {0}
 AreOnce (e ∷ p) = (record_of p (order_in e).number ≡ None) × AreOnce p
 
-lawful_once : (openings : List Opening) (p : List DepRecord) → IsLawfulDepot openings p → AreOnce p
+pub lawful_once : (openings : List Opening) (p : List DepRecord) → IsLawfulDepot openings p → AreOnce p
 lawful_once openings [] lawful = tt
 lawful_once openings (e ∷ p) lawful = (lawful.0.number_is_new, lawful_once openings p lawful.1)
 
 -- what a record moved, where its order passes a test
-abbrev moved_where : (Order → Bool) → DepRecord → ℕ
+abbrev pub moved_where : (Order → Bool) → DepRecord → ℕ
 moved_where test e = if test (order_in e) then moved_by e else 0
 
 -- what was executed of an order, and nothing where it was not executed
-abbrev executed_part : List DepRecord → Order → ℕ
+abbrev pub executed_part : List DepRecord → Order → ℕ
 executed_part p o = unwrap_or (option_map moved_by (record_of p o.number)) 0
 
-abbrev executed_where : (Order → Bool) → List DepRecord → Order → ℕ
+abbrev pub executed_where : (Order → Bool) → List DepRecord → Order → ℕ
 executed_where test p o = if test o then executed_part p o else 0
 
 -- of no records nothing is executed
@@ -97,7 +97,7 @@ none_executed test (o ∷ orders) =
     omega (arith, sum_by-cons (executed_where test []) o orders, nothing_either (test o) 0 refl, none_executed test orders)
 
 -- what the records moved is what was executed of the orders, each of which has one record at most
-executed_sum : (test : Order → Bool) (orders : List Order) (p : List DepRecord) → IsNumbered 1 orders → All (IsKnown orders) p → AreOnce p
+pub executed_sum : (test : Order → Bool) (orders : List Order) (p : List DepRecord) → IsNumbered 1 orders → All (IsKnown orders) p → AreOnce p
     → sum_by (moved_where test) p ≡ sum_by (executed_where test p) orders
 executed_sum test orders [] numbered known once = sym (none_executed test orders)
 executed_sum test orders (e ∷ p) numbered known once =
@@ -150,7 +150,7 @@ module _ (book : Orders) (p : List DepRecord) (issue : ℕ) (numbered : IsNumber
           omega (arith, same, confirmed.2)
 
   -- executed covers brought at least what confirmed ones did
-  covers_executed : covered_of book issue ≤ moved_in p Cns issue
+  pub covers_executed : covered_of book issue ≤ moved_in p Cns issue
   unfolding covered_of moved_in
   covers_executed =
       let test : Order → Bool = λ o. is_cover o.kind && (o.issue == issue) in

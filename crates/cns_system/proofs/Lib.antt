@@ -6,7 +6,11 @@ pub mod RunLemmas
 pub mod AgreementLemmas
 pub mod AccordLemmas
 pub mod DeliveredLemmas
+pub mod LogLemmas
+pub mod ClearLemmas
 pub mod KeepsLemmas
+pub mod HeadlineLemmas
+pub mod HeadlineLaws
 pub mod SoundLemmas
 pub mod LinkLemmas
 pub mod ShownLemmas

@@ -11,6 +11,7 @@ pub mod Decisions
 pub mod Agreement
 pub mod Start
 pub mod Accord
+pub mod Headline
 pub mod Run
 pub mod Readers
 pub mod Scene

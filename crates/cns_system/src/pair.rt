@@ -5,6 +5,7 @@ ghost use Rattle.cns_records.specs.Dep.{dep_spelling};
 ghost use Rattle.cns_wire.specs.Frame.{reply_frame};
 ghost use Rattle.cns_wire.specs.Packet.{packet_at};
 ghost use Rattle.cns_system.specs.Accord.{AreLawful};
+ghost use Rattle.cns_system.specs.Headline.{IsBalanced};
 ghost use Rattle.cns_system.specs.Readers.{PlanStep, counts_of, unconfirmed};
 ghost use Rattle.cns_system.specs.Step.{order_at, AtClear, ByLots, ByNode, ClearRestarts, DepotRestartStep, Looks, OrderInStep, OrderRefused, OrderTaken, ReplyInStep, SendStep, Step};
 ghost use Rattle.cns_system.specs.Start.{IsGivenUp, IsNotOpened, IsStarted};
@@ -171,12 +172,13 @@ impl<C: Keeper, D: Keeper> Pair<C, D> {
         }
     }
 
-    /// Does nothing, and tells what the nodes know of their records: each of them may stand after those
-    /// before it.
+    /// Does nothing, and tells what each node knows of its own records: each of them may stand after those
+    /// before it; and in each issue the clearing node's longs, shorts and pool balance.
     pub(crate) fn lawful(&self)
-        ensures { AreLawful self.now }
+        ensures lawful { AreLawful self.now }
+        ensures balanced { IsBalanced self.now }
     {
-        let _orders = self.clear.node().orders();
+        let _book = self.clear.node().book();
         let _records = self.depot.records();
     }
 

@@ -2,6 +2,7 @@ ghost use Rattle.std.specs.Prelude.{◌≡◌, IfOk, IfErr, OnErr};
 ghost use Rattle.cns_records.specs.Clear.{spelling};
 ghost use Rattle.cns_records.specs.Dep.{dep_spelling};
 ghost use Rattle.cns_system.specs.Accord.{IsInAccord, StaysSound};
+ghost use Rattle.cns_system.specs.Headline.{AreStrict, IsAgreed};
 ghost use Rattle.cns_system.specs.Run.{IsDecided, Run};
 ghost use Rattle.cns_system.specs.Readers.{PlanStep, counts_of, unconfirmed};
 ghost use Rattle.cns_system.specs.Scene.{Comes, Plans, scene_of};
@@ -34,12 +35,14 @@ pub struct Counts {
 ///
 /// A packet is never taken from the link: it may arrive never, once, or often, and in any order.
 ///
-/// Whatever events happened, the two nodes and the link are in accord, where both keepers are honest:
-/// each movement that the depository executed is the order of its number in the clearing node, with
-/// its member, its issue and the quantity that it asks for; a delivery moved all of that quantity, and
-/// a cover no more than it; each movement that the clearing node has confirmed was executed, and moved
-/// just what was confirmed; and each packet is a frame, on the link of orders that of the order of its
-/// number, on the link of replies that of the reply to a movement that was executed.
+/// Whatever events happened, where both keepers are honest (the headline): each movement that the
+/// depository executed is the order of its number in the clearing node, with its member, its issue and
+/// the quantity that it asks for; a delivery moved all of that quantity, and a cover no more than it;
+/// each movement that the clearing node has confirmed was executed, and moved just what was confirmed;
+/// each packet is a frame, on the link of orders that of the order of its number, on the link of replies
+/// that of the reply to a movement that was executed; no number is executed twice, and no account gives
+/// more than it has; each position is the netted trades with the confirmed movements; and in each issue
+/// the longs less the shorts are the shares of the pool.
 ///
 /// Contracts see the clearing node with its lots by number, the depository, and the packets that were
 /// put on the link in each direction, the oldest first.
@@ -82,8 +85,12 @@ impl<C: Keeper + Drop, D: Keeper + Drop> System<C, D> {
             (record { honest = C.honest refused.clear; run = C.run refused.clear; journal = C.journal refused.clear; foresight = C.foresight refused.clear })
             (record { honest = D.honest refused.depot; run = D.run refused.depot; journal = D.journal refused.depot; foresight = D.foresight refused.depot })) }
         ensures accord { IfOk result IsInAccord }
+
+        // The headline.
+        ensures headline { IfOk result IsAgreed }
     {
         let pair = Pair::open(alloc, clear, depot, openings)?;
+        pair.lawful();
         Ok(System { pair })
     }
 
@@ -141,8 +148,12 @@ impl<C: Keeper, D: Keeper> System<C, D> {
         ensures plan { PlanStep node stands result self.old self.new }
         ensures scene { Plans node stands result (scene_of self.old) (scene_of self.new) }
         ensures accord { IsInAccord self.new }
+        ensures headline { IsAgreed self.new }
+        ensures strict { AreStrict self.old → AreStrict self.new }
     {
-        self.pair.plan(node, stands)
+        let planned = self.pair.plan(node, stands);
+        self.pair.lawful();
+        planned
     }
 
     /// Lets an event happen, and answers what it came to.
@@ -157,10 +168,18 @@ impl<C: Keeper, D: Keeper> System<C, D> {
 
         // No packet is refused as one that the other node never sent, and no journal as bad.
         ensures sound { StaysSound self.old event result }
+
+        // The headline.
+        ensures headline { IsAgreed self.new }
+
+        // Allocations close lots by tickets that serve their plans, where they did so before.
+        ensures strict { AreStrict self.old → AreStrict self.new }
     {
         // As the records are lawful, a new delivery finds all that it asks for in the CNS account.
         self.pair.lawful();
-        self.pair.step(event)
+        let outcome = self.pair.step(event);
+        self.pair.lawful();
+        outcome
     }
 
     /// Lets events happen one after another, as `step` does, and answers what each of them came to.
@@ -169,14 +188,24 @@ impl<C: Keeper, D: Keeper> System<C, D> {
     pub fn run(&mut self, alloc: Global, events: &[Event]) -> Result<Vec<Outcome>, AllocError>
         ensures run { IfOk result (λ outcomes. Run events.now outcomes.items self.old self.new) }
         ensures accord { IsInAccord self.new }
+        ensures headline { IsAgreed self.new }
+        ensures strict { AreStrict self.old → AreStrict self.new }
         ensures err { OnErr result (self.new ≡ self.old) }
     {
-        let _ = &self.pair;
+        self.agreed();
         let mut outcomes = Vec::with_capacity(alloc, events.len())?;
         for event in events {
             let outcome = self.step(*event);
             outcomes.push_reserved(outcome);
         }
         Ok(outcomes)
+    }
+
+    // Does nothing, and tells what is so of the nodes and the link.
+    fn agreed(&self)
+        ensures accord { IsInAccord self.now }
+        ensures headline { IsAgreed self.now }
+    {
+        self.pair.lawful();
     }
 }

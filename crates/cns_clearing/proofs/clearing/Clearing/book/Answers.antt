@@ -3,6 +3,7 @@ use Rattle.cns_netting.specs.History.{due}
 use Rattle.cns_clearing.specs.Books.{Books}
 use Rattle.cns_clearing.proofs.BalanceLemmas.{balanced}
 use Rattle.cns_clearing.proofs.PositionLemmas.{due_in_is}
+use Rattle.cns_clearing.proofs.PouredLemmas.{pool_whole}
 use Rattle.cns_clearing.proofs.clearing.Clearing.book.Goals as goal
 
 pub returns-clause-due : goal.returns-clause-due
@@ -10,3 +11,6 @@ returns-clause-due g c = ap due c.book.ensures ∙ ap (λ (b : Books). due b.his
 
 pub returns-clause-balanced : goal.returns-clause-balanced
 returns-clause-balanced g c = λ issue. balanced c.args.self.now.log.records issue c.books.ensures.lawful c.books.ensures.fits
+
+pub returns-clause-whole : goal.returns-clause-whole
+returns-clause-whole g c = λ issue. pool_whole c.args.self.now.log.records c.args.self.now.lots issue c.books.ensures.lawful c.books.ensures.lots

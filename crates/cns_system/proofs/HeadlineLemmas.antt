@@ -1,0 +1,70 @@
+-- The headline, from the accord of both nodes and what each of them knows of its own records.
+use Rattle.std.proofs.Common.{◌≡◌, ◌∙◌, ℕ, Bool, true, false, List, Option, Some, None, ap, refl, arith}
+use Rattle.std.specs.Prelude.{◌&&◌, All, is_some, option_map, unwrap_or, if◌then◌else◌}
+use Rattle.cns_movements.specs.Order.{IsNumbered, is_of, moved_of, moved_part, moved_sum}
+use Rattle.cns_movements.specs.declared.order.MoveKind.{MoveKind}
+use Rattle.cns_movements.specs.declared.order.MoveKind.TheVariants.{Cover, Delivery}
+use Rattle.cns_movements.specs.declared.order.Order.{Order}
+use Rattle.cns_movements.specs.Book.{Orders}
+use Rattle.cns_movements.proofs.OrderLemmas.{sum_same_from}
+use Rattle.cns_records.specs.declared.dep_record.DepRecord.{DepRecord}
+use Rattle.cns_clearing.specs.Books.{orders_of}
+use Rattle.cns_clearing.proofs.BooksLemmas.{lawful_bounded}
+use Rattle.cns_depository.specs.Stock.{moved_by}
+use Rattle.cns_depository.proofs.BalanceLemmas.{moved_out_covered}
+use Rattle.cns_system.specs.Accord.{AreLawful, IsInAccord, IsKnown}
+use Rattle.cns_system.specs.Agreement.{IsExecuted}
+use Rattle.cns_system.specs.Headline.{IsAgreed, IsBalanced, confirmed_sum}
+use Rattle.cns_system.specs.World.{World}
+use Rattle.cns_system.proofs.DeliveredLemmas.{AreOnce, confirmed_as, covers_executed, executed_part, executed_sum, executed_where, lawful_once}
+
+-- what confirmed orders moved is what the movements that both nodes hold moved
+module _ (book : Orders) (p : List DepRecord) (kind : MoveKind) (member issue : ℕ) (executed : All (IsExecuted p) book.replies) where
+  is_counted : Order → Bool
+  is_counted o = is_of kind member issue o && is_some (moved_of book.replies o.number)
+
+  -- of an order that is confirmed, what was executed is what was confirmed
+  same_part : (o : Order) → executed_where is_counted p o ≡ (if is_of kind member issue o then moved_part book.replies o else 0)
+  unfolding is_counted
+  same_part o = by (is_of kind member issue o) (moved_of book.replies o.number) refl
+    where
+      by : (its : Bool) (m : Option ℕ) → moved_of book.replies o.number ≡ m
+          → (if its && is_some m then executed_part p o else 0) ≡ (if its then unwrap_or m 0 else 0)
+      by false m is = refl
+      by true None is = refl
+      by true (Some m) is =
+          let done = confirmed_as p book.replies o.number m executed is in
+          ap (λ (r : Option DepRecord). unwrap_or (option_map moved_by r) 0) done.1 ∙ done.2
+
+  pub confirmed_moved : IsNumbered 1 book.orders → All (IsKnown book.orders) p → AreOnce p
+      → moved_sum book.orders book.replies kind member issue ≡ confirmed_sum p book.replies kind member issue
+  unfolding moved_sum confirmed_sum is_counted
+  confirmed_moved numbered known once =
+      let all = executed_sum is_counted book.orders p numbered known once in
+      let parts = sum_same_from _ _ book.orders 1 numbered (λ o from. same_part o) in
+      omega (arith, all, parts)
+
+-- both nodes and the link are as the headline says
+pub agreed : (w : World) → AreLawful w → IsBalanced w → IsInAccord w → IsAgreed w
+agreed w lawful balanced accord honest depot_honest =
+    let a = accord honest depot_honest in
+    let c = w.clear.clear.log.records in
+    let p = w.depot.log.records in
+    let book : Orders = orders_of c in
+    let numbered : IsNumbered 1 book.orders = (lawful_bounded c lawful.0).ordered.numbered in
+    let once : AreOnce p = lawful_once w.depot.openings p lawful.1 in
+    let moved : (kind : MoveKind) (member issue : ℕ) → moved_sum book.orders book.replies kind member issue ≡ confirmed_sum p book.replies kind member issue =
+    λ kind member issue. confirmed_moved book p kind member issue a.executed numbered a.known once in
+    record {
+      executed = a.known;
+      confirmed = a.executed;
+      sent = a.sent;
+      answered = a.answered;
+      stock = lawful.1;
+      given = λ account issue. moved_out_covered w.depot.openings p account issue lawful.1;
+      netted = λ member issue. rw (moved Cover member issue, moved Delivery member issue) refl;
+      pool = λ issue. let sums = balanced issue in omega (arith, sums.0, sums.1);
+      backed = λ issue.
+          let sums = balanced issue in
+          omega (arith, sums.1, covers_executed book p issue numbered a.known once a.executed);
+    }

@@ -1,0 +1,91 @@
+-- The headline: what is so of the two nodes and the link after any events, where both keepers are honest (this project's own rule).
+use Rattle.std.specs.Prelude.{◌≡◌, ℕ, ◌+◌, ◌≤◌, ◌&&◌, Bool, true, false, ℤ, pos, ◌-ℤ◌, List, All, Some, None, is_some, slice_get, sum_by, if◌then◌else◌}
+use Rattle.cns_trades.specs.declared.opening.Opening.{Opening}
+use Rattle.cns_netting.specs.History.{bought, longs_of, shorts_of, sold}
+use Rattle.cns_movements.specs.Order.{is_of, moved_of}
+use Rattle.cns_movements.specs.declared.order.MoveKind.{MoveKind}
+use Rattle.cns_movements.specs.declared.order.MoveKind.TheVariants.{Cover, Delivery}
+use Rattle.cns_movements.specs.declared.order.Reply.{Reply}
+use Rattle.cns_records.specs.declared.clear_record.ClearRecord.{ClearRecord}
+use Rattle.cns_records.specs.declared.dep_record.DepRecord.{DepRecord}
+use Rattle.cns_clearing.specs.Books.{confirmed_of, history_of, orders_of}
+use Rattle.cns_clearing.specs.Lots.{ClosesLot}
+use Rattle.cns_clearing.specs.Pools.{covered_of, delivered_of, free_of, lent_of, out_of}
+use Rattle.cns_clearing.specs.Position.{due_in, position_in}
+use Rattle.cns_clearing.specs.declared.lot.Lot.{Lot}
+use Rattle.cns_depository.specs.Openings.{opening_shares}
+use Rattle.cns_depository.specs.Stock.{IsLawfulDepot, moved_by, moved_in, moved_out, order_in}
+use Rattle.cns_depository.specs.declared.account.Account.{Account}
+use Rattle.cns_depository.specs.declared.account.Account.TheVariants.{Cns}
+use Rattle.cns_journal.specs.Replay.{AreAllowed}
+use Rattle.cns_journal.specs.RecordLog.{LogState, MayStand}
+use Rattle.cns_system.specs.Accord.{IsKnown, IsOrderPacket, IsReplyPacket}
+use Rattle.cns_system.specs.Agreement.{IsExecuted}
+use Rattle.cns_system.specs.World.{World}
+
+-- whether the depository's movement is one that both nodes hold: the clearing node has its confirmation
+abbrev pub is_confirmed : List Reply → DepRecord → Bool
+is_confirmed replies e = is_some (moved_of replies (order_in e).number)
+
+-- the shares that the movements which both nodes hold moved, of a kind, a member and an issue
+unfoldable pub confirmed_sum : List DepRecord → List Reply → MoveKind → ℕ → ℕ → ℕ
+confirmed_sum p replies kind member issue =
+    sum_by (λ (e : DepRecord). if is_of kind member issue (order_in e) && is_confirmed replies e then moved_by e else 0) p
+
+-- a member's position in an issue as it is reckoned from both nodes: what it bought in due trades, with what confirmed covers
+-- moved, less what it sold in them and what confirmed deliveries moved
+abbrev pub reckoned : List ClearRecord → List DepRecord → ℕ → ℕ → ℤ
+reckoned c p member issue =
+    pos (bought (due_in c) member issue + confirmed_sum p (confirmed_of c) Cover member issue)
+    -ℤ pos (sold (due_in c) member issue + confirmed_sum p (confirmed_of c) Delivery member issue)
+
+-- the shares of an issue in the pool: those that are free, those that are lent to its open lot, and those on their way to members
+abbrev pub pool_of : List ClearRecord → List Lot → ℕ → ℕ
+pool_of c lots issue = free_of (orders_of c) lots issue + lent_of lots issue + out_of (orders_of c) issue
+
+-- the clearing node's records and its open lots, the depository's openings and records, and the packets that were put on the link of
+-- orders and on that of replies
+pub record Headline (c : List ClearRecord) (lots : List Lot) (openings : List Opening) (p : List DepRecord) (orders replies : List (List ℕ)) : Type 0 where
+  -- Same: each executed movement is the order of its number at the clearing node, so it has its kind, member, issue and quantity; a
+  -- delivery moved all that it asks for, and a cover no more than it. Each confirmed movement was executed, and moved so much.
+  pub executed : All (IsKnown (orders_of c).orders) p
+  pub confirmed : All (IsExecuted p) (confirmed_of c)
+  -- Link: each packet of an order is the frame of the order of its number, and each packet of a reply that of an executed movement.
+  pub sent : (k : ℕ) (bytes : List ℕ) → slice_get orders k ≡ Some bytes → IsOrderPacket (orders_of c).orders bytes
+  pub answered : (k : ℕ) (bytes : List ℕ) → slice_get replies k ≡ Some bytes → IsReplyPacket p bytes
+  -- Stock: no number was executed twice, each movement moved what the giving account then had, at most what was asked for, and no
+  -- account gave more than its opening and what was moved into it.
+  pub stock : IsLawfulDepot openings p
+  pub given : (account : Account) (issue : ℕ) → moved_out p account issue ≤ opening_shares openings account issue + moved_in p account issue
+  -- Netted: each position is the netted trades, with confirmed covers added and confirmed deliveries taken off.
+  pub netted : (member issue : ℕ) → position_in c member issue ≡ reckoned c p member issue
+  -- Pool: in each issue the longs are the shorts and the pool; and what confirmed deliveries moved, with what open ones ask for, is no
+  -- more than executed covers brought.
+  pub pool : (issue : ℕ) → longs_of (history_of c) issue ≡ shorts_of (history_of c) issue + pool_of c lots issue
+  pub backed : (issue : ℕ) → delivered_of (orders_of c) issue + out_of (orders_of c) issue ≤ moved_in p Cns issue
+
+-- the headline of both nodes, where both keepers are honest
+abbrev pub IsAgreed : World → Type 0
+IsAgreed w =
+    w.clear.clear.log.honest ≡ true → w.depot.log.honest ≡ true
+    → Headline w.clear.clear.log.records w.clear.clear.lots w.depot.openings w.depot.log.records w.orders w.replies
+
+-- what the clearing node alone knows of its sums: in each issue longs less shorts are the shares that confirmed covers brought, less
+-- those that confirmed deliveries took; and the former are free, lent or out, or confirmed deliveries took them
+abbrev pub IsBalanced : World → Type 0
+IsBalanced w =
+    (issue : ℕ)
+    → let c = w.clear.clear.log.records in
+    (longs_of (history_of c) issue + delivered_of (orders_of c) issue ≡ shorts_of (history_of c) issue + covered_of (orders_of c) issue)
+    × (pool_of c w.clear.clear.lots issue + delivered_of (orders_of c) issue ≡ covered_of (orders_of c) issue)
+
+-- each allocation that the clearing node has, also one whose commit failed, closed a lot that was as the records before it have it, by
+-- tickets that serve its plan; a node that is up has no record whose commit failed
+pub record IsStrict (log : LogState ClearRecord) : Type 0 where
+  pub closes : AreAllowed ClosesLot log.records
+  pub tried : MayStand ClosesLot log.records log.tried
+  pub up : log.down ≡ false → log.tried ≡ None
+
+-- so it is where the clearing node's keeper is honest
+abbrev pub AreStrict : World → Type 0
+AreStrict w = w.clear.clear.log.honest ≡ true → IsStrict w.clear.clear.log
