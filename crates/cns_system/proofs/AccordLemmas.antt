@@ -1,5 +1,5 @@
 -- Each event keeps the two nodes and the link in accord.
-use Rattle.std.proofs.Common.{◌≡◌, ◌≤◌, ◌∙◌, ℕ, zero, suc, Bool, true, false, List, [], ◌∷◌, ◌++◌, Some, None, Result, ap, cond, refl, subst, sym}
+use Rattle.std.proofs.Common.{◌≡◌, ◌≤◌, ◌∙◌, ℕ, zero, suc, Bool, true, false, List, [], ◌∷◌, ◌++◌, Some, None, ap, cond, refl, subst, sym}
 use Rattle.std.proofs.Math.Nat.{min-le_left}
 use Rattle.std.specs.Prelude.{◌==◌, All, slice_get}
 use Rattle.std.proofs.lemmas.Bool.{eqb-true}
@@ -14,21 +14,14 @@ use Rattle.cns_records.specs.declared.clear_record.ClearRecord.TheVariants as en
 use Rattle.cns_records.specs.declared.dep_record.DepRecord.{DepRecord}
 use Rattle.cns_records.specs.declared.dep_record.DepRecord.TheVariants.{Exec}
 use Rattle.cns_clearing.specs.Books.{books_of, orders_of}
-use Rattle.cns_journal.specs.Keeper.{Foresight}
 use Rattle.cns_journal.specs.Replay.{KeeperState}
 use Rattle.cns_journal.specs.RecordLog.{LogState}
 use Rattle.cns_trades.specs.declared.opening.Opening.{Opening}
-use Rattle.cns_depository.specs.Node.{DepNode}
 use Rattle.cns_depository.specs.Stock.{IsLawfulDepot, moved_by, order_in, record_of}
 use Rattle.cns_wire.specs.Frame.{order_frame, reply_frame}
 use Rattle.cns_system.specs.Accord.{Accord, FitsStock, IsInAccord, IsKnown, IsOrderPacket, IsReplyPacket}
 use Rattle.cns_system.specs.Agreement.{IsExecuted, IsOrdered}
-use Rattle.cns_journal.specs.declared.keeper.NotPlanned.{NotPlanned}
-use Rattle.cns_system.specs.Numbered.{NumberedNode}
-use Rattle.cns_system.specs.Readers.{PlanStep}
 use Rattle.cns_system.specs.Start.{IsStarted}
-use Rattle.cns_system.specs.declared.event.NodeName.{NodeName}
-use Rattle.cns_system.specs.declared.event.NodeName.TheVariants as node
 use Rattle.cns_system.specs.World.{World, order_in_packet, reply_in_packet}
 
 -- ---- what grows
@@ -228,42 +221,3 @@ started openings clear depot w s =
       clear_up = λ up. none;
       depot_up = λ up. stock_none;
     }
-
--- ---- a planned failure
-
--- what is known beforehand of a keeper is no part of what the nodes hold
-clear_planned : (f : Foresight) (clear : LogState ClearRecord) (depot : LogState DepRecord) (orders replies : List (List ℕ)) → Accord clear depot orders replies
-    → Accord (record clear { foresight = f }) depot orders replies
-clear_planned f clear depot orders replies a = record {
-  known = a.known;
-  executed = a.executed;
-  sent = a.sent;
-  answered = a.answered;
-  clear_tried = a.clear_tried;
-  depot_tried = a.depot_tried;
-  clear_up = a.clear_up;
-  depot_up = a.depot_up;
-}
-
-depot_planned : (f : Foresight) (clear : LogState ClearRecord) (depot : LogState DepRecord) (orders replies : List (List ℕ)) → Accord clear depot orders replies
-    → Accord clear (record depot { foresight = f }) orders replies
-depot_planned f clear depot orders replies a = record {
-  known = a.known;
-  executed = a.executed;
-  sent = a.sent;
-  answered = a.answered;
-  clear_tried = a.clear_tried;
-  depot_tried = a.depot_tried;
-  clear_up = a.clear_up;
-  depot_up = a.depot_up;
-}
-
-pub planned_accord : (name : NodeName) (stands : Bool) (result : Result (Unit {0}) NotPlanned) (old new : World) → PlanStep name stands result old new → IsInAccord old → IsInAccord new
-planned_accord node.Clear stands result old new ((log, none), lots, depot, orders, replies) accord = λ honest honest'.
-    rw (log.1, depot, orders, replies)
-    (clear_planned new.clear.clear.log.foresight old.clear.clear.log old.depot.log old.orders old.replies
-    (accord (sym (ap (λ (l : LogState ClearRecord). l.honest) log.1) ∙ honest) (sym (ap (λ (n : DepNode). n.log.honest) depot) ∙ honest')))
-planned_accord node.Depot stands result old new ((log, none), clear, orders, replies) accord = λ honest honest'.
-    rw (log.1, clear, orders, replies)
-    (depot_planned new.depot.log.foresight old.clear.clear.log old.depot.log old.orders old.replies
-    (accord (sym (ap (λ (n : NumberedNode). n.clear.log.honest) clear) ∙ honest) (sym (ap (λ (l : LogState DepRecord). l.honest) log.1) ∙ honest')))

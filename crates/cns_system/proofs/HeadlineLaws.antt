@@ -1,20 +1,25 @@
 -- What each part of the headline says of one movement, packet, account, member or issue, in words of its own. So no part of it can be
 -- dropped or weakened without a law that fails.
-use Rattle.std.proofs.Common.{◌≡◌, ◌≤◌, ◌+◌, ◌∙◌, ℕ, List, [], ◌∷◌, ◌++◌, Some, None, ap, subst, sym, arith}
+use Rattle.std.proofs.Common.{◌≡◌, ◌≤◌, ◌+◌, ◌∙◌, ℕ, true, List, [], ◌∷◌, ◌++◌, Some, None, ap, subst, sym, arith}
 use Rattle.std.specs.Prelude.{pos, ◌-ℤ◌, min, slice_get}
 use Rattle.std.proofs.lemmas.Option.{same_Some}
 use Rattle.cns_trades.specs.declared.opening.Opening.{Opening}
 use Rattle.cns_netting.specs.History.{bought, longs_of, shorts_of, sold}
+use Rattle.cns_journal.specs.RecordLog.{MayStand}
+use Rattle.cns_journal.specs.Replay.{AreAllowed}
 use Rattle.cns_movements.specs.Order.{moved_of, order_of}
 use Rattle.cns_movements.specs.declared.order.MoveKind.TheVariants.{Cover, Delivery}
 use Rattle.cns_movements.specs.declared.order.Order.{Order}
 use Rattle.cns_movements.specs.declared.order.Reply.{Reply}
+use Rattle.cns_records.specs.declared.allocation.Allocation.{Allocation}
 use Rattle.cns_records.specs.declared.clear_record.ClearRecord.{ClearRecord}
+use Rattle.cns_records.specs.declared.clear_record.ClearRecord.TheVariants.{Allocate}
 use Rattle.cns_records.specs.declared.dep_record.DepRecord.{DepRecord}
 use Rattle.cns_records.specs.declared.dep_record.DepRecord.TheVariants.{Exec}
 use Rattle.cns_wire.specs.Frame.{order_frame, reply_frame}
 use Rattle.cns_clearing.specs.Books.{confirmed_of, history_of, orders_of}
-use Rattle.cns_clearing.specs.Pools.{delivered_of, free_of, lent_of, out_of}
+use Rattle.cns_clearing.specs.Lots.{ClosesLot, IsAllocation}
+use Rattle.cns_clearing.specs.Pools.{covered_of, delivered_of, free_of, lent_of, out_of}
 use Rattle.cns_clearing.specs.Position.{due_in, position_in}
 use Rattle.cns_clearing.specs.declared.lot.Lot.{Lot}
 use Rattle.cns_depository.specs.Account.{giver}
@@ -23,8 +28,8 @@ use Rattle.cns_depository.specs.Stock.{IsLawfulDepot, balance_of, moved_by, move
 use Rattle.cns_depository.specs.declared.account.Account.{Account}
 use Rattle.cns_depository.specs.declared.account.Account.TheVariants.{Cns}
 use Rattle.cns_system.specs.Agreement.{IsOrdered}
-use Rattle.cns_system.specs.Headline.{Headline, confirmed_sum}
-use Rattle.cns_system.specs.World.{order_in_packet, reply_in_packet}
+use Rattle.cns_system.specs.Headline.{AreStrict, Headline, confirmed_sum}
+use Rattle.cns_system.specs.World.{World, order_in_packet, reply_in_packet}
 use Rattle.cns_system.proofs.AccordLemmas.{ordered_found}
 use Rattle.cns_system.proofs.DeliveredLemmas.{confirmed_as, record_known}
 
@@ -95,6 +100,27 @@ module _ (c : List ClearRecord) (lots : List Lot) (openings : List Opening) (p :
       → longs_of (history_of c) issue ≡ shorts_of (history_of c) issue + free_of (orders_of c) lots issue + lent_of lots issue + out_of (orders_of c) issue
   longs_add_up issue = omega (arith, h.pool issue)
 
+  -- no share that a confirmed cover brought is lost: it is free, lent or out, or a confirmed delivery took it
+  pub none_is_lost : (issue : ℕ)
+      → free_of (orders_of c) lots issue + lent_of lots issue + out_of (orders_of c) issue + delivered_of (orders_of c) issue ≡ covered_of (orders_of c) issue
+  none_is_lost issue = omega (arith, h.whole issue)
+
   -- what deliveries moved and still may move was moved into the CNS account before
   pub deliveries_are_backed : (issue : ℕ) → delivered_of (orders_of c) issue + out_of (orders_of c) issue ≤ moved_in p Cns issue
   deliveries_are_backed issue = h.backed issue
+
+-- ---- what is kept beside the headline
+
+-- what is so of a record and those before it, where each closes a lot
+closes_here : (later before : List ClearRecord) (u : ClearRecord) → AreAllowed ClosesLot (later ++ u ∷ before) → ClosesLot before u
+closes_here [] before u all = all.0
+closes_here (x ∷ later) before u all = closes_here later before u all.1
+
+module _ (w : World) (honest : w.clear.clear.log.honest ≡ true) (strict : AreStrict w) where
+  -- an allocation closed a lot of the records before it, by tickets that serve its plan
+  pub allocation_closed : (later before : List ClearRecord) (a : Allocation) → w.clear.clear.log.records ≡ later ++ Allocate a ∷ before → IsAllocation before a
+  allocation_closed later before a is = closes_here later before (Allocate a) (subst (AreAllowed ClosesLot) is (strict honest).allowed)
+
+  -- and so would one that is undecided
+  pub undecided_would_close : (a : Allocation) → w.clear.clear.log.tried ≡ Some (Allocate a) → IsAllocation w.clear.clear.log.records a
+  undecided_would_close a is = subst (MayStand ClosesLot w.clear.clear.log.records) is (strict honest).tried

@@ -64,6 +64,7 @@ agreed w lawful balanced accord honest depot_honest =
       given = λ account issue. moved_out_covered w.depot.openings p account issue lawful.1;
       netted = λ member issue. rw (moved Cover member issue, moved Delivery member issue) refl;
       pool = λ issue. let sums = balanced issue in omega (arith, sums.0, sums.1);
+      whole = λ issue. (balanced issue).1;
       backed = λ issue.
           let sums = balanced issue in
           omega (arith, sums.1, covers_executed book p issue numbered a.known once a.executed);

@@ -43,13 +43,13 @@ use Rattle.cns_system.proofs.AccordLemmas.{executed_more, grown, kept, order_put
 use Rattle.cns_system.proofs.DeliveredLemmas.{next_known}
 use Rattle.cns_clearing.specs.Lots.{ClosesLot}
 use Rattle.cns_journal.specs.Replay.{AreAllowed}
-use Rattle.cns_journal.specs.RecordLog.{MayStand}
+use Rattle.cns_journal.specs.RecordLog.{IsLawfulLog, MayStand}
 use Rattle.cns_journal.specs.declared.keeper.NotPlanned.{NotPlanned}
-use Rattle.cns_system.specs.Headline.{AreStrict, IsStrict}
+use Rattle.cns_system.specs.Headline.{AreStrict}
 use Rattle.cns_system.specs.Readers.{PlanStep}
 use Rattle.cns_system.specs.declared.event.NodeName.{NodeName}
 use Rattle.cns_system.proofs.ClearLemmas.{IsPlain, event_keeps}
-use Rattle.cns_system.proofs.LogLemmas.{IsKept, Keeps, by_added, by_failed, by_log, restart_keeps}
+use Rattle.cns_system.proofs.LogLemmas.{IsKept, Keeps, by_added, by_failed, by_log, planned_keeps, restart_keeps}
 
 -- ---- the accord, of either log
 
@@ -117,16 +117,31 @@ again_executed o r old new h =
 
 -- ---- events
 
+-- what keeps the clearing node's log in accord with what is beside it, and leaves that as it is, keeps all in accord
+at_clear : (old new : World) → Keeps (λ (c : LogState ClearRecord). Accord c old.depot.log old.orders old.replies) old.clear.clear.log new.clear.clear.log
+    → new.depot ≡ old.depot → new.orders ≡ old.orders → new.replies ≡ old.replies → IsInAccord old → IsInAccord new
+at_clear old new now depot orders replies accord = λ clear_honest depot_honest.
+    let was_honest = sym now.0 ∙ clear_honest in
+    let before = accord was_honest (sym (ap (λ (n : DepNode). n.log.honest) depot) ∙ depot_honest) in
+    subst (λ (n : DepNode). Accord new.clear.clear.log n.log new.orders new.replies) (sym depot)
+    (subst (λ (l : List (List ℕ)). Accord new.clear.clear.log old.depot.log l new.replies) (sym orders)
+    (subst (λ (l : List (List ℕ)). Accord new.clear.clear.log old.depot.log old.orders l) (sym replies) (now.1 was_honest before)))
+
+-- and so does what keeps the depository's log so
+at_depot : (old new : World) → StockKeeps old.clear.clear.log old.orders old.replies old.depot.log new.depot.log
+    → new.clear ≡ old.clear → new.orders ≡ old.orders → new.replies ≡ old.replies → IsInAccord old → IsInAccord new
+at_depot old new now clear orders replies accord = λ clear_honest depot_honest.
+    let was_honest = sym now.0 ∙ depot_honest in
+    let before = accord (sym (ap (λ (n : NumberedNode). n.clear.log.honest) clear) ∙ clear_honest) was_honest in
+    subst (λ (n : NumberedNode). Accord n.clear.log new.depot.log new.orders new.replies) (sym clear)
+    (subst (λ (l : List (List ℕ)). Accord old.clear.clear.log new.depot.log l new.replies) (sym orders)
+    (subst (λ (l : List (List ℕ)). Accord old.clear.clear.log new.depot.log old.orders l) (sym replies) (now.1 was_honest before)))
+
 -- an event at the clearing node
 clear_step : {R : Type 0} (told : R → Outcome) (Leaves : R → NumberedNode → NumberedNode → Type 0) (outcome : Outcome) (old new : World)
     → Keeps (λ (c : LogState ClearRecord). Accord c old.depot.log old.orders old.replies) old.clear.clear.log new.clear.clear.log
     → AtClear told Leaves outcome old new → IsInAccord old → IsInAccord new
-clear_step told Leaves outcome old new now h accord = λ clear_honest depot_honest.
-    let was_honest = sym now.0 ∙ clear_honest in
-    let before = accord was_honest (sym (ap (λ (n : DepNode). n.log.honest) h.0) ∙ depot_honest) in
-    subst (λ (n : DepNode). Accord new.clear.clear.log n.log new.orders new.replies) (sym h.0)
-    (subst (λ (l : List (List ℕ)). Accord new.clear.clear.log old.depot.log l new.replies) (sym h.1)
-    (subst (λ (l : List (List ℕ)). Accord new.clear.clear.log old.depot.log old.orders l) (sym h.2) (now.1 was_honest before)))
+clear_step told Leaves outcome old new now h = at_clear old new now h.0 h.1 h.2
 
 -- an order is sent
 send_step : (number : ℕ) (outcome : Outcome) (old new : World) → SendStep number outcome old new → IsInAccord old → IsInAccord new
@@ -204,13 +219,8 @@ reply_arrives (Some r) outcome old new now h accord = clear_step (reply_outcome 
 
 -- the depository restarts
 depot_restart_step : (outcome : Outcome) (old new : World) → DepotRestartStep outcome old new → IsInAccord old → IsInAccord new
-depot_restart_step outcome old new h accord = λ clear_honest depot_honest.
-    let now = depot_restart_keeps old.clear.clear.log old.orders old.replies old.depot.openings h.3.0 old.depot.log new.depot.log h.3.2.0 in
-    let was_honest = sym now.0 ∙ depot_honest in
-    let before = accord (sym (ap (λ (n : NumberedNode). n.clear.log.honest) h.0) ∙ clear_honest) was_honest in
-    subst (λ (n : NumberedNode). Accord n.clear.log new.depot.log new.orders new.replies) (sym h.0)
-    (subst (λ (l : List (List ℕ)). Accord old.clear.clear.log new.depot.log l new.replies) (sym h.1)
-    (subst (λ (l : List (List ℕ)). Accord old.clear.clear.log new.depot.log old.orders l) (sym h.2) (now.1 was_honest before)))
+depot_restart_step outcome old new h =
+    at_depot old new (depot_restart_keeps old.clear.clear.log old.orders old.replies old.depot.openings h.3.0 old.depot.log new.depot.log h.3.2.0) h.0 h.1 h.2
 
 -- records that are no confirmations fit the stock
 plain_fits : (p : List DepRecord) (u : ClearRecord) → IsPlain u → FitsStock p u
@@ -262,15 +272,15 @@ may_stand : (old new : LogState ClearRecord) → new.records ≡ old.records →
 may_stand old new same fits None is = tt
 may_stand old new same fits (Some u) is = subst (λ (c : List ClearRecord). ClosesLot c u) (sym same) (fits u is)
 
-strict_kept : IsKept IsStrict ClosesLot
+strict_kept : IsKept (IsLawfulLog ClosesLot) ClosesLot
 strict_kept = record {
   grows = λ old new u a fits more none. record {
-    closes = subst (AreAllowed ClosesLot) (sym more) (fits, a.closes);
+    allowed = subst (AreAllowed ClosesLot) (sym more) (fits, a.allowed);
     tried = subst (MayStand ClosesLot new.records) (sym none) tt;
     up = λ up. none;
   };
   stays = λ old new a same fits up. record {
-    closes = subst (AreAllowed ClosesLot) (sym same) a.closes;
+    allowed = subst (AreAllowed ClosesLot) (sym same) a.allowed;
     tried = may_stand old new same fits new.tried refl;
     up = up;
   };
@@ -289,15 +299,30 @@ plain_closes c (entry.Confirm r) plain = tt
 -- each event keeps them
 pub step_strict : (e : Event) (outcome : Outcome) (old new : World) → Step e outcome old new → AreStrict old → AreStrict new
 step_strict e outcome old new h strict honest =
-    let now = event_keeps IsStrict ClosesLot strict_kept plain_closes (λ c a is. is) e outcome old new (λ packet r is a. tt) h in
+    let now = event_keeps (IsLawfulLog ClosesLot) ClosesLot strict_kept plain_closes (λ c a is. is) e outcome old new (λ packet r is a. tt) h in
     let was_honest = sym now.0 ∙ honest in
     now.1 was_honest (strict was_honest)
 
--- and so does a planned failure
+-- ---- a planned failure
+
+-- it keeps both nodes and the link in accord
+pub planned_accord : (name : NodeName) (stands : Bool) (result : Result (Unit {0}) NotPlanned) (old new : World) → PlanStep name stands result old new → IsInAccord old → IsInAccord new
+planned_accord node.Clear stands result old new h =
+    let kept = accord_kept old.depot.log old.orders old.replies in
+    at_clear old new
+    (planned_keeps (λ (c : LogState ClearRecord). Accord c old.depot.log old.orders old.replies) (λ before u. FitsStock old.depot.log.records u) kept
+    stands result old.clear.clear.log new.clear.clear.log h.0.0) h.2 h.3 h.4
+planned_accord node.Depot stands result old new h =
+    let kept = stock_accord_kept old.clear.clear.log old.orders old.replies in
+    at_depot old new
+    (planned_keeps (λ (d : LogState DepRecord). Accord old.clear.clear.log d old.orders old.replies) (FitsBook old.clear.clear.log) kept
+    stands result old.depot.log new.depot.log h.0.0) h.1 h.2 h.3
+
+-- and allocations that close lots
 pub planned_strict : (name : NodeName) (stands : Bool) (result : Result (Unit {0}) NotPlanned) (old new : World) → PlanStep name stands result old new → AreStrict old → AreStrict new
 planned_strict node.Clear stands result old new h strict honest =
-    let log = h.0.0.1 in
-    let before = strict (sym (ap (λ (l : LogState ClearRecord). l.honest) log) ∙ honest) in
-    subst IsStrict (sym log) (record { closes = before.closes; tried = before.tried; up = before.up })
+    let now = planned_keeps (IsLawfulLog ClosesLot) ClosesLot strict_kept stands result old.clear.clear.log new.clear.clear.log h.0.0 in
+    let was_honest = sym now.0 ∙ honest in
+    now.1 was_honest (strict was_honest)
 planned_strict node.Depot stands result old new h strict honest =
-    subst (λ (n : NumberedNode). n.clear.log.honest ≡ true → IsStrict n.clear.log) (sym h.1) strict honest
+    subst (λ (n : NumberedNode). n.clear.log.honest ≡ true → IsLawfulLog ClosesLot n.clear.log) (sym h.1) strict honest

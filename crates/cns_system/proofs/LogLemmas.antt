@@ -1,7 +1,8 @@
 -- What each call keeps of a node's log, whatever its records are.
 use Rattle.std.proofs.Common.{◌≡◌, ◌∙◌, Bool, true, false, ℕ, List, ◌∷◌, Some, None, Result, Ok, Err, ap, subst, sym}
 use Rattle.std.proofs.lemmas.Option.{none-some, same_Some}
-use Rattle.cns_journal.specs.RecordLog.{LogCommits, LogRestarts, LogState, Restarts}
+use Rattle.cns_journal.specs.RecordLog.{LogCommits, LogPlanned, LogRestarts, LogState, Restarts}
+use Rattle.cns_journal.specs.declared.keeper.NotPlanned.{NotPlanned}
 use Rattle.cns_journal.specs.declared.record_log.CommitFault.TheVariants.{Device}
 use Rattle.cns_journal.specs.declared.record_log.ReplayFault.{ReplayFault}
 use Rattle.cns_journal.specs.declared.record_log.ReplayFault.TheVariants as replay
@@ -64,3 +65,11 @@ module _ {R : Type 0} (P : LogState R → Type 0) (Fits : List R → R → Type 
   restart_keeps spelling allows fits (Err replay.Device) old new h = refused old new (now (λ l. l.honest)) (now (λ l. l.records)) (now (λ l. l.tried)) (now (λ l. l.down)) where
     now : {X : Type 0} (f : LogState R → X) → f new ≡ f (record old { down = true; failures = new.failures })
     now f = ap f h.0
+
+  -- a planned failure changes what is known beforehand of the keeper, and nothing else
+  pub planned_keeps : (stands : Bool) (result : Result (Unit {0}) NotPlanned) (old new : LogState R) → LogPlanned stands result old new → Keeps P old new
+  planned_keeps stands result old new h = (
+    ap (λ (l : LogState R). l.honest) h.1,
+    λ honest a. is.stays old new a (ap (λ (l : LogState R). l.records) h.1) (λ u tried. is.tried old u a (sym (ap (λ (l : LogState R). l.tried) h.1) ∙ tried))
+        (λ up. ap (λ (l : LogState R). l.tried) h.1 ∙ is.up old a (sym (ap (λ (l : LogState R). l.down) h.1) ∙ up)),
+  )

@@ -193,6 +193,7 @@ abbrev pub lot_closed_of : Option Lot → Decision → ℕ → Shown → LotStat
 lot_closed_of None d number w lot = refuse refusal.NoLot w
 lot_closed_of (Some twin) d number w lot = lot_allocated d number (allocation_of twin lot.tickets lot.sealed) w lot
 
+-- the lot is closed as the node has it open; for want of memory nothing happens
 abbrev pub lot_closed_met : Decision → ℕ → Shown → LotState → Happening
 lot_closed_met d number w lot = with_memory d (lot_closed_of (lot_of w.clear.open_lots lot.issue) d number w lot) w
 
@@ -201,10 +202,12 @@ abbrev pub lot_closed_beside : List Planned → Decision → ℕ → Shown → L
 lot_closed_beside [] d number w lot = lot_closed_met d number w lot
 lot_closed_beside (p ∷ rest) d number w lot = refuse refusal.Unserved w
 
+-- of a node that is up: a sealed lot is closed whoever waits
 abbrev pub lot_closed_up : Decision → ℕ → Shown → LotState → Happening
 lot_closed_up d number w lot =
     if lot.sealed then lot_closed_met d number w lot else lot_closed_beside (waiting lot.plan lot.tickets) d number w lot
 
+-- the close of a lot of this number
 abbrev pub close_happens : Decision → ℕ → Shown → Happening
 close_happens d number w = at_lot number (λ (lot : LotState). if w.clear.down then refuse refusal.Down w else lot_closed_up d number w lot) w
 

@@ -1,5 +1,5 @@
 -- The headline: what is so of the two nodes and the link after any events, where both keepers are honest (this project's own rule).
-use Rattle.std.specs.Prelude.{◌≡◌, ℕ, ◌+◌, ◌≤◌, ◌&&◌, Bool, true, false, ℤ, pos, ◌-ℤ◌, List, All, Some, None, is_some, slice_get, sum_by, if◌then◌else◌}
+use Rattle.std.specs.Prelude.{◌≡◌, ℕ, ◌+◌, ◌≤◌, ◌&&◌, Bool, true, ℤ, pos, ◌-ℤ◌, List, All, Some, is_some, slice_get, sum_by, if◌then◌else◌}
 use Rattle.cns_trades.specs.declared.opening.Opening.{Opening}
 use Rattle.cns_netting.specs.History.{bought, longs_of, shorts_of, sold}
 use Rattle.cns_movements.specs.Order.{is_of, moved_of}
@@ -17,8 +17,7 @@ use Rattle.cns_depository.specs.Openings.{opening_shares}
 use Rattle.cns_depository.specs.Stock.{IsLawfulDepot, moved_by, moved_in, moved_out, order_in}
 use Rattle.cns_depository.specs.declared.account.Account.{Account}
 use Rattle.cns_depository.specs.declared.account.Account.TheVariants.{Cns}
-use Rattle.cns_journal.specs.Replay.{AreAllowed}
-use Rattle.cns_journal.specs.RecordLog.{LogState, MayStand}
+use Rattle.cns_journal.specs.RecordLog.{IsLawfulLog}
 use Rattle.cns_system.specs.Accord.{IsKnown, IsOrderPacket, IsReplyPacket}
 use Rattle.cns_system.specs.Agreement.{IsExecuted}
 use Rattle.cns_system.specs.World.{World}
@@ -59,9 +58,10 @@ pub record Headline (c : List ClearRecord) (lots : List Lot) (openings : List Op
   pub given : (account : Account) (issue : ℕ) → moved_out p account issue ≤ opening_shares openings account issue + moved_in p account issue
   -- Netted: each position is the netted trades, with confirmed covers added and confirmed deliveries taken off.
   pub netted : (member issue : ℕ) → position_in c member issue ≡ reckoned c p member issue
-  -- Pool: in each issue the longs are the shorts and the pool; and what confirmed deliveries moved, with what open ones ask for, is no
-  -- more than executed covers brought.
+  -- Pool: in each issue the longs are the shorts and the pool; the pool, with what confirmed deliveries moved, is what confirmed covers
+  -- brought; and what confirmed deliveries moved, with what open ones ask for, is no more than executed covers brought.
   pub pool : (issue : ℕ) → longs_of (history_of c) issue ≡ shorts_of (history_of c) issue + pool_of c lots issue
+  pub whole : (issue : ℕ) → pool_of c lots issue + delivered_of (orders_of c) issue ≡ covered_of (orders_of c) issue
   pub backed : (issue : ℕ) → delivered_of (orders_of c) issue + out_of (orders_of c) issue ≤ moved_in p Cns issue
 
 -- the headline of both nodes, where both keepers are honest
@@ -80,12 +80,6 @@ IsBalanced w =
     × (pool_of c w.clear.clear.lots issue + delivered_of (orders_of c) issue ≡ covered_of (orders_of c) issue)
 
 -- each allocation that the clearing node has, also one whose commit failed, closed a lot that was as the records before it have it, by
--- tickets that serve its plan; a node that is up has no record whose commit failed
-pub record IsStrict (log : LogState ClearRecord) : Type 0 where
-  pub closes : AreAllowed ClosesLot log.records
-  pub tried : MayStand ClosesLot log.records log.tried
-  pub up : log.down ≡ false → log.tried ≡ None
-
--- so it is where the clearing node's keeper is honest
+-- tickets that serve its plan, where its keeper is honest; and while it is up no record of it is undecided
 abbrev pub AreStrict : World → Type 0
-AreStrict w = w.clear.clear.log.honest ≡ true → IsStrict w.clear.clear.log
+AreStrict w = w.clear.clear.log.honest ≡ true → IsLawfulLog ClosesLot w.clear.clear.log

@@ -1,9 +1,8 @@
 use Rattle.std.proofs.Common.{subst}
 use Rattle.cns_system.specs.Headline.{AreStrict}
 use Rattle.cns_system.specs.Scene.{Plans, scene_of}
-use Rattle.cns_system.proofs.AccordLemmas.{planned_accord}
 use Rattle.cns_system.proofs.HeadlineLemmas.{agreed}
-use Rattle.cns_system.proofs.KeepsLemmas.{planned_strict}
+use Rattle.cns_system.proofs.KeepsLemmas.{planned_accord, planned_strict}
 use Rattle.cns_system.proofs.SceneLemmas.{plan_leaves}
 use Rattle.cns_system.proofs.system.System.plan.Goals as goal
 
