@@ -65,4 +65,8 @@ fn main(rt: HostRuntime) -> ExitCode {
 }
 
 #[cfg(test)]
+mod story_tests;
+#[cfg(test)]
+mod test_support;
+#[cfg(test)]
 mod tests;

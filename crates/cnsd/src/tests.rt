@@ -137,7 +137,7 @@ fn kept_uncounted<R: Read, W: Write, L: Ledger>(
 }
 
 // What an input comes to over these keepers, and both keepers then.
-fn kept(
+pub(crate) fn kept(
     alloc: Global,
     input: &[u8],
     keepers: (ListKeeper, ListKeeper),
