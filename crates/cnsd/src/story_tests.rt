@@ -34,13 +34,7 @@ const COVERED: &[u8] = b"\
     END\n";
 
 // The cover of the sale.
-const COVER: &[Movement] = &[Movement {
-    number: 1,
-    kind: MoveKind::Cover,
-    member: 1,
-    asked: 35,
-    moved: Some(20),
-}];
+const COVER: &[Movement] = &[(1, MoveKind::Cover, 1, 35, Some(20))];
 
 // The first reply never arrives, and the second one arrives twice.
 const LOST_REPLY: Story = Story {
@@ -221,20 +215,8 @@ const NO_SHARES: Story = Story {
         END\n",
     ],
     movements: &[
-        Movement {
-            number: 1,
-            kind: MoveKind::Cover,
-            member: 1,
-            asked: 100,
-            moved: Some(100),
-        },
-        Movement {
-            number: 2,
-            kind: MoveKind::Cover,
-            member: 3,
-            asked: 60,
-            moved: Some(0),
-        },
+        (1, MoveKind::Cover, 1, 100, Some(100)),
+        (2, MoveKind::Cover, 3, 60, Some(0)),
     ],
 };
 
@@ -277,13 +259,7 @@ const LOST_CYCLE: Story = Story {
         cycle 2025-03-04 DAY due 2\n\
         order 1 COVER 0003 037833100 100\n",
     ],
-    movements: &[Movement {
-        number: 1,
-        kind: MoveKind::Cover,
-        member: 3,
-        asked: 100,
-        moved: None,
-    }],
+    movements: &[(1, MoveKind::Cover, 3, 100, None)],
 };
 
 #[test]
@@ -303,20 +279,8 @@ const UNTOLD_CYCLE: Story = Story {
         order 2 COVER 0003 037833100 100\n",
     ],
     movements: &[
-        Movement {
-            number: 1,
-            kind: MoveKind::Cover,
-            member: 1,
-            asked: 100,
-            moved: None,
-        },
-        Movement {
-            number: 2,
-            kind: MoveKind::Cover,
-            member: 3,
-            asked: 100,
-            moved: None,
-        },
+        (1, MoveKind::Cover, 1, 100, None),
+        (2, MoveKind::Cover, 3, 100, None),
     ],
 };
 
@@ -379,34 +343,10 @@ const DELIVERIES: Story = Story {
         END\n",
     ],
     movements: &[
-        Movement {
-            number: 1,
-            kind: MoveKind::Cover,
-            member: 1,
-            asked: 30,
-            moved: Some(30),
-        },
-        Movement {
-            number: 2,
-            kind: MoveKind::Cover,
-            member: 1,
-            asked: 30,
-            moved: Some(10),
-        },
-        Movement {
-            number: 3,
-            kind: MoveKind::Delivery,
-            member: 2,
-            asked: 30,
-            moved: Some(30),
-        },
-        Movement {
-            number: 4,
-            kind: MoveKind::Delivery,
-            member: 3,
-            asked: 10,
-            moved: Some(10),
-        },
+        (1, MoveKind::Cover, 1, 30, Some(30)),
+        (2, MoveKind::Cover, 1, 30, Some(10)),
+        (3, MoveKind::Delivery, 2, 30, Some(30)),
+        (4, MoveKind::Delivery, 3, 10, Some(10)),
     ],
 };
 

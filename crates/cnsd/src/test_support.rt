@@ -12,6 +12,7 @@ use cns_records::Refusal;
 use cns_system::System;
 use cns_trades::read_openings;
 use std::alloc::Global;
+use std::fmt;
 use std::process::Abort;
 use std::test::Fail;
 
@@ -20,21 +21,19 @@ type Both = System<ListKeeper, ListKeeper>;
 // The parts of a text, one after another.
 pub(crate) type Parts = &'static [&'static [u8]];
 
-// An order of the issue 037833100, and how many shares it moved, where it was executed.
-#[derive(Clone, Copy)]
-pub(crate) struct Movement {
-    pub(crate) number: u64,
-    pub(crate) kind: MoveKind,
-    pub(crate) member: u16,
-    pub(crate) asked: u64,
-    pub(crate) moved: Option<u64>,
-}
+// An order of the issue 037833100: its number, kind and member, the shares that it asks for, and those that it
+// moved, where it was executed.
+pub(crate) type Movement = (u64, MoveKind, u16, u64, Option<u64>);
 
 // An input, what it writes, and the movements after it.
 pub(crate) struct Story {
     pub(crate) input: Parts,
     pub(crate) output: Parts,
     pub(crate) movements: &'static [Movement],
+}
+
+fn assert_same<T: PartialEq + fmt::Debug>(rt: &impl Abort, answer: &T, wanted: &T) {
+    assert_eq!(rt; answer, wanted);
 }
 
 // The text of these parts.
@@ -56,18 +55,19 @@ fn openings_of(alloc: Global, input: &[u8]) -> Result<Openings, Fail> {
 
 // The order of a movement.
 fn order_of(movement: &Movement) -> Result<Order, Fail> {
+    let (number, kind, member, asked, _) = *movement;
     Ok(Order {
-        number: MoveNo::new(movement.number).ok_or("a movement's number")?,
-        kind: movement.kind,
-        member: MemberNo::new(movement.member).ok_or("a member")?,
+        number: MoveNo::new(number).ok_or("a movement's number")?,
+        kind,
+        member: MemberNo::new(member).ok_or("a member")?,
         issue: Cusip::read(b"037833100")?,
-        asked: Asked::new(movement.asked).ok_or("shares that are asked for")?,
+        asked: Asked::new(asked).ok_or("shares that are asked for")?,
     })
 }
 
 // An order with the shares that it moved, where it was executed.
 fn executed_of(movement: &Movement) -> Result<Option<(Order, Shares)>, Fail> {
-    let Some(count) = movement.moved else {
+    let Some(count) = movement.4 else {
         return Ok(None);
     };
     let moved = Shares::new(count).ok_or("shares that were moved")?;
@@ -77,7 +77,7 @@ fn executed_of(movement: &Movement) -> Result<Option<(Order, Shares)>, Fail> {
 // The movement of a number, where the list has one.
 fn movement_of(movements: &[Movement], number: u64) -> Option<Movement> {
     for movement in movements {
-        if movement.number == number {
+        if movement.0 == number {
             return Some(*movement);
         }
     }
@@ -88,7 +88,7 @@ fn movement_of(movements: &[Movement], number: u64) -> Option<Movement> {
 fn executed_count(movements: &[Movement]) -> usize {
     let mut count = 0usize;
     for movement in movements {
-        if movement.moved.is_some() {
+        if movement.4.is_some() {
             count = count.saturating_add(1);
         }
     }
@@ -104,20 +104,23 @@ fn is_whole(order: &Order, moved: Shares) -> bool {
 fn see_movement(rt: &impl Abort, both: &Both, movement: &Movement) -> Result<(), Fail> {
     let (order, executed) = (order_of(movement)?, executed_of(movement)?);
     let number = order.number;
-    assert_eq!(rt; both.clearing().order(number), Ok(order));
-    assert_eq!(rt; both.depository().executed(number), executed);
+    assert_same(rt, &both.clearing().order(number), &Ok(order));
+    assert_same(rt, &both.depository().executed(number), &executed);
     let confirmed = both.clearing().orders().confirmed(number);
-    assert_eq!(rt; confirmed, executed.map(|(_, moved)| moved));
-    if let Some((order, moved)) = both.depository().executed(number) {
-        assert!(rt; is_whole(&order, moved), "{number}");
-    }
+    assert_same(rt, &confirmed, &executed.map(|(_, moved)| moved));
+    let is_whole = executed.is_none_or(|(order, moved)| is_whole(&order, moved));
+    assert_same(rt, &is_whole, &true);
     Ok(())
 }
 
 // Neither node holds a movement of this number.
 fn see_none(rt: &impl Abort, both: &Both, number: MoveNo) {
-    assert_eq!(rt; both.clearing().order(number), Err(Refusal::UnknownMove));
-    assert_eq!(rt; both.depository().executed(number), None);
+    assert_same(
+        rt,
+        &both.clearing().order(number),
+        &Err(Refusal::UnknownMove),
+    );
+    assert_same(rt, &both.depository().executed(number), &None);
 }
 
 // Both nodes hold the movement of this number that the list has, and none where it has none.
@@ -141,11 +144,9 @@ fn see_number(
 // Both nodes hold just these movements: each number is seen, from 0 to the one after the last order.
 fn see_movements(rt: &impl Abort, both: &Both, movements: &[Movement]) -> Result<(), Fail> {
     let orders = both.clearing().orders().len();
-    assert_eq!(rt; orders, movements.len());
-    assert_eq!(rt;
-        both.depository().records().len(),
-        executed_count(movements)
-    );
+    assert_same(rt, &orders, &movements.len());
+    let executed = both.depository().records().len();
+    assert_same(rt, &executed, &executed_count(movements));
     let last = (orders as u64).saturating_add(1);
     for number in 0..=last {
         see_number(rt, both, number, movements)?;
@@ -180,8 +181,8 @@ pub(crate) fn tell(rt: &impl Abort, alloc: Global, story: &Story) -> Result<(), 
     let mut out = Vec::new(alloc);
     let new = (ListKeeper::new(alloc), ListKeeper::new(alloc));
     let done = kept(alloc, &input, new, &mut out);
-    assert_eq!(rt; done.result, Ok(()));
-    assert_eq!(rt; out, output);
+    assert_same(rt, &done.result, &Ok(()));
+    assert_same(rt, &out, &output);
     see_kept(
         rt,
         alloc,
