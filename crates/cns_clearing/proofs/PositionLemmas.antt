@@ -6,7 +6,7 @@ use Rattle.cns_movements.specs.Book.{IsOrderBook}
 use Rattle.cns_trades.specs.declared.trade.Trade.{Trade}
 use Rattle.cns_netting.specs.History.{bought, due, due_since, is_reached, latest, position_of, settled_in, settled_out, sold}
 use Rattle.cns_netting.specs.declared.entry.NetEntry.{NetEntry}
-use Rattle.cns_netting.proofs.TallyLemmas.{is_reached-latest}
+use Rattle.cns_netting.proofs.TradeLemmas.{is_reached-latest}
 use Rattle.cns_movements.specs.Order.{is_of, moved_sum, numbered, open_sum}
 use Rattle.cns_movements.specs.declared.order.Ask.{Ask}
 use Rattle.cns_movements.specs.declared.order.MoveKind.{MoveKind}

@@ -16,7 +16,7 @@ use Rattle.cns_netting.specs.declared.entry.NetEntry.TheVariants.{Accepted, Nett
 use Rattle.cns_netting.specs.declared.position.Holding.{Holding}
 use Rattle.cns_netting.proofs.HoldingLemmas.{AreAscending, holding_order, holdings-ascending}
 use Rattle.cns_netting.proofs.BookLemmas.{book_netted, bought-most, sold-most}
-use Rattle.cns_netting.proofs.TallyLemmas.{Reaches, bought-due, reaches_latest, sold-due}
+use Rattle.cns_netting.proofs.TradeLemmas.{Reaches, bought-due, reaches_latest, sold-due}
 use Rattle.cns_movements.specs.Order.{is_of, moved_of, numbered, open_sum, order_of, same_kind}
 use Rattle.cns_movements.specs.Book.{IsOrderBook, Orders, with_asks, with_reply}
 use Rattle.cns_movements.specs.declared.order.Ask.{Ask}

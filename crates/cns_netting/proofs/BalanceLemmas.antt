@@ -7,7 +7,7 @@ use Rattle.cns_trades.specs.declared.trade.Trade.{Trade}
 use Rattle.cns_netting.specs.History.{bought, credit, debit, due, due_since, is_reached, latest, long_up_to, settled_in, settled_out, short_up_to, sold}
 use Rattle.cns_netting.specs.declared.entry.NetEntry.{NetEntry}
 use Rattle.cns_netting.specs.declared.entry.NetEntry.TheVariants.{Accepted, Netted, Settled}
-use Rattle.cns_netting.proofs.TallyLemmas.{bought-due, sold-due}
+use Rattle.cns_netting.proofs.TradeLemmas.{bought-due, sold-due}
 
 -- ---- sums over the members 1 to n
 

@@ -1,16 +1,17 @@
 -- What a book keeps as it grows.
-use Rattle.std.proofs.Common.{◌≡◌, ◌≤◌, ◌<◌, ◌+◌, ◌-◌, ◌*◌, ◌^◌, ℕ, List, [], ◌∷◌, length, length-append, Option, Some, None, Bool, true, false, refl, sym, arith}
-use Rattle.std.specs.Prelude.{◌&&◌, ◌==◌, ℤ, pos, negsuc, ◌-ℤ◌, ◌+ℤ◌, if◌then◌else◌}
+use Rattle.std.proofs.Common.{◌≡◌, ◌≤◌, ◌<◌, ◌+◌, ◌-◌, ◌*◌, ◌^◌, ℕ, List, [], ◌∷◌, length, length-append, Option, None, Bool, true, false, refl, arith}
+use Rattle.std.specs.Prelude.{◌&&◌, ◌==◌, ℤ, pos, negsuc, ◌-ℤ◌, ◌+ℤ◌, sum_by, if◌then◌else◌}
 use Rattle.std.proofs.lemmas.Int.{ints}
 use Rattle.std.proofs.lemmas.Bool.{eqb-true}
 use Rattle.cns_trades.specs.declared.trade.Trade.{Trade}
 use Rattle.cns_netting.specs.History.{accepted, bought, credit, credit_part, debit, debit_part, due_since, is_reached, latest, position_of, settled_in, settled_out, sold}
-use Rattle.cns_netting.specs.Rows.{holdings_of, netted_by}
-use Rattle.cns_netting.specs.Tally.{AreSmall, credit_from, debit_from}
+use Rattle.cns_netting.specs.Sides.{bought_by, sold_by}
+use Rattle.cns_netting.specs.Undue.{undue}
 use Rattle.cns_netting.specs.Book.{AmountsFit, IsBook, IsSettled, IsWithin, QuantitiesFit}
 use Rattle.cns_netting.specs.declared.entry.NetEntry.{NetEntry}
 use Rattle.cns_netting.specs.declared.entry.NetEntry.TheVariants.{Accepted, Netted, Settled}
-use Rattle.cns_netting.proofs.TallyLemmas.{bought-due, credit_from-sums, debit_from-sums, sold-due}
+use Rattle.cns_netting.proofs.TradeLemmas.{bought-due, sold-due}
+use Rattle.cns_netting.proofs.TradeLemmas.{undue-most}
 
 share_most : (b : Bool) (q n : ℕ) → q ≤ n → (if b then q else 0) ≤ n
 share_most true q n h = h
@@ -57,12 +58,19 @@ settled_out-most (Settled k j z ∷ h) m i fit =
     let one = share_most ((k == m) && (j == i)) (debit_part z) 2000000000000000000 fit.1 in
     omega (arith, one, settled_out-most h m i fit.2)
 
--- the sums of a book fit
-pub small : (reached : Option ℕ) (m i : ℕ) (h : List NetEntry) → IsBook h → length h < 2 ^ 63 → AreSmall reached m i h
-small reached m i h book size = record {
-  credit = omega (arith, credit_from-sums reached m i h, bought-most reached h m i book.quantities, settled_in-most h m i book.amounts, book.few, size);
-  debit = omega (arith, debit_from-sums reached m i h, sold-most reached h m i book.quantities, settled_out-most h m i book.amounts, book.few, size);
-}
+-- the sums of a book fit, with those that are still to come
+pub record AreSmall (h : List NetEntry) (m i : ℕ) : Type 0 where
+  pub credit : credit h m i + sum_by (bought_by m i) (undue h) < 2 ^ 127
+  pub debit : debit h m i + sum_by (sold_by m i) (undue h) < 2 ^ 127
+
+pub small : (m i : ℕ) (h : List NetEntry) → IsBook h → length h < 2 ^ 63 → AreSmall h m i
+small m i h book size =
+    let bought_most = undue-most (bought_by m i) (λ (t : Trade). share_most ((t.buyer == m) && (t.issue == i)) t.quantity t.quantity (omega arith)) None h book.quantities in
+    let sold_most = undue-most (sold_by m i) (λ (t : Trade). share_most ((t.seller == m) && (t.issue == i)) t.quantity t.quantity (omega arith)) None h book.quantities in
+    record {
+      credit = omega (arith, bought_most, bought-most None h m i book.quantities, settled_in-most h m i book.amounts, book.few, size);
+      debit = omega (arith, sold_most, sold-most None h m i book.quantities, settled_out-most h m i book.amounts, book.few, size);
+    }
 
 pub book_empty : IsBook []
 unfolding QuantitiesFit AmountsFit settled_in settled_out
@@ -147,26 +155,9 @@ book_settled h m i z book before after =
       out_most = rw e (omega (arith, (book.settled k j).out_most));
     }
 
--- the sums of a history as after a netting
-pub credit-netted : (reached : Option ℕ) (m i : ℕ) (h : List NetEntry) → credit (netted_by reached h) m i ≡ credit_from reached m i h
-unfolding settled_in
-credit-netted None m i h = sym (credit_from-sums None m i h)
-credit-netted (Some day) m i h = sym (credit_from-sums (Some day) m i h)
-
-pub debit-netted : (reached : Option ℕ) (m i : ℕ) (h : List NetEntry) → debit (netted_by reached h) m i ≡ debit_from reached m i h
-unfolding settled_out
-debit-netted None m i h = sym (debit_from-sums None m i h)
-debit-netted (Some day) m i h = sym (debit_from-sums (Some day) m i h)
-
 -- a position of a book lies within 3 * 10^18 of 0
 pub long-most : (h : List NetEntry) (m i : ℕ) → IsBook h → credit h m i - debit h m i ≤ 3000000000000000000
 long-most h m i book = omega (arith, bought-most None h m i book.quantities, (book.settled m i).in_most, book.few)
 
 pub short-most : (h : List NetEntry) (m i : ℕ) → IsBook h → debit h m i - credit h m i ≤ 3000000000000000000
 short-most h m i book = omega (arith, sold-most None h m i book.quantities, (book.settled m i).out_most, book.few)
-
--- a netting names no holding
-pub holdings-netted : (reached : Option ℕ) (h : List NetEntry) → holdings_of (netted_by reached h) ≡ holdings_of h
-unfolding holdings_of
-holdings-netted None h = refl
-holdings-netted (Some day) h = refl

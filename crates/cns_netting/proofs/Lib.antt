@@ -1,5 +1,8 @@
-pub mod TallyLemmas
+pub mod TradeLemmas
+pub mod SidesLemmas
+pub mod QueueLemmas
 pub mod BookLemmas
 pub mod HoldingLemmas
-pub mod IssueLemmas
+pub mod RowLemmas
 pub mod BalanceLemmas
+pub mod KeptLemmas

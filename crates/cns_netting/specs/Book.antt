@@ -1,8 +1,15 @@
 -- What a book keeps.
-use Rattle.std.specs.Prelude.{ℕ, ◌+◌, ◌≤◌, List, [], ◌∷◌, length, ℤ, pos, neg_ℤ, ◌≤ℤ◌}
+use Rattle.std.specs.Prelude.{◌≡◌, ℕ, ◌+◌, ◌≤◌, ◌&&◌, nat_le, List, [], ◌∷◌, All, length, ℤ, pos, neg_ℤ, ◌≤ℤ◌, sum_by, if◌then◌else◌}
+use Rattle.std.specs.BinaryHeap.{IsHeap}
+use Rattle.std.specs.HashMap.{HashMap}
+use Rattle.cns_trades.specs.declared.trade.Trade.{Trade}
 use Rattle.cns_netting.specs.History.{accepted, credit_part, debit_part, settled_in, settled_out}
+use Rattle.cns_netting.specs.Sides.{AreSidesOf, IsNamed}
+use Rattle.cns_netting.specs.Undue.{earlier, undue}
 use Rattle.cns_netting.specs.declared.entry.NetEntry.{NetEntry}
 use Rattle.cns_netting.specs.declared.entry.NetEntry.TheVariants.{Accepted, Netted, Settled}
+use Rattle.cns_netting.specs.declared.position.Holding.{Holding}
+use Rattle.cns_netting.specs.declared.sides.Sides.{Sides}
 
 -- the history, the newest entry first, and for how many more entries there is room
 pub record NetRoom : Type 0 where
@@ -39,3 +46,16 @@ pub record IsBook (h : List NetEntry) : Type 0 where
   pub quantities : QuantitiesFit h
   pub amounts : AmountsFit h
   pub settled : (member issue : ℕ) → IsSettled h member issue
+
+-- what a book keeps beside its history: the sides of each holding, and the trades that are not due, in a heap; each holding of
+-- such a trade is named
+pub record IsKept {S : Type 0} (h : List NetEntry) (holdings : HashMap Holding Sides S) (waiting : List Trade) : Type 0 where
+  pub book : IsBook h
+  pub sides : AreSidesOf holdings h
+  pub undue : (f : Trade → ℕ) → sum_by f waiting ≡ sum_by f (undue h)
+  pub named : All (IsNamed holdings) waiting
+  pub heap : IsHeap earlier waiting
+
+-- for how many more entries there is room: for none where two more holdings, or one more trade that is not due, may not fit
+abbrev pub room_of : ℕ → ℕ → ℕ → ℕ
+room_of entries holdings waiting = if nat_le 2 holdings && nat_le 1 waiting then entries else 0

@@ -1,4 +1,5 @@
 pub mod History
-pub mod Tally
 pub mod Rows
+pub mod Undue
+pub mod Sides
 pub mod Book

@@ -1,5 +1,5 @@
 -- The positions of a history, by issue, then member.
-use Rattle.std.specs.Prelude.{ℕ, ◌≡◌, ◌==◌, Bool, true, filter, List, [], ◌∷◌, Option, Some, None, if◌then◌else◌}
+use Rattle.std.specs.Prelude.{ℕ, ◌==◌, Bool, List, [], ◌∷◌, Option, Some, None, if◌then◌else◌}
 use Rattle.std.specs.List.{filter_map}
 use Rattle.std.specs.declared.cmp.Ordering.{Ordering}
 use Rattle.std.specs.Ordering.{nat_cmp, ordering_then}
@@ -38,22 +38,6 @@ open_row h k =
 abbrev pub rows_of : List NetEntry → List PositionRow
 rows_of h = filter_map (open_row h) (holdings_of h)
 
--- a history as after a netting of a date, where there is one
-abbrev pub netted_by : Option ℕ → List NetEntry → List NetEntry
-netted_by None h = h
-netted_by (Some day) h = Netted day ∷ h
-
--- whether an entry counts in an issue: a trade or a settlement of it, or a netting
-abbrev pub counts_in : ℕ → NetEntry → Bool
-counts_in issue (Accepted t) = t.issue == issue
-counts_in issue (Netted d) = true
-counts_in issue (Settled m i z) = i == issue
-
 -- whether a position is one in an issue
 abbrev pub is_row_in : ℕ → PositionRow → Bool
 is_row_in issue row = row.issue == issue
-
--- the part of the entries that counts in an issue, where there is one
-unfoldable pub IsPartOf : Option ℕ → List NetEntry → List NetEntry → Type 0
-IsPartOf None entries part = Unit {0}
-IsPartOf (Some issue) entries part = part ≡ filter (counts_in issue) entries

@@ -1,92 +1,111 @@
-ghost use Rattle.std.specs.Prelude.{◌≡◌, ◌++◌, ◌+◌, ◌^◌, ◌<◌, ◌≤◌, List, [], ◌∷◌, None, reverse, length, filter, ◌+ℤ◌, IfOk, OnOk, OnErr, IsOk};
-ghost use Rattle.std.specs.List.{filter_map};
+ghost use Rattle.std.specs.Prelude.{◌≡◌, ◌++◌, ◌+◌, ◌-◌, ◌^◌, ◌<◌, ◌≤◌, ◌&&◌, ◌==◌, ℕ, List, [], ◌∷◌, None, reverse, length, filter, ◌+ℤ◌, ◌-ℤ◌, pos, IfOk, OnOk, OnErr, IsOk, IsSome, vec_capacity, vec_len, if◌then◌else◌};
+ghost use Rattle.std.specs.BinaryHeap.{heap_capacity, heap_items, heap_len, IsHeap};
+ghost use Rattle.std.specs.HashMap.{get, spare};
+ghost use Rattle.std.specs.List.Sorted.{IsPermutation};
 ghost use Rattle.cns_trades.specs.Verdicts.{known};
-ghost use Rattle.cns_netting.specs.Book.{IsBook, IsWithin};
-ghost use Rattle.cns_netting.specs.History.{accepted, becoming_due, credit, debit, due_since, position_of, longs_of, shorts_of};
-ghost use Rattle.cns_netting.specs.Rows.{counts_in, is_row_in, IsPartOf, holdings_of, with_holdings, netted_by, open_row as open_row_of, rows_of};
-ghost use Rattle.cns_netting.specs.Tally.{due_of_entry, reached_after};
+ghost use Rattle.cns_netting.specs.Book.{IsBook, IsWithin, room_of};
+ghost use Rattle.cns_netting.specs.History.{accepted, becoming_due, credit_part, debit_part, position_of, longs_of, shorts_of};
+ghost use Rattle.cns_netting.specs.Rows.{holding_at, is_row_in, rows_of};
+ghost use Rattle.cns_netting.specs.Sides.{AreSidesOf, credit_in, debit_in, holding_eq, IsNamed};
+ghost use Rattle.cns_netting.specs.Undue.{earlier};
+ghost use Rattle.cns_netting.specs.declared.entry.NetEntry.{NetEntry};
 ghost use Rattle.cns_netting.specs.declared.entry.NetEntry.TheVariants.{Accepted, Netted, Settled};
+ghost use Rattle.cns_netting.specs.declared.position.Holding.{Holding};
 
+use crate::due::{make_due, sides_after};
 use crate::entry::NetEntry;
-use crate::position::PositionRow;
-use crate::rows::{entries_in, open_rows};
-use crate::tally::{Tally, has_reached, reached_before, tally_of};
+use crate::position::{Holding, PositionRow};
+use crate::rows::position_rows;
+use crate::sides::{Sides, add, name, name_trade, sides_of};
+use crate::undue::Undue;
 use cns_ids::{Cusip, Day, MemberNo};
 use cns_trades::Trade;
 use std::alloc::{AllocError, Global};
+use std::collections::{BinaryHeap, HashMap};
 use std::marker::Model;
 
 /// Accepted trades, due or not, with the nettings and settlements since.
 ///
-/// Contracts see the history of entries, the newest first, and for how many more there is room.
+/// Contracts see the history of entries, the newest first, and for how many more there is room. Beside
+/// the history the book keeps what stands for each holding and against it, and the trades that are not
+/// due, the earliest settlement first.
 #[derive(Drop)]
 pub struct NetBook {
     entries: Vec<NetEntry>,
+    sides: HashMap<Holding, Sides>,
+    undue: BinaryHeap<Undue>,
 }
 
 impl Model for NetBook {
     ghost use Rattle.std.specs.Prelude.{◌-◌, length, reverse, vec_capacity};
-    ghost use Rattle.cns_netting.specs.Book.{IsBook, NetRoom};
+    ghost use Rattle.std.specs.BinaryHeap.{heap_capacity, heap_items, heap_len};
+    ghost use Rattle.std.specs.HashMap.{spare};
+    ghost use Rattle.cns_netting.specs.Book.{IsKept, NetRoom, room_of};
 
     ghost Value = { NetRoom };
 
-    ghost view = { λ b. record { history = reverse b.entries.items; room = vec_capacity b.entries - length b.entries.items } };
+    ghost view = { λ b. record {
+      history = reverse b.entries.items;
+      room = room_of (vec_capacity b.entries - length b.entries.items) (spare b.sides) (heap_capacity b.undue - heap_len b.undue);
+    } };
 
-    ghost invariant = { λ b. IsBook (reverse b.entries.items) };
+    ghost invariant = { λ b. IsKept (reverse b.entries.items) b.sides (heap_items b.undue) };
 }
 
-/// The tally of a member in an issue, as after a netting of `reached`.
-pub(crate) fn tally_at(
-    entries: &[NetEntry],
-    reached: Option<Day>,
-    member: MemberNo,
-    issue: Cusip,
-) -> Tally
-    requires book { IsBook (reverse entries.now) }
-    requires size { length entries.now < 2 ^ 63 }
-    ensures credit { result.credit ≡ credit (netted_by reached (reverse entries.now)) member issue }
-    ensures debit { result.debit ≡ debit (netted_by reached (reverse entries.now)) member issue }
-    ensures small { (result.credit < 2 ^ 127) × (result.debit < 2 ^ 127) }
+// Takes the memory that any entry needs.
+fn make_room(
+    entries: &mut Vec<NetEntry>,
+    sides: &mut HashMap<Holding, Sides>,
+    undue: &mut BinaryHeap<Undue>,
+) -> Result<(), AllocError>
+    ensures entries { entries.new.items ≡ entries.old.items }
+    ensures sides { (k : Holding) → get holding_eq sides.new k ≡ get holding_eq sides.old k }
+    ensures undue { heap_items undue.new ≡ heap_items undue.old }
+    ensures entry_room { OnOk result (length entries.new.items < vec_capacity entries.new) }
+    ensures side_room { OnOk result (2 ≤ spare sides.new) }
+    ensures undue_room { OnOk result (heap_len undue.new < heap_capacity undue.new) }
+    ensures none { OnErr result (room_of (vec_capacity entries.old - length entries.old.items) (spare sides.old) (heap_capacity undue.old - heap_len undue.old) ≡ 0) }
+    ensures left { room_of (vec_capacity entries.old - length entries.old.items) (spare sides.old) (heap_capacity undue.old - heap_len undue.old) ≤ room_of (vec_capacity entries.new - length entries.new.items) (spare sides.new) (heap_capacity undue.new - heap_len undue.new) }
 {
-    tally_of(entries, reached, member, issue)
+    entries.reserve(1)?;
+    sides.reserve(2)?;
+    undue.reserve(1)
 }
 
-// How many trades are due, as after a netting of `reached`.
-fn due_count(entries: &[NetEntry], reached: Option<Day>) -> u64
-    requires { length entries.now < 2 ^ 63 }
-    ensures { result ≡ length (due_since reached (reverse entries.now)) }
+// Enters a trade that is not due, for which there is room.
+fn enter(undue: &mut BinaryHeap<Undue>, trade: Trade)
+    requires room { heap_len undue.old < heap_capacity undue.old }
+    requires heap { IsHeap earlier (heap_items undue.old) }
+    ensures entered { IsPermutation (trade ∷ heap_items undue.old) (heap_items undue.new) }
+    ensures heap { IsHeap earlier (heap_items undue.new) }
 {
-    let mut count = DueCount { count: 0, reached };
-    let mut entries = entries;
-    while let Some((entry, before)) = entries.split_last() {
-        count.add(entry);
-        entries = before;
-    }
-    count.count
+    let Ok(()) = undue.push(Undue { trade }) else {
+        unreachable!()
+    };
 }
 
-// The due trades from the newest entry down to some place.
-#[derive(Clone, Copy)]
-struct DueCount {
-    count: u64,
-    // The latest date of the nettings recorded after that place.
-    reached: Option<Day>,
+// Writes an entry, for which there is room.
+fn write(entries: &mut Vec<NetEntry>, entry: NetEntry)
+    requires { length entries.old.items < vec_capacity entries.old }
+    ensures { entries.new.items ≡ entries.old.items ++ entry ∷ [] }
+{
+    let Ok(()) = entries.push(entry) else {
+        unreachable!()
+    };
 }
 
-impl DueCount {
-    // Goes down to the next entry.
-    fn add(&mut self, entry: &NetEntry)
-        requires { self.old.count < 2 ^ 63 }
-        ensures count { self.new.count ≡ self.old.count + due_of_entry self.old.reached entry.now }
-        ensures reached { self.new.reached ≡ reached_after self.old.reached entry.now }
-    {
-        if let NetEntry::Accepted(trade) = entry
-            && has_reached(self.reached, trade.settle)
-        {
-            self.count += 1;
-        }
-        self.reached = reached_before(entry, self.reached);
-    }
+// The shares that a settlement brought.
+fn brought(amount: i128) -> u128
+    ensures { result ≡ credit_part amount }
+{
+    if amount > 0 { amount.unsigned_abs() } else { 0 }
+}
+
+// The shares that a settlement took.
+fn taken(amount: i128) -> u128
+    ensures { result ≡ debit_part amount }
+{
+    if amount < 0 { amount.unsigned_abs() } else { 0 }
 }
 
 // The member after some number of members.
@@ -102,43 +121,42 @@ fn member_after(number: u16) -> MemberNo
 
 // The shares of all positions above 0 in an issue.
 #[tactic(auto, unfolding(crate::specs::History::long_up_to))]
-fn long_shares(entries: &[NetEntry], issue: Cusip) -> u128
-    requires book { IsBook (reverse entries.now) }
-    requires size { length entries.now < 2 ^ 63 }
-    ensures { result ≡ longs_of (reverse entries.now) issue }
+fn long_shares(sides: &HashMap<Holding, Sides>, issue: Cusip) -> u128
+    requires { (m : ℕ) → credit_in sides.now m issue - debit_in sides.now m issue ≤ 3000000000000000000 }
+    ensures { (h : List NetEntry) → AreSidesOf sides.now h → result ≡ longs_of h issue }
 {
     let mut total = 0;
     for number in 0..9999u16 {
-        let tally = tally_at(entries, None, member_after(number), issue);
-        total += tally.credit.saturating_sub(tally.debit);
+        let sides = sides_of(sides, member_after(number), issue);
+        total += sides.credit.saturating_sub(sides.debit);
     }
     total
 }
 
 // The shares of all positions below 0 in an issue.
 #[tactic(auto, unfolding(crate::specs::History::short_up_to))]
-fn short_shares(entries: &[NetEntry], issue: Cusip) -> u128
-    requires book { IsBook (reverse entries.now) }
-    requires size { length entries.now < 2 ^ 63 }
-    ensures { result ≡ shorts_of (reverse entries.now) issue }
+fn short_shares(sides: &HashMap<Holding, Sides>, issue: Cusip) -> u128
+    requires { (m : ℕ) → debit_in sides.now m issue - credit_in sides.now m issue ≤ 3000000000000000000 }
+    ensures { (h : List NetEntry) → AreSidesOf sides.now h → result ≡ shorts_of h issue }
 {
     let mut total = 0;
     for number in 0..9999u16 {
-        let tally = tally_at(entries, None, member_after(number), issue);
-        total += tally.debit.saturating_sub(tally.credit);
+        let sides = sides_of(sides, member_after(number), issue);
+        total += sides.debit.saturating_sub(sides.credit);
     }
     total
 }
 
 impl NetBook {
     /// An empty book, with room for no entry.
-    #[tactic(auto, using(crate::proofs::BookLemmas::book_empty))]
     pub fn new(alloc: Global) -> NetBook
         ensures history { result.history ≡ [] }
         ensures room { result.room ≡ 0 }
     {
         NetBook {
             entries: Vec::new(alloc),
+            sides: HashMap::new(alloc),
+            undue: BinaryHeap::new(alloc),
         }
     }
 
@@ -149,7 +167,7 @@ impl NetBook {
         ensures err { OnErr result (self.old.room ≡ 0) }
         ensures left { self.old.room ≤ self.new.room }
     {
-        self.entries.reserve(1)
+        make_room(&mut self.entries, &mut self.sides, &mut self.undue)
     }
 
     /// Takes in an accepted trade. Its id is new, and fewer than a million trades are held.
@@ -161,7 +179,10 @@ impl NetBook {
         ensures room { 0 < self.old.room → IsOk result }
     {
         let _quantity = trade.quantity.shares();
-        self.entries.push(NetEntry::Accepted(trade))?;
+        make_room(&mut self.entries, &mut self.sides, &mut self.undue)?;
+        name_trade(&mut self.sides, &trade);
+        enter(&mut self.undue, trade);
+        write(&mut self.entries, NetEntry::Accepted(trade));
         Ok(())
     }
 
@@ -173,7 +194,7 @@ impl NetBook {
         ensures left { self.old.room ≤ self.new.room }
         ensures lawful { IsBook self.new.history }
     {
-        self.entries.reserve(1)
+        make_room(&mut self.entries, &mut self.sides, &mut self.undue)
     }
 
     /// Makes the trades due that settle by a date, and answers how many became so.
@@ -183,10 +204,10 @@ impl NetBook {
         ensures err { OnErr result (self.new.history ≡ self.old.history) }
         ensures room { 0 < self.old.room → IsOk result }
     {
-        let entries = self.entries.as_slice();
-        let becoming = due_count(entries, Some(day)) - due_count(entries, None);
-        self.entries.push(NetEntry::Netted(day))?;
-        Ok(becoming)
+        make_room(&mut self.entries, &mut self.sides, &mut self.undue)?;
+        let becoming = make_due(&mut self.undue, &mut self.sides, day);
+        write(&mut self.entries, NetEntry::Netted(day));
+        Ok(becoming as u64)
     }
 
     /// Takes the memory that `settle` needs: as the next change, it then succeeds.
@@ -202,7 +223,7 @@ impl NetBook {
         ensures left { self.old.room ≤ self.new.room }
         ensures lawful { IsBook self.new.history }
     {
-        self.entries.reserve(1)
+        make_room(&mut self.entries, &mut self.sides, &mut self.undue)
     }
 
     /// Adds the shares of a confirmed movement to a position, or takes them from it where negative.
@@ -214,11 +235,21 @@ impl NetBook {
         ensures err { OnErr result (self.new.history ≡ self.old.history) }
         ensures room { 0 < self.old.room → IsOk result }
     {
-        self.entries.push(NetEntry::Settled {
+        make_room(&mut self.entries, &mut self.sides, &mut self.undue)?;
+        name(&mut self.sides, member, issue);
+        add(
+            &mut self.sides,
+            member,
+            issue,
+            brought(amount),
+            taken(amount),
+        );
+        let entry = NetEntry::Settled {
             member,
             issue,
             amount,
-        })?;
+        };
+        write(&mut self.entries, entry);
         Ok(())
     }
 
@@ -227,47 +258,42 @@ impl NetBook {
         ensures value { result ≡ position_of self.now.history member issue }
         ensures lawful { IsBook self.now.history }
     {
-        tally_at(self.entries.as_slice(), None, member, issue).position()
+        sides_of(&self.sides, member, issue).position()
     }
 
     /// The positions other than 0, by issue, then member.
     pub fn rows(&self) -> Result<Vec<PositionRow>, AllocError>
         ensures { IfOk result (λ rows. rows.items ≡ rows_of self.now.history) }
     {
-        open_rows(*self.entries.allocator(), self.entries.as_slice(), None)
+        position_rows(*self.entries.allocator(), &self.sides, None)
     }
 
     /// The positions other than 0 in an issue, by member.
     pub fn rows_in(&self, issue: Cusip) -> Result<Vec<PositionRow>, AllocError>
         ensures { IfOk result (λ rows. rows.items ≡ filter (is_row_in issue) (rows_of self.now.history)) }
     {
-        let alloc = *self.entries.allocator();
-        let entries = entries_in(alloc, self.entries.as_slice(), issue)?;
-        open_rows(alloc, &entries, None)
+        position_rows(*self.entries.allocator(), &self.sides, Some(issue))
     }
 
     /// The positions other than 0 that `net` of a date would leave, by issue, then member.
     pub fn rows_at(&self, day: Day) -> Result<Vec<PositionRow>, AllocError>
         ensures { IfOk result (λ rows. rows.items ≡ rows_of (Netted day ∷ self.now.history)) }
     {
-        open_rows(
-            *self.entries.allocator(),
-            self.entries.as_slice(),
-            Some(day),
-        )
+        let after = sides_after(&self.sides, self.undue.as_slice(), day)?;
+        position_rows(*self.entries.allocator(), &after, None)
     }
 
     /// The shares of all positions above 0 in an issue.
     pub fn longs(&self, issue: Cusip) -> u128
         ensures { result ≡ longs_of self.now.history issue }
     {
-        long_shares(self.entries.as_slice(), issue)
+        long_shares(&self.sides, issue)
     }
 
     /// The shares of all positions below 0 in an issue, as a size.
     pub fn shorts(&self, issue: Cusip) -> u128
         ensures { result ≡ shorts_of self.now.history issue }
     {
-        short_shares(self.entries.as_slice(), issue)
+        short_shares(&self.sides, issue)
     }
 }

@@ -2,10 +2,12 @@
 #![tactic(auto)]
 
 mod book;
+mod due;
 mod entry;
 mod position;
 mod rows;
-mod tally;
+mod sides;
+mod undue;
 
 pub use book::NetBook;
 pub use entry::NetEntry;

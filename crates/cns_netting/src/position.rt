@@ -1,7 +1,7 @@
 use cns_ids::{Cusip, MemberNo};
 
 /// A member's place in an issue. Holdings stand by issue, then member.
-#[derive(Clone, Copy, PartialEq, Eq, PartialOrd, Ord, Debug)]
+#[derive(Clone, Copy, PartialEq, Eq, PartialOrd, Ord, Hash, Debug)]
 pub struct Holding {
     pub issue: Cusip,
     pub member: MemberNo,

@@ -1,178 +1,82 @@
-ghost use Rattle.std.specs.Prelude.{◌≡◌, ◌++◌, ◌^◌, ◌<◌, [], ◌∷◌, Some, None, reverse, length, filter, IfOk, OnOk, IsOk};
-ghost use Rattle.std.specs.List.{filter_map};
-ghost use Rattle.cns_netting.specs.Book.{IsBook};
-ghost use Rattle.cns_netting.specs.Rows.{counts_in, IsPartOf, holdings_of, with_holdings, netted_by, open_row as open_row_of, rows_of};
+ghost use Rattle.std.specs.Prelude.{◌≡◌, ℕ, ◌^◌, ◌<◌, false, IfOk, List, None, OnOk, Some};
+ghost use Rattle.std.specs.BTreeMap.{get as row_at, IsOrdered};
+ghost use Rattle.std.specs.HashMap.{get};
+ghost use Rattle.cns_netting.specs.Rows.{holding_cmp, rows_of};
+ghost use Rattle.cns_netting.specs.Sides.{AreSidesOf, credit_in, debit_in, holding_eq, row_if, rows_if};
+ghost use Rattle.cns_netting.specs.declared.entry.NetEntry.{NetEntry};
+ghost use Rattle.cns_netting.specs.declared.position.Holding.{Holding};
 
-use crate::book::tally_at;
-use crate::entry::NetEntry;
 use crate::position::{Holding, PositionRow};
-use cns_ids::{Cusip, Day};
+use crate::sides::Sides;
+use cns_ids::Cusip;
 use std::alloc::{AllocError, Global};
-use std::collections::BTreeSet;
+use std::collections::{BTreeMap, HashMap};
 
-// The holdings that some entry names, each once, in order.
-fn holdings(alloc: Global, entries: &[NetEntry]) -> Result<BTreeSet<Holding>, AllocError>
-    ensures { IfOk result (λ s. s.keys ≡ holdings_of (reverse entries.now)) }
+// The row of a holding, where its position is not 0; of one issue, where it is given.
+fn row_of(holding: &Holding, sides: &Sides, issue: Option<Cusip>) -> Option<PositionRow>
+    requires { (sides.now.credit < 2 ^ 127) × (sides.now.debit < 2 ^ 127) }
+    ensures { result ≡ row_if issue holding.now (Some sides.now) }
 {
-    let mut holdings = BTreeSet::new(alloc);
-    for entry in entries {
-        add_holdings(&mut holdings, entry)?;
+    if let Some(issue) = issue
+        && holding.issue != issue
+    {
+        return None;
     }
-    Ok(holdings)
-}
-
-// Adds the holdings that an entry names.
-fn add_holdings(holdings: &mut BTreeSet<Holding>, entry: &NetEntry) -> Result<(), AllocError>
-    ensures { OnOk result (holdings.new.keys ≡ with_holdings holdings.old.keys entry.now) }
-{
-    match entry {
-        NetEntry::Accepted(trade) => {
-            let issue = trade.issue;
-            holdings.insert(Holding {
-                issue,
-                member: trade.buyer,
-            })?;
-            holdings.insert(Holding {
-                issue,
-                member: trade.seller,
-            })?;
-        }
-        NetEntry::Netted(_) => {}
-        NetEntry::Settled { member, issue, .. } => {
-            holdings.insert(Holding {
-                issue: *issue,
-                member: *member,
-            })?;
-        }
-    }
-    Ok(())
-}
-
-// The same as a list.
-fn holdings_in_order(alloc: Global, entries: &[NetEntry]) -> Result<Vec<Holding>, AllocError>
-    ensures { IfOk result (λ v. v.items ≡ holdings_of (reverse entries.now)) }
-{
-    let holdings = holdings(alloc, entries)?;
-    holdings.iter().copied().collect(alloc)
-}
-
-// The row of a holding, where its position is not 0, as after a netting of `reached`.
-#[tactic(auto, unfolding(crate::specs::Rows::open_row))]
-fn open_row(entries: &[NetEntry], reached: Option<Day>, holding: &Holding) -> Option<PositionRow>
-    requires book { IsBook (reverse entries.now) }
-    requires size { length entries.now < 2 ^ 63 }
-    ensures { result ≡ open_row_of (netted_by reached (reverse entries.now)) holding.now }
-{
-    let tally = tally_at(entries, reached, holding.member, holding.issue);
-    if tally.credit == tally.debit {
+    if sides.credit == sides.debit {
         return None;
     }
     Some(PositionRow {
         issue: holding.issue,
         member: holding.member,
-        position: tally.position(),
+        position: sides.position(),
     })
 }
 
-// Whether an entry counts in an issue.
-fn counts(entry: &NetEntry, in_issue: Cusip) -> bool
-    ensures { result ≡ counts_in in_issue entry.now }
-{
-    match entry {
-        NetEntry::Accepted(trade) => trade.issue == in_issue,
-        NetEntry::Netted(_) => true,
-        NetEntry::Settled { issue, .. } => *issue == in_issue,
-    }
-}
-
-/// The entries that count in an issue, in their order: its trades and settlements, and all nettings.
-pub(crate) fn entries_in(
-    alloc: Global,
-    entries: &[NetEntry],
-    issue: Cusip,
-) -> Result<Vec<NetEntry>, AllocError>
-    ensures { IfOk result (λ part. part.items ≡ filter (counts_in issue) entries.now) }
-{
-    entries
-        .iter()
-        .filter(|entry| counts(entry, issue))
-        .copied()
-        .collect(alloc)
-}
-
-// The entries that count in one issue, the one that was asked for last, as after a netting of `reached`.
-#[derive(Drop)]
-struct IssueEntries {
-    reached: Option<Day>,
+// Puts the row of a holding that has none yet, where it has one.
+fn put_row(
+    rows: &mut BTreeMap<Holding, PositionRow>,
+    holding: &Holding,
+    sides: &Sides,
     issue: Option<Cusip>,
-    entries: Vec<NetEntry>,
-}
-
-impl IssueEntries {
-    // Of no issue.
-    fn new(alloc: Global, reached: Option<Day>) -> IssueEntries
-        ensures reached { result.reached ≡ reached }
-        ensures issue { result.issue ≡ None }
-    {
-        IssueEntries {
-            reached,
-            issue: None,
-            entries: Vec::new(alloc),
-        }
-    }
-
-    // Goes to an issue of these entries; where it is there, it succeeds.
-    fn go_to(&mut self, entries: &[NetEntry], issue: Cusip) -> Result<(), AllocError>
-        requires { IsPartOf self.old.issue entries.now self.old.entries.items }
-        ensures there { OnOk result (self.new.entries.items ≡ filter (counts_in issue) entries.now) }
-        ensures whole { OnOk result (IsPartOf self.new.issue entries.now self.new.entries.items) }
-        ensures reached { self.new.reached ≡ self.old.reached }
-        ensures stays { self.old.issue ≡ Some issue → IsOk result }
-    {
-        if self.issue != Some(issue) {
-            self.entries = entries_in(*self.entries.allocator(), entries, issue)?;
-            self.issue = Some(issue);
-        }
-        Ok(())
-    }
-
-    // Adds the row of a holding of these entries, where there is one.
-    fn add_row(
-        &mut self,
-        rows: &mut Vec<PositionRow>,
-        entries: &[NetEntry],
-        holding: &Holding,
-    ) -> Result<(), AllocError>
-        requires part { IsPartOf self.old.issue entries.now self.old.entries.items }
-        requires book { IsBook (reverse entries.now) }
-        requires size { length entries.now < 2 ^ 63 }
-        ensures part { OnOk result (IsPartOf self.new.issue entries.now self.new.entries.items) }
-        ensures rows { OnOk result (rows.new.items ≡ rows.old.items ++ filter_map (open_row_of (netted_by self.old.reached (reverse entries.now))) (holding.now ∷ [])) }
-        ensures reached { self.new.reached ≡ self.old.reached }
-    {
-        self.go_to(entries, holding.issue)?;
-        if let Some(row) = open_row(&self.entries, self.reached, holding) {
-            rows.push(row)?;
-        }
-        Ok(())
-    }
-}
-
-/// The positions other than 0, by issue, then member, as after a netting of `reached`.
-pub(crate) fn open_rows(
-    alloc: Global,
-    entries: &[NetEntry],
-    reached: Option<Day>,
-) -> Result<Vec<PositionRow>, AllocError>
-    requires book { IsBook (reverse entries.now) }
-    requires size { length entries.now < 2 ^ 63 }
-    ensures { IfOk result (λ v. v.items ≡ rows_of (netted_by reached (reverse entries.now))) }
+) -> Result<(), AllocError>
+    requires ordered { IsOrdered holding_cmp rows.old }
+    requires small { (sides.now.credit < 2 ^ 127) × (sides.now.debit < 2 ^ 127) }
+    ensures ordered { OnOk result (IsOrdered holding_cmp rows.new) }
+    ensures here { OnOk result (row_at holding_cmp rows.old holding.now ≡ None → row_at holding_cmp rows.new holding.now ≡ row_if issue holding.now (Some sides.now)) }
+    ensures there { OnOk result ((q : Holding) → holding_eq q holding.now ≡ false → row_at holding_cmp rows.new q ≡ row_at holding_cmp rows.old q) }
 {
-    let holdings = holdings_in_order(alloc, entries)?;
-    let mut rows = Vec::new(alloc);
-    let mut part = IssueEntries::new(alloc, reached);
-    for holding in &holdings {
-        part.add_row(&mut rows, entries, holding)?;
+    if let Some(row) = row_of(holding, sides, issue) {
+        rows.insert(*holding, row)?;
+    }
+    Ok(())
+}
+
+// The rows by their holdings.
+fn row_map(
+    alloc: Global,
+    all: &HashMap<Holding, Sides>,
+    issue: &Option<Cusip>,
+) -> Result<BTreeMap<Holding, PositionRow>, AllocError>
+    requires { (m i : ℕ) → (credit_in all.now m i < 2 ^ 127) × (debit_in all.now m i < 2 ^ 127) }
+    ensures ordered { IfOk result (λ rows. IsOrdered holding_cmp rows) }
+    ensures rows { IfOk result (λ rows. (q : Holding) → row_at holding_cmp rows q ≡ row_if issue.now q (get holding_eq all.now q)) }
+{
+    let mut rows = BTreeMap::new(alloc);
+    for (holding, sides) in all {
+        put_row(&mut rows, holding, sides, *issue)?;
     }
     Ok(rows)
+}
+
+/// The positions other than 0, by issue, then member; of one issue, where it is given.
+pub(crate) fn position_rows(
+    alloc: Global,
+    sides: &HashMap<Holding, Sides>,
+    issue: Option<Cusip>,
+) -> Result<Vec<PositionRow>, AllocError>
+    requires { (m i : ℕ) → (credit_in sides.now m i < 2 ^ 127) × (debit_in sides.now m i < 2 ^ 127) }
+    ensures { IfOk result (λ rows. (h : List NetEntry) → AreSidesOf sides.now h → rows.items ≡ rows_if issue (rows_of h)) }
+{
+    let rows = row_map(alloc, sides, &issue)?;
+    rows.into_values().collect(alloc)
 }

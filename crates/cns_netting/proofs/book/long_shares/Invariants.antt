@@ -1,6 +1,11 @@
-use Rattle.std.proofs.Common.{◌≡◌, ◌*◌, ◌≤◌, reverse}
+use Rattle.std.proofs.Common.{◌≡◌, ◌*◌, ◌≤◌, List}
 use Rattle.cns_netting.specs.History.{long_up_to}
+use Rattle.cns_netting.specs.Sides.{AreSidesOf}
+use Rattle.cns_netting.specs.declared.entry.NetEntry.{NetEntry}
 use Rattle.cns_netting.proofs.book.long_shares.Given as goal
 
 abbrev pub invariant-loop-number : goal.invariant-loop-number
-invariant-loop-number l = (l.total ≡ long_up_to l.number (reverse l.entries) l.issue) × (l.total ≤ 3000000000000000000 * l.number)
+invariant-loop-number l = record {
+  sum : (h : List NetEntry) → AreSidesOf l.sides h → l.total ≡ long_up_to l.number h l.issue;
+  small : l.total ≤ 3000000000000000000 * l.number;
+}

@@ -1,10 +1,19 @@
-use Rattle.std.proofs.Common.{◌≤◌, reverse, arith}
+use Rattle.std.proofs.Common.{◌≤◌, ◌∷◌, reverse, arith, subst}
+use Rattle.std.specs.BinaryHeap.{heap_items}
+use Rattle.std.specs.List.Sorted.{IsPermutation}
 use Rattle.cns_netting.proofs.BookLemmas.{book_accepted}
-use Rattle.cns_netting.proofs.TallyLemmas.{reverse-last}
+use Rattle.cns_netting.proofs.KeptLemmas.{kept_accepted, kept_same}
+use Rattle.cns_netting.proofs.TradeLemmas.{reverse-last}
 use Rattle.cns_netting.proofs.book.NetBook.accept.Goals as goal
 
 pub invariant_of-self-2 : goal.invariant_of-self-2
 invariant_of-self-2 c =
+    let h = reverse c.self.inside.entries.items in
     let few = rw (← c.self.view_is) at c.requires.few in
     let quantity : c.args.trade.quantity ≤ 999999999999 = omega (arith, c.shares-quantity.ensures.range.to, c.shares-quantity.ensures.value) in
-    rw (c.in_ok-push.ensures.items, reverse-last) (book_accepted (reverse c.self.inside.entries.items) c.args.trade c.self.invariant few quantity)
+    let kept = kept_same h c.self.inside.sides c.make_room.new.sides (heap_items c.self.inside.undue) c.in_ok-make_room.ensures.sides c.self.invariant in
+    let entered = subst (λ ts. IsPermutation (c.args.trade ∷ ts) (heap_items c.enter.new.undue)) c.in_ok-make_room.ensures.undue c.enter.ensures.entered in
+    rw (c.write.ensures, c.in_ok-make_room.ensures.entries, reverse-last)
+    (kept_accepted h c.args.trade c.make_room.new.sides c.name_trade.new.sides (heap_items c.self.inside.undue) (heap_items c.enter.new.undue) kept
+    (book_accepted h c.args.trade c.self.invariant.book few quantity) c.name_trade.ensures.credit c.name_trade.ensures.debit (record { still = c.name_trade.ensures.still })
+    c.name_trade.ensures.named entered c.enter.ensures.heap)

@@ -1,0 +1,169 @@
+-- What a book keeps beside its history, as the history grows.
+use Rattle.std.proofs.Common.{◌≡◌, ◌≤◌, ◌<◌, ◌+◌, ◌-◌, ◌^◌, ℕ, reverse, List, [], ◌∷◌, length, None, refl, sym, ap, ◌∙◌, arith, subst}
+use Rattle.std.specs.Prelude.{◌&&◌, ◌==◌, All, IsSome, ℤ, sum_by, if◌then◌else◌}
+use Rattle.std.specs.BinaryHeap.{IsHeap}
+use Rattle.std.specs.HashMap.{HashMap, get}
+use Rattle.std.specs.List.Sorted.{IsPermutation}
+use Rattle.std.proofs.lemmas.List.{length-reverse}
+use Rattle.std.proofs.lemmas.List.Elements.{All-cons, All-nil, All-weaker}
+use Rattle.std.proofs.lemmas.List.Sorted.{All-permutation, sum_by_pushed}
+use Rattle.std.proofs.lemmas.List.Sums.{sum_by-cons}
+use Rattle.cns_trades.specs.declared.trade.Trade.{Trade}
+use Rattle.cns_netting.specs.Book.{IsBook, IsKept}
+use Rattle.cns_netting.specs.History.{becoming_due, bought, credit_part, debit_part, due, settled_in, settled_out, sold}
+use Rattle.cns_netting.specs.Rows.{holding_at}
+use Rattle.cns_netting.specs.Sides.{AreSidesOf, bought_by, credit_at, credit_in, debit_at, debit_in, holding_eq, IsNamed, sold_by}
+use Rattle.cns_netting.specs.Undue.{earlier, if_left, if_settled, undue}
+use Rattle.cns_netting.specs.declared.entry.NetEntry.{NetEntry}
+use Rattle.cns_netting.specs.declared.entry.NetEntry.TheVariants.{Accepted, Netted, Settled}
+use Rattle.cns_netting.specs.declared.position.Holding.{Holding}
+use Rattle.cns_netting.specs.declared.sides.Sides.{Sides}
+use Rattle.cns_netting.proofs.BookLemmas.{AreSmall, book_empty, long-most, short-most, small}
+use Rattle.cns_netting.proofs.TradeLemmas.{due-netting, length-sum, settled-left, undue-netting}
+
+module _ {S : Type 0} where
+  pub kept_empty : (sides : HashMap Holding Sides S) (waiting : List Trade) → sides.entries ≡ [] → waiting ≡ [] → IsHeap earlier waiting → IsKept [] sides waiting
+  unfolding bought sold settled_in settled_out
+  kept_empty sides waiting none empty heap = record {
+    book = book_empty;
+    sides = record { credit = λ m i. Prim.rw none refl; debit = λ m i. Prim.rw none refl };
+    undue = λ f. Prim.rw empty refl;
+    named = Prim.rw empty (All-nil (IsNamed sides));
+    heap = heap;
+  }
+
+  -- look-ups alone count
+  pub kept_same : (h : List NetEntry) (old new : HashMap Holding Sides S) (waiting : List Trade) → ((k : Holding) → get holding_eq new k ≡ get holding_eq old k) → IsKept h old waiting → IsKept h new waiting
+  kept_same h old new waiting same kept = record {
+    book = kept.book;
+    sides = record { credit = λ m i. ap credit_at (same (holding_at i m)) ∙ kept.sides.credit m i; debit = λ m i. ap debit_at (same (holding_at i m)) ∙ kept.sides.debit m i };
+    undue = kept.undue;
+    named = All-weaker (IsNamed old) (IsNamed new) (λ t both. (subst IsSome (sym (same _)) both.0, subst IsSome (sym (same _)) both.1)) waiting kept.named;
+    heap = kept.heap;
+  }
+
+  -- what the next sides have, where nothing is lost
+  pub record KeepNames (old new : HashMap Holding Sides S) : Type 0 where
+    pub still : (k : Holding) → IsSome (get holding_eq old k) → IsSome (get holding_eq new k)
+
+  names_stay : (old new : HashMap Holding Sides S) (waiting : List Trade) → KeepNames old new → All (IsNamed old) waiting → All (IsNamed new) waiting
+  names_stay old new waiting keep named = All-weaker (IsNamed old) (IsNamed new) (λ t both. (keep.still _ both.0, keep.still _ both.1)) waiting named
+
+  pub kept_accepted : (h : List NetEntry) (t : Trade) (old new : HashMap Holding Sides S) (waiting queue : List Trade) → IsKept h old waiting → IsBook (Accepted t ∷ h)
+      → ((m i : ℕ) → credit_in new m i ≡ credit_in old m i) → ((m i : ℕ) → debit_in new m i ≡ debit_in old m i) → KeepNames old new → IsNamed new t
+      → IsPermutation (t ∷ waiting) queue → IsHeap earlier queue → IsKept (Accepted t ∷ h) new queue
+  unfolding settled_in settled_out
+  kept_accepted h t old new waiting queue kept book credit debit keep named perm heap = record {
+    book = book;
+    sides = record { credit = λ m i. credit m i ∙ kept.sides.credit m i; debit = λ m i. debit m i ∙ kept.sides.debit m i };
+    undue = λ f. omega (arith, sum_by_pushed f t waiting queue perm, kept.undue f, sum_by-cons f t (undue h));
+    named = All-permutation (IsNamed new) (t ∷ waiting) queue perm (All-cons (IsNamed new) t waiting named (names_stay old new waiting keep kept.named));
+    heap = heap;
+  }
+
+  pub kept_settled : (h : List NetEntry) (member issue : ℕ) (z : ℤ) (old new : HashMap Holding Sides S) (waiting : List Trade) → IsKept h old waiting → IsBook (Settled member issue z ∷ h)
+      → ((m i : ℕ) → credit_in new m i ≡ credit_in old m i + (if (member == m) && (issue == i) then credit_part z else 0))
+      → ((m i : ℕ) → debit_in new m i ≡ debit_in old m i + (if (member == m) && (issue == i) then debit_part z else 0))
+      → KeepNames old new → IsKept (Settled member issue z ∷ h) new waiting
+  unfolding settled_in settled_out
+  kept_settled h member issue z old new waiting kept book credit debit keep = record {
+    book = book;
+    sides = record {
+      credit = λ m i. omega (arith, credit m i, kept.sides.credit m i);
+      debit = λ m i. omega (arith, debit m i, kept.sides.debit m i);
+    };
+    undue = kept.undue;
+    named = names_stay old new waiting keep kept.named;
+    heap = kept.heap;
+  }
+
+  pub kept_netted : (h : List NetEntry) (day : ℕ) (old new : HashMap Holding Sides S) (waiting queue : List Trade) → IsKept h old waiting → IsBook (Netted day ∷ h)
+      → ((f : Trade → ℕ) → sum_by f queue ≡ sum_by (if_left day f) waiting)
+      → ((m i : ℕ) → credit_in new m i + sum_by (bought_by m i) queue ≡ credit_in old m i + sum_by (bought_by m i) waiting)
+      → ((m i : ℕ) → debit_in new m i + sum_by (sold_by m i) queue ≡ debit_in old m i + sum_by (sold_by m i) waiting)
+      → All (IsNamed new) queue → IsHeap earlier queue → IsKept (Netted day ∷ h) new queue
+  unfolding bought sold settled_in settled_out
+  kept_netted h day old new waiting queue kept book left credit debit named heap = record {
+    book = book;
+    sides = record {
+      credit = λ m i.
+          omega (
+            arith,
+            credit m i,
+            kept.sides.credit m i,
+            left (bought_by m i),
+            settled-left day (bought_by m i) waiting,
+            kept.undue (if_settled day (bought_by m i)),
+            due-netting (bought_by m i) None day h,
+          );
+      debit = λ m i.
+          omega (
+            arith,
+            debit m i,
+            kept.sides.debit m i,
+            left (sold_by m i),
+            settled-left day (sold_by m i) waiting,
+            kept.undue (if_settled day (sold_by m i)),
+            due-netting (sold_by m i) None day h,
+          );
+    };
+    undue = λ f. left f ∙ kept.undue (if_left day f) ∙ sym (undue-netting f None day h);
+    named = named;
+    heap = heap;
+  }
+
+  -- how many became due
+  pub netted-count : (h : List NetEntry) (day count : ℕ) (old : HashMap Holding Sides S) (waiting queue : List Trade) → IsKept h old waiting
+      → ((f : Trade → ℕ) → sum_by f queue ≡ sum_by (if_left day f) waiting)
+      → count + sum_by (λ (t : Trade). 1) queue ≡ sum_by (λ (t : Trade). 1) waiting → count ≡ becoming_due h day
+  netted-count h day count old waiting queue kept left all =
+      let one : Trade → ℕ = λ t. 1 in
+      omega (
+        arith,
+        all,
+        left one,
+        settled-left day one waiting,
+        kept.undue (if_settled day one),
+        due-netting one None day h,
+        length-sum (due h),
+        length-sum (due (Netted day ∷ h)),
+      )
+
+  -- the sides as after a netting of a day
+  pub sides_netted : (h : List NetEntry) (day : ℕ) (old new : HashMap Holding Sides S) (waiting : List Trade) → IsKept h old waiting
+      → ((m i : ℕ) → credit_in new m i ≡ credit_in old m i + sum_by (if_settled day (bought_by m i)) waiting)
+      → ((m i : ℕ) → debit_in new m i ≡ debit_in old m i + sum_by (if_settled day (sold_by m i)) waiting)
+      → AreSidesOf new (Netted day ∷ h)
+  unfolding bought sold settled_in settled_out
+  sides_netted h day old new waiting kept credit debit = record {
+    credit = λ m i. omega (arith, credit m i, kept.sides.credit m i, kept.undue (if_settled day (bought_by m i)), due-netting (bought_by m i) None day h);
+    debit = λ m i. omega (arith, debit m i, kept.sides.debit m i, kept.undue (if_settled day (sold_by m i)), due-netting (sold_by m i) None day h);
+  }
+
+  -- the sums fit, with those of the trades that are not due
+  pub record AreFit (sides : HashMap Holding Sides S) (waiting : List Trade) : Type 0 where
+    pub credit : (m i : ℕ) → credit_in sides m i + sum_by (bought_by m i) waiting < 2 ^ 127
+    pub debit : (m i : ℕ) → debit_in sides m i + sum_by (sold_by m i) waiting < 2 ^ 127
+
+  pub kept_fit : (entries : List NetEntry) (sides : HashMap Holding Sides S) (waiting : List Trade) → IsKept (reverse entries) sides waiting → length entries < 2 ^ 63 → AreFit sides waiting
+  kept_fit entries sides waiting kept size =
+      let fits : (m i : ℕ) → AreSmall (reverse entries) m i = λ m i. small m i (reverse entries) kept.book (Prim.rw length-reverse size) in
+      record {
+        credit = λ m i. let fit = (fits m i).credit in omega (arith, fit, kept.sides.credit m i, kept.undue (bought_by m i));
+        debit = λ m i. let fit = (fits m i).debit in omega (arith, fit, kept.sides.debit m i, kept.undue (sold_by m i));
+      }
+
+  -- so do those of the sides as after a netting
+  pub after_fit : (day : ℕ) (old new : HashMap Holding Sides S) (waiting : List Trade) → AreFit old waiting
+      → ((m i : ℕ) → credit_in new m i ≡ credit_in old m i + sum_by (if_settled day (bought_by m i)) waiting)
+      → ((m i : ℕ) → debit_in new m i ≡ debit_in old m i + sum_by (if_settled day (sold_by m i)) waiting)
+      → (m i : ℕ) → (credit_in new m i < 2 ^ 127) × (debit_in new m i < 2 ^ 127)
+  after_fit day old new waiting fit credit debit m i =
+      (omega (arith, credit m i, fit.credit m i, settled-left day (bought_by m i) waiting), omega (arith, debit m i, fit.debit m i, settled-left day (sold_by m i) waiting))
+
+  -- a position lies within 3 * 10^18 of 0
+  pub kept_long : (h : List NetEntry) (sides : HashMap Holding Sides S) (waiting : List Trade) (m i : ℕ) → IsKept h sides waiting → credit_in sides m i - debit_in sides m i ≤ 3000000000000000000
+  kept_long h sides waiting m i kept = omega (arith, long-most h m i kept.book, kept.sides.credit m i, kept.sides.debit m i)
+
+  pub kept_short : (h : List NetEntry) (sides : HashMap Holding Sides S) (waiting : List Trade) (m i : ℕ) → IsKept h sides waiting → debit_in sides m i - credit_in sides m i ≤ 3000000000000000000
+  kept_short h sides waiting m i kept = omega (arith, short-most h m i kept.book, kept.sides.credit m i, kept.sides.debit m i)

@@ -1,0 +1,45 @@
+-- What a queue of undue trades still has, as its trades become due one by one.
+use Rattle.std.proofs.Common.{◌≡◌, ◌≤◌, ◌<◌, ◌+◌, ℕ, List, [], ◌∷◌, refl, arith}
+use Rattle.std.specs.Prelude.{All, sum_by}
+use Rattle.std.specs.List.Sorted.{IsPermutation}
+use Rattle.std.proofs.lemmas.Bool.Decides.{nat_tests}
+use Rattle.std.proofs.lemmas.List.Elements.{All-head, All-tail}
+use Rattle.std.proofs.lemmas.List.Sorted.{All-permutation, sum_by_popped}
+use Rattle.std.proofs.lemmas.List.Sums.{sum_by-cons}
+use Rattle.cns_trades.specs.declared.trade.Trade.{Trade}
+use Rattle.cns_netting.specs.Undue.{if_left, if_settled}
+
+-- where all trades settle later, each is left
+pub none-settled : (day : ℕ) (f : Trade → ℕ) (ts : List Trade) → All (λ (t : Trade). day < t.settle) ts → sum_by (if_left day f) ts ≡ sum_by f ts
+none-settled day f [] later = refl
+none-settled day f (t ∷ ts) later =
+    omega (arith, sum_by-cons (if_left day f) t ts, sum_by-cons f t ts, one (All-head (λ (u : Trade). day < u.settle) t ts later), none-settled day f ts (All-tail (λ (u : Trade). day < u.settle) t ts later))
+  where
+    one : day < t.settle → if_left day f t ≡ f t
+    one less = grind (arith, nat_tests)
+
+-- a trade that becomes due is none of those that are left
+pub left-popped : (day : ℕ) (f : Trade → ℕ) (t : Trade) (xs ys : List Trade) → IsPermutation xs (t ∷ ys) → t.settle ≤ day → sum_by (if_left day f) ys ≡ sum_by (if_left day f) xs
+left-popped day f t xs ys perm due = omega (arith, sum_by_popped (if_left day f) t xs ys perm, one)
+  where
+    one : ◌≡◌ {A = ℕ} (if_left day f t) 0
+    one = grind (arith, nat_tests)
+
+pub popped-head : (P : Trade → Type 0) (t : Trade) (xs ys : List Trade) → IsPermutation xs (t ∷ ys) → All P xs → P t
+popped-head P t xs ys perm all = All-head P t ys (All-permutation P xs (t ∷ ys) perm all)
+
+pub popped-tail : (P : Trade → Type 0) (t : Trade) (xs ys : List Trade) → IsPermutation xs (t ∷ ys) → All P xs → All P ys
+popped-tail P t xs ys perm all = All-tail P t ys (All-permutation P xs (t ∷ ys) perm all)
+
+-- the first trade counts where it settles by the day, and else not
+pub settled-first : (day : ℕ) (f : Trade → ℕ) (t : Trade) (ts : List Trade) → t.settle ≤ day → sum_by (if_settled day f) (t ∷ ts) ≡ f t + sum_by (if_settled day f) ts
+settled-first day f t ts due = omega (arith, sum_by-cons (if_settled day f) t ts, one)
+  where
+    one : if_settled day f t ≡ f t
+    one = grind (arith, nat_tests)
+
+pub later-first : (day : ℕ) (f : Trade → ℕ) (t : Trade) (ts : List Trade) → day < t.settle → sum_by (if_settled day f) (t ∷ ts) ≡ sum_by (if_settled day f) ts
+later-first day f t ts later = omega (arith, sum_by-cons (if_settled day f) t ts, one)
+  where
+    one : ◌≡◌ {A = ℕ} (if_settled day f t) 0
+    one = grind (arith, nat_tests)

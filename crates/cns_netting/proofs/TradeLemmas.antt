@@ -1,0 +1,129 @@
+-- Due and undue trades: a trade's part in the sums over them, the dates that nettings reach, and what a netting makes due.
+use Rattle.std.proofs.Common.{◌≡◌, ◌≤◌, ◌+◌, ℕ, List, [], ◌∷◌, ◌++◌, reverse, length, Option, Some, None, Bool, true, false, refl, sym, ◌∙◌, arith, ◌*◌, length-append, ap}
+use Rattle.std.specs.Prelude.{◌&&◌, ◌||◌, ◌==◌, nat_le, if◌then◌else◌, sum_by}
+use Rattle.std.proofs.lemmas.Bool.Decides.{nat_tests}
+use Rattle.std.proofs.lemmas.List.{reverse-append}
+use Rattle.std.proofs.lemmas.List.Sums.{sum_by-cons}
+use Rattle.cns_trades.specs.declared.trade.Trade.{Trade}
+use Rattle.cns_netting.specs.History.{bought, due_since, is_reached, latest, sold, accepted}
+use Rattle.cns_netting.specs.declared.entry.NetEntry.{NetEntry}
+use Rattle.cns_netting.specs.declared.entry.NetEntry.TheVariants.{Accepted, Netted, Settled}
+use Rattle.cns_netting.specs.Undue.{if_left, if_settled, undue_since}
+use Rattle.cns_netting.specs.Book.{QuantitiesFit}
+
+-- a trade's share, where it is due
+pub bought-due : (b : Bool) (t : Trade) (ts : List Trade) (m i : ℕ)
+    → bought (if b then t ∷ ts else ts) m i ≡ (if b then (if (t.buyer == m) && (t.issue == i) then t.quantity else 0) else 0) + bought ts m i
+unfolding bought
+bought-due true t ts m i = sum_by-cons _ t ts
+bought-due false t ts m i = omega arith
+
+pub sold-due : (b : Bool) (t : Trade) (ts : List Trade) (m i : ℕ)
+    → sold (if b then t ∷ ts else ts) m i ≡ (if b then (if (t.seller == m) && (t.issue == i) then t.quantity else 0) else 0) + sold ts m i
+unfolding sold
+sold-due true t ts m i = sum_by-cons _ t ts
+sold-due false t ts m i = omega arith
+
+-- the newest entry and those before it
+pub reverse-last : (before : List NetEntry) (e : NetEntry) → reverse (before ++ e ∷ []) ≡ e ∷ reverse before
+reverse-last before e = reverse-append before (e ∷ [])
+
+-- a netting more reaches the dates up to its own, and those that were reached
+pub is_reached-latest : (reached : Option ℕ) (day settle : ℕ) → is_reached (latest reached day) settle ≡ (nat_le settle day || is_reached reached settle)
+is_reached-latest None day settle = sym (or-false (nat_le settle day))
+  where
+    or-false : (b : Bool) → (b || false) ≡ b
+    or-false true = refl
+    or-false false = refl
+is_reached-latest (Some other) day settle = grind (arith, nat_tests)
+
+-- what one date reaches, the other one reaches too
+unfoldable pub Reaches : Option ℕ → Option ℕ → Type 0
+Reaches a b = (settle : ℕ) → is_reached a settle ≡ true → is_reached b settle ≡ true
+
+pub reaches_latest : (a b : Option ℕ) (day : ℕ) → Reaches a b → Reaches (latest a day) (latest b day)
+unfolding Reaches
+reaches_latest a b day more settle h =
+    rw (is_reached-latest b day settle) (by (nat_le settle day) (is_reached a settle) (is_reached b settle) (more settle) (sym (is_reached-latest a day settle) ∙ h))
+  where
+    by : (x y z : Bool) → (y ≡ true → z ≡ true) → (x || y) ≡ true → (x || z) ≡ true
+    by true y z f e = refl
+    by false y z f e = f e
+
+-- of two dates the later one is the same, whichever comes first
+latest-swap : (reached : Option ℕ) (a b : ℕ) → latest (latest reached a) b ≡ latest (latest reached b) a
+latest-swap None a b = grind (arith, nat_tests)
+latest-swap (Some c) a b = grind (arith, nat_tests)
+
+either-sum : (f : Trade → ℕ) (b : Bool) (t : Trade) (ts : List Trade) → sum_by f (if b then t ∷ ts else ts) ≡ (if b then f t else 0) + sum_by f ts
+either-sum f true t ts = sum_by-cons f t ts
+either-sum f false t ts = omega arith
+
+other-sum : (f : Trade → ℕ) (b : Bool) (t : Trade) (ts : List Trade) → sum_by f (if b then ts else t ∷ ts) ≡ (if b then 0 else f t) + sum_by f ts
+other-sum f true t ts = omega arith
+other-sum f false t ts = sum_by-cons f t ts
+
+-- what a netting of a date makes due are the undue trades that settle by it
+pub due-netting : (f : Trade → ℕ) (reached : Option ℕ) (day : ℕ) (h : List NetEntry)
+    → sum_by f (due_since (latest reached day) h) ≡ sum_by f (due_since reached h) + sum_by (if_settled day f) (undue_since reached h)
+due-netting f reached day [] = refl
+due-netting f reached day (Accepted t ∷ h) =
+    let now = either-sum f (is_reached (latest reached day) t.settle) t (due_since (latest reached day) h) in
+    let was = either-sum f (is_reached reached t.settle) t (due_since reached h) in
+    let left = other-sum (if_settled day f) (is_reached reached t.settle) t (undue_since reached h) in
+    omega (arith, now, was, left, due-netting f reached day h, one (is_reached (latest reached day) t.settle) (nat_le t.settle day) (is_reached reached t.settle) (f t) (is_reached-latest reached day t.settle))
+  where
+    one : (a b c : Bool) (q : ℕ) → a ≡ (b || c) → (if a then q else 0) ≡ (if c then q else 0) + (if c then 0 else (if b then q else 0))
+    one a true true q e = Prim.rw e (omega arith)
+    one a true false q e = Prim.rw e (omega arith)
+    one a false true q e = Prim.rw e (omega arith)
+    one a false false q e = Prim.rw e refl
+due-netting f reached day (Netted d ∷ h) = ap (λ r. sum_by f (due_since r h)) (latest-swap reached day d) ∙ due-netting f (latest reached d) day h
+due-netting f reached day (Settled m i z ∷ h) = due-netting f reached day h
+
+-- and the undue trades that settle later are left
+pub undue-netting : (f : Trade → ℕ) (reached : Option ℕ) (day : ℕ) (h : List NetEntry)
+    → sum_by f (undue_since (latest reached day) h) ≡ sum_by (if_left day f) (undue_since reached h)
+undue-netting f reached day [] = refl
+undue-netting f reached day (Accepted t ∷ h) =
+    let now = other-sum f (is_reached (latest reached day) t.settle) t (undue_since (latest reached day) h) in
+    let was = other-sum (if_left day f) (is_reached reached t.settle) t (undue_since reached h) in
+    omega (arith, now, was, undue-netting f reached day h, one (is_reached (latest reached day) t.settle) (nat_le t.settle day) (is_reached reached t.settle) (f t) (is_reached-latest reached day t.settle))
+  where
+    one : (a b c : Bool) (q : ℕ) → a ≡ (b || c) → (if a then 0 else q) ≡ (if c then 0 else (if b then 0 else q))
+    one a true true q e = Prim.rw e refl
+    one a true false q e = Prim.rw e refl
+    one a false true q e = Prim.rw e refl
+    one a false false q e = Prim.rw e refl
+undue-netting f reached day (Netted d ∷ h) = ap (λ r. sum_by f (undue_since r h)) (latest-swap reached day d) ∙ undue-netting f (latest reached d) day h
+undue-netting f reached day (Settled m i z ∷ h) = undue-netting f reached day h
+
+-- a number of each trade that settles by a day, and of each other one, make the number of all
+pub settled-left : (day : ℕ) (f : Trade → ℕ) (ts : List Trade) → sum_by (if_settled day f) ts + sum_by (if_left day f) ts ≡ sum_by f ts
+settled-left day f [] = refl
+settled-left day f (t ∷ ts) =
+    omega (arith, sum_by-cons (if_settled day f) t ts, sum_by-cons (if_left day f) t ts, sum_by-cons f t ts, settled-left day f ts, one (nat_le t.settle day))
+  where
+    one : (b : Bool) → (if b then f t else 0) + (if b then 0 else f t) ≡ f t
+    one true = omega arith
+    one false = omega arith
+
+-- how many there are, as a sum
+pub length-sum : (ts : List Trade) → sum_by (λ (t : Trade). 1) ts ≡ length ts
+length-sum [] = refl
+length-sum (t ∷ ts) = omega (arith, sum_by-cons (λ (s : Trade). 1) t ts, length-sum ts)
+
+-- the shares that undue trades would bring a member are at most those of all accepted trades
+pub undue-most : (f : Trade → ℕ) → ((t : Trade) → f t ≤ t.quantity) → (reached : Option ℕ) (h : List NetEntry) → QuantitiesFit h
+    → sum_by f (undue_since reached h) ≤ length (accepted h) * 999999999999
+unfolding QuantitiesFit
+undue-most f each reached [] fit = omega arith
+undue-most f each reached (Accepted t ∷ h) fit =
+    let one = other-sum f (is_reached reached t.settle) t (undue_since reached h) in
+    omega (arith, one, at_most (is_reached reached t.settle) (f t), each t, fit.0, undue-most f each reached h fit.1, length-append (accepted h) (t ∷ []))
+  where
+    at_most : (b : Bool) (q : ℕ) → (if b then 0 else q) ≤ q
+    at_most true q = omega arith
+    at_most false q = omega arith
+undue-most f each reached (Netted d ∷ h) fit = undue-most f each (latest reached d) h fit
+undue-most f each reached (Settled k j z ∷ h) fit = undue-most f each reached h fit

@@ -1,0 +1,77 @@
+use Rattle.std.proofs.Common.{◌≡◌, ◌≤◌, ◌<◌, ◌∷◌, ap, arith, rules, subst}
+use Rattle.std.specs.Prelude.{All, sum_by}
+use borrow.Author.Tests.{tests}
+use Rattle.std.proofs.lemmas.List.Elements.{All-head, All-tail, All-weaker}
+use Rattle.cns_netting.specs.Sides.{bought_by, IsNamed, sold_by}
+use Rattle.cns_netting.specs.Undue.{if_settled}
+use Rattle.cns_netting.proofs.QueueLemmas.{later-first, settled-first}
+use Rattle.cns_netting.proofs.TradeLemmas.{settled-left}
+use Rattle.cns_netting.proofs.due.sides_after.Goals as goal
+
+pub add_trade-requires : goal.add_trade-requires
+add_trade-requires c =
+    let t = c.first.inside.trade in
+    let rest = c.in-Some.rest.now in
+    let list : c.loop-first.left.now ≡ t ∷ rest = search (rules, tests) in
+    let due : t.settle ≤ c.args.day = search (rules, tests) in
+    record {
+      named = All-head (IsNamed c.loop-first.after) t rest (subst (All (IsNamed c.loop-first.after)) list c.loop-first.invariant.named);
+      credit = λ m i.
+          omega (
+            arith,
+            c.loop-first.invariant.credit m i,
+            ap (sum_by (if_settled c.args.day (bought_by m i))) list,
+            settled-first c.args.day (bought_by m i) t rest due,
+            settled-left c.args.day (bought_by m i) c.args.undue.now,
+            c.requires.credit m i,
+          );
+      debit = λ m i.
+          omega (
+            arith,
+            c.loop-first.invariant.debit m i,
+            ap (sum_by (if_settled c.args.day (sold_by m i))) list,
+            settled-first c.args.day (sold_by m i) t rest due,
+            settled-left c.args.day (sold_by m i) c.args.undue.now,
+            c.requires.debit m i,
+          );
+    }
+
+pub loop-first-preserved-then-le : goal.loop-first-preserved-then-le
+loop-first-preserved-then-le c =
+    let t = c.first.inside.trade in
+    let rest = c.in-Some.rest.now in
+    let list : c.loop-first.left.now ≡ t ∷ rest = search (rules, tests) in
+    let due : t.settle ≤ c.args.day = search (rules, tests) in
+    record {
+      named =
+          All-weaker (IsNamed c.loop-first.after) (IsNamed c.add_trade.new.sides) (λ u both. (c.add_trade.ensures.named _ both.0, c.add_trade.ensures.named _ both.1)) rest
+          (All-tail (IsNamed c.loop-first.after) t rest (subst (All (IsNamed c.loop-first.after)) list c.loop-first.invariant.named));
+      credit = λ m i.
+          omega (
+            arith,
+            c.loop-first.invariant.credit m i,
+            c.add_trade.ensures.credit m i,
+            ap (sum_by (if_settled c.args.day (bought_by m i))) list,
+            settled-first c.args.day (bought_by m i) t rest due,
+          );
+      debit = λ m i.
+          omega (
+            arith,
+            c.loop-first.invariant.debit m i,
+            c.add_trade.ensures.debit m i,
+            ap (sum_by (if_settled c.args.day (sold_by m i))) list,
+            settled-first c.args.day (sold_by m i) t rest due,
+          );
+    }
+
+pub loop-first-preserved : goal.loop-first-preserved
+loop-first-preserved c =
+    let t = c.first.inside.trade in
+    let rest = c.in-Some.rest.now in
+    let list : c.loop-first.left.now ≡ t ∷ rest = search (rules, tests) in
+    let later : c.args.day < t.settle = search (rules, tests) in
+    record {
+      named = All-tail (IsNamed c.loop-first.after) t rest (subst (All (IsNamed c.loop-first.after)) list c.loop-first.invariant.named);
+      credit = λ m i. omega (arith, c.loop-first.invariant.credit m i, ap (sum_by (if_settled c.args.day (bought_by m i))) list, later-first c.args.day (bought_by m i) t rest later);
+      debit = λ m i. omega (arith, c.loop-first.invariant.debit m i, ap (sum_by (if_settled c.args.day (sold_by m i))) list, later-first c.args.day (sold_by m i) t rest later);
+    }

@@ -1,0 +1,17 @@
+use Rattle.std.proofs.Common.{rules}
+use Rattle.std.specs.HashMap.{get}
+use Rattle.cns_netting.specs.Sides.{credit_at, debit_at, holding_eq}
+use Rattle.cns_netting.proofs.SidesLemmas.{put-named, put-same, sides_by}
+use Rattle.cns_netting.proofs.sides.name.Goals as goal
+
+pub returns-clause-credit : goal.returns-clause-credit
+returns-clause-credit c =
+    put-same credit_at c.args.member c.args.issue (sides_by 0 0) (get holding_eq c.args.sides.now) (get holding_eq c.insert.new.self) c.in-Ok.ensures.updates.0 (search rules)
+
+pub returns-clause-debit : goal.returns-clause-debit
+returns-clause-debit c =
+    put-same debit_at c.args.member c.args.issue (sides_by 0 0) (get holding_eq c.args.sides.now) (get holding_eq c.insert.new.self) c.in-Ok.ensures.updates.0 (search rules)
+
+pub returns-clause-still : goal.returns-clause-still
+returns-clause-still c =
+    put-named c.args.member c.args.issue (sides_by 0 0) (get holding_eq c.args.sides.now) (get holding_eq c.insert.new.self) c.in-Ok.ensures.updates.0

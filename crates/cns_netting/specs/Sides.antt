@@ -1,0 +1,67 @@
+-- What stands for each holding and against it, by look-up.
+use Rattle.std.specs.Prelude.{◌≡◌, ℕ, ◌&&◌, ◌==◌, Bool, ◌-ℤ◌, pos, List, Option, Some, None, IsSome, filter, if◌then◌else◌}
+use Rattle.std.specs.HashMap.{HashMap, get}
+use Rattle.cns_trades.specs.declared.trade.Trade.{Trade}
+use Rattle.cns_netting.specs.History.{credit, debit}
+use Rattle.cns_netting.specs.Rows.{holding_at, is_row_in}
+use Rattle.cns_netting.specs.declared.entry.NetEntry.{NetEntry}
+use Rattle.cns_netting.specs.declared.position.Holding.{Holding}
+use Rattle.cns_netting.specs.declared.position.PositionRow.{PositionRow}
+use Rattle.cns_netting.specs.declared.sides.Sides.{Sides}
+
+-- whether two holdings are the same
+abbrev pub holding_eq : Holding → Holding → Bool
+holding_eq a b = (a.issue == b.issue) && (a.member == b.member)
+
+-- the shares for a holding and against it; there are none where it is not named
+abbrev pub credit_at : Option Sides → ℕ
+credit_at None = 0
+credit_at (Some s) = s.credit
+
+abbrev pub debit_at : Option Sides → ℕ
+debit_at None = 0
+debit_at (Some s) = s.debit
+
+-- the shares that a trade brings a member in an issue, and that it takes from it
+abbrev pub bought_by : ℕ → ℕ → Trade → ℕ
+bought_by member issue t = if (t.buyer == member) && (t.issue == issue) then t.quantity else 0
+
+abbrev pub sold_by : ℕ → ℕ → Trade → ℕ
+sold_by member issue t = if (t.seller == member) && (t.issue == issue) then t.quantity else 0
+
+module _ {S : Type 0} where
+  -- the shares that stand for a member in an issue, and against it
+  abbrev pub credit_in : HashMap Holding Sides S → ℕ → ℕ → ℕ
+  credit_in sides member issue = credit_at (get holding_eq sides (holding_at issue member))
+
+  abbrev pub debit_in : HashMap Holding Sides S → ℕ → ℕ → ℕ
+  debit_in sides member issue = debit_at (get holding_eq sides (holding_at issue member))
+
+  -- both holdings of a trade are named
+  abbrev pub IsNamed : HashMap Holding Sides S → Trade → Type 0
+  IsNamed sides t = IsSome (get holding_eq sides (holding_at t.issue t.buyer)) × IsSome (get holding_eq sides (holding_at t.issue t.seller))
+
+-- what stands for each holding and against it is its credit and debit in a history
+pub record AreSidesOf {S : Type 0} (sides : HashMap Holding Sides S) (h : List NetEntry) : Type 0 where
+  pub credit : (member issue : ℕ) → credit_in sides member issue ≡ credit h member issue
+  pub debit : (member issue : ℕ) → debit_in sides member issue ≡ debit h member issue
+
+-- the row of a holding by its sides, where its position is not 0
+abbrev pub row_by : Holding → Option Sides → Option PositionRow
+row_by k None = None
+row_by k (Some s) = if s.credit == s.debit then None else Some (record { issue = k.issue; member = k.member; position = pos s.credit -ℤ pos s.debit })
+
+-- the same of an issue alone, where one is given
+abbrev pub row_if : Option ℕ → Holding → Option Sides → Option PositionRow
+row_if None k sides = row_by k sides
+row_if (Some issue) k sides = if k.issue == issue then row_by k sides else None
+
+-- rows of an issue alone, where one is given
+abbrev pub rows_if : Option ℕ → List PositionRow → List PositionRow
+rows_if None rows = rows
+rows_if (Some issue) rows = filter (is_row_in issue) rows
+
+-- what is found for a holding that is yet to come, and for one that is not
+abbrev pub row_left : Option Sides → Option PositionRow → Option PositionRow
+row_left None row = row
+row_left (Some s) row = None

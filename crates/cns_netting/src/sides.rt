@@ -1,0 +1,112 @@
+ghost use Rattle.std.specs.Prelude.{◌≡◌, ℕ, ◌+◌, ◌^◌, ◌<◌, ◌≤◌, ◌&&◌, ◌==◌, IsSome, if◌then◌else◌, ◌-ℤ◌, pos};
+ghost use Rattle.std.specs.HashMap.{get, spare};
+ghost use Rattle.cns_netting.specs.Rows.{holding_at};
+ghost use Rattle.cns_netting.specs.Sides.{bought_by, credit_at, credit_in, debit_at, debit_in, holding_eq, IsNamed, sold_by};
+
+use crate::position::Holding;
+use cns_ids::{Cusip, MemberNo};
+use cns_trades::Trade;
+use std::collections::HashMap;
+
+/// The shares that stand for a holding, and those against it.
+#[derive(Clone, Copy)]
+pub(crate) struct Sides {
+    pub(crate) credit: u128,
+    pub(crate) debit: u128,
+}
+
+impl Sides {
+    /// What stands for the holding less what stands against it.
+    pub(crate) fn position(self) -> i128
+        requires { (self.credit < 2 ^ 127) × (self.debit < 2 ^ 127) }
+        ensures { result ≡ pos self.credit -ℤ pos self.debit }
+    {
+        self.credit as i128 - self.debit as i128
+    }
+}
+
+/// The sides of a member in an issue.
+pub(crate) fn sides_of(sides: &HashMap<Holding, Sides>, member: MemberNo, issue: Cusip) -> Sides
+    ensures credit { result.credit ≡ credit_in sides.now member issue }
+    ensures debit { result.debit ≡ debit_in sides.now member issue }
+{
+    match sides.get(&Holding { issue, member }) {
+        Some(sides) => *sides,
+        None => Sides {
+            credit: 0,
+            debit: 0,
+        },
+    }
+}
+
+/// Names a holding, for which there is room: as one of no shares where it was not named.
+pub(crate) fn name(sides: &mut HashMap<Holding, Sides>, member: MemberNo, issue: Cusip)
+    requires { 0 < spare sides.old }
+    ensures credit { (m i : ℕ) → credit_in sides.new m i ≡ credit_in sides.old m i }
+    ensures debit { (m i : ℕ) → debit_in sides.new m i ≡ debit_in sides.old m i }
+    ensures named { IsSome (get holding_eq sides.new (holding_at issue member)) }
+    ensures still { (k : Holding) → IsSome (get holding_eq sides.old k) → IsSome (get holding_eq sides.new k) }
+    ensures left { spare sides.old ≤ spare sides.new + 1 }
+{
+    let holding = Holding { issue, member };
+    if sides.contains_key(&holding) {
+        return;
+    }
+    let none = Sides {
+        credit: 0,
+        debit: 0,
+    };
+    let Ok(_) = sides.insert(holding, none) else {
+        unreachable!()
+    };
+}
+
+/// Names the holdings of a trade, for which there is room.
+pub(crate) fn name_trade(sides: &mut HashMap<Holding, Sides>, trade: &Trade)
+    requires { 2 ≤ spare sides.old }
+    ensures credit { (m i : ℕ) → credit_in sides.new m i ≡ credit_in sides.old m i }
+    ensures debit { (m i : ℕ) → debit_in sides.new m i ≡ debit_in sides.old m i }
+    ensures named { IsNamed sides.new trade.now }
+    ensures still { (k : Holding) → IsSome (get holding_eq sides.old k) → IsSome (get holding_eq sides.new k) }
+{
+    name(sides, trade.buyer, trade.issue);
+    name(sides, trade.seller, trade.issue);
+}
+
+/// Adds shares for a named holding, and against it.
+pub(crate) fn add(
+    sides: &mut HashMap<Holding, Sides>,
+    member: MemberNo,
+    issue: Cusip,
+    credit: u128,
+    debit: u128,
+)
+    requires named { IsSome (get holding_eq sides.old (holding_at issue member)) }
+    requires credit { credit_in sides.old member issue + credit < 2 ^ 128 }
+    requires debit { debit_in sides.old member issue + debit < 2 ^ 128 }
+    ensures credit { (m i : ℕ) → credit_in sides.new m i ≡ credit_in sides.old m i + (if (member == m) && (issue == i) then credit else 0) }
+    ensures debit { (m i : ℕ) → debit_in sides.new m i ≡ debit_in sides.old m i + (if (member == m) && (issue == i) then debit else 0) }
+    ensures named { (k : Holding) → IsSome (get holding_eq sides.old k) → IsSome (get holding_eq sides.new k) }
+    ensures left { spare sides.old ≤ spare sides.new }
+{
+    let Some(sides) = sides.get_mut(&Holding { issue, member }) else {
+        unreachable!()
+    };
+    sides.credit += credit;
+    sides.debit += debit;
+}
+
+/// Adds what a trade brings its buyer and takes from its seller.
+pub(crate) fn add_trade(sides: &mut HashMap<Holding, Sides>, trade: &Trade)
+    requires named { IsNamed sides.old trade.now }
+    requires credit { (m i : ℕ) → credit_in sides.old m i + bought_by m i trade.now < 2 ^ 128 }
+    requires debit { (m i : ℕ) → debit_in sides.old m i + sold_by m i trade.now < 2 ^ 128 }
+    ensures credit { (m i : ℕ) → credit_in sides.new m i ≡ credit_in sides.old m i + bought_by m i trade.now }
+    ensures debit { (m i : ℕ) → debit_in sides.new m i ≡ debit_in sides.old m i + sold_by m i trade.now }
+    ensures named { (k : Holding) → IsSome (get holding_eq sides.old k) → IsSome (get holding_eq sides.new k) }
+    ensures left { spare sides.old ≤ spare sides.new }
+{
+    let shares = u128::from(trade.quantity.shares());
+    add(sides, trade.buyer, trade.issue, shares, 0);
+    add(sides, trade.seller, trade.issue, 0, shares);
+}
