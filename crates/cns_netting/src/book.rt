@@ -1,12 +1,12 @@
-ghost use Rattle.std.specs.Prelude.{◌≡◌, ◌++◌, ◌+◌, ◌-◌, ◌^◌, ◌<◌, ◌≤◌, ◌&&◌, ◌==◌, ℕ, List, [], ◌∷◌, None, reverse, length, filter, ◌+ℤ◌, ◌-ℤ◌, pos, IfOk, OnOk, OnErr, IsOk, IsSome, vec_capacity, vec_len, if◌then◌else◌};
+ghost use Rattle.std.specs.Prelude.{◌≡◌, ◌++◌, ◌+◌, ◌-◌, ◌^◌, ◌<◌, ◌≤◌, ℕ, List, [], ◌∷◌, None, reverse, length, filter, ◌+ℤ◌, IfOk, OnOk, OnErr, IsOk, vec_capacity, if◌then◌else◌};
 ghost use Rattle.std.specs.BinaryHeap.{heap_capacity, heap_items, heap_len, IsHeap};
 ghost use Rattle.std.specs.HashMap.{get, spare};
 ghost use Rattle.std.specs.List.Sorted.{IsPermutation};
 ghost use Rattle.cns_trades.specs.Verdicts.{known};
 ghost use Rattle.cns_netting.specs.Book.{IsBook, IsWithin, room_of};
 ghost use Rattle.cns_netting.specs.History.{accepted, becoming_due, credit_part, debit_part, position_of, longs_of, shorts_of};
-ghost use Rattle.cns_netting.specs.Rows.{holding_at, is_row_in, rows_of};
-ghost use Rattle.cns_netting.specs.Sides.{AreSidesOf, credit_in, debit_in, holding_eq, IsNamed};
+ghost use Rattle.cns_netting.specs.Rows.{is_row_in, rows_of};
+ghost use Rattle.cns_netting.specs.Sides.{AreSidesOf, credit_in, debit_in, holding_eq};
 ghost use Rattle.cns_netting.specs.Undue.{earlier};
 ghost use Rattle.cns_netting.specs.declared.entry.NetEntry.{NetEntry};
 ghost use Rattle.cns_netting.specs.declared.entry.NetEntry.TheVariants.{Accepted, Netted, Settled};

@@ -1,11 +1,9 @@
-ghost use Rattle.std.specs.Prelude.{◌≡◌, ℕ, ◌+◌, ◌^◌, ◌<◌, ◌≤◌, ◌∷◌, All, IfNone, IfOk, IfSome, IsSome, sum_by};
-ghost use Rattle.std.specs.BinaryHeap.{heap_capacity, heap_items, heap_len, IsHeap};
-ghost use Rattle.std.specs.HashMap.{get, spare};
+ghost use Rattle.std.specs.Prelude.{◌≡◌, ℕ, ◌+◌, ◌^◌, ◌<◌, ◌≤◌, ◌∷◌, All, IfNone, IfOk, IfSome, sum_by};
+ghost use Rattle.std.specs.BinaryHeap.{heap_items, heap_len, IsHeap};
 ghost use Rattle.std.specs.List.Sorted.{IsPermutation};
 ghost use Rattle.cns_trades.specs.declared.trade.Trade.{Trade};
-ghost use Rattle.cns_netting.specs.Sides.{bought_by, credit_in, debit_in, holding_eq, IsNamed, sold_by};
+ghost use Rattle.cns_netting.specs.Sides.{bought_by, credit_in, debit_in, IsNamed, sold_by};
 ghost use Rattle.cns_netting.specs.Undue.{earlier, if_left, if_settled};
-ghost use Rattle.cns_netting.specs.declared.position.Holding.{Holding};
 
 use crate::position::Holding;
 use crate::sides::{Sides, add_trade};
@@ -25,7 +23,6 @@ fn next_due(undue: &mut BinaryHeap<Undue>, day: Day) -> Option<Trade>
     ensures none { IfNone result (All (λ t. day < t.settle) (heap_items undue.new)) }
     ensures same { IfNone result (heap_items undue.new ≡ heap_items undue.old) }
     ensures same_len { IfNone result (heap_len undue.new ≡ heap_len undue.old) }
-    ensures capacity { heap_capacity undue.new ≡ heap_capacity undue.old }
 {
     if day < undue.peek()?.trade.settle {
         return None;
@@ -50,8 +47,6 @@ pub(crate) fn make_due(
     ensures credit { (m i : ℕ) → credit_in sides.new m i + sum_by (bought_by m i) (heap_items undue.new) ≡ credit_in sides.old m i + sum_by (bought_by m i) (heap_items undue.old) }
     ensures debit { (m i : ℕ) → debit_in sides.new m i + sum_by (sold_by m i) (heap_items undue.new) ≡ debit_in sides.old m i + sum_by (sold_by m i) (heap_items undue.old) }
     ensures named { All (IsNamed sides.new) (heap_items undue.new) }
-    ensures capacity { heap_capacity undue.new ≡ heap_capacity undue.old }
-    ensures spare { spare sides.old ≤ spare sides.new }
 {
     let mut count = 0;
     while let Some(trade) = next_due(undue, day) {

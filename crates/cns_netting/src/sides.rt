@@ -1,7 +1,7 @@
 ghost use Rattle.std.specs.Prelude.{◌≡◌, ℕ, ◌+◌, ◌^◌, ◌<◌, ◌≤◌, ◌&&◌, ◌==◌, IsSome, if◌then◌else◌, ◌-ℤ◌, pos};
 ghost use Rattle.std.specs.HashMap.{get, spare};
 ghost use Rattle.cns_netting.specs.Rows.{holding_at};
-ghost use Rattle.cns_netting.specs.Sides.{bought_by, credit_at, credit_in, debit_at, debit_in, holding_eq, IsNamed, sold_by};
+ghost use Rattle.cns_netting.specs.Sides.{bought_by, credit_in, debit_in, holding_eq, IsNamed, sold_by};
 
 use crate::position::Holding;
 use cns_ids::{Cusip, MemberNo};
@@ -87,7 +87,6 @@ pub(crate) fn add(
     ensures credit { (m i : ℕ) → credit_in sides.new m i ≡ credit_in sides.old m i + (if (member == m) && (issue == i) then credit else 0) }
     ensures debit { (m i : ℕ) → debit_in sides.new m i ≡ debit_in sides.old m i + (if (member == m) && (issue == i) then debit else 0) }
     ensures named { (k : Holding) → IsSome (get holding_eq sides.old k) → IsSome (get holding_eq sides.new k) }
-    ensures left { spare sides.old ≤ spare sides.new }
 {
     let Some(sides) = sides.get_mut(&Holding { issue, member }) else {
         unreachable!()
@@ -104,7 +103,6 @@ pub(crate) fn add_trade(sides: &mut HashMap<Holding, Sides>, trade: &Trade)
     ensures credit { (m i : ℕ) → credit_in sides.new m i ≡ credit_in sides.old m i + bought_by m i trade.now }
     ensures debit { (m i : ℕ) → debit_in sides.new m i ≡ debit_in sides.old m i + sold_by m i trade.now }
     ensures named { (k : Holding) → IsSome (get holding_eq sides.old k) → IsSome (get holding_eq sides.new k) }
-    ensures left { spare sides.old ≤ spare sides.new }
 {
     let shares = u128::from(trade.quantity.shares());
     add(sides, trade.buyer, trade.issue, shares, 0);

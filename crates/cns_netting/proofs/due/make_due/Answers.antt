@@ -18,8 +18,6 @@ loop-trade-init c = record {
   fits = omega arith;
   credit = λ m i. refl;
   debit = λ m i. refl;
-  capacity = refl;
-  spare = omega arith;
 }
 
 pub add_trade-requires : goal.add_trade-requires
@@ -50,8 +48,6 @@ loop-trade-preserved c =
       debit = λ m i.
           let one = sum_by_popped (sold_by m i) c.in-Some.trade was is taken in
           omega (arith, c.loop-trade.invariant.debit m i, c.add_trade.ensures.debit m i, one);
-      capacity = c.next_due.ensures.capacity ∙ c.loop-trade.invariant.capacity;
-      spare = let more = c.loop-trade.invariant.spare in let stays = c.add_trade.ensures.left in omega arith;
     }
 
 pub returns-clause-left : goal.returns-clause-left

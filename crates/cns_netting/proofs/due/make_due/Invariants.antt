@@ -1,7 +1,6 @@
-use Rattle.std.proofs.Common.{◌≡◌, ℕ, ◌+◌, ◌≤◌}
+use Rattle.std.proofs.Common.{◌≡◌, ℕ, ◌+◌}
 use Rattle.std.specs.Prelude.{All, sum_by}
-use Rattle.std.specs.BinaryHeap.{heap_capacity, heap_items, heap_len, IsHeap}
-use Rattle.std.specs.HashMap.{spare}
+use Rattle.std.specs.BinaryHeap.{heap_items, heap_len, IsHeap}
 use Rattle.cns_trades.specs.declared.trade.Trade.{Trade}
 use Rattle.cns_netting.specs.Sides.{bought_by, credit_in, debit_in, IsNamed, sold_by}
 use Rattle.cns_netting.specs.Undue.{earlier, if_left}
@@ -16,8 +15,6 @@ invariant-loop-trade l = record {
   fits : l.count + heap_len l.undue ≡ heap_len l.fn.undue;
   credit : (m i : ℕ) → credit_in l.sides m i + sum_by (bought_by m i) (heap_items l.undue) ≡ credit_in l.fn.sides m i + sum_by (bought_by m i) (heap_items l.fn.undue);
   debit : (m i : ℕ) → debit_in l.sides m i + sum_by (sold_by m i) (heap_items l.undue) ≡ debit_in l.fn.sides m i + sum_by (sold_by m i) (heap_items l.fn.undue);
-  capacity : heap_capacity l.undue ≡ heap_capacity l.fn.undue;
-  spare : spare l.fn.sides ≤ spare l.sides;
 }
 
 abbrev pub decreases-loop-trade : goal.decreases-loop-trade
