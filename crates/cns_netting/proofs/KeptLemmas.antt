@@ -32,15 +32,16 @@ module _ {S : Type 0} where
     heap = heap;
   }
 
-  -- look-ups alone count
-  pub kept_same : (h : List NetEntry) (old new : HashMap Holding Sides S) (waiting : List Trade) → ((k : Holding) → get holding_eq new k ≡ get holding_eq old k) → IsKept h old waiting → IsKept h new waiting
-  kept_same h old new waiting same kept = record {
+  -- look-ups alone count, and the trades that wait
+  pub kept_room : (h : List NetEntry) (old new : HashMap Holding Sides S) (waiting queue : List Trade) → ((k : Holding) → get holding_eq new k ≡ get holding_eq old k) → queue ≡ waiting
+      → IsKept h old waiting → IsKept h new queue
+  kept_room h old new waiting queue same stay kept = subst (λ ts. IsKept h new ts) (sym stay) (record {
     book = kept.book;
     sides = record { credit = λ m i. ap credit_at (same (holding_at i m)) ∙ kept.sides.credit m i; debit = λ m i. ap debit_at (same (holding_at i m)) ∙ kept.sides.debit m i };
     undue = kept.undue;
     named = All-weaker (IsNamed old) (IsNamed new) (λ t both. (subst IsSome (sym (same _)) both.0, subst IsSome (sym (same _)) both.1)) waiting kept.named;
     heap = kept.heap;
-  }
+  })
 
   -- what the next sides have, where nothing is lost
   pub record KeepNames (old new : HashMap Holding Sides S) : Type 0 where
@@ -152,6 +153,10 @@ module _ {S : Type 0} where
         credit = λ m i. let fit = (fits m i).credit in omega (arith, fit, kept.sides.credit m i, kept.undue (bought_by m i));
         debit = λ m i. let fit = (fits m i).debit in omega (arith, fit, kept.sides.debit m i, kept.undue (sold_by m i));
       }
+
+  -- those of a row alone
+  pub fit_rows : (sides : HashMap Holding Sides S) (waiting : List Trade) → AreFit sides waiting → (m i : ℕ) → (credit_in sides m i < 2 ^ 127) × (debit_in sides m i < 2 ^ 127)
+  fit_rows sides waiting fit m i = (omega (arith, fit.credit m i), omega (arith, fit.debit m i))
 
   -- so do those of the sides as after a netting
   pub after_fit : (day : ℕ) (old new : HashMap Holding Sides S) (waiting : List Trade) → AreFit old waiting

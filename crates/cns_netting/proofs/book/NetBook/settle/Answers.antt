@@ -12,31 +12,25 @@ use Rattle.cns_netting.proofs.KeptLemmas.{kept_fit, kept_settled}
 use Rattle.cns_netting.proofs.TradeLemmas.{reverse-last}
 use Rattle.cns_netting.proofs.book.NetBook.settle.Goals as goal
 
-pub add-requires-clause-credit : goal.add-requires-clause-credit
+pub add-requires : goal.add-requires
 unfolding AmountsFit
-add-requires-clause-credit c =
+add-requires c =
     let h = reverse c.self.inside.entries.items in
     let before = rw (← c.self.view_is) at c.requires.before in
     let after = rw (← c.self.view_is) at c.requires.after in
     let book = book_settled h c.args.member c.args.issue c.args.amount c.self.invariant.book before after in
     let fit = kept_fit c.self.inside.entries.items c.self.inside.sides (heap_items c.self.inside.undue) c.self.invariant (omega (arith, c.self.inside.entries.ok.0, c.self.inside.entries.ok.1, c.self.inside.entries.small)) in
     let amount = to_z-of_z w128 c.args.amount c.ranges.amount in
-    let same = ap credit_at (c.in_ok-make_room.ensures.sides (holding_at c.args.issue c.args.member)) in
-    let small = fit.credit c.args.member c.args.issue in
-    omega (arith, small, same, c.name.ensures.credit c.args.member c.args.issue, (c.brought.ensures ∙ ap credit_part amount), book.amounts.0)
-
-pub add-requires-clause-debit : goal.add-requires-clause-debit
-unfolding AmountsFit
-add-requires-clause-debit c =
-    let h = reverse c.self.inside.entries.items in
-    let before = rw (← c.self.view_is) at c.requires.before in
-    let after = rw (← c.self.view_is) at c.requires.after in
-    let book = book_settled h c.args.member c.args.issue c.args.amount c.self.invariant.book before after in
-    let fit = kept_fit c.self.inside.entries.items c.self.inside.sides (heap_items c.self.inside.undue) c.self.invariant (omega (arith, c.self.inside.entries.ok.0, c.self.inside.entries.ok.1, c.self.inside.entries.small)) in
-    let amount = to_z-of_z w128 c.args.amount c.ranges.amount in
-    let same = ap debit_at (c.in_ok-make_room.ensures.sides (holding_at c.args.issue c.args.member)) in
-    let small = fit.debit c.args.member c.args.issue in
-    omega (arith, small, same, c.name.ensures.debit c.args.member c.args.issue, (c.taken.ensures ∙ ap debit_part amount), book.amounts.1)
+    let same = c.in_ok-make_room.ensures.sides (holding_at c.args.issue c.args.member) in
+    record {
+      named = c.name.ensures.named;
+      credit =
+          let small = fit.credit c.args.member c.args.issue in
+          omega (arith, small, ap credit_at same, c.name.ensures.credit c.args.member c.args.issue, (c.brought.ensures ∙ ap credit_part amount), book.amounts.0);
+      debit =
+          let small = fit.debit c.args.member c.args.issue in
+          omega (arith, small, ap debit_at same, c.name.ensures.debit c.args.member c.args.issue, (c.taken.ensures ∙ ap debit_part amount), book.amounts.1);
+    }
 
 pub invariant_of-self-2 : goal.invariant_of-self-2
 invariant_of-self-2 c =
