@@ -1,2 +1,9 @@
 pub mod TileLemmas
 pub mod PoolLemmas
+pub mod SumLemmas
+pub mod CellLemmas
+pub mod StepLemmas
+pub mod SplitLemmas
+pub mod SeatLemmas
+pub mod ReplyLemmas
+pub mod HeldLemmas

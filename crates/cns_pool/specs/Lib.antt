@@ -1,3 +1,11 @@
 pub mod Tiles
 pub mod Pool
 pub mod PlainPool
+pub mod Replies
+pub mod Seen
+pub mod WorkerSeat
+pub mod FeederSeat
+pub mod CellLaw
+pub mod CellWords
+pub mod SeatData
+pub mod Held

@@ -1,7 +1,11 @@
-ghost use Rattle.std.specs.Prelude.{◌≡◌};
+ghost use Rattle.std.specs.Prelude.{◌≡◌, IfOk};
 ghost use Rattle.cns_pool.specs.Pool.{new_pool};
+ghost use Rattle.cns_pool.specs.WorkerSeat.{Joins};
 
-use crate::{Asked, Closed, PlainPool, Pool, Reserved, Ticket, Tickets};
+use crate::{
+    Asked, Closed, FeederSeat, Held, PlainPool, Pool, PoolCell, Reserved, Ticket, Tickets,
+    WorkerSeat,
+};
 use cns_ids::MemberNo;
 use std::process::Abort;
 use std::test::Fail;
@@ -100,6 +104,108 @@ fn a_pool_of_any_kind(rt: HostRuntime) -> Result<(), Fail> {
     );
     assert_eq!(rt; closed.poured, 40);
     assert!(rt; closed.sealed);
+    Ok(())
+}
+
+#[test]
+fn a_held_cell_as_a_pool(rt: HostRuntime) -> Result<(), Fail> {
+    let pool = Held::open(rt.alloc(), 70, 40, 3)?;
+    let closed = closed_after_three(pool, member(2)?, member(3)?);
+    assert_eq!(rt;
+        closed.tickets.as_slice(),
+        [ticket(2, 0, 30)?, ticket(3, 30, 30)?].as_slice()
+    );
+    assert_eq!(rt; closed.poured, 40);
+    assert!(rt; closed.sealed);
+    Ok(())
+}
+
+#[test]
+fn a_held_cell_counts_refused_shares(rt: HostRuntime) -> Result<(), Fail> {
+    let mut pool = Held::open(rt.alloc(), 60, 100, 4)?;
+    pool.pour(40);
+    assert_eq!(rt;
+        pool.reserve(member(2)?, 30),
+        Reserved::Ticket(ticket(2, 0, 30)?)
+    );
+    assert_looks(&rt, &mut pool, 40, 30, false);
+    pool.seal();
+    assert_eq!(rt; pool.reserve(member(3)?, 30), Reserved::Sealed);
+    assert_looks(&rt, &mut pool, 40, 60, true);
+    let closed = pool.close();
+    assert_eq!(rt; closed.tickets.as_slice(), [ticket(2, 0, 30)?].as_slice());
+    Ok(())
+}
+
+#[test]
+fn two_workers_and_a_seal(rt: HostRuntime) -> Result<(), Fail> {
+    let (cell, mut feeder, mut first) = PoolCell::open(rt.alloc(), 60, 100, 4)?;
+    cell.pour(&mut feeder, 5);
+    assert_eq!(rt; cell.look_poured(&mut feeder), 5);
+    assert_eq!(rt; cell.look_poured(&mut first), 5);
+    let mut second = cell.split(&mut first, 30, 2)?;
+    cell.pour(&mut feeder, 35);
+    assert_eq!(rt;
+        cell.reserve(&mut first, member(2)?, 30),
+        Reserved::Ticket(ticket(2, 0, 30)?)
+    );
+    cell.seal(&mut feeder);
+    assert_eq!(rt; cell.reserve(&mut second, member(3)?, 30), Reserved::Sealed);
+    let all = Asked {
+        sum: 60,
+        sealed: true,
+    };
+    assert_eq!(rt; cell.look_asked(&mut second), all);
+    assert_eq!(rt; first.out(), 2);
+    assert!(rt; cell.join(&mut first, second).is_ok());
+    assert_eq!(rt; first.out(), 0);
+    let closed = cell.close(feeder, first);
+    assert_eq!(rt; closed.tickets.as_slice(), [ticket(2, 0, 30)?].as_slice());
+    assert_eq!(rt; closed.poured, 40);
+    assert!(rt; closed.sealed);
+    Ok(())
+}
+
+// The seat after it took in another one, for which it may have had no room.
+fn joined(cell: &PoolCell, mut seat: WorkerSeat, other: WorkerSeat) -> Result<WorkerSeat, Fail>
+    requires { (seat.cell ≡ cell.now) × (other.cell ≡ cell.now) }
+    ensures { IfOk result (λ both. Joins seat other both) }
+{
+    match cell.join(&mut seat, other) {
+        Ok(()) => Ok(seat),
+        Err(_) => Err("no room")?,
+    }
+}
+
+#[test]
+fn a_join_past_the_room(rt: HostRuntime) -> Result<(), Fail> {
+    let (cell, feeder, mut first) = PoolCell::open(rt.alloc(), 60, 0, 4)?;
+    let second = cell.split(&mut first, 30, 1)?;
+    assert_eq!(rt; (first.budget(), first.calls(), first.room()), (30, 3, 1));
+    assert_eq!(rt;
+        (second.budget(), second.calls(), second.room()),
+        (30, 1, 0)
+    );
+    let both = joined(&cell, second, first)?;
+    assert_eq!(rt; (both.budget(), both.calls(), both.room()), (60, 4, 0));
+    assert!(rt; both.tickets().is_empty());
+    assert_eq!(rt; (feeder.poured(), feeder.pour_room()), (0, 0));
+    assert!(rt; !cell.close(feeder, both).sealed);
+    Ok(())
+}
+
+fn is_send<T: Send>(_: &T) {}
+
+fn is_sync<T: Sync>(_: &T) {}
+
+#[test]
+fn threads_share_a_cell_and_take_seats(rt: HostRuntime) -> Result<(), Fail> {
+    let (cell, feeder, worker) = PoolCell::open(rt.alloc(), 0, 0, 0)?;
+    is_send(&cell);
+    is_sync(&cell);
+    is_send::<FeederSeat>(&feeder);
+    is_send(&worker);
+    assert!(rt; !feeder.is_sealed());
     Ok(())
 }
 
