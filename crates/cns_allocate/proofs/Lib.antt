@@ -6,3 +6,9 @@ pub mod TotalLemmas
 pub mod DeliveryLemmas
 pub mod TurnLemmas
 pub mod ServedLemmas
+pub mod DealLemmas
+pub mod DrawnLemmas
+pub mod FollowLemmas
+pub mod OrderLemmas
+pub mod SeatLemmas
+pub mod ServingLemmas

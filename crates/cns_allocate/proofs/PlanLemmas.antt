@@ -237,7 +237,7 @@ groups-append r (p ∷ ps) qs same later pairs =
 no_pairs : AllPairs IsNoLater []
 no_pairs = λ i j d less below. absurd (omega arith)
 
-one_group : (r : ℕ) (ps : List Planned) → All (λ (p : Planned). rank p.group ≡ r) ps → AllPairs IsNoLater ps
+pub one_group : (r : ℕ) (ps : List Planned) → All (λ (p : Planned). rank p.group ≡ r) ps → AllPairs IsNoLater ps
 one_group r [] same = no_pairs
 one_group r (p ∷ ps) same =
     let here : rank p.group ≡ r = All-head (λ (q : Planned). rank q.group ≡ r) p ps same in

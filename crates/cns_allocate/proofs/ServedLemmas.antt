@@ -138,16 +138,20 @@ pub in_turn-served : (plan : List Planned) (tickets : List Ticket) (sealed : Boo
 in_turn-served plan tickets sealed is turns nobody =
     let ordered = in_turn-ordered plan 0 tickets is turns in
     record {
-      order = ordered.order;
-      permutation = ordered.permutation;
-      groups = ordered.groups;
-      drawn = ordered.drawn;
+      follows = record {
+        order = ordered.order;
+        permutation = ordered.permutation;
+        groups = ordered.groups;
+        drawn = ordered.drawn;
+        whole = λ open_lot. ordered.whole (nobody open_lot);
+      };
       chained = ordered.chained;
-      whole = λ open_lot. ordered.whole (nobody open_lot);
     }
 
-served-turns : (plan : List Planned) (tickets : List Ticket) (sealed : Bool) → IsPlan plan → (s : IsServed plan tickets sealed) → AreTurns plan 0 tickets s.order
-served-turns plan tickets sealed is s = ordered-in_turn plan 0 tickets s.order is s.permutation s.groups s.drawn s.chained
+served-turns : (plan : List Planned) (tickets : List Ticket) (sealed : Bool) → IsPlan plan → (s : IsServed plan tickets sealed) → AreTurns plan 0 tickets s.follows.order
+served-turns plan tickets sealed is s =
+    let f = s.follows in
+    ordered-in_turn plan 0 tickets f.order is f.permutation f.groups f.drawn s.chained
 
 -- tickets of a lot that may close are drawn in turn
 pub served-in_turn : (plan : List Planned) (tickets : List Ticket) (sealed : Bool) → IsPlan plan → IsServed plan tickets sealed → AreInTurn plan 0 tickets
@@ -185,18 +189,16 @@ served_whole plan tickets is s nobody = in_turn-served plan tickets false is (se
 
 -- a lot that may close may close sealed
 pub served_sealed : (plan : List Planned) (tickets : List Ticket) (sealed : Bool) → IsServed plan tickets sealed → IsServed plan tickets true
-served_sealed plan tickets sealed s = record {
-  order = s.order;
-  permutation = s.permutation;
-  groups = s.groups;
-  drawn = s.drawn;
-  chained = s.chained;
-  whole = λ e. cc;
-}
+served_sealed plan tickets sealed s =
+    let f = s.follows in
+    record {
+      follows = record { order = f.order; permutation = f.permutation; groups = f.groups; drawn = f.drawn; whole = λ e. cc };
+      chained = s.chained;
+    }
 
 -- where it may close unsealed, nobody waits
 pub served_all : (plan : List Planned) (tickets : List Ticket) → IsPlan plan → IsServed plan tickets false → waiting plan tickets ≡ []
-served_all plan tickets is s = (served-turns plan tickets false is s).whole (s.whole refl)
+served_all plan tickets is s = (served-turns plan tickets false is s).whole (s.follows.whole refl)
 
 -- a sum over tickets is at most that over those who drew them
 drawn_sum : (f : Ticket → ℕ) (g : Planned → ℕ) → ((t : Ticket) (p : Planned) → t.member ≡ p.member → t.asked ≡ p.asked → f t ≤ g p)
@@ -217,7 +219,7 @@ drawn_all P Q each (t ∷ ts) (p ∷ ps) drawn all =
 served_each : (plan : List Planned) (tickets : List Ticket) (sealed : Bool) (P : Planned → Type 0) (Q : Ticket → Type 0)
     → ((t : Ticket) (p : Planned) → t.member ≡ p.member → t.asked ≡ p.asked → P p → Q t) → IsServed plan tickets sealed → All P plan → All Q tickets
 served_each plan tickets sealed P Q each s all =
-    drawn_all P Q each tickets s.order s.drawn (All-permutation P plan s.order (IsPermutation-sym s.order plan s.permutation) all)
+    drawn_all P Q each tickets s.follows.order s.follows.drawn (All-permutation P plan s.follows.order (IsPermutation-sym s.follows.order plan s.follows.permutation) all)
 
 -- no member has two tickets
 pub served_once : (plan : List Planned) (tickets : List Ticket) (sealed : Bool) → IsPlan plan → IsServed plan tickets sealed → (member : ℕ)
@@ -226,8 +228,8 @@ served_once plan tickets sealed is s member =
     omega (
       arith,
       drawn_sum (λ (t : Ticket). cond (t.member == member) 1 0) (λ (p : Planned). cond (p.member == member) 1 0)
-          (λ t p members asks. rw members (le_refl (cond (p.member == member) 1 0))) tickets s.order s.drawn,
-      sum_by-IsPermutation (λ (p : Planned). cond (p.member == member) 1 0) s.order plan s.permutation,
+          (λ t p members asks. rw members (le_refl (cond (p.member == member) 1 0))) tickets s.follows.order s.follows.drawn,
+      sum_by-IsPermutation (λ (p : Planned). cond (p.member == member) 1 0) s.follows.order plan s.follows.permutation,
       is.once member,
     )
 
@@ -243,8 +245,8 @@ pub served_sum : (plan : List Planned) (tickets : List Ticket) (sealed : Bool) �
 served_sum plan tickets sealed s =
     omega (
       arith,
-      drawn_sum (λ (t : Ticket). t.asked) (λ (p : Planned). p.asked) (λ t p members asks. omega (arith, asks)) tickets s.order s.drawn,
-      sum_by-IsPermutation (λ (p : Planned). p.asked) s.order plan s.permutation,
+      drawn_sum (λ (t : Ticket). t.asked) (λ (p : Planned). p.asked) (λ t p members asks. omega (arith, asks)) tickets s.follows.order s.follows.drawn,
+      sum_by-IsPermutation (λ (p : Planned). p.asked) s.follows.order plan s.follows.permutation,
     )
 
 -- each is of 1 to 10^18 shares

@@ -24,10 +24,10 @@ uncovered share (t ∷ ts) above =
     omega (arith, cover_count-cons share (interval_of t) (intervals_of ts), here, rest)
 
 -- the first ticket by start starts first
-first_start : (t : Ticket) (ts : List Ticket) → IsNonDecreasingBy (λ (u : Ticket). u.start) (t ∷ ts) → All (λ (u : Ticket). t.start ≤ u.start) ts
+pub first_start : (t : Ticket) (ts : List Ticket) → IsNonDecreasingBy (λ (u : Ticket). u.start) (t ∷ ts) → All (λ (u : Ticket). t.start ≤ u.start) ts
 first_start t ts sorted = λ k d below. sorted 0 (suc k) d (omega arith) (omega arith)
 
-rest_sorted : (t : Ticket) (ts : List Ticket) → IsNonDecreasingBy (λ (u : Ticket). u.start) (t ∷ ts) → IsNonDecreasingBy (λ (u : Ticket). u.start) ts
+pub rest_sorted : (t : Ticket) (ts : List Ticket) → IsNonDecreasingBy (λ (u : Ticket). u.start) (t ∷ ts) → IsNonDecreasingBy (λ (u : Ticket). u.start) ts
 rest_sorted t ts sorted = λ i j d le below. sorted (suc i) (suc j) d (omega arith) (omega arith)
 
 -- the first of the tickets that tile from n starts at n

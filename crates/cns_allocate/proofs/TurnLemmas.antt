@@ -138,53 +138,57 @@ same_planned-itself : (p : Planned) → same_planned p p ≡ true
 unfolding same_planned
 same_planned-itself p = rw (eq-eqb p.member p.member refl, eq-eqb p.asked p.asked refl, eq-eqb (rank p.group) (rank p.group) refl) refl
 
-nothing_counted : (ys : List Planned) → 0 ≡ count_by (λ (q : Planned). true) ys → ys ≡ []
-nothing_counted [] e = refl
-nothing_counted (y ∷ ys) e = absurd (omega (arith, e, sum_by-cons (λ (q : Planned). 1) y ys))
-
-first_same : (p q : Planned) (others qs : List Planned) → q ≡ p → IsPermutation (q ∷ others) qs → IsPermutation (p ∷ others) qs
-first_same p q others qs same moved = rw (← same) moved
-
 -- lists of which as many pass each test are the same but for the order
-same_counts : (ps qs : List Planned) → ((test : Planned → Bool) → count_by test ps ≡ count_by test qs) → IsPermutation ps qs
-same_counts [] qs counts = rw (nothing_counted qs (counts (λ (q : Planned). true))) (IsPermutation-refl [])
-same_counts (p ∷ ps) qs counts = by (find (same_planned p) qs) refl (same_counts ps)
-  where
-    here : ◌≡◌ {A = ℕ} (cond (same_planned p p) 1 0) 1
-    here = cond-true _ 1 0 (same_planned-itself p)
+module _ {X : Type 0} (same : X → X → Bool) (same-true : (x y : X) → same x y ≡ true → y ≡ x) (same-itself : (x : X) → same x x ≡ true) where
+  nothing_counted : (ys : List X) → 0 ≡ count_by (λ (y : X). true) ys → ys ≡ []
+  nothing_counted [] e = refl
+  nothing_counted (y ∷ ys) e = absurd (omega (arith, e, sum_by-cons (λ (z : X). 1) y ys))
 
-    by : (o : Option Planned) → find (same_planned p) qs ≡ o
-        → ((rs : List Planned) → ((test : Planned → Bool) → count_by test ps ≡ count_by test rs) → IsPermutation ps rs)
-        → IsPermutation (p ∷ ps) qs
-    by None e rest_same =
-        absurd (omega (arith, here, find-none (same_planned p) qs e, counts (same_planned p), sum_by-cons (λ (q : Planned). cond (same_planned p q) 1 0) p ps))
-    by (Some q) e rest_same =
-        let same : q ≡ p = same_planned-true p q (find-passes (same_planned p) qs q e) in
-        let rest = find-rest (same_planned p) qs q e in
-        let moved : IsPermutation (p ∷ rest.others) qs = first_same p q rest.others qs same rest.same in
-        let left =
-        λ (test : Planned → Bool). (let k : count_by test ps ≡ count_by test rest.others =
-        omega (
-          arith,
-          counts test,
-          sum_by-cons (λ (r : Planned). cond (test r) 1 0) p ps,
-          sum_by-cons (λ (r : Planned). cond (test r) 1 0) p rest.others,
-          sum_by-IsPermutation (λ (r : Planned). cond (test r) 1 0) (p ∷ rest.others) qs moved,
-        ) in k) in
-        IsPermutation-trans (p ∷ ps) (p ∷ rest.others) qs (IsPermutation-cons p ps rest.others (rest_same rest.others left)) moved
+  first_same : (x y : X) (others ys : List X) → y ≡ x → IsPermutation (y ∷ others) ys → IsPermutation (x ∷ others) ys
+  first_same x y others ys e moved = rw (← e) moved
 
--- what two lists have beside one element is the same but for the order
+  same_counts : (xs ys : List X) → ((test : X → Bool) → count_by test xs ≡ count_by test ys) → IsPermutation xs ys
+  same_counts [] ys counts = rw (nothing_counted ys (counts (λ (y : X). true))) (IsPermutation-refl [])
+  same_counts (x ∷ xs) ys counts = by (find (same x) ys) refl (same_counts xs)
+    where
+      here : ◌≡◌ {A = ℕ} (cond (same x x) 1 0) 1
+      here = cond-true _ 1 0 (same-itself x)
+
+      by : (o : Option X) → find (same x) ys ≡ o → ((zs : List X) → ((test : X → Bool) → count_by test xs ≡ count_by test zs) → IsPermutation xs zs)
+          → IsPermutation (x ∷ xs) ys
+      by None e rest_same =
+          absurd (omega (arith, here, find-none (same x) ys e, counts (same x), sum_by-cons (λ (y : X). cond (same x y) 1 0) x xs))
+      by (Some y) e rest_same =
+          let alike : y ≡ x = same-true x y (find-passes (same x) ys y e) in
+          let rest = find-rest (same x) ys y e in
+          let moved : IsPermutation (x ∷ rest.others) ys = first_same x y rest.others ys alike rest.same in
+          let left =
+          λ (test : X → Bool). (let k : count_by test xs ≡ count_by test rest.others =
+          omega (
+            arith,
+            counts test,
+            sum_by-cons (λ (z : X). cond (test z) 1 0) x xs,
+            sum_by-cons (λ (z : X). cond (test z) 1 0) x rest.others,
+            sum_by-IsPermutation (λ (z : X). cond (test z) 1 0) (x ∷ rest.others) ys moved,
+          ) in k) in
+          IsPermutation-trans (x ∷ xs) (x ∷ rest.others) ys (IsPermutation-cons x xs rest.others (rest_same rest.others left)) moved
+
+  -- what two lists have beside one element is the same but for the order
+  pub same_others : (x : X) (xs ys all : List X) → IsPermutation (x ∷ xs) all → IsPermutation (x ∷ ys) all → IsPermutation xs ys
+  same_others x xs ys all one two =
+      same_counts xs ys
+      (λ test.
+      omega (
+        arith,
+        sum_by-cons (λ (z : X). cond (test z) 1 0) x xs,
+        sum_by-cons (λ (z : X). cond (test z) 1 0) x ys,
+        sum_by-IsPermutation (λ (z : X). cond (test z) 1 0) (x ∷ xs) all one,
+        sum_by-IsPermutation (λ (z : X). cond (test z) 1 0) (x ∷ ys) all two,
+      ))
+
+-- what two plans have beside one of those planned is the same but for the order
 pub same_rest : (p : Planned) (ps qs all : List Planned) → IsPermutation (p ∷ ps) all → IsPermutation (p ∷ qs) all → IsPermutation ps qs
-same_rest p ps qs all one two =
-    same_counts ps qs
-    (λ test.
-    omega (
-      arith,
-      sum_by-cons (λ (r : Planned). cond (test r) 1 0) p ps,
-      sum_by-cons (λ (r : Planned). cond (test r) 1 0) p qs,
-      sum_by-IsPermutation (λ (r : Planned). cond (test r) 1 0) (p ∷ ps) all one,
-      sum_by-IsPermutation (λ (r : Planned). cond (test r) 1 0) (p ∷ qs) all two,
-    ))
+same_rest = same_others same_planned same_planned-true same_planned-itself
 
 -- ---- a plan without a member
 

@@ -3,3 +3,4 @@ pub mod Plan
 pub mod Grants
 pub mod Served
 pub mod Deliveries
+pub mod Serving

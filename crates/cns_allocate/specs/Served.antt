@@ -41,12 +41,16 @@ AreDrawnBy [] order = Unit {0}
 AreDrawnBy (t ∷ ts) [] = ⊥
 AreDrawnBy (t ∷ ts) (p ∷ ps) = (t.member ≡ p.member) × (t.asked ≡ p.asked) × AreDrawnBy ts ps
 
--- the tickets of a lot that may close: they stand end to end from 0, and are drawn in an order of the whole plan in which no
--- group comes after a later one; where the lot is not sealed, everybody planned drew one
-pub record IsServed (plan : List Planned) (tickets : List Ticket) (sealed : Bool) : Type 0 where
+-- tickets that follow a plan: an order of the whole plan, in which no group comes after a later one, begins with those who drew
+-- them; where nothing is sealed, everybody planned drew one
+pub record FollowPlan (plan : List Planned) (tickets : List Ticket) (sealed : Bool) : Type 0 where
   pub order : List Planned
   pub permutation : IsPermutation order plan
   pub groups : AllPairs (λ (p q : Planned). rank p.group ≤ rank q.group) order
   pub drawn : AreDrawnBy tickets order
-  pub chained : AreChained 0 (intervals_of tickets)
   pub whole : sealed ≡ false → length tickets ≡ length order
+
+-- the tickets of a lot that may close: they follow its plan, and stand end to end from 0
+pub record IsServed (plan : List Planned) (tickets : List Ticket) (sealed : Bool) : Type 0 where
+  pub follows : FollowPlan plan tickets sealed
+  pub chained : AreChained 0 (intervals_of tickets)

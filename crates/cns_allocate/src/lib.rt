@@ -6,20 +6,25 @@
 #![tactic(auto)]
 
 mod delivery;
+mod gate;
 mod grants;
 mod group;
 mod plan;
 mod planned;
+mod seats;
 mod served;
+mod serving;
 mod ticket_order;
 mod turns;
 
 pub use delivery::deliveries;
+pub use gate::{Gate, OpenGate};
 pub use grants::Grants;
 pub use group::Group;
 pub use plan::Plan;
 pub use planned::Planned;
 pub use served::are_served;
+pub use serving::{MAX_WORKERS, ServeCause, ServeFault, Served, serve};
 pub use ticket_order::by_start;
 pub use turns::{Turn, Turns};
 

@@ -1,0 +1,432 @@
+-- What seats have drawn, and what they have once they are joined.
+use Rattle.std.proofs.Common.{◌≡◌, ℕ, zero, suc, ◌+◌, ◌-◌, ◌<◌, ◌≤◌, ◌⊎◌, inl, inr, Bool, true, false, List, [], ◌∷◌, ◌++◌, length, take, get_or, map, refl, sym, ap, ◌∙◌, arith, append_assoc, length-append, subst}
+use Rattle.std.specs.Prelude.{◌||◌, All, IsPermutation, sum_by}
+use Rattle.std.specs.List.{flat_map, list_any}
+use Rattle.std.proofs.lemmas.Bool.{cases_lt}
+use Rattle.std.proofs.lemmas.List.{append-nil, get_or_append_left, get_or_push, map-id, take_all, take_more}
+use Rattle.std.proofs.lemmas.List.Concat.{flat_map-append}
+use Rattle.std.proofs.lemmas.List.Elements.{All-nil, All-push}
+use Rattle.std.proofs.lemmas.List.Folds.{list_any-append}
+use Rattle.std.proofs.lemmas.List.Sorted.{length_permutation, sum_by-IsPermutation}
+use Rattle.std.proofs.lemmas.List.Sums.{sum_by-append, sum_by-cons, sum_by_more_le}
+use Rattle.cns_pool.specs.declared.ticket.Ticket.{Ticket}
+use Rattle.cns_pool.specs.WorkerSeat.{WorkerState, DrawsTicket, Joins, MeetsSeal, after_split, room_taken, split_off}
+use Rattle.cns_allocate.specs.Serving.{AreDrawnOf, HasDrawn, HasJoined, HasSplit, budgets_of, calls_of, every, have_seen_seal, made_by, places_of, rooms_of, shares_of, tickets_of}
+use Rattle.cns_allocate.specs.declared.planned.Planned.{Planned}
+use Rattle.cns_allocate.proofs.DealLemmas.{dealt, dealt-all, lists_of}
+use Rattle.cns_allocate.proofs.DrawnLemmas.{drawn-append, drawn-cons, drawn-earlier, drawn-most, drawn-none, drawn-permutation}
+
+-- ---- one seat
+
+-- it draws for nobody
+pub seat-none : (seat : WorkerState) → HasDrawn seat [] seat
+seat-none seat = record {
+  cell = refl;
+  given = refl;
+  tickets = [];
+  added = sym (append-nil seat.tickets);
+  drawn = drawn-none seat.seen.asked [];
+  made = refl;
+  used = omega arith;
+  calls = omega arith;
+  budget = omega arith;
+  all = λ e. refl;
+  met = λ less. absurd (omega (arith, less));
+}
+
+-- it meets the seal
+pub seat-sealed : (old : WorkerState) (p : Planned) (ps : List Planned) (new : WorkerState) → 0 < old.calls → MeetsSeal old p.asked new → HasDrawn old (p ∷ ps) new
+seat-sealed old p ps new some meets = record {
+  cell = ap (λ (s : WorkerState). s.cell) meets.after;
+  given = ap (λ (s : WorkerState). s.given) meets.after;
+  tickets = [];
+  added = ap (λ (s : WorkerState). s.tickets) meets.after ∙ sym (append-nil old.tickets);
+  drawn = drawn-none old.seen.asked (p ∷ ps);
+  made = omega (arith, some, ap (λ (s : WorkerState). s.made) meets.after, ap (λ (s : WorkerState). s.calls) meets.after);
+  used = omega (arith, ap (λ (s : WorkerState). s.calls) meets.after);
+  calls = omega (arith, ap (λ (s : WorkerState). s.calls) meets.after);
+  budget = omega (arith, ap (λ (s : WorkerState). s.budget) meets.after, sum_by-cons (λ (q : Planned). q.asked) p ps);
+  all = λ e. absurd (omega (arith, e));
+  met = λ less. ap (λ (s : WorkerState). s.seen.sealed) meets.after;
+}
+
+-- it draws a ticket, and goes on
+pub seat-cons : (old : WorkerState) (p : Planned) (ps : List Planned) (ticket : Ticket) (then new : WorkerState) → 0 < old.calls
+    → DrawsTicket old p.member p.asked then ticket → HasDrawn then ps new → HasDrawn old (p ∷ ps) new
+seat-cons old p ps ticket then new some draws rest = record {
+  cell = rest.cell ∙ ap (λ (s : WorkerState). s.cell) draws.after;
+  given = rest.given ∙ ap (λ (s : WorkerState). s.given) draws.after;
+  tickets = ticket ∷ rest.tickets;
+  added =
+      rest.added ∙ ap (λ (s : WorkerState). s.tickets ++ rest.tickets) draws.after ∙ append_assoc old.tickets (ticket ∷ []) rest.tickets;
+  drawn =
+      drawn-cons old.seen.asked p ps ticket rest.tickets draws.holder draws.size draws.start
+      (drawn-earlier then.seen.asked old.seen.asked ps rest.tickets (omega (arith, draws.start, ap (λ (s : WorkerState). s.seen.asked) draws.after)) rest.drawn);
+  made = omega (arith, some, rest.made, calls_after, ap (λ (s : WorkerState). s.made) draws.after);
+  used = omega (arith, some, rest.used, calls_after);
+  calls = omega (arith, some, rest.calls, calls_after);
+  budget =
+      omega (arith, rest.budget, draws.size, ap (λ (s : WorkerState). s.budget) draws.after, sum_by-cons (λ (q : Planned). q.asked) p ps);
+  all = λ e. rest.all (omega (arith, e)) ∙ ap (λ (s : WorkerState). s.seen.sealed) draws.after;
+  met = λ less. rest.met (omega (arith, less));
+}
+  where
+    calls_after : then.calls ≡ old.calls - 1
+    calls_after = ap (λ (s : WorkerState). s.calls) draws.after
+
+-- ---- several seats that were split off, and have drawn
+
+-- what they have drawn together
+pub record HaveDrawn (seat : WorkerState) (planned : List Planned) (parts others : List WorkerState) : Type 0 where
+  pub drawn : AreDrawnOf seat.seen.asked planned (tickets_of others)
+  pub made : made_by others + calls_of others ≡ calls_of parts
+  pub used : length (tickets_of others) + calls_of others ≤ calls_of parts
+  pub calls : calls_of parts ≤ calls_of others + length planned
+  pub budget : budgets_of parts ≤ budgets_of others + shares_of planned
+  pub all : length (tickets_of others) ≡ length planned → (seat.seen.sealed || have_seen_seal others) ≡ seat.seen.sealed
+  pub met : length (tickets_of others) < length planned → (seat.seen.sealed || have_seen_seal others) ≡ true
+
+or-same : (b : Bool) → (b || false) ≡ b
+or-same true = refl
+or-same false = refl
+
+have-none : (seat : WorkerState) → HaveDrawn seat [] [] []
+have-none seat = record {
+  drawn = drawn-none seat.seen.asked [];
+  made = refl;
+  used = omega arith;
+  calls = omega arith;
+  budget = omega arith;
+  all = λ e. or-same seat.seen.sealed;
+  met = λ less. absurd (omega (arith, less));
+}
+
+-- what is seen by one of more seats
+or-kept : (b a c : Bool) → (b || a) ≡ b → c ≡ b → (b || (a || (c || false))) ≡ b
+or-kept true a c e same = refl
+or-kept false false false e same = refl
+or-kept false false true e same = same
+or-kept false true c e same = e
+
+or-first : (b a c : Bool) → (b || a) ≡ true → (b || (a || (c || false))) ≡ true
+or-first true a c e = refl
+or-first false true c e = refl
+or-first false false c e = cc
+
+or-last : (b a c : Bool) → c ≡ true → (b || (a || (c || false))) ≡ true
+or-last true a c e = refl
+or-last false true c e = refl
+or-last false false true e = refl
+or-last false false false e = e
+
+pub sum_by-push : {X : Type 0} (f : X → ℕ) (xs : List X) (x : X) → sum_by f (xs ++ x ∷ []) ≡ sum_by f xs + f x
+sum_by-push f xs x = omega (arith, sum_by-append f xs (x ∷ []), sum_by-cons f x [])
+
+tickets-push : (others : List WorkerState) (other : WorkerState) → tickets_of (others ++ other ∷ []) ≡ tickets_of others ++ other.tickets
+tickets-push others other =
+    flat_map-append (λ (s : WorkerState). s.tickets) others (other ∷ []) ∙ ap (λ (l : List Ticket). tickets_of others ++ l) (append-nil other.tickets)
+
+-- one seat more
+have-more : (seat : WorkerState) (ps qs : List Planned) (parts others : List WorkerState) (part other : WorkerState) → part ≡ split_off seat part.budget part.calls
+    → HaveDrawn seat ps parts others → HasDrawn part qs other → HaveDrawn seat (ps ++ qs) (parts ++ part ∷ []) (others ++ other ∷ [])
+have-more seat ps qs parts others part other split before last = record {
+  drawn = subst (AreDrawnOf seat.seen.asked (ps ++ qs)) (sym all_tickets) (drawn-append seat.seen.asked ps qs (tickets_of others) last.tickets before.drawn drawn_then);
+  made = omega (arith, before.made, last.made, made_none, pushed-made, pushed-calls, parts-calls);
+  used = omega (arith, before.used, last.used, lengths, pushed-calls, parts-calls);
+  calls = omega (arith, before.calls, last.calls, pushed-calls, parts-calls, length-append ps qs);
+  budget =
+      omega (
+        arith,
+        before.budget,
+        last.budget,
+        sum_by-push (λ (s : WorkerState). s.budget) others other,
+        sum_by-push (λ (s : WorkerState). s.budget) parts part,
+        sum_by-append (λ (p : Planned). p.asked) ps qs,
+      );
+  all = λ e. rw any (or-kept seat.seen.sealed (have_seen_seal others) other.seen.sealed (before.all (omega (arith, e, lengths, most, last_most, planned)))
+      (last.all (omega (arith, e, lengths, most, last_most, planned)) ∙ seen));
+  met = λ less. rw any (by (cases_lt (length (tickets_of others)) (length ps)) less);
+}
+  where
+    no_tickets : part.tickets ≡ []
+    no_tickets = ap (λ (s : WorkerState). s.tickets) split
+
+    made_none : part.made ≡ 0
+    made_none = ap (λ (s : WorkerState). s.made) split
+
+    seen : part.seen.sealed ≡ seat.seen.sealed
+    seen = ap (λ (s : WorkerState). s.seen.sealed) split
+
+    its_tickets : other.tickets ≡ last.tickets
+    its_tickets = last.added ∙ ap (λ (l : List Ticket). l ++ last.tickets) no_tickets
+
+    all_tickets : tickets_of (others ++ other ∷ []) ≡ tickets_of others ++ last.tickets
+    all_tickets = tickets-push others other ∙ ap (λ (l : List Ticket). tickets_of others ++ l) its_tickets
+
+    drawn_then : AreDrawnOf seat.seen.asked qs last.tickets
+    drawn_then = subst (λ (n : ℕ). AreDrawnOf n qs last.tickets) (ap (λ (s : WorkerState). s.seen.asked) split) last.drawn
+
+    lengths : length (tickets_of (others ++ other ∷ [])) ≡ length (tickets_of others) + length last.tickets
+    lengths = ap length all_tickets ∙ length-append (tickets_of others) last.tickets
+
+    planned : length (ps ++ qs) ≡ length ps + length qs
+    planned = length-append ps qs
+
+    most : length (tickets_of others) ≤ length ps
+    most = drawn-most seat.seen.asked ps (tickets_of others) before.drawn
+
+    last_most : length last.tickets ≤ length qs
+    last_most = drawn-most part.seen.asked qs last.tickets last.drawn
+
+    pushed-made : made_by (others ++ other ∷ []) ≡ made_by others + other.made
+    pushed-made = sum_by-push (λ (s : WorkerState). s.made) others other
+
+    pushed-calls : calls_of (others ++ other ∷ []) ≡ calls_of others + other.calls
+    pushed-calls = sum_by-push (λ (s : WorkerState). s.calls) others other
+
+    parts-calls : calls_of (parts ++ part ∷ []) ≡ calls_of parts + part.calls
+    parts-calls = sum_by-push (λ (s : WorkerState). s.calls) parts part
+
+    any : have_seen_seal (others ++ other ∷ []) ≡ (have_seen_seal others || (other.seen.sealed || false))
+    any = list_any-append (λ (s : WorkerState). s.seen.sealed) others (other ∷ [])
+
+    by : (length (tickets_of others) < length ps) ⊎ (length ps ≤ length (tickets_of others)) → length (tickets_of (others ++ other ∷ [])) < length (ps ++ qs)
+        → (seat.seen.sealed || (have_seen_seal others || (other.seen.sealed || false))) ≡ true
+    by (inl fewer) less = or-first seat.seen.sealed (have_seen_seal others) other.seen.sealed (before.met fewer)
+    by (inr whole) less =
+        or-last seat.seen.sealed (have_seen_seal others) other.seen.sealed (last.met (omega (arith, less, whole, lengths, last_most, planned)))
+
+-- as many seats as have drawn for these lists
+have-each : (seat : WorkerState) (places : ℕ → List Planned) (parts others : List WorkerState) (k : ℕ) → k ≤ length parts → k ≤ length others
+    → All (λ (part : WorkerState). part ≡ split_off seat part.budget part.calls) parts
+    → ((i : ℕ) (d : WorkerState) → i < k → HasDrawn (get_or parts i d) (places i) (get_or others i d))
+    → HaveDrawn seat (lists_of places k) (take k parts) (take k others)
+have-each seat places parts others zero within within_others split draws = have-none seat
+have-each seat places parts others (suc k) within within_others split draws =
+    let next : suc k ≡ k + 1 = omega arith in
+    let before = have-each seat places parts others k (omega arith) (omega arith) split (λ i d less. draws i d (omega arith)) in
+    let more =
+    have-more seat (lists_of places k) (places k) (take k parts) (take k others) (get_or parts k seat) (get_or others k seat) (split k seat (omega arith)) before
+    (draws k seat (omega arith)) in
+    rw (next, take_more parts k seat (omega arith), take_more others k seat (omega arith)) more
+
+-- ---- seats that are split off
+
+pub split-none : (old : WorkerState) → HasSplit old [] old
+split-none old = record {
+  each = All-nil (λ (part : WorkerState). part ≡ split_off old part.budget part.calls);
+  budget = omega arith;
+  calls = omega arith;
+  rest =
+      let budgets : old.budget ≡ old.budget - 0 = omega arith in
+      let calls : old.calls ≡ old.calls - 0 = omega arith in
+      let rooms : old.room ≡ old.room + 0 = omega arith in
+      λ i. record old { budget = budgets i; calls = calls i; room = rooms i };
+}
+
+pub split-more : (old mid new part : WorkerState) (parts : List WorkerState) (budget calls : ℕ) → HasSplit old parts mid → budget ≤ mid.budget → calls ≤ mid.calls
+    → new ≡ after_split mid budget calls → part ≡ split_off mid budget calls → HasSplit old (parts ++ part ∷ []) new
+split-more old mid new part parts budget calls before fits lasts after is = record {
+  each = All-push (λ (s : WorkerState). s ≡ split_off old s.budget s.calls) parts part before.each whole;
+  budget = omega (arith, fits, before.budget, mid_budget, budgets);
+  calls = omega (arith, lasts, before.calls, mid_calls, counts);
+  rest =
+      let left : mid.budget - budget ≡ old.budget - budgets_of (parts ++ part ∷ []) = omega (arith, mid_budget, budgets) in
+      let more : mid.calls - calls ≡ old.calls - calls_of (parts ++ part ∷ []) = omega (arith, mid_calls, counts) in
+      let rooms : mid.room + calls ≡ old.room + calls_of (parts ++ part ∷ []) = omega (arith, ap (λ (s : WorkerState). s.room) before.rest, counts) in
+      after ∙ (λ i. record (before.rest i) { budget = left i; calls = more i; room = rooms i });
+}
+  where
+    mid_budget : mid.budget ≡ old.budget - budgets_of parts
+    mid_budget = ap (λ (s : WorkerState). s.budget) before.rest
+
+    mid_calls : mid.calls ≡ old.calls - calls_of parts
+    mid_calls = ap (λ (s : WorkerState). s.calls) before.rest
+
+    its_budget : part.budget ≡ budget
+    its_budget = ap (λ (s : WorkerState). s.budget) is
+
+    its_calls : part.calls ≡ calls
+    its_calls = ap (λ (s : WorkerState). s.calls) is
+
+    budgets : budgets_of (parts ++ part ∷ []) ≡ budgets_of parts + budget
+    budgets = sum_by-push (λ (s : WorkerState). s.budget) parts part ∙ ap (λ (n : ℕ). budgets_of parts + n) its_budget
+
+    counts : calls_of (parts ++ part ∷ []) ≡ calls_of parts + calls
+    counts = sum_by-push (λ (s : WorkerState). s.calls) parts part ∙ ap (λ (n : ℕ). calls_of parts + n) its_calls
+
+    whole : part ≡ split_off old part.budget part.calls
+    whole =
+        is ∙ ap (λ (s : WorkerState). split_off s budget calls) before.rest ∙ (λ i. split_off old (sym its_budget i) (sym its_calls i))
+
+-- what holds of each seat and its number holds of one seat more
+pub parts-more : (need : ℕ → ℕ) (has : WorkerState → ℕ) (parts : List WorkerState) (part : WorkerState) (n : ℕ) → length parts ≡ n
+    → ((i : ℕ) (d : WorkerState) → i < n → need i ≤ has (get_or parts i d)) → need n ≤ has part
+    → (i : ℕ) (d : WorkerState) → i < n + 1 → need i ≤ has (get_or (parts ++ part ∷ []) i d)
+parts-more need has parts part n count each last i d less = by (cases_lt i n)
+  where
+    by : (i < n) ⊎ (n ≤ i) → need i ≤ has (get_or (parts ++ part ∷ []) i d)
+    by (inl before) =
+        let at : i < length parts = omega arith in
+        rw (get_or_append_left parts (part ∷ []) d i at) (each i d before)
+    by (inr upto) =
+        let at : length parts ≡ i = omega arith in
+        let same : n ≡ i = omega arith in
+        rw (get_or_push parts part d i at) (subst (λ (j : ℕ). need j ≤ has part) same last)
+
+-- ---- seats that are joined
+
+pub joined-none : (old : WorkerState) → HasJoined old [] old
+joined-none old = record {
+  cell = refl;
+  given = refl;
+  tickets = sym (append-nil old.tickets);
+  budget = omega arith;
+  calls = omega arith;
+  made = omega arith;
+  sealed = sym (or-same old.seen.sealed);
+}
+
+or-more : (a b c : Bool) → ((a || b) || c) ≡ (a || (b || (c || false)))
+or-more true b c = refl
+or-more false true c = refl
+or-more false false c = sym (or-same c)
+
+pub joined-more : (old mid new other : WorkerState) (others : List WorkerState) → HasJoined old others mid → Joins mid other new → HasJoined old (others ++ other ∷ []) new
+joined-more old mid new other others before joins = record {
+  cell = ap (λ (s : WorkerState). s.cell) joins.after ∙ before.cell;
+  given = ap (λ (s : WorkerState). s.given) joins.after ∙ before.given;
+  tickets =
+      ap (λ (s : WorkerState). s.tickets) joins.after ∙ ap (λ (l : List Ticket). l ++ other.tickets) before.tickets
+      ∙ append_assoc old.tickets (tickets_of others) other.tickets ∙ ap (λ (l : List Ticket). old.tickets ++ l) (sym (tickets-push others other));
+  budget = omega (arith, ap (λ (s : WorkerState). s.budget) joins.after, before.budget, sum_by-push (λ (s : WorkerState). s.budget) others other);
+  calls = omega (arith, ap (λ (s : WorkerState). s.calls) joins.after, before.calls, sum_by-push (λ (s : WorkerState). s.calls) others other);
+  made = omega (arith, ap (λ (s : WorkerState). s.made) joins.after, before.made, sum_by-push (λ (s : WorkerState). s.made) others other);
+  sealed =
+      ap (λ (s : WorkerState). s.seen.sealed) joins.after ∙ ap (λ (b : Bool). b || other.seen.sealed) before.sealed
+      ∙ or-more old.seen.sealed (have_seen_seal others) other.seen.sealed
+      ∙ ap (λ (b : Bool). old.seen.sealed || b) (sym (list_any-append (λ (s : WorkerState). s.seen.sealed) others (other ∷ [])));
+}
+
+-- there is room for one seat more while there is room for all
+pub room-left : (seats joined : List WorkerState) (other : WorkerState) (start now : ℕ) → map (λ s. s) joined ≡ take (length joined) seats → length joined < length seats
+    → other ≡ get_or seats (length joined) other → rooms_of seats ≤ start → start ≤ now + rooms_of joined → room_taken other ≤ now
+room-left seats joined other start now far more is fits left =
+    omega (
+      arith,
+      fits,
+      left,
+      ap rooms_of (sym (map-id joined) ∙ far),
+      sum_by_more_le room_taken seats (length joined) other more,
+      ap room_taken is,
+    )
+
+-- seats that have drawn are joined into the one that they were split off
+have-joined : (seat rest new : WorkerState) (planned : List Planned) (parts others : List WorkerState) → HasSplit seat parts rest → HaveDrawn seat planned parts others
+    → HasJoined rest others new → HasDrawn seat planned new
+have-joined seat rest new planned parts others split have joined = record {
+  cell = joined.cell ∙ ap (λ (s : WorkerState). s.cell) split.rest;
+  given = joined.given ∙ ap (λ (s : WorkerState). s.given) split.rest;
+  tickets = tickets_of others;
+  added = joined.tickets ∙ ap (λ (s : WorkerState). s.tickets ++ tickets_of others) split.rest;
+  drawn = have.drawn;
+  made = omega (arith, joined.made, joined.calls, have.made, split.calls, rest_calls, ap (λ (s : WorkerState). s.made) split.rest);
+  used = omega (arith, joined.calls, have.used, split.calls, rest_calls);
+  calls = omega (arith, joined.calls, have.calls, split.calls, rest_calls);
+  budget = omega (arith, joined.budget, have.budget, split.budget, ap (λ (s : WorkerState). s.budget) split.rest);
+  all = λ e. sealed ∙ have.all e;
+  met = λ less. sealed ∙ have.met less;
+}
+  where
+    rest_calls : rest.calls ≡ seat.calls - calls_of parts
+    rest_calls = ap (λ (s : WorkerState). s.calls) split.rest
+
+    sealed : new.seen.sealed ≡ (seat.seen.sealed || have_seen_seal others)
+    sealed = joined.sealed ∙ ap (λ (s : WorkerState). s.seen.sealed || have_seen_seal others) split.rest
+
+-- the same for those planned in another order
+seat-permutation : (old new : WorkerState) (ps qs : List Planned) → IsPermutation ps qs → HasDrawn old ps new → HasDrawn old qs new
+seat-permutation old new ps qs same draws = record {
+  cell = draws.cell;
+  given = draws.given;
+  tickets = draws.tickets;
+  added = draws.added;
+  drawn = drawn-permutation old.seen.asked ps qs draws.tickets same draws.drawn;
+  made = draws.made;
+  used = draws.used;
+  calls = omega (arith, draws.calls, length_permutation ps qs same);
+  budget = omega (arith, draws.budget, sum_by-IsPermutation (λ (p : Planned). p.asked) ps qs same);
+  all = λ e. draws.all (e ∙ length_permutation ps qs same);
+  met = λ less. draws.met (omega (arith, less, length_permutation ps qs same));
+}
+
+-- ---- a group
+
+-- each of as many lists as there are seats
+have-all : (seat rest : WorkerState) (places : ℕ → List Planned) (parts others : List WorkerState) (n : ℕ) → length parts ≡ n → length others ≡ n → HasSplit seat parts rest
+    → ((i : ℕ) (d : WorkerState) → i < n → HasDrawn (get_or parts i d) (places i) (get_or others i d)) → HaveDrawn seat (lists_of places n) parts others
+have-all seat rest places parts others n count others_count split draws =
+    rw (← take_all n parts (omega arith), ← take_all n others (omega arith))
+    (have-each seat places parts others n (omega arith) (omega arith) split.each draws)
+
+have-group : (seat rest : WorkerState) (group : List Planned) (parts others : List WorkerState) → 0 < length parts → length others ≡ length parts → HasSplit seat parts rest
+    → ((i : ℕ) (d : WorkerState) → i < length parts → HasDrawn (get_or parts i d) (places_of (length parts) i group) (get_or others i d))
+    → HaveDrawn seat (dealt (length parts - 1) (suc (length parts - 1)) group) parts others
+have-group seat rest group parts others some count split draws =
+    let is : length parts ≡ suc (length parts - 1) = omega arith in
+    have-all seat rest (λ i. places_of (length parts) i group) parts others (suc (length parts - 1)) is (count ∙ is) split (λ i d less. draws i d (omega (arith, less, is)))
+
+nothing : (k : ℕ) → lists_of (λ i. []) k ≡ []
+nothing zero = refl
+nothing (suc k) = append-nil (lists_of (λ i. []) k) ∙ nothing k
+
+have-nothing : (seat rest : WorkerState) (parts : List WorkerState) → HasSplit seat parts rest → HaveDrawn seat [] parts parts
+have-nothing seat rest parts split =
+    subst (λ (l : List Planned). HaveDrawn seat l parts parts) (nothing (length parts))
+    (have-all seat rest (λ i. []) parts parts (length parts) refl refl split (λ i d less. seat-none (get_or parts i d)))
+
+rooms : (seats : List WorkerState) → rooms_of seats ≡ calls_of seats + length (tickets_of seats)
+rooms [] = refl
+rooms (s ∷ seats) =
+    omega (
+      arith,
+      rooms seats,
+      sum_by-cons room_taken s seats,
+      sum_by-cons (λ (t : WorkerState). t.calls) s seats,
+      length-append s.tickets (tickets_of seats),
+    )
+
+room_for : (seat rest : WorkerState) (planned : List Planned) (parts others : List WorkerState) → HasSplit seat parts rest → HaveDrawn seat planned parts others
+    → rooms_of others ≤ rest.room
+room_for seat rest planned parts others split have = omega (arith, rooms others, have.used, ap (λ (s : WorkerState). s.room) split.rest)
+
+-- there is room for the seats of a group that have drawn
+pub group-room : (seat rest : WorkerState) (group : List Planned) (parts others : List WorkerState) → 0 < length parts → length others ≡ length parts → HasSplit seat parts rest
+    → ((i : ℕ) (d : WorkerState) → i < length parts → HasDrawn (get_or parts i d) (places_of (length parts) i group) (get_or others i d)) → rooms_of others ≤ rest.room
+group-room seat rest group parts others some count split draws =
+    room_for seat rest (dealt (length parts - 1) (suc (length parts - 1)) group) parts others split (have-group seat rest group parts others some count split draws)
+
+-- they are of the same cell
+pub group-cells : (seat rest : WorkerState) (places : ℕ → List Planned) (parts others : List WorkerState) → length others ≡ length parts → HasSplit seat parts rest
+    → ((i : ℕ) (d : WorkerState) → i < length parts → HasDrawn (get_or parts i d) (places i) (get_or others i d)) → All (λ (s : WorkerState). s.cell ≡ seat.cell) others
+group-cells seat rest places parts others count split draws =
+    λ i d less. (draws i d (omega (arith, less, count))).cell ∙ ap (λ (s : WorkerState). s.cell) (split.each i d (omega (arith, less, count)))
+
+-- once they are joined, the seat has drawn for the group
+pub group-drawn : (seat rest new : WorkerState) (group : List Planned) (parts others : List WorkerState) → 0 < length parts → length others ≡ length parts
+    → HasSplit seat parts rest → ((i : ℕ) (d : WorkerState) → i < length parts → HasDrawn (get_or parts i d) (places_of (length parts) i group) (get_or others i d))
+    → HasJoined rest others new → HasDrawn seat group new
+group-drawn seat rest new group parts others some count split draws joined =
+    let gap : ℕ = length parts - 1 in
+    seat-permutation seat new (dealt gap (suc gap) group) group (dealt-all gap group)
+    (have-joined seat rest new (dealt gap (suc gap) group) parts others split (have-group seat rest group parts others some count split draws) joined)
+
+-- seats that are joined again before they have drawn
+pub undone-room : (seat rest : WorkerState) (parts : List WorkerState) → HasSplit seat parts rest → rooms_of parts ≤ rest.room
+undone-room seat rest parts split = room_for seat rest [] parts parts split (have-nothing seat rest parts split)
+
+pub undone-cells : (seat rest : WorkerState) (parts : List WorkerState) → HasSplit seat parts rest → All (λ (s : WorkerState). s.cell ≡ seat.cell) parts
+undone-cells seat rest parts split = λ i d less. ap (λ (s : WorkerState). s.cell) (split.each i d less)
+
+pub undone-drawn : (seat rest new : WorkerState) (parts : List WorkerState) → HasSplit seat parts rest → HasJoined rest parts new → HasDrawn seat [] new
+undone-drawn seat rest new parts split joined = have-joined seat rest new [] parts parts split (have-nothing seat rest parts split) joined

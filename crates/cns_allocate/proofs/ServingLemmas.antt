@@ -1,0 +1,153 @@
+-- A plan is served group by group.
+use Rattle.std.proofs.Common.{◌≡◌, ℕ, zero, suc, ◌+◌, ◌-◌, ◌<◌, ◌≤◌, ◌⊎◌, inl, inr, Bool, true, false, List, [], ◌∷◌, ◌++◌, length, take, drop, get_or, refl, sym, ap, ◌∙◌, arith, subst, length-append}
+use Rattle.std.specs.Prelude.{All, AllPairs, ◌||◌}
+use Rattle.std.proofs.lemmas.Bool.{cases_lt}
+use Rattle.std.proofs.lemmas.List.{append-nil, drop-drop, drop-take, get_or-drop, get_or-take, length-drop, length-take, length-take-le, take-append-drop, take-take}
+use Rattle.std.proofs.lemmas.List.Elements.{All-append, All-cons, All-drop, All-nil, All-take, All-weaker}
+use Rattle.std.proofs.lemmas.List.Sorted.{length_permutation}
+use Rattle.cns_pool.specs.declared.ticket.Ticket.{Ticket}
+use Rattle.cns_pool.specs.WorkerSeat.{EndWithin, WorkerState, calls_out}
+use Rattle.cns_movements.specs.Asked.{IsAsked}
+use Rattle.cns_allocate.specs.Group.{rank}
+use Rattle.cns_allocate.specs.Plan.{IsPlan}
+use Rattle.cns_allocate.specs.Serving.{FollowPlanByStart, HasDrawn, shares_of}
+use Rattle.cns_allocate.specs.declared.planned.Planned.{Planned}
+use Rattle.cns_allocate.proofs.DealLemmas.{shares_of-append}
+use Rattle.cns_allocate.proofs.DrawnLemmas.{drawn-most}
+use Rattle.cns_allocate.proofs.FollowLemmas.{follow-group, follow-rest}
+use Rattle.cns_allocate.proofs.PlanLemmas.{IsNoLater}
+
+-- tickets that end within n start within it
+ends-start : (n : ℕ) (ts : List Ticket) → EndWithin n ts → All (λ (t : Ticket). t.start ≤ n) ts
+ends-start n [] ends = All-nil (λ (t : Ticket). t.start ≤ n)
+ends-start n (t ∷ ts) ends = All-cons (λ (u : Ticket). u.start ≤ n) t ts (omega (arith, ends.1)) (ends-start n ts ends.2)
+
+-- of a whole plan there are as many tickets as planned
+followed-count : (plan : List Planned) (ts : List Ticket) → FollowPlanByStart plan ts false → length ts ≡ length plan
+followed-count plan ts follow =
+    let f = follow.follows in
+    omega (arith, length_permutation ts follow.sorted follow.permutation, f.whole refl, length_permutation f.order plan f.permutation)
+
+-- ---- where a group stands in the plan
+
+-- the places of a plan up to the end of a group
+pub take-group : (m n : ℕ) (plan : List Planned) → take (m + n) plan ≡ take m plan ++ take n (drop m plan)
+take-group m n plan =
+    sym (take-append-drop m (take (m + n) plan)) ∙ ap (λ (l : List Planned). l ++ drop m (take (m + n) plan)) (take-take m (m + n) plan (omega arith))
+    ∙ ap (λ (l : List Planned). take m plan ++ l) (drop-take m n plan)
+
+-- those from a group on
+pub drop-group : (m n : ℕ) (plan : List Planned) → drop m plan ≡ take n (drop m plan) ++ drop (m + n) plan
+drop-group m n plan = sym (take-append-drop n (drop m plan)) ∙ ap (λ (l : List Planned). take n (drop m plan) ++ l) (drop-drop n m plan)
+
+-- what a group asks for, and those after it
+pub shares-group : (m n : ℕ) (plan : List Planned) → shares_of (drop m plan) ≡ shares_of (take n (drop m plan)) + shares_of (drop (m + n) plan)
+shares-group m n plan = ap shares_of (drop-group m n plan) ∙ shares_of-append (take n (drop m plan)) (drop (m + n) plan)
+
+-- a group is within the plan, and has as many places as were counted
+pub record IsSized (m n : ℕ) (plan : List Planned) : Type 0 where
+  pub within : n ≤ length plan - m
+  pub count : length (take n (take (length plan - m) (drop m plan))) ≡ n
+
+pub group_size : (plan : List Planned) (m n : ℕ) → n ≤ length (take (length plan - m) (drop m plan)) → IsSized m n plan
+group_size plan m n fits = record {
+  within = omega (arith, fits, length-take (length plan - m) (drop m plan));
+  count = omega (arith, fits, length-take n (take (length plan - m) (drop m plan)));
+}
+
+-- each of a group asks for a share
+pub asks-group : (m n : ℕ) (plan : List Planned) → IsPlan plan → All (λ (p : Planned). 1 ≤ p.asked) (take n (drop m plan))
+asks-group m n plan is =
+    All-weaker (λ (p : Planned). IsAsked p.asked) (λ (p : Planned). 1 ≤ p.asked) (λ p asked. asked.from) (take n (drop m plan))
+    (All-take (λ (p : Planned). IsAsked p.asked) n (drop m plan) (All-drop (λ (p : Planned). IsAsked p.asked) m plan is.asked))
+
+module _ (plan : List Planned) (m n r : ℕ) (is : IsPlan plan) (below : m < length plan) (some : 0 < n)
+    (same : All (λ (p : Planned). rank p.group ≡ r) (take n (drop m plan))) where
+  -- the group of its first place
+  rank_at : (d : Planned) → rank (get_or plan m d).group ≡ r
+  rank_at d =
+      let first : get_or (take n (drop m plan)) 0 d ≡ get_or plan m d =
+      get_or-take n (drop m plan) 0 d some ∙ get_or-drop m plan 0 d ∙ ap (λ (k : ℕ). get_or plan k d) (omega arith) in
+      let there : 0 < length (take n (drop m plan)) = omega (arith, length-take n (drop m plan), length-drop m plan) in
+      subst (λ (p : Planned). rank p.group ≡ r) first (same 0 d there)
+
+  -- no group before it is later
+  upto_group : All (λ (p : Planned). rank p.group ≤ r) (take m plan)
+  upto_group k d less =
+      let before : k < m = omega (arith, less, length-take m plan) in
+      let order = is.groups k m d before below in
+      rw (get_or-take m plan k d before) (omega (arith, order, rank_at d))
+
+  -- and none from it on is earlier
+  from_group : (j : ℕ) → m ≤ j → All (λ (p : Planned). r ≤ rank p.group) (drop j plan)
+  from_group j le k d less =
+      let at : j + k < length plan = omega (arith, less, length-drop j plan) in
+      rw (get_or-drop j plan k d) (by (cases_lt m (j + k)) at)
+    where
+      by : (m < j + k) ⊎ (j + k ≤ m) → j + k < length plan → r ≤ rank (get_or plan (j + k) d).group
+      by (inl after) at = omega (arith, is.groups m (j + k) d after at, rank_at d)
+      by (inr here) at = let same_place : m ≡ j + k = omega arith in subst (λ (i : ℕ). r ≤ rank (get_or plan i d).group) same_place (omega (arith, rank_at d))
+
+  rest_pairs : (j : ℕ) → AllPairs IsNoLater (drop j plan)
+  rest_pairs j i k d less within =
+      rw (get_or-drop j plan i d, get_or-drop j plan k d) (is.groups (j + i) (j + k) d (omega arith) (omega (arith, within, length-drop j plan)))
+
+  -- ---- what a group's draws leave
+
+  module _ (old new : WorkerState) (follow : FollowPlanByStart (take m plan) old.tickets false) where
+    -- where the group is not served, the tickets follow the plan as those of a sealed lot
+    pub fault-follow : HasDrawn old [] new → FollowPlanByStart plan new.tickets true
+    fault-follow draws =
+        let none : draws.tickets ≡ [] = no_tickets draws.tickets (drawn-most old.seen.asked [] draws.tickets draws.drawn) in
+        let kept : new.tickets ≡ old.tickets = draws.added ∙ ap (λ (l : List Ticket). old.tickets ++ l) none ∙ append-nil old.tickets in
+        let whole = follow-rest r (take m plan) (drop m plan) old.tickets false upto_group (from_group m (omega arith)) (rest_pairs m) follow in
+        rw kept (subst (λ (l : List Planned). FollowPlanByStart l old.tickets true) (take-append-drop m plan) whole)
+      where
+        no_tickets : (ts : List Ticket) → length ts ≤ 0 → ts ≡ []
+        no_tickets [] none = refl
+        no_tickets (t ∷ ts) none = absurd (omega (arith, none))
+
+    module _ (draws : HasDrawn old (take n (drop m plan)) new) (ends : EndWithin old.seen.asked old.tickets) where
+      after : (sealed : Bool) → (sealed ≡ false → length draws.tickets ≡ length (take n (drop m plan))) → FollowPlanByStart (take (m + n) plan) new.tickets sealed
+      after sealed whole =
+          rw (take-group m n plan, draws.added)
+          (follow-group old.seen.asked r (take m plan) (take n (drop m plan)) old.tickets draws.tickets sealed upto_group same follow
+          (ends-start old.seen.asked old.tickets ends) draws.drawn whole)
+
+      -- how many tickets there are then
+      tickets_then : n ≤ length plan - m → length new.tickets ≡ m + length draws.tickets
+      tickets_then within =
+          omega (
+            arith,
+            ap length draws.added,
+            length-append old.tickets draws.tickets,
+            followed-count (take m plan) old.tickets follow,
+            length-take m plan,
+          )
+
+      most : length draws.tickets ≤ length (take n (drop m plan))
+      most = drawn-most old.seen.asked (take n (drop m plan)) draws.tickets draws.drawn
+
+      group_count : n ≤ length plan - m → length (take n (drop m plan)) ≡ n
+      group_count within = omega (arith, length-take n (drop m plan), length-drop m plan)
+
+      -- where all of the group have a ticket, the tickets follow the plan up to its end, and the seal was not met
+      pub whole-follow : n ≤ length plan - m → m + n ≤ length new.tickets → FollowPlanByStart (take (m + n) plan) new.tickets false
+      whole-follow within all = after false (λ e. omega (arith, all, tickets_then within, most, group_count within))
+
+      pub whole-sealed : n ≤ length plan - m → m + n ≤ length new.tickets → new.seen.sealed ≡ old.seen.sealed
+      whole-sealed within all = draws.all (omega (arith, all, tickets_then within, most, group_count within))
+
+      -- where one has none, the tickets follow the plan as those of a sealed lot, and the seal was met
+      pub sealed-follow : FollowPlanByStart plan new.tickets true
+      sealed-follow =
+          let whole =
+          follow-rest r (take (m + n) plan) (drop (m + n) plan) new.tickets true
+          (rw (take-group m n plan)
+          (All-append (λ (p : Planned). rank p.group ≤ r) (take m plan) (take n (drop m plan)) upto_group
+          (All-weaker (λ (p : Planned). rank p.group ≡ r) (λ (p : Planned). rank p.group ≤ r) (λ p e. omega arith) (take n (drop m plan)) same)))
+          (from_group (m + n) (omega arith)) (rest_pairs (m + n)) (after true (λ e. cc)) in
+          subst (λ (l : List Planned). FollowPlanByStart l new.tickets true) (take-append-drop (m + n) plan) whole
+
+      pub sealed-met : n ≤ length plan - m → length new.tickets < m + n → new.seen.sealed ≡ true
+      sealed-met within fewer = draws.met (omega (arith, fewer, tickets_then within, group_count within))

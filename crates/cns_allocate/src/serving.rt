@@ -1,0 +1,165 @@
+ghost use Rattle.std.specs.Prelude.{◌≡◌, ◌↔◌, ◌⊎◌, ℕ, ◌<◌, ◌≤◌, ◌||◌, [], length, take, true, All, IfErr, IfOk, OnErr, OnOk};
+ghost use Rattle.cns_pool.specs.WorkerSeat.{EndWithin};
+ghost use Rattle.cns_allocate.specs.Group.{rank};
+ghost use Rattle.cns_allocate.specs.Plan.{IsPlan};
+ghost use Rattle.cns_allocate.specs.Serving.{HasDrawn, Serves, shares_of};
+ghost use Rattle.cns_allocate.specs.declared.planned.Planned.{Planned};
+ghost use Rattle.cns_allocate.specs.declared.serving.ServeCause.TheVariants.{TooManyWorkers};
+
+use crate::gate::Gate;
+use crate::planned::Planned;
+use crate::seats::{draw_all, join_seats, split_seats};
+use cns_pool::{PoolCell, WorkerSeat};
+use std::alloc::{AllocError, Global};
+use std::thread::Threads;
+
+/// The most workers that serve a plan; more come later. (This project's own limit.)
+pub const MAX_WORKERS: usize = 2;
+
+/// A plan that was served.
+#[derive(Drop)]
+pub struct Served {
+    /// The seat, with all tickets that were drawn.
+    pub seat: WorkerSeat,
+    /// Whether a worker met the seal, so that some of those planned have no ticket.
+    pub sealed: bool,
+}
+
+/// Why a plan was not served.
+#[derive(Clone, Copy, PartialEq, Eq, Debug)]
+pub enum ServeCause {
+    /// There are no workers, or more than `MAX_WORKERS`. The seat is as it was handed in.
+    TooManyWorkers,
+    /// There is no memory for the seats of the workers.
+    OutOfMemory,
+}
+
+/// A plan that was not served, or only in part.
+#[derive(Drop)]
+pub struct ServeFault {
+    pub cause: ServeCause,
+    /// The seat, with all tickets that were drawn before the fault.
+    pub seat: WorkerSeat,
+}
+
+/// Draws the tickets of a plan from a cell by several workers. (This project's own rule.)
+///
+/// The groups are served one after another. The member at the place j of its group, counted from 0, is
+/// drawn for by the worker j mod `workers`; each worker draws in a thread of its own where one can be
+/// made, with a seat that is split off the one handed in, and calls the gate before and after each
+/// reserve. Once the workers have drawn, their seats are joined in again, so the seat that comes back has
+/// all tickets, also in a fault. By start, they are those of the first members of an order of the whole
+/// plan in which no group comes after a later one; all members have one, unless a worker met the seal.
+///
+/// The seat has no ticket yet, and budget and calls for the whole plan.
+pub fn serve<G: Gate + Sync, R: Threads + Sync>(
+    rt: &R,
+    alloc: Global,
+    cell: &PoolCell,
+    seat: WorkerSeat,
+    plan: &[Planned],
+    workers: usize,
+    gate: &G,
+) -> Result<Served, ServeFault>
+    requires cell { seat.cell ≡ cell.now }
+    requires none { seat.tickets ≡ [] }
+    requires plan { IsPlan plan.now }
+    requires budget { shares_of plan.now ≤ seat.budget }
+    requires calls { length plan.now ≤ seat.calls }
+    ensures served { IfOk result (λ served. Serves plan.now seat served.seat served.sealed) }
+    ensures sealed { IfOk result (λ served. served.seat.seen.sealed ≡ (served.sealed || seat.seen.sealed)) }
+    ensures fault { IfErr result (λ fault. Serves plan.now seat fault.seat true) }
+    ensures same { IfErr result (λ fault. fault.cause ≡ TooManyWorkers → fault.seat ≡ seat) }
+    ensures many { IfErr result (λ fault. fault.cause ≡ TooManyWorkers ↔ ((workers ≡ 0) ⊎ (MAX_WORKERS < workers))) }
+    ensures few { OnOk result ((0 < workers) × (workers ≤ MAX_WORKERS)) }
+{
+    let mut seat = seat;
+    if workers == 0 || workers > MAX_WORKERS {
+        let cause = ServeCause::TooManyWorkers;
+        return Err(ServeFault { cause, seat });
+    }
+    match serve_groups(rt, alloc, cell, &mut seat, plan, workers, gate) {
+        Ok(sealed) => Ok(Served { seat, sealed }),
+        Err(AllocError) => {
+            let cause = ServeCause::OutOfMemory;
+            Err(ServeFault { cause, seat })
+        }
+    }
+}
+
+// Serves the groups one after another, up to the first that meets the seal, and says whether one did.
+fn serve_groups<G: Gate + Sync, R: Threads + Sync>(
+    rt: &R,
+    alloc: Global,
+    cell: &PoolCell,
+    seat: &mut WorkerSeat,
+    plan: &[Planned],
+    workers: usize,
+    gate: &G,
+) -> Result<bool, AllocError>
+    requires cell { seat.old.cell ≡ cell.now }
+    requires none { seat.old.tickets ≡ [] }
+    requires workers { (0 < workers) × (workers ≤ 64) }
+    requires plan { IsPlan plan.now }
+    requires budget { shares_of plan.now ≤ seat.old.budget }
+    requires calls { length plan.now ≤ seat.old.calls }
+    ensures served { IfOk result (λ sealed. Serves plan.now seat.old seat.new sealed) }
+    ensures sealed { IfOk result (λ sealed. seat.new.seen.sealed ≡ (sealed || seat.old.seen.sealed)) }
+    ensures fault { OnErr result (Serves plan.now seat.old seat.new true) }
+{
+    let mut served = 0;
+    while served < plan.len() {
+        let rest = &plan[served..];
+        let group = &rest[..group_len(rest)];
+        serve_group(rt, alloc, cell, seat, group, workers, gate)?;
+        served += group.len();
+        if seat.tickets().len() < served {
+            return Ok(true);
+        }
+    }
+    Ok(false)
+}
+
+// How many of some planned, from the first on, are of the first one's group.
+fn group_len(planned: &[Planned]) -> usize
+    requires some { 0 < length planned.now }
+    ensures some { 0 < result }
+    ensures within { result ≤ length planned.now }
+    ensures group { (r : ℕ) × All (λ (p : Planned). rank p.group ≡ r) (take result planned.now) }
+{
+    let group = planned[0].group;
+    let mut len = 1;
+    while len < planned.len() && planned[len].is_in(group) {
+        len += 1;
+    }
+    len
+}
+
+// Serves one group: splits off a seat for each worker, lets them draw, and joins their seats in again.
+fn serve_group<G: Gate + Sync, R: Threads + Sync>(
+    rt: &R,
+    alloc: Global,
+    cell: &PoolCell,
+    seat: &mut WorkerSeat,
+    group: &[Planned],
+    workers: usize,
+    gate: &G,
+) -> Result<(), AllocError>
+    requires cell { seat.old.cell ≡ cell.now }
+    requires workers { (0 < workers) × (workers ≤ 64) }
+    requires asks { All (λ (p : Planned). 1 ≤ p.asked) group.now }
+    requires budget { shares_of group.now ≤ seat.old.budget }
+    requires calls { length group.now ≤ seat.old.calls }
+    ensures drawn { OnOk result (HasDrawn seat.old group.now seat.new) }
+    ensures ends { OnOk result (EndWithin seat.old.seen.asked seat.old.tickets) }
+    ensures fault { OnErr result (HasDrawn seat.old [] seat.new) }
+{
+    let mut seats = Vec::with_capacity(alloc, workers)?;
+    if let Err(fault) = split_seats(cell, seat, &mut seats, group, workers) {
+        join_seats(cell, seat, seats);
+        return Err(fault);
+    }
+    draw_all(rt, cell, seats.as_mut_slice(), group, gate);
+    join_seats(cell, seat, seats);
+    Ok(())
+}
