@@ -29,4 +29,6 @@ pub use ticket_order::by_start;
 pub use turns::{Turn, Turns};
 
 #[cfg(test)]
+mod serving_tests;
+#[cfg(test)]
 mod tests;

@@ -142,6 +142,15 @@ fn plan_after(alloc: Global, issued: &[Ask], were_long: &[MemberNo]) -> Result<P
     Ok(Plan::of(alloc, low, &book, &orders, &priorities, were_long)?)
 }
 
+// Members 2 and 3 are in one group.
+pub(crate) fn even_plan(alloc: Global) -> Result<Plan, Fail> {
+    let low = low_issue()?;
+    let book = two_longs(alloc)?;
+    let orders = OrderBook::new(alloc);
+    let priorities = Priorities::new(alloc);
+    Ok(Plan::of(alloc, low, &book, &orders, &priorities, &[])?)
+}
+
 // Member 3 has priority, and member 2 has not.
 fn plan_without_orders(alloc: Global) -> Result<Plan, Fail> {
     plan_after(alloc, &[], &[])

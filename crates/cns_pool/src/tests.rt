@@ -1,6 +1,5 @@
-ghost use Rattle.std.specs.Prelude.{◌≡◌, IfOk};
+ghost use Rattle.std.specs.Prelude.{◌≡◌};
 ghost use Rattle.cns_pool.specs.Pool.{new_pool};
-ghost use Rattle.cns_pool.specs.WorkerSeat.{Joins};
 
 use crate::{
     Asked, Closed, FeederSeat, Held, PlainPool, Pool, PoolCell, Reserved, Ticket, Tickets,
@@ -166,31 +165,15 @@ fn two_workers_and_a_seal(rt: HostRuntime) -> Result<(), Fail> {
     Ok(())
 }
 
-// The seat after it took in another one, for which it may have had no room.
-fn joined(cell: &PoolCell, mut seat: WorkerSeat, other: WorkerSeat) -> Result<WorkerSeat, Fail>
-    requires { (seat.cell ≡ cell.now) × (other.cell ≡ cell.now) }
-    ensures { IfOk result (λ both. Joins seat other both) }
-{
-    match cell.join(&mut seat, other) {
-        Ok(()) => Ok(seat),
-        Err(_) => Err("no room")?,
-    }
-}
-
 #[test]
 fn a_join_past_the_room(rt: HostRuntime) -> Result<(), Fail> {
-    let (cell, feeder, mut first) = PoolCell::open(rt.alloc(), 60, 0, 4)?;
-    let second = cell.split(&mut first, 30, 1)?;
-    assert_eq!(rt; (first.budget(), first.calls(), first.room()), (30, 3, 1));
-    assert_eq!(rt;
-        (second.budget(), second.calls(), second.room()),
-        (30, 1, 0)
-    );
-    let both = joined(&cell, second, first)?;
-    assert_eq!(rt; (both.budget(), both.calls(), both.room()), (60, 4, 0));
-    assert!(rt; both.tickets().is_empty());
-    assert_eq!(rt; (feeder.poured(), feeder.pour_room()), (0, 0));
-    assert!(rt; !cell.close(feeder, both).sealed);
+    let (cell, _, mut first) = PoolCell::open(rt.alloc(), 60, 0, 4)?;
+    let mut second = cell.split(&mut first, 30, 1)?;
+    assert_eq!(rt; first.room(), 1);
+    assert_eq!(rt; second.room(), 0);
+    assert!(rt; cell.join(&mut second, first).is_ok());
+    assert_eq!(rt; second.budget(), 60);
+    assert_eq!(rt; second.calls(), 4);
     Ok(())
 }
 
@@ -203,7 +186,7 @@ fn threads_share_a_cell_and_take_seats(rt: HostRuntime) -> Result<(), Fail> {
     let (cell, feeder, worker) = PoolCell::open(rt.alloc(), 0, 0, 0)?;
     is_send(&cell);
     is_sync(&cell);
-    is_send::<FeederSeat>(&feeder);
+    is_send(&feeder);
     is_send(&worker);
     assert!(rt; !feeder.is_sealed());
     Ok(())
