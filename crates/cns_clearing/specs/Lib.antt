@@ -1,5 +1,4 @@
 pub mod Pools
-pub mod PoolSums
 pub mod OpenLots
 pub mod Books
 pub mod Position

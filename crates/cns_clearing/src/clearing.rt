@@ -17,7 +17,7 @@ use crate::books::Books;
 use crate::closing::{allocation_of, asked_in_all};
 use crate::effects::Effects;
 use crate::lot::{Lot, Lots};
-use crate::pools::{PoolRows, free_of, lent_of, pool_rows};
+use crate::pools::{PoolRows, free_of, lent_of, out_of, pool_rows};
 use cns_allocate::{Plan, are_served, deliveries};
 use cns_ids::{Cusip, CycleId, MemberNo, Shares};
 use cns_journal::{CommitFault, Keeper, NotPlanned, RecordLog, Refused, ReplayFault, Restarted};
@@ -331,7 +331,7 @@ impl<K: Keeper> Clearing<K> {
         // With those that are lent they are at most 10^18.
         ensures small { result + lent_in self.now.lots issue ≤ 10 ^ 18 }
     {
-        free_of(self.books().pooled(), self.lots(), issue)
+        free_of(self.books().orders(), self.lots(), issue)
     }
 
     /// The shares of an issue that are lent: those that were poured into its open lot.
@@ -358,7 +358,7 @@ impl<K: Keeper> Clearing<K> {
     pub fn pools(&self, alloc: Global) -> Result<PoolRows, AllocError>
         ensures { IfOk result (λ rows. rows ≡ rows_of (orders_of self.now.log.records) self.now.lots) }
     {
-        pool_rows(alloc, self.books().pooled(), self.lots())
+        pool_rows(alloc, self.books().orders(), self.lots())
     }
 
     /// The plan that a lot of an issue would have if it were opened now: the members that are to
@@ -475,7 +475,7 @@ impl<K: Keeper> Clearing<K> {
             free_in book self.now.lots issue + lent_in self.now.lots issue + result + delivered_in book issue
             ≡ covered_in book issue }
     {
-        self.books().pooled().going_out(issue)
+        out_of(self.books().orders(), issue)
     }
 
     // The allocation that closes the lot of an issue with these tickets.

@@ -13,8 +13,6 @@ mod closing;
 mod effects;
 mod ledger;
 mod lot;
-mod pool_sums;
-mod pooled_orders;
 mod pools;
 
 pub use answer::{Closed, Cycled, Orders, Taken};
