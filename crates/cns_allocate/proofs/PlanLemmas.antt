@@ -9,11 +9,12 @@ use Rattle.std.proofs.lemmas.List.Elements.{All-append, All-filter, All-head, Al
 use Rattle.std.proofs.lemmas.List.Kept.{AllPairs-cons}
 use Rattle.std.proofs.lemmas.List.Sums.{sum_by-append, sum_by-cons}
 use Rattle.cns_netting.specs.History.{credit, credit_part, debit, due, settled_in, sold}
-use Rattle.cns_netting.specs.Rows.{holding_cmp, holdings_of, is_row_in, open_row, rows_of}
+use Rattle.cns_ids.specs.Holding.{holding_cmp}
+use Rattle.cns_netting.specs.Rows.{holdings_of, is_row_in, open_row, rows_of}
 use Rattle.cns_netting.specs.Book.{IsBook}
 use Rattle.cns_netting.specs.declared.entry.NetEntry.{NetEntry}
 use Rattle.cns_netting.specs.declared.entry.NetEntry.TheVariants.{Accepted, Netted, Settled}
-use Rattle.cns_netting.specs.declared.position.Holding.{Holding}
+use Rattle.cns_ids.specs.declared.holding.Holding.{Holding}
 use Rattle.cns_netting.specs.declared.position.PositionRow.{PositionRow}
 use Rattle.cns_netting.proofs.BookLemmas.{bought-most}
 use Rattle.cns_netting.proofs.HoldingLemmas.{AreAscending, holdings-ascending}

@@ -9,11 +9,12 @@ use Rattle.std.proofs.lemmas.List.Elements.{All-cons, All-head, All-nil, All-tai
 use Rattle.std.proofs.lemmas.List.Sums.{sum_by-cons}
 use Rattle.cns_trades.specs.declared.trade.Trade.{Trade}
 use Rattle.cns_netting.specs.History.{bought, credit, credit_part, debit, debit_part, due, due_since, is_reached, latest, position_of, settled_in, settled_out, sold}
-use Rattle.cns_netting.specs.Rows.{holding_cmp, holdings_of}
+use Rattle.cns_ids.specs.Holding.{holding_cmp}
+use Rattle.cns_netting.specs.Rows.{holdings_of}
 use Rattle.cns_netting.specs.Book.{IsBook, IsWithin}
 use Rattle.cns_netting.specs.declared.entry.NetEntry.{NetEntry}
 use Rattle.cns_netting.specs.declared.entry.NetEntry.TheVariants.{Accepted, Netted, Settled}
-use Rattle.cns_netting.specs.declared.position.Holding.{Holding}
+use Rattle.cns_ids.specs.declared.holding.Holding.{Holding}
 use Rattle.cns_netting.proofs.HoldingLemmas.{AreAscending, holding_order, holdings-ascending}
 use Rattle.cns_netting.proofs.BookLemmas.{book_netted, bought-most, sold-most}
 use Rattle.cns_netting.proofs.TradeLemmas.{Reaches, bought-due, reaches_latest, sold-due}
@@ -24,7 +25,8 @@ use Rattle.cns_movements.specs.declared.order.MoveKind.{MoveKind}
 use Rattle.cns_movements.specs.declared.order.MoveKind.TheVariants.{Cover, Delivery}
 use Rattle.cns_movements.specs.declared.order.Order.{Order}
 use Rattle.cns_movements.specs.declared.order.Reply.{Reply}
-use Rattle.cns_movements.proofs.AskLemmas.{asked_by, asked_by-numbered, covers_leave_deliveries, deliveries_leave_covers, open_sum_asked}
+use Rattle.cns_movements.specs.OpenShares.{asked_by}
+use Rattle.cns_movements.proofs.AskLemmas.{asked_by-numbered, covers_leave_deliveries, deliveries_leave_covers, open_sum_asked}
 use Rattle.cns_movements.proofs.ReplyLemmas.{nothing_either, open_sum-with_reply}
 use Rattle.cns_covers.specs.Bounds.{AreBounded, AreDeliverable, amount_of, want_in}
 use Rattle.cns_covers.specs.Covers.{ShortsFit, ask_for, cover_ask, cover_of, covers_of}

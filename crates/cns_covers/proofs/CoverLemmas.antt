@@ -9,7 +9,7 @@ use Rattle.cns_netting.specs.Rows.{holdings_of, open_row, rows_of}
 use Rattle.cns_netting.specs.Book.{IsBook, QuantitiesFit}
 use Rattle.cns_netting.specs.declared.entry.NetEntry.{NetEntry}
 use Rattle.cns_netting.specs.declared.entry.NetEntry.TheVariants.{Accepted, Netted, Settled}
-use Rattle.cns_netting.specs.declared.position.Holding.{Holding}
+use Rattle.cns_ids.specs.declared.holding.Holding.{Holding}
 use Rattle.cns_netting.specs.declared.position.PositionRow.{PositionRow}
 use Rattle.cns_netting.proofs.BookLemmas.{sold-most}
 use Rattle.cns_movements.specs.Book.{Orders}

@@ -2,3 +2,4 @@ pub mod RowLemmas
 pub mod CoverLemmas
 pub mod BoundLemmas
 pub mod TotalLemmas
+pub mod SettingLemmas

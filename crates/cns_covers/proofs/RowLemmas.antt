@@ -6,7 +6,7 @@ use Rattle.std.proofs.lemmas.List.Elements.{All-cons, All-head, All-nil, All-tai
 use Rattle.cns_netting.specs.History.{credit, debit, position_of}
 use Rattle.cns_netting.specs.Rows.{holdings_of, open_row, rows_of}
 use Rattle.cns_netting.specs.declared.entry.NetEntry.{NetEntry}
-use Rattle.cns_netting.specs.declared.position.Holding.{Holding}
+use Rattle.cns_ids.specs.declared.holding.Holding.{Holding}
 use Rattle.cns_netting.specs.declared.position.PositionRow.{PositionRow}
 
 -- what holds of an element that may be there, and of those after it

@@ -5,7 +5,7 @@ use Rattle.cns_netting.specs.History.{credit, debit, debit_part}
 use Rattle.cns_netting.specs.Rows.{holdings_of}
 use Rattle.cns_netting.specs.declared.entry.NetEntry.{NetEntry}
 use Rattle.cns_netting.specs.declared.entry.NetEntry.TheVariants.{Accepted, Netted, Settled}
-use Rattle.cns_netting.specs.declared.position.Holding.{Holding}
+use Rattle.cns_ids.specs.declared.holding.Holding.{Holding}
 use Rattle.cns_netting.specs.declared.position.PositionRow.{PositionRow}
 use Rattle.cns_movements.specs.Order.{open_sum}
 use Rattle.cns_movements.specs.Book.{Orders}

@@ -32,8 +32,11 @@ pub fn covers(
     covers_of_rows(alloc, &rows, orders, exemptions)
 }
 
-// The covers of positions, in their order.
-fn covers_of_rows(
+/// The covers of positions, in their order: of the positions that `NetBook::rows_at` gives for a date,
+/// those that a cycle of that date orders.
+///
+/// No position may be short of more than 10^18 shares. It costs two look-ups for each position.
+pub fn covers_of_rows(
     alloc: Global,
     rows: &[PositionRow],
     orders: &OrderBook,

@@ -6,9 +6,10 @@
 
 mod cover;
 mod exemptions;
+mod latest;
 mod priorities;
 
-pub use cover::covers;
+pub use cover::{covers, covers_of_rows};
 pub use exemptions::{Exempted, Exemptions};
 pub use priorities::{Priorities, Prioritized};
 

@@ -1,9 +1,13 @@
-ghost use Rattle.std.specs.Prelude.{◌≡◌, ◌<◌, ◌≤◌, [], ◌∷◌, find, reverse, option_map, OnOk, OnErr, IsOk};
-ghost use Rattle.cns_covers.specs.Priorities.{is_on, is_priority_of};
-ghost use Rattle.cns_covers.specs.declared.priorities.Prioritized.{Prioritized};
+ghost use Rattle.std.specs.Prelude.{◌≡◌, ◌<◌, ◌≤◌, [], ◌∷◌, ◌++◌, ◌-◌, length, min, vec_capacity, OnOk, OnErr, IsOk};
+ghost use Rattle.std.specs.HashMap.{get, spare};
+ghost use Rattle.cns_ids.specs.Holding.{holding_at, holding_eq};
+ghost use Rattle.cns_ids.specs.declared.holding.Holding.{Holding};
+ghost use Rattle.cns_covers.specs.Priorities.{is_on};
 
-use cns_ids::{Cusip, MemberNo};
+use crate::latest::put;
+use cns_ids::{Cusip, Holding, MemberNo};
 use std::alloc::{AllocError, Global};
+use std::collections::HashMap;
 use std::marker::Model;
 
 /// Whether a member has priority in an issue.
@@ -23,18 +27,26 @@ pub struct Prioritized {
 pub struct Priorities {
     // In the order in which they were made.
     settings: Vec<Prioritized>,
+    // The newest one of each member and issue.
+    latest: HashMap<Holding, bool>,
 }
 
 impl Model for Priorities {
-    ghost use Rattle.std.specs.Prelude.{◌-◌, length, reverse, vec_capacity};
-    ghost use Rattle.cns_covers.specs.Priorities.{PriorityRoom};
+    ghost use Rattle.cns_ids.specs.Holding.{holding_at, holding_eq};
+    ghost use Rattle.std.specs.Prelude.{◌-◌, length, min, reverse, vec_capacity};
+    ghost use Rattle.std.specs.HashMap.{get, spare};
+    ghost use Rattle.cns_covers.specs.Priorities.{AreLatestPriorities, PriorityRoom};
 
     ghost Value = { PriorityRoom };
 
     ghost view = { λ p. record {
       settings = reverse p.settings.items;
-      room = vec_capacity p.settings - length p.settings.items;
+      room = min (vec_capacity p.settings - length p.settings.items) (spare p.latest);
     } };
+
+    ghost invariant = { λ p. AreLatestPriorities
+        (reverse p.settings.items)
+        (λ member issue. get holding_eq p.latest (holding_at issue member)) };
 }
 
 impl Priorities {
@@ -45,6 +57,7 @@ impl Priorities {
     {
         Priorities {
             settings: Vec::new(alloc),
+            latest: HashMap::new(alloc),
         }
     }
 
@@ -55,7 +68,9 @@ impl Priorities {
         ensures err { OnErr result (self.new.settings ≡ self.old.settings) }
         ensures room { 0 < self.old.room → IsOk result }
     {
-        self.settings.push(Prioritized { member, issue, on })?;
+        make_room(&mut self.settings, &mut self.latest)?;
+        put(&mut self.latest, member, issue, on);
+        write(&mut self.settings, Prioritized { member, issue, on });
         Ok(())
     }
 
@@ -71,25 +86,47 @@ impl Priorities {
         ensures err { OnErr result (self.old.room ≡ 0) }
         ensures left { self.old.room ≤ self.new.room }
     {
-        self.settings.reserve(1)
+        make_room(&mut self.settings, &mut self.latest)
     }
 
     /// Whether a member has priority in an issue, as last set; false where it never was.
     pub fn get(&self, member: MemberNo, issue: Cusip) -> bool
         ensures { result ≡ is_on self.now.settings member issue }
     {
-        newest(self.settings.as_slice(), member, issue).unwrap_or(false)
+        newest(&self.latest, member, issue).unwrap_or(false)
     }
 }
 
-// What the last of some settings that is of a member and issue says.
-fn newest(settings: &[Prioritized], member: MemberNo, issue: Cusip) -> Option<bool>
-    ensures { let found = find (is_priority_of member issue) (reverse settings.now) in
-        result ≡ option_map (λ (s : Prioritized). s.on) found }
+// What the newest setting of a member and issue says.
+fn newest(latest: &HashMap<Holding, bool>, member: MemberNo, issue: Cusip) -> Option<bool>
+    ensures { result ≡ get holding_eq latest.now (holding_at issue member) }
 {
-    settings
-        .iter()
-        .rev()
-        .find(|setting| setting.member == member && setting.issue == issue)
-        .map(|setting| setting.on)
+    latest.get(&Holding { issue, member }).copied()
+}
+
+// Takes the memory that one more setting needs.
+fn make_room(
+    settings: &mut Vec<Prioritized>,
+    latest: &mut HashMap<Holding, bool>,
+) -> Result<(), AllocError>
+    ensures settings { settings.new.items ≡ settings.old.items }
+    ensures latest { (k : Holding) → get holding_eq latest.new k ≡ get holding_eq latest.old k }
+    ensures settings_room { OnOk result (length settings.new.items < vec_capacity settings.new) }
+    ensures latest_room { OnOk result (0 < spare latest.new) }
+    ensures none { OnErr result (min (vec_capacity settings.old - length settings.old.items) (spare latest.old) ≡ 0) }
+    ensures left { min (vec_capacity settings.old - length settings.old.items) (spare latest.old)
+        ≤ min (vec_capacity settings.new - length settings.new.items) (spare latest.new) }
+{
+    settings.reserve(1)?;
+    latest.reserve(1)
+}
+
+// Writes a setting, for which there is room.
+fn write(settings: &mut Vec<Prioritized>, setting: Prioritized)
+    requires { length settings.old.items < vec_capacity settings.old }
+    ensures { settings.new.items ≡ settings.old.items ++ setting ∷ [] }
+{
+    let Ok(()) = settings.push(setting) else {
+        unreachable!()
+    };
 }

@@ -1,4 +1,5 @@
 pub mod Number
+pub mod Holding
 pub mod Member
 pub mod Shares
 pub mod Cusip

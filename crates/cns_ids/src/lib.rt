@@ -7,6 +7,7 @@
 mod cusip;
 mod cycle;
 mod day;
+mod holding;
 mod member;
 mod number;
 mod shares;
@@ -14,6 +15,7 @@ mod shares;
 pub use cusip::{Cusip, CusipFault};
 pub use cycle::{CycleId, CycleKind};
 pub use day::{BadDate, Day};
+pub use holding::Holding;
 pub use member::MemberNo;
 pub use number::{ReadFault, read_number};
 pub use shares::{Quantity, Shares, read_quantity};

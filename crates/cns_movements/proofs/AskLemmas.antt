@@ -5,17 +5,13 @@ use Rattle.std.proofs.lemmas.Bool.{eq-eqb, eqb-true, false_from_ne_true}
 use Rattle.std.proofs.lemmas.List.Elements.{All-head, All-tail}
 use Rattle.std.proofs.lemmas.List.Sums.{sum_by-cons}
 use Rattle.cns_movements.specs.Book.{IsOrderBook, Orders, with_asks}
+use Rattle.cns_movements.specs.OpenShares.{asked_by}
 use Rattle.cns_movements.specs.Order.{is_of, numbered, open_sum, same_kind}
 use Rattle.cns_movements.specs.declared.order.Ask.{Ask}
 use Rattle.cns_movements.specs.declared.order.MoveKind.{MoveKind}
 use Rattle.cns_movements.specs.declared.order.MoveKind.TheVariants.{Cover, Delivery}
 use Rattle.cns_movements.specs.declared.order.Order.{Order}
 use Rattle.cns_movements.proofs.ReplyLemmas.{moved_of_above, open_sum-append, open_sum_new}
-
--- the shares that the asks of a kind, a member and an issue ask for
-unfoldable pub asked_by : MoveKind → ℕ → ℕ → List Ask → ℕ
-asked_by kind m i [] = 0
-asked_by kind m i (a ∷ asks) = (if same_kind kind a.kind && ((a.member == m) && (a.issue == i)) then a.asked else 0) + asked_by kind m i asks
 
 -- numbered as orders they ask for the same
 pub asked_by-numbered : (kind : MoveKind) (m i n : ℕ) (asks : List Ask)

@@ -4,3 +4,4 @@ pub mod ReplyLemmas
 pub mod AskLemmas
 pub mod BookLemmas
 pub mod ConfirmLemmas
+pub mod OpenLemmas

@@ -62,37 +62,50 @@ pub nothing_either : (b : Bool) (p : ℕ) → p ≡ 0 → (if b then p else 0) �
 nothing_either true p e = e
 nothing_either false p e = refl
 
--- a first confirmation takes what its order asked for out of the open shares
+-- a first confirmation takes what its order asked for out of the open shares, whichever orders are counted
+pub open_with_reply : (counted : Order → Bool) (os : List Order) (rs : List Reply) (r : Reply) (o : Order) → IsNumbered 1 os
+    → order_of os r.number ≡ Some o → moved_of rs r.number ≡ None
+    → sum_by (λ (y : Order). if counted y then open_part (r ∷ rs) y else 0) os + (if counted o then o.asked else 0)
+    ≡ sum_by (λ (y : Order). if counted y then open_part rs y else 0) os
+open_with_reply counted os rs r o h found first =
+    let number = order_of_number os r.number o found in
+    let others : (y : Order) → (y.number ≡ r.number → ⊥) → term (counted y) (open_part (r ∷ rs) y) ≡ term (counted y) (open_part rs y) =
+    λ y ne. ap (λ (m : Option ℕ). term (counted y) (if is_some m then 0 else y.asked)) (moved_of_other r rs y.number (λ e. ne (sym e))) in
+    let after : term (counted o) (open_part (r ∷ rs) o) ≡ 0 =
+    ap (λ (m : Option ℕ). term (counted o) (if is_some m then 0 else o.asked)) (moved_of_same r rs o.number (sym number)) ∙ nothing_either (counted o) 0 refl in
+    let before : term (counted o) (open_part rs o) ≡ term (counted o) o.asked =
+    ap (λ (m : Option ℕ). term (counted o) (if is_some m then 0 else o.asked)) (ap (moved_of rs) number ∙ first) in
+    let all = sum_but_one (λ y. term (counted y) (open_part (r ∷ rs) y)) (λ y. term (counted y) (open_part rs y)) os 1 r.number o h found others in
+    omega (arith, all, after, before)
+
+-- and adds what it moved to the moved shares
+pub moved_with_reply : (counted : Order → Bool) (os : List Order) (rs : List Reply) (r : Reply) (o : Order) → IsNumbered 1 os
+    → order_of os r.number ≡ Some o → moved_of rs r.number ≡ None
+    → sum_by (λ (y : Order). if counted y then moved_part (r ∷ rs) y else 0) os
+    ≡ sum_by (λ (y : Order). if counted y then moved_part rs y else 0) os + (if counted o then r.moved else 0)
+moved_with_reply counted os rs r o h found first =
+    let number = order_of_number os r.number o found in
+    let others : (y : Order) → (y.number ≡ r.number → ⊥) → term (counted y) (moved_part (r ∷ rs) y) ≡ term (counted y) (moved_part rs y) =
+    λ y ne. ap (λ (m : Option ℕ). term (counted y) (unwrap_or m 0)) (moved_of_other r rs y.number (λ e. ne (sym e))) in
+    let after : term (counted o) (moved_part (r ∷ rs) o) ≡ term (counted o) r.moved =
+    ap (λ (m : Option ℕ). term (counted o) (unwrap_or m 0)) (moved_of_same r rs o.number (sym number)) in
+    let before : term (counted o) (moved_part rs o) ≡ 0 =
+    ap (λ (m : Option ℕ). term (counted o) (unwrap_or m 0)) (ap (moved_of rs) number ∙ first) ∙ nothing_either (counted o) 0 refl in
+    let all = sum_but_one (λ y. term (counted y) (moved_part (r ∷ rs) y)) (λ y. term (counted y) (moved_part rs y)) os 1 r.number o h found others in
+    omega (arith, all, after, before)
+
+-- the same of the orders of a kind, a member and an issue
 pub open_sum-with_reply : (os : List Order) (rs : List Reply) (r : Reply) (o : Order) (kind : MoveKind) (member issue : ℕ) → IsNumbered 1 os
     → order_of os r.number ≡ Some o → moved_of rs r.number ≡ None
     → open_sum os (r ∷ rs) kind member issue + (if is_of kind member issue o then o.asked else 0) ≡ open_sum os rs kind member issue
 unfolding open_sum
-open_sum-with_reply os rs r o kind member issue h found first =
-    let number = order_of_number os r.number o found in
-    let others : (y : Order) → (y.number ≡ r.number → ⊥) → term (is_of kind member issue y) (open_part (r ∷ rs) y) ≡ term (is_of kind member issue y) (open_part rs y) =
-    λ y ne. ap (λ (m : Option ℕ). term (is_of kind member issue y) (if is_some m then 0 else y.asked)) (moved_of_other r rs y.number (λ e. ne (sym e))) in
-    let after : term (is_of kind member issue o) (open_part (r ∷ rs) o) ≡ 0 =
-    ap (λ (m : Option ℕ). term (is_of kind member issue o) (if is_some m then 0 else o.asked)) (moved_of_same r rs o.number (sym number)) ∙ nothing_either (is_of kind member issue o) 0 refl in
-    let before : term (is_of kind member issue o) (open_part rs o) ≡ term (is_of kind member issue o) o.asked =
-    ap (λ (m : Option ℕ). term (is_of kind member issue o) (if is_some m then 0 else o.asked)) (ap (moved_of rs) number ∙ first) in
-    let all = sum_but_one (λ y. term (is_of kind member issue y) (open_part (r ∷ rs) y)) (λ y. term (is_of kind member issue y) (open_part rs y)) os 1 r.number o h found others in
-    omega (arith, all, after, before)
+open_sum-with_reply os rs r o kind member issue h found first = open_with_reply (is_of kind member issue) os rs r o h found first
 
--- and adds what it moved to the moved shares
 pub moved_sum-with_reply : (os : List Order) (rs : List Reply) (r : Reply) (o : Order) (kind : MoveKind) (member issue : ℕ) → IsNumbered 1 os
     → order_of os r.number ≡ Some o → moved_of rs r.number ≡ None
     → moved_sum os (r ∷ rs) kind member issue ≡ moved_sum os rs kind member issue + (if is_of kind member issue o then r.moved else 0)
 unfolding moved_sum
-moved_sum-with_reply os rs r o kind member issue h found first =
-    let number = order_of_number os r.number o found in
-    let others : (y : Order) → (y.number ≡ r.number → ⊥) → term (is_of kind member issue y) (moved_part (r ∷ rs) y) ≡ term (is_of kind member issue y) (moved_part rs y) =
-    λ y ne. ap (λ (m : Option ℕ). term (is_of kind member issue y) (unwrap_or m 0)) (moved_of_other r rs y.number (λ e. ne (sym e))) in
-    let after : term (is_of kind member issue o) (moved_part (r ∷ rs) o) ≡ term (is_of kind member issue o) r.moved =
-    ap (λ (m : Option ℕ). term (is_of kind member issue o) (unwrap_or m 0)) (moved_of_same r rs o.number (sym number)) in
-    let before : term (is_of kind member issue o) (moved_part rs o) ≡ 0 =
-    ap (λ (m : Option ℕ). term (is_of kind member issue o) (unwrap_or m 0)) (ap (moved_of rs) number ∙ first) ∙ nothing_either (is_of kind member issue o) 0 refl in
-    let all = sum_but_one (λ y. term (is_of kind member issue y) (moved_part (r ∷ rs) y)) (λ y. term (is_of kind member issue y) (moved_part rs y)) os 1 r.number o h found others in
-    omega (arith, all, after, before)
+moved_sum-with_reply os rs r o kind member issue h found first = moved_with_reply (is_of kind member issue) os rs r o h found first
 
 -- the open shares of two lists of orders
 pub open_sum-append : (os more : List Order) (rs : List Reply) (kind : MoveKind) (member issue : ℕ)
@@ -106,14 +119,18 @@ pub moved_sum-append : (os more : List Order) (rs : List Reply) (kind : MoveKind
 unfolding moved_sum
 moved_sum-append os more rs kind member issue = sum_by-append (λ (o : Order). if is_of kind member issue o then moved_part rs o else 0) os more
 
--- new orders are open with all that they ask for
+-- new orders are open with all that they ask for, whichever of them are counted
+pub open_new : (counted : Order → Bool) (n : ℕ) (asks : List Ask) (rs : List Reply) → ((j : ℕ) → n ≤ j → moved_of rs j ≡ None)
+    → sum_by (λ (o : Order). if counted o then open_part rs o else 0) (numbered n asks) ≡ sum_by (λ (o : Order). if counted o then o.asked else 0) (numbered n asks)
+open_new counted n asks rs new =
+    sum_same_from (λ (o : Order). if counted o then open_part rs o else 0) (λ (o : Order). if counted o then o.asked else 0)
+    (numbered n asks) n (IsNumbered-numbered n asks)
+    (λ o le. ap (λ (m : Option ℕ). term (counted o) (if is_some m then 0 else o.asked)) (new o.number le))
+
 pub open_sum_new : (n : ℕ) (asks : List Ask) (rs : List Reply) (kind : MoveKind) (member issue : ℕ) → ((j : ℕ) → n ≤ j → moved_of rs j ≡ None)
     → open_sum (numbered n asks) rs kind member issue ≡ sum_by (λ (o : Order). if is_of kind member issue o then o.asked else 0) (numbered n asks)
 unfolding open_sum
-open_sum_new n asks rs kind member issue new =
-    sum_same_from (λ (o : Order). if is_of kind member issue o then open_part rs o else 0) (λ (o : Order). if is_of kind member issue o then o.asked else 0)
-    (numbered n asks) n (IsNumbered-numbered n asks)
-    (λ o le. ap (λ (m : Option ℕ). term (is_of kind member issue o) (if is_some m then 0 else o.asked)) (new o.number le))
+open_sum_new n asks rs kind member issue new = open_new (is_of kind member issue) n asks rs new
 
 -- and moved nothing, whichever of them are counted
 pub moved_new : (counted : Order → Bool) (n : ℕ) (asks : List Ask) (rs : List Reply) → ((j : ℕ) → n ≤ j → moved_of rs j ≡ None)

@@ -1,13 +1,18 @@
-ghost use Rattle.std.specs.Prelude.{◌≡◌, ◌+◌, ◌-◌, ◌^◌, ◌<◌, ◌≤◌, min, nat_lt, if◌then◌else◌, [], ◌++◌, length, replicate, reverse, Some, None, IfOk, IfErr, OnOk, OnErr, IsTrue, ◌↔◌, vec_capacity};
-ghost use Rattle.cns_movements.specs.Order.{order_of, moved_of, open_sum, open_part as open_shares, is_of, numbered};
+ghost use Rattle.std.specs.Prelude.{◌≡◌, ℕ, ◌+◌, ◌-◌, ◌^◌, ◌<◌, ◌≤◌, min, nat_lt, if◌then◌else◌, [], ◌++◌, length, replicate, reverse, Some, None, IfOk, IfErr, OnOk, OnErr, IsTrue, ◌↔◌, vec_capacity};
+ghost use Rattle.cns_movements.specs.Order.{moved_of, numbered, open_sum, order_of};
+ghost use Rattle.std.specs.HashMap.{spare};
 ghost use Rattle.cns_movements.specs.Book.{with_asks, IsOrderBook};
+ghost use Rattle.cns_movements.specs.OpenShares.{open_in};
+ghost use Rattle.cns_movements.specs.declared.order.MoveKind.{MoveKind};
 ghost use Rattle.cns_movements.specs.Confirm.{confirm_answer, after_reply, added_by};
 ghost use Rattle.cns_movements.specs.IssueFault.{NumbersSuffice, IsIssueRefused};
 
 use crate::number::MoveNo;
+use crate::open_shares::{OpenShares, ask_all, open_shares, settle};
 use crate::order::{Ask, MoveKind, Order, Reply};
-use cns_ids::{Cusip, MemberNo, Shares};
+use cns_ids::{Cusip, Holding, MemberNo, Shares};
 use std::alloc::{AllocError, Global};
+use std::collections::HashMap;
 use std::marker::Model;
 use thiserror::Error;
 
@@ -50,24 +55,28 @@ pub struct OrderBook {
     replies: Vec<Reply>,
     // What the order in the same place of `orders` moved, where it is confirmed.
     moved: Vec<Option<Shares>>,
+    // What the unconfirmed orders of each holding ask for.
+    sums: HashMap<Holding, OpenShares>,
 }
 
 impl Model for OrderBook {
     ghost use Rattle.std.specs.Prelude.{◌-◌, min, length, reverse, vec_capacity};
-    ghost use Rattle.cns_movements.specs.Book.{OrderRoom, IsStored};
+    ghost use Rattle.std.specs.HashMap.{spare};
+    ghost use Rattle.cns_movements.specs.Book.{OrderRoom};
+    ghost use Rattle.cns_movements.specs.OpenShares.{IsKept, open_in};
 
     ghost Value = { OrderRoom };
 
     ghost view = { λ a. record {
       book = record { orders = a.orders.items; replies = reverse a.replies.items };
-      order_room = min (vec_capacity a.orders - length a.orders.items)
-          (vec_capacity a.moved - length a.moved.items);
+      order_room = min (min (vec_capacity a.orders - length a.orders.items)
+          (vec_capacity a.moved - length a.moved.items)) (spare a.sums);
       reply_room = vec_capacity a.replies - length a.replies.items;
     } };
 
-    ghost invariant = { λ a. IsStored
+    ghost invariant = { λ a. IsKept
         (record { orders = a.orders.items; replies = reverse a.replies.items })
-        a.moved.items };
+        a.moved.items (open_in a.sums) };
 }
 
 impl OrderBook {
@@ -81,6 +90,7 @@ impl OrderBook {
             orders: Vec::new(alloc),
             replies: Vec::new(alloc),
             moved: Vec::new(alloc),
+            sums: HashMap::new(alloc),
         }
     }
 
@@ -107,11 +117,19 @@ impl OrderBook {
         if asks.len().max(1) > MAX_ORDERS - self.orders.len() {
             return Err(IssueFault::NumbersSpent);
         }
-        if make_room(&mut self.orders, &mut self.moved, asks.len()).is_err() {
+        if make_room(
+            &mut self.orders,
+            &mut self.moved,
+            &mut self.sums,
+            asks.len(),
+        )
+        .is_err()
+        {
             return Err(IssueFault::OutOfMemory);
         }
         let first = MoveNo::of_place(self.orders.len());
         append(&mut self.orders, &mut self.moved, asks);
+        ask_all(&mut self.sums, asks);
         Ok(first)
     }
 
@@ -123,7 +141,12 @@ impl OrderBook {
         ensures order_room { self.old.order_room ≤ self.new.order_room }
         ensures reply_room { self.new.reply_room ≡ self.old.reply_room }
     {
-        make_room(&mut self.orders, &mut self.moved, asks.len())
+        make_room(
+            &mut self.orders,
+            &mut self.moved,
+            &mut self.sums,
+            asks.len(),
+        )
     }
 
     /// The order of this number.
@@ -170,6 +193,7 @@ impl OrderBook {
         }
         self.replies.push(reply)?;
         self.moved[reply.number.place()] = Some(reply.moved);
+        settle(&mut self.sums, &order);
         Ok(Confirm::Done)
     }
 
@@ -185,32 +209,13 @@ impl OrderBook {
     }
 
     /// The shares asked by the unconfirmed orders of this kind, member and issue.
-    #[tactic(auto, unfolding(crate::specs::Order::open_sum))]
     pub fn open_of(&self, kind: MoveKind, member: MemberNo, issue: Cusip) -> u128
         ensures sum { let book = self.now.book in
             result ≡ open_sum book.orders book.replies kind member issue }
         ensures small { result ≤ 10 ^ 24 }
         ensures lawful { IsOrderBook self.now.book }
     {
-        let mut total = 0;
-        for order in &self.orders {
-            total += self.open_part(*order, kind, member, issue);
-        }
-        total
-    }
-
-    // What an order counts among the open ones of this kind, member and issue.
-    fn open_part(&self, order: Order, kind: MoveKind, member: MemberNo, issue: Cusip) -> u128
-        ensures part { let counted = is_of kind member issue order in
-            result ≡ (if counted then open_shares self.now.book.replies order else 0) }
-        ensures small { result ≤ 10 ^ 18 }
-    {
-        let counts = order.kind == kind && order.member == member && order.issue == issue;
-        if counts && self.confirmed(order.number).is_none() {
-            u128::from(order.asked.shares())
-        } else {
-            0
-        }
+        open_shares(&self.sums, member, issue).of(kind)
     }
 
     /// The shares that the order of this number moved, where it is confirmed.
@@ -261,24 +266,29 @@ impl OrderBook {
     }
 }
 
-// Takes the memory for this many more orders and for what they move.
+// Takes the memory for this many more orders, for what they move, and for what they ask for.
 fn make_room(
     orders: &mut Vec<Order>,
     moved: &mut Vec<Option<Shares>>,
+    sums: &mut HashMap<Holding, OpenShares>,
     count: usize,
 ) -> Result<(), AllocError>
     ensures orders { orders.new.items ≡ orders.old.items }
     ensures moved { moved.new.items ≡ moved.old.items }
     ensures orders_capacity { vec_capacity orders.old ≤ vec_capacity orders.new }
     ensures moved_capacity { vec_capacity moved.old ≤ vec_capacity moved.new }
+    ensures shares { (k : MoveKind) (m i : ℕ) → open_in sums.new k m i ≡ open_in sums.old k m i }
+    ensures sums_spare { spare sums.old ≤ spare sums.new }
     ensures orders_room { OnOk result (length orders.old.items + count ≤ vec_capacity orders.new) }
     ensures moved_room { OnOk result (length moved.old.items + count ≤ vec_capacity moved.new) }
-    ensures err { let spare = min (vec_capacity orders.old - length orders.old.items)
-        (vec_capacity moved.old - length moved.old.items) in
-        OnErr result (spare < count) }
+    ensures sums_room { OnOk result (count ≤ spare sums.new) }
+    ensures err { let left = min (min (vec_capacity orders.old - length orders.old.items)
+        (vec_capacity moved.old - length moved.old.items)) (spare sums.old) in
+        OnErr result (left < count) }
 {
     orders.reserve(count)?;
-    moved.reserve(count)
+    moved.reserve(count)?;
+    sums.reserve(count)
 }
 
 // Appends the asks as orders under the next numbers, none of them confirmed.

@@ -8,6 +8,7 @@
 mod asked;
 mod book;
 mod number;
+mod open_shares;
 mod order;
 
 pub use asked::Asked;

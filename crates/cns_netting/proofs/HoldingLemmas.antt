@@ -7,10 +7,11 @@ use Rattle.std.specs.BTreeSet.{insert_key}
 use Rattle.std.proofs.lemmas.Cmp.{nat_cmp_total, on_total, then_total}
 use Rattle.std.proofs.lemmas.List.Elements.{All-cons, All-nil, All-weaker}
 use Rattle.std.proofs.lemmas.Map.Views.{All-insert_key}
-use Rattle.cns_netting.specs.Rows.{holding_cmp, holdings_of}
+use Rattle.cns_ids.specs.Holding.{holding_cmp}
+use Rattle.cns_netting.specs.Rows.{holdings_of}
 use Rattle.cns_netting.specs.declared.entry.NetEntry.{NetEntry}
 use Rattle.cns_netting.specs.declared.entry.NetEntry.TheVariants.{Accepted, Netted, Settled}
-use Rattle.cns_netting.specs.declared.position.Holding.{Holding}
+use Rattle.cns_ids.specs.declared.holding.Holding.{Holding}
 
 -- holdings are compared by issue and then by member
 pub holding_order : IsTotalOrder holding_cmp

@@ -11,12 +11,12 @@ use Rattle.std.proofs.lemmas.List.Sums.{sum_by-cons}
 use Rattle.cns_trades.specs.declared.trade.Trade.{Trade}
 use Rattle.cns_netting.specs.Book.{IsBook, IsKept}
 use Rattle.cns_netting.specs.History.{becoming_due, bought, credit_part, debit_part, due, settled_in, settled_out, sold}
-use Rattle.cns_netting.specs.Rows.{holding_at}
-use Rattle.cns_netting.specs.Sides.{AreSidesOf, bought_by, credit_at, credit_in, debit_at, debit_in, holding_eq, IsNamed, sold_by}
+use Rattle.cns_ids.specs.Holding.{holding_at, holding_eq}
+use Rattle.cns_netting.specs.Sides.{AreSidesOf, bought_by, credit_at, credit_in, debit_at, debit_in, IsNamed, sold_by}
 use Rattle.cns_netting.specs.Undue.{earlier, if_left, if_settled, undue}
 use Rattle.cns_netting.specs.declared.entry.NetEntry.{NetEntry}
 use Rattle.cns_netting.specs.declared.entry.NetEntry.TheVariants.{Accepted, Netted, Settled}
-use Rattle.cns_netting.specs.declared.position.Holding.{Holding}
+use Rattle.cns_ids.specs.declared.holding.Holding.{Holding}
 use Rattle.cns_netting.specs.declared.sides.Sides.{Sides}
 use Rattle.cns_netting.proofs.BookLemmas.{AreSmall, book_empty, long-most, short-most, small}
 use Rattle.cns_netting.proofs.TradeLemmas.{due-netting, length-sum, settled-left, undue-netting}

@@ -18,12 +18,13 @@ use Rattle.std.proofs.lemmas.Bool.Decides.{nat_tests}
 use Rattle.std.proofs.lemmas.Bool.{eq-eqb}
 use Rattle.std.proofs.lemmas.List.Elements.{All-head, All-tail}
 use Rattle.cns_netting.specs.History.{bought, credit, credit_part, debit, debit_part, due_since, is_reached, latest, position_of, settled_in, settled_out, sold}
-use Rattle.cns_netting.specs.Rows.{holding_at, holding_cmp, holdings_of, is_row_in, open_row, rows_of}
-use Rattle.cns_netting.specs.Sides.{AreSidesOf, credit_at, debit_at, holding_eq, row_by, row_if, row_left, rows_if}
+use Rattle.cns_ids.specs.Holding.{holding_at, holding_cmp, holding_eq}
+use Rattle.cns_netting.specs.Rows.{holdings_of, is_row_in, open_row, rows_of}
+use Rattle.cns_netting.specs.Sides.{AreSidesOf, credit_at, debit_at, row_by, row_if, row_left, rows_if}
 use Rattle.cns_netting.specs.declared.sides.Sides.{Sides}
 use Rattle.cns_netting.specs.declared.entry.NetEntry.{NetEntry}
 use Rattle.cns_netting.specs.declared.entry.NetEntry.TheVariants.{Accepted, Netted, Settled}
-use Rattle.cns_netting.specs.declared.position.Holding.{Holding}
+use Rattle.cns_ids.specs.declared.holding.Holding.{Holding}
 use Rattle.cns_netting.specs.declared.position.PositionRow.{PositionRow}
 use Rattle.cns_netting.proofs.HoldingLemmas.{AreAscending, holding_order, holdings-ascending}
 use Rattle.cns_netting.proofs.TradeLemmas.{bought-due, sold-due}

@@ -8,7 +8,7 @@ use Rattle.cns_netting.specs.Sides.{AreSidesOf, IsNamed}
 use Rattle.cns_netting.specs.Undue.{earlier, undue}
 use Rattle.cns_netting.specs.declared.entry.NetEntry.{NetEntry}
 use Rattle.cns_netting.specs.declared.entry.NetEntry.TheVariants.{Accepted, Netted, Settled}
-use Rattle.cns_netting.specs.declared.position.Holding.{Holding}
+use Rattle.cns_ids.specs.declared.holding.Holding.{Holding}
 use Rattle.cns_netting.specs.declared.sides.Sides.{Sides}
 
 -- the history, the newest entry first, and for how many more entries there is room

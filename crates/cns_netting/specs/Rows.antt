@@ -1,21 +1,13 @@
 -- The positions of a history, by issue, then member.
 use Rattle.std.specs.Prelude.{ℕ, ◌==◌, Bool, List, [], ◌∷◌, Option, Some, None, if◌then◌else◌}
 use Rattle.std.specs.List.{filter_map}
-use Rattle.std.specs.declared.cmp.Ordering.{Ordering}
-use Rattle.std.specs.Ordering.{nat_cmp, ordering_then}
 use Rattle.std.specs.BTreeSet.{insert_key}
+use Rattle.cns_ids.specs.Holding.{holding_at, holding_cmp}
 use Rattle.cns_netting.specs.History.{credit, debit, position_of}
 use Rattle.cns_netting.specs.declared.entry.NetEntry.{NetEntry}
 use Rattle.cns_netting.specs.declared.entry.NetEntry.TheVariants.{Accepted, Netted, Settled}
-use Rattle.cns_netting.specs.declared.position.Holding.{Holding}
+use Rattle.cns_ids.specs.declared.holding.Holding.{Holding}
 use Rattle.cns_netting.specs.declared.position.PositionRow.{PositionRow}
-
--- the order of holdings: by issue, then member
-abbrev pub holding_cmp : Holding → Holding → Ordering
-holding_cmp a b = ordering_then (nat_cmp a.issue b.issue) (nat_cmp a.member b.member)
-
-abbrev pub holding_at : ℕ → ℕ → Holding
-holding_at issue member = record { issue = issue; member = member }
 
 -- holdings with those that an entry names, each once, in order
 abbrev pub with_holdings : List Holding → NetEntry → List Holding

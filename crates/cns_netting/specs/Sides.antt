@@ -3,15 +3,12 @@ use Rattle.std.specs.Prelude.{◌≡◌, ℕ, ◌&&◌, ◌==◌, Bool, ◌-ℤ�
 use Rattle.std.specs.HashMap.{HashMap, get}
 use Rattle.cns_trades.specs.declared.trade.Trade.{Trade}
 use Rattle.cns_netting.specs.History.{credit, debit}
-use Rattle.cns_netting.specs.Rows.{holding_at, is_row_in}
+use Rattle.cns_ids.specs.Holding.{holding_eq, holding_at}
+use Rattle.cns_netting.specs.Rows.{is_row_in}
 use Rattle.cns_netting.specs.declared.entry.NetEntry.{NetEntry}
-use Rattle.cns_netting.specs.declared.position.Holding.{Holding}
+use Rattle.cns_ids.specs.declared.holding.Holding.{Holding}
 use Rattle.cns_netting.specs.declared.position.PositionRow.{PositionRow}
 use Rattle.cns_netting.specs.declared.sides.Sides.{Sides}
-
--- whether two holdings are the same
-abbrev pub holding_eq : Holding → Holding → Bool
-holding_eq a b = (a.issue == b.issue) && (a.member == b.member)
 
 -- the shares for a holding and against it; there are none where it is not named
 abbrev pub credit_at : Option Sides → ℕ

@@ -5,10 +5,9 @@ ghost use Rattle.cns_trades.specs.declared.trade.Trade.{Trade};
 ghost use Rattle.cns_netting.specs.Sides.{bought_by, credit_in, debit_in, IsNamed, sold_by};
 ghost use Rattle.cns_netting.specs.Undue.{earlier, if_left, if_settled};
 
-use crate::position::Holding;
 use crate::sides::{Sides, add_trade};
 use crate::undue::Undue;
-use cns_ids::Day;
+use cns_ids::{Day, Holding};
 use cns_trades::Trade;
 use std::alloc::AllocError;
 use std::collections::{BinaryHeap, HashMap};

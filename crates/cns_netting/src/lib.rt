@@ -11,7 +11,7 @@ mod undue;
 
 pub use book::NetBook;
 pub use entry::NetEntry;
-pub use position::{Holding, PositionRow};
+pub use position::PositionRow;
 
 #[cfg(test)]
 mod tests;

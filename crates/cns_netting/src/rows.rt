@@ -1,14 +1,15 @@
 ghost use Rattle.std.specs.Prelude.{◌≡◌, ℕ, ◌^◌, ◌<◌, false, IfOk, List, None, OnOk, Some};
 ghost use Rattle.std.specs.BTreeMap.{get as row_at, IsOrdered};
 ghost use Rattle.std.specs.HashMap.{get};
-ghost use Rattle.cns_netting.specs.Rows.{holding_cmp, rows_of};
-ghost use Rattle.cns_netting.specs.Sides.{AreSidesOf, credit_in, debit_in, holding_eq, row_if, rows_if};
+ghost use Rattle.cns_ids.specs.Holding.{holding_cmp, holding_eq};
+ghost use Rattle.cns_netting.specs.Rows.{rows_of};
+ghost use Rattle.cns_netting.specs.Sides.{AreSidesOf, credit_in, debit_in, row_if, rows_if};
 ghost use Rattle.cns_netting.specs.declared.entry.NetEntry.{NetEntry};
-ghost use Rattle.cns_netting.specs.declared.position.Holding.{Holding};
+ghost use Rattle.cns_ids.specs.declared.holding.Holding.{Holding};
 
-use crate::position::{Holding, PositionRow};
+use crate::position::PositionRow;
 use crate::sides::Sides;
-use cns_ids::Cusip;
+use cns_ids::{Cusip, Holding};
 use std::alloc::{AllocError, Global};
 use std::collections::{BTreeMap, HashMap};
 

@@ -1,10 +1,9 @@
 ghost use Rattle.std.specs.Prelude.{◌≡◌, ℕ, ◌+◌, ◌^◌, ◌<◌, ◌≤◌, ◌&&◌, ◌==◌, IsSome, if◌then◌else◌, ◌-ℤ◌, pos};
 ghost use Rattle.std.specs.HashMap.{get, spare};
-ghost use Rattle.cns_netting.specs.Rows.{holding_at};
-ghost use Rattle.cns_netting.specs.Sides.{bought_by, credit_in, debit_in, holding_eq, IsNamed, sold_by};
+ghost use Rattle.cns_ids.specs.Holding.{holding_at, holding_eq};
+ghost use Rattle.cns_netting.specs.Sides.{bought_by, credit_in, debit_in, IsNamed, sold_by};
 
-use crate::position::Holding;
-use cns_ids::{Cusip, MemberNo};
+use cns_ids::{Cusip, Holding, MemberNo};
 use cns_trades::Trade;
 use std::collections::HashMap;
 

@@ -6,8 +6,8 @@ use Rattle.std.specs.Map.{keys_of}
 use Rattle.std.specs.Map.Iter.{deref_pair}
 use Rattle.std.proofs.lemmas.Map.Iter.{hash_map_turn, rest_more}
 use Rattle.std.proofs.lemmas.Map.Keys.{IsDistinct-tail}
-use Rattle.cns_netting.specs.Rows.{holding_cmp}
-use Rattle.cns_netting.specs.Sides.{credit_at, debit_at, holding_eq}
+use Rattle.cns_ids.specs.Holding.{holding_cmp, holding_eq}
+use Rattle.cns_netting.specs.Sides.{credit_at, debit_at}
 use Rattle.cns_netting.proofs.RowLemmas.{holding_eq_laws, left-next, left-none, LeftRows}
 use Rattle.cns_netting.proofs.rows.row_map.Goals as goal
 

@@ -3,9 +3,9 @@ use Rattle.std.specs.BTreeMap.{get as row_at, IsOrdered}
 use Rattle.std.specs.HashMap.{get}
 use Rattle.std.specs.List.{IsDistinct}
 use Rattle.std.specs.Map.{keys_of, lookup}
-use Rattle.cns_netting.specs.Rows.{holding_cmp}
-use Rattle.cns_netting.specs.Sides.{holding_eq, row_if, row_left}
-use Rattle.cns_netting.specs.declared.position.Holding.{Holding}
+use Rattle.cns_ids.specs.Holding.{holding_cmp, holding_eq}
+use Rattle.cns_netting.specs.Sides.{row_if, row_left}
+use Rattle.cns_ids.specs.declared.holding.Holding.{Holding}
 use Rattle.cns_netting.proofs.rows.row_map.Given as goal
 
 abbrev pub invariant-loop-holding : goal.invariant-loop-holding

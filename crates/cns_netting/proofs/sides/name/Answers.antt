@@ -1,7 +1,9 @@
 use Rattle.std.proofs.Common.{rules}
 use Rattle.std.specs.HashMap.{get}
-use Rattle.cns_netting.specs.Sides.{credit_at, debit_at, holding_eq}
-use Rattle.cns_netting.proofs.SidesLemmas.{put-named, put-same, sides_by}
+use Rattle.cns_ids.specs.Holding.{holding_eq}
+use Rattle.cns_netting.specs.Sides.{credit_at, debit_at}
+use Rattle.cns_ids.proofs.HoldingLemmas.{put-named, put-same}
+use Rattle.cns_netting.proofs.SidesLemmas.{sides_by}
 use Rattle.cns_netting.proofs.sides.name.Goals as goal
 
 pub returns-clause-credit : goal.returns-clause-credit

@@ -6,5 +6,5 @@ use Rattle.cns_movements.proofs.book.OrderBook.confirmed.Goals as goal
 
 pub returns-clause-moved : goal.returns-clause-moved
 returns-clause-moved c =
-    let at = moved_at _ c.self.inside.moved.items c.args.number c.place.result c.self.invariant c.place.ensures in
+    let at = moved_at _ c.self.inside.moved.items c.args.number c.place.result c.self.invariant.stored c.place.ensures in
     rw (← c.self.view_is, ← at) (grind (arith, common_steps, gets))

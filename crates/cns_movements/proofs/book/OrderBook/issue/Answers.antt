@@ -1,13 +1,27 @@
-use Rattle.std.proofs.Common.{arith, length-append}
+use Rattle.std.proofs.Common.{ℕ, ◌+◌, ap, arith, length-append, ◌∙◌}
 use Rattle.std.proofs.lemmas.List.{length-replicate}
+use Rattle.cns_movements.specs.OpenShares.{asked_by, open_in}
+use Rattle.cns_movements.specs.declared.order.MoveKind.{MoveKind}
+use Rattle.cns_movements.proofs.OpenLemmas.{open_most, open_ordered}
 use Rattle.cns_movements.proofs.OrderLemmas.{length-numbered}
 use Rattle.cns_movements.proofs.BookLemmas.{stored_asks}
 use Rattle.cns_movements.proofs.book.OrderBook.issue.Goals as goal
 
+pub ask_all-requires-clause-small : goal.ask_all-requires-clause-small
+ask_all-requires-clause-small c = λ k m i.
+    let stored = c.self.invariant.stored in
+    omega (arith, stored.lawful.few, open_most (open_in c.self.inside.sums) _ stored.lawful c.self.invariant.summed k m i, c.make_room.ensures.shares k m i)
+
 pub invariant_of-self-2 : goal.invariant_of-self-2
 invariant_of-self-2 c =
-    rw (c.append.ensures.orders, c.append.ensures.moved, c.make_room.ensures.orders, c.make_room.ensures.moved)
-    (stored_asks _ c.self.inside.moved.items c.args.asks.now c.self.invariant (omega arith))
+    let stored = c.self.invariant.stored in
+    let room = c.make_room.ensures in
+    let adds = λ (k : MoveKind) (m i : ℕ). c.ask_all.ensures.shares k m i ∙ ap (λ n. n + asked_by k m i c.args.asks.now) (room.shares k m i) in
+    rw (c.append.ensures.orders, c.append.ensures.moved, room.orders, room.moved)
+    (record {
+      stored = stored_asks _ c.self.inside.moved.items c.args.asks.now stored (omega arith);
+      summed = open_ordered (open_in c.self.inside.sums) (open_in c.ask_all.new.sums) _ c.args.asks.now stored.lawful c.self.invariant.summed adds c.ask_all.ensures.most;
+    })
 
 pub returns-clause-order_room : goal.returns-clause-order_room
 returns-clause-order_room c =

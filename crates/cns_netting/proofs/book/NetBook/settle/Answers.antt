@@ -5,7 +5,7 @@ use Rattle.std.specs.BinaryHeap.{heap_items}
 use Rattle.std.proofs.lemmas.Int.{to_z-of_z}
 use Rattle.cns_netting.specs.Book.{AmountsFit}
 use Rattle.cns_netting.specs.History.{credit_part, debit_part}
-use Rattle.cns_netting.specs.Rows.{holding_at}
+use Rattle.cns_ids.specs.Holding.{holding_at}
 use Rattle.cns_netting.specs.Sides.{credit_at, credit_in, debit_at, debit_in}
 use Rattle.cns_netting.proofs.BookLemmas.{book_settled}
 use Rattle.cns_netting.proofs.KeptLemmas.{kept_fit, kept_settled}
