@@ -5,6 +5,7 @@ pub mod ListLemmas
 pub mod ClosingLemmas
 pub mod LotLemmas
 pub mod PoolLemmas
+pub mod PoolSumLemmas
 pub mod WantLemmas
 pub mod TotalLemmas
 pub mod DrawnLemmas

@@ -1,6 +1,6 @@
 -- What covers brought and deliveries take of an issue, record by record: its shares stay there while no lot of it closes.
 use Rattle.std.proofs.Common.{◌≡◌, ℕ, suc, ◌+◌, ◌≤◌, Bool, true, false, List, [], ◌∷◌, ◌++◌, length, Option, Some, None, refl, sym, ap, ◌∙◌, subst, arith, inl, inr}
-use Rattle.std.specs.Prelude.{◌==◌, ◌&&◌, All, sum_by, unwrap_or, if◌then◌else◌}
+use Rattle.std.specs.Prelude.{◌==◌, ◌&&◌, All, is_some, sum_by, unwrap_or, if◌then◌else◌}
 use Rattle.std.proofs.lemmas.Bool.{cases_eq}
 use Rattle.std.proofs.lemmas.List.Elements.{All-head, All-tail, All-weaker}
 use Rattle.std.proofs.lemmas.List.Sums.{sum_by-append, sum_by-cons}
@@ -23,8 +23,33 @@ use Rattle.cns_records.specs.declared.clear_record.ClearRecord.{ClearRecord}
 use Rattle.cns_records.specs.declared.clear_record.ClearRecord.TheVariants.{Accept, Exempt, Priority, Cycle, Allocate, Confirm}
 use Rattle.cns_clearing.specs.Books.{Books, Allows, IsLawful, books_of, deliveries_in, tickets_of, with_record}
 use Rattle.cns_clearing.specs.Lots.{AreQuiet, IsQuiet, avail_in}
-use Rattle.cns_clearing.specs.Pools.{avail_of, covered_by_order, covered_of, taken_by_order, taken_of, taken_part}
+use Rattle.cns_clearing.specs.Pools.{asked_of_pool, avail_of, covered_by_order, covered_of, delivered_by_order, delivered_of, out_by_order, out_of, taken_by_order, taken_of, taken_part}
 use Rattle.cns_clearing.proofs.BooksLemmas.{lawful_bounded}
+
+-- ---- as they are
+
+-- what deliveries take is what they ask for while they are not confirmed, and what they moved from then on
+taken_parts : (rs : List Reply) (issue : ℕ) (orders : List Order)
+    → sum_by (taken_by_order rs issue) orders ≡ sum_by (out_by_order rs issue) orders + sum_by (delivered_by_order rs issue) orders
+taken_parts rs issue [] = refl
+taken_parts rs issue (o ∷ orders) =
+    omega (
+      arith,
+      sum_by-cons (taken_by_order rs issue) o orders,
+      sum_by-cons (out_by_order rs issue) o orders,
+      sum_by-cons (delivered_by_order rs issue) o orders,
+      by (is_delivery o.kind && (o.issue == issue)) (moved_of rs o.number),
+      taken_parts rs issue orders,
+    )
+  where
+    by : (b : Bool) (m : Option ℕ) → (if b then unwrap_or m o.asked else 0) ≡ (if b then (if is_some m then 0 else o.asked) else 0) + (if b then unwrap_or m 0 else 0)
+    by true None = omega arith
+    by true (Some moved) = omega arith
+    by false m = omega arith
+
+pub taken_whole : (book : Orders) (issue : ℕ) → taken_of book issue ≡ out_of book issue + delivered_of book issue
+unfolding taken_of out_of delivered_of
+taken_whole book issue = taken_parts book.replies issue book.orders
 
 -- ---- with more orders
 
@@ -32,15 +57,10 @@ use Rattle.cns_clearing.proofs.BooksLemmas.{lawful_bounded}
 abbrev is_delivery_of : ℕ → Ask → Bool
 is_delivery_of issue a = is_delivery a.kind && (a.issue == issue)
 
--- the shares that the deliveries of an issue ask for
-pub delivered_by : ℕ → List Ask → ℕ
-delivered_by issue [] = 0
-delivered_by issue (a ∷ asks) = (if is_delivery_of issue a then a.asked else 0) + delivered_by issue asks
-
 -- new orders take what those of them that are deliveries ask for
 new_taken : (n : ℕ) (asks : List Ask) (rs : List Reply) (issue : ℕ) → ((j : ℕ) → n ≤ j → moved_of rs j ≡ None)
-    → sum_by (taken_by_order rs issue) (numbered n asks) ≡ delivered_by issue asks
-unfolding delivered_by
+    → sum_by (taken_by_order rs issue) (numbered n asks) ≡ asked_of_pool issue asks
+unfolding asked_of_pool
 new_taken n [] rs issue none = refl
 new_taken n (a ∷ asks) rs issue none =
     let o : Order = record { number = n; kind = a.kind; member = a.member; issue = a.issue; asked = a.asked } in
@@ -58,7 +78,7 @@ covered_ordered book asks issue lawful =
     (λ j le. moved_of_above book.orders book.replies j lawful.numbered lawful.known (omega arith)) in
     omega (arith, sum_by-append (covered_by_order book.replies issue) book.orders (numbered next asks), new)
 
-pub taken_ordered : (book : Orders) (asks : List Ask) (issue : ℕ) → IsOrderBook book → taken_of (with_asks book asks) issue ≡ taken_of book issue + delivered_by issue asks
+pub taken_ordered : (book : Orders) (asks : List Ask) (issue : ℕ) → IsOrderBook book → taken_of (with_asks book asks) issue ≡ taken_of book issue + asked_of_pool issue asks
 unfolding taken_of
 taken_ordered book asks issue lawful =
     let next : ℕ = length book.orders + 1 in
@@ -66,16 +86,16 @@ taken_ordered book asks issue lawful =
     omega (arith, sum_by-append (taken_by_order book.replies issue) book.orders (numbered next asks), new)
 
 -- covers deliver nothing
-pub covers_deliver_nothing : (asks : List Ask) (issue : ℕ) → All (λ (a : Ask). a.kind ≡ Cover) asks → delivered_by issue asks ≡ 0
-unfolding delivered_by
+pub covers_deliver_nothing : (asks : List Ask) (issue : ℕ) → All (λ (a : Ask). a.kind ≡ Cover) asks → asked_of_pool issue asks ≡ 0
+unfolding asked_of_pool
 covers_deliver_nothing [] issue all = refl
 covers_deliver_nothing (a ∷ asks) issue all =
     let rest = covers_deliver_nothing asks issue (All-tail (λ (b : Ask). b.kind ≡ Cover) a asks all) in
     rw (All-head (λ (b : Ask). b.kind ≡ Cover) a asks all) (omega (arith, rest))
 
 -- nor do deliveries of another issue
-pub others_deliver_nothing : (asks : List Ask) (issue other : ℕ) → (issue == other) ≡ false → All (λ (a : Ask). a.issue ≡ other) asks → delivered_by issue asks ≡ 0
-unfolding delivered_by
+pub others_deliver_nothing : (asks : List Ask) (issue other : ℕ) → (issue == other) ≡ false → All (λ (a : Ask). a.issue ≡ other) asks → asked_of_pool issue asks ≡ 0
+unfolding asked_of_pool
 others_deliver_nothing [] issue other differ all = refl
 others_deliver_nothing (a ∷ asks) issue other differ all =
     let rest = others_deliver_nothing asks issue other differ (All-tail (λ (b : Ask). b.issue ≡ other) a asks all) in
@@ -87,8 +107,8 @@ others_deliver_nothing (a ∷ asks) issue other differ all =
     by false its e = refl
 
 -- deliveries take no more than all asks ask for
-pub delivered_most : (asks : List Ask) (issue : ℕ) → delivered_by issue asks ≤ sum_by (λ (a : Ask). a.asked) asks
-unfolding delivered_by
+pub delivered_most : (asks : List Ask) (issue : ℕ) → asked_of_pool issue asks ≤ sum_by (λ (a : Ask). a.asked) asks
+unfolding asked_of_pool
 delivered_most [] issue = omega arith
 delivered_most (a ∷ asks) issue = omega (arith, at_most (is_delivery_of issue a) a.asked, sum_by-cons (λ (b : Ask). b.asked) a asks, delivered_most asks issue)
 

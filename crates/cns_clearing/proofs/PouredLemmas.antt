@@ -1,24 +1,20 @@
 -- What lots have of the shares that are there.
-use Rattle.std.proofs.Common.{◌≡◌, ◌≤◌, ◌+◌, ◌-◌, ℕ, Bool, true, false, List, [], ◌∷◌, Option, Some, None, refl, sym, ap, ◌∙◌, subst, arith}
-use Rattle.std.specs.Prelude.{◌&&◌, ◌==◌, is_some, option_map, sum_by, unwrap_or, if◌then◌else◌}
+use Rattle.std.proofs.Common.{◌≡◌, ◌≤◌, ◌+◌, ◌-◌, ℕ, List, Option, Some, None, refl, sym, ap, ◌∙◌, subst, arith}
+use Rattle.std.specs.Prelude.{option_map, unwrap_or, if◌then◌else◌}
 use Rattle.std.proofs.lemmas.Bool.{cond-true, le-leb}
-use Rattle.std.proofs.lemmas.List.Sums.{sum_by-cons}
 use Rattle.std.proofs.lemmas.Option.{none-some}
 use Rattle.cns_ids.specs.Shares.{is_shares}
-use Rattle.cns_movements.specs.Book.{Orders}
-use Rattle.cns_movements.specs.Order.{is_delivery, moved_of}
-use Rattle.cns_movements.specs.declared.order.Order.{Order}
-use Rattle.cns_movements.specs.declared.order.Reply.{Reply}
 use Rattle.cns_records.specs.Clear.{AreWritable}
 use Rattle.cns_records.specs.declared.clear_record.ClearRecord.{ClearRecord}
 use Rattle.cns_clearing.specs.Answers.{IsPoured}
 use Rattle.cns_clearing.specs.Books.{IsLawful, orders_of}
 use Rattle.cns_clearing.specs.Lots.{AreLots, avail_in}
 use Rattle.cns_clearing.specs.Node.{ClearNode}
-use Rattle.cns_clearing.specs.Pools.{covered_of, delivered_by_order, delivered_of, free_of, lent_of, lot_of, out_by_order, out_of, taken_by_order, taken_of}
+use Rattle.cns_clearing.specs.Pools.{covered_of, delivered_of, free_of, lent_of, lot_of, out_of}
 use Rattle.cns_clearing.specs.declared.lot.Lot.{Lot}
 use Rattle.cns_clearing.proofs.LotLemmas.{lot_found}
 use Rattle.cns_clearing.proofs.PlanLemmas.{lot_pours}
+use Rattle.cns_clearing.proofs.PoolLemmas.{taken_whole}
 use Rattle.cns_clearing.proofs.TotalLemmas.{avail_most, taken_covered}
 
 -- a lot has no more than is there
@@ -42,29 +38,6 @@ lent_most c lots issue lawful are = by (lot_of lots issue) refl
 pub free_most : (c : List ClearRecord) (lots : List Lot) (issue free : ℕ) → IsLawful c → AreWritable c → AreLots c lots → free ≡ free_of (orders_of c) lots issue
     → free + lent_of lots issue ≤ 1000000000000000000
 free_most c lots issue free lawful fits are is = omega (arith, is, lent_most c lots issue lawful are, avail_most c issue lawful fits)
-
--- what deliveries take is what they ask for while they are not confirmed, and what they moved from then on
-taken_parts : (rs : List Reply) (issue : ℕ) (orders : List Order)
-    → sum_by (taken_by_order rs issue) orders ≡ sum_by (out_by_order rs issue) orders + sum_by (delivered_by_order rs issue) orders
-taken_parts rs issue [] = refl
-taken_parts rs issue (o ∷ orders) =
-    omega (
-      arith,
-      sum_by-cons (taken_by_order rs issue) o orders,
-      sum_by-cons (out_by_order rs issue) o orders,
-      sum_by-cons (delivered_by_order rs issue) o orders,
-      by (is_delivery o.kind && (o.issue == issue)) (moved_of rs o.number),
-      taken_parts rs issue orders,
-    )
-  where
-    by : (b : Bool) (m : Option ℕ) → (if b then unwrap_or m o.asked else 0) ≡ (if b then (if is_some m then 0 else o.asked) else 0) + (if b then unwrap_or m 0 else 0)
-    by true None = omega arith
-    by true (Some moved) = omega arith
-    by false m = omega arith
-
-taken_whole : (book : Orders) (issue : ℕ) → taken_of book issue ≡ out_of book issue + delivered_of book issue
-unfolding taken_of out_of delivered_of
-taken_whole book issue = taken_parts book.replies issue book.orders
 
 -- so free, lent and out, and with what deliveries took, shares are all that covers brought
 pub pool_whole : (c : List ClearRecord) (lots : List Lot) (issue : ℕ) → IsLawful c → AreLots c lots

@@ -23,9 +23,9 @@ use Rattle.cns_records.specs.declared.clear_record.ClearRecord.TheVariants.{Acce
 use Rattle.cns_records.specs.declared.drawn.Drawn.{Drawn}
 use Rattle.cns_clearing.specs.Books.{Books, Allows, IsAllocable, IsLawful, books_of, covers_on, deliveries_in, orders_of, tickets_of, with_record}
 use Rattle.cns_clearing.specs.Lots.{avail_in}
-use Rattle.cns_clearing.specs.Pools.{avail_of, covered_by_order, covered_of, taken_of}
+use Rattle.cns_clearing.specs.Pools.{asked_of_pool, avail_of, covered_by_order, covered_of, taken_of}
 use Rattle.cns_clearing.proofs.BooksLemmas.{lawful_bounded, lawful_sound}
-use Rattle.cns_clearing.proofs.PoolLemmas.{allocation_issue, covered_confirmed, covered_ordered, covers_deliver_nothing, delivered_by, delivered_most, others_deliver_nothing, taken_confirmed, taken_ordered}
+use Rattle.cns_clearing.proofs.PoolLemmas.{allocation_issue, covered_confirmed, covered_ordered, covers_deliver_nothing, delivered_most, others_deliver_nothing, taken_confirmed, taken_ordered}
 use Rattle.cns_clearing.proofs.PositionLemmas.{lawful_moved}
 
 -- ---- the shares that covers brought
@@ -73,10 +73,10 @@ avail_most c issue lawful fits = omega (arith, covered_most c issue lawful fits)
 -- ---- the shares that deliveries take
 
 -- an allocation takes no more of its issue than is there, and nothing of another one
-allocation_takes : (b : Books) (a : Allocation) (issue : ℕ) → IsAllocable b a → delivered_by issue (deliveries_in a) ≤ avail_of b.orders issue
+allocation_takes : (b : Books) (a : Allocation) (issue : ℕ) → IsAllocable b a → asked_of_pool issue (deliveries_in a) ≤ avail_of b.orders issue
 allocation_takes b a issue allocable = by (issue == a.issue) refl
   where
-    by : (its : Bool) → (issue == a.issue) ≡ its → delivered_by issue (deliveries_in a) ≤ avail_of b.orders issue
+    by : (its : Bool) → (issue == a.issue) ≡ its → asked_of_pool issue (deliveries_in a) ≤ avail_of b.orders issue
     by true e =
         let same : issue ≡ a.issue = eqb-true issue a.issue e in
         let there : a.poured ≤ avail_of b.orders issue = subst (λ (i : ℕ). a.poured ≤ avail_of b.orders i) (sym same) allocable.there in

@@ -1,4 +1,5 @@
 pub mod Pools
+pub mod PoolSums
 pub mod OpenLots
 pub mod Books
 pub mod Position

@@ -1,11 +1,12 @@
 -- The pool of an issue: the shares in account 0 that are free, lent and on their way to members, as sums over the orders of
 -- a book, and what the open lots hold (this project's own rules).
-use Rattle.std.specs.Prelude.{ℕ, ◌-◌, ◌&&◌, ◌==◌, List, [], ◌∷◌, Option, Some, None, find, option_map, unwrap_or, sum_by, if◌then◌else◌}
+use Rattle.std.specs.Prelude.{ℕ, ◌+◌, ◌-◌, ◌&&◌, ◌==◌, List, [], ◌∷◌, Option, Some, None, find, option_map, unwrap_or, sum_by, if◌then◌else◌}
 use Rattle.std.specs.List.{filter_map}
 use Rattle.std.specs.Ordering.{nat_cmp}
 use Rattle.std.specs.BTreeSet.{insert_key}
 use Rattle.cns_movements.specs.Order.{is_cover, is_delivery, moved_of, moved_part, open_part}
 use Rattle.cns_movements.specs.Book.{Orders}
+use Rattle.cns_movements.specs.declared.order.Ask.{Ask}
 use Rattle.cns_movements.specs.declared.order.Order.{Order}
 use Rattle.cns_movements.specs.declared.order.Reply.{Reply}
 use Rattle.cns_clearing.specs.declared.lot.Lot.{Lot}
@@ -44,6 +45,11 @@ out_of book issue = sum_by (out_by_order book.replies issue) book.orders
 -- the shares that confirmed deliveries took in an issue
 unfoldable pub delivered_of : Orders → ℕ → ℕ
 delivered_of book issue = sum_by (delivered_by_order book.replies issue) book.orders
+
+-- the shares that the deliveries of an issue among new orders ask for
+unfoldable pub asked_of_pool : ℕ → List Ask → ℕ
+asked_of_pool issue [] = 0
+asked_of_pool issue (a ∷ asks) = (if is_delivery a.kind && (a.issue == issue) then a.asked else 0) + asked_of_pool issue asks
 
 -- the shares that covers brought, less those that deliveries took or still may take
 abbrev pub avail_of : Orders → ℕ → ℕ

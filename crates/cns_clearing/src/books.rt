@@ -13,9 +13,9 @@ ghost use Rattle.cns_clearing.specs.Pools.{avail_of as avail_in};
 ghost use Rattle.cns_clearing.specs.Room.{HasRoom};
 
 use crate::effects::Effects;
-use crate::pools::avail_of;
+use crate::pooled_orders::PooledOrders;
 use cns_allocate::Plan;
-use cns_covers::{Exemptions, Priorities, covers};
+use cns_covers::{Exemptions, Priorities, covers_of_rows};
 use cns_ids::{Cusip, CycleId, MemberNo, Shares};
 use cns_movements::{Ask, Confirm, MoveKind, MoveNo, Order, OrderBook, Reply};
 use cns_netting::{NetBook, PositionRow};
@@ -25,8 +25,6 @@ use std::alloc::{AllocError, Global};
 use std::marker::Model;
 use std::mem;
 
-const MAX_ORDERS: usize = MoveNo::MAX as usize;
-
 /// The books of a clearing node: what its records amount to.
 ///
 /// Contracts see the books, and beside them for how many more entries there is room without taking
@@ -35,7 +33,7 @@ const MAX_ORDERS: usize = MoveNo::MAX as usize;
 pub(crate) struct Books {
     trades: TradeList,
     book: NetBook,
-    orders: OrderBook,
+    orders: PooledOrders,
     exemptions: Exemptions,
     priorities: Priorities,
     latest: Option<CycleId>,
@@ -80,7 +78,7 @@ impl Books {
         Books {
             trades: TradeList::new(alloc),
             book: NetBook::new(alloc),
-            orders: OrderBook::new(alloc),
+            orders: PooledOrders::new(alloc),
             exemptions: Exemptions::new(alloc),
             priorities: Priorities::new(alloc),
             latest: None,
@@ -106,21 +104,13 @@ impl Books {
         }
     }
 
-    /// The covers that a cycle orders.
-    pub(crate) fn covers(&self, alloc: Global, id: &CycleId) -> Result<Vec<Ask>, AllocError>
-        requires { AreSound self.now.books }
-        ensures { IfOk result (λ asks. asks.items ≡ covers_on self.now.books id.now.day) }
-    {
-        covers(alloc, &self.book, id.day, &self.orders, &self.exemptions)
-    }
-
     /// What a cycle makes besides itself: the covers, and the positions directly after it.
     pub(crate) fn cycle_effects(&self, alloc: Global, id: &CycleId) -> Result<Effects, AllocError>
         requires { AreSound self.now.books }
         ensures { IfOk result (AreEffects self.now.books (ClearRecord.Cycle id.now)) }
     {
-        let asks = self.covers(alloc, id)?;
         let rows = self.book.rows_at(id.day)?;
+        let asks = covers_of_rows(alloc, &rows, self.orders(), &self.exemptions)?;
         Ok(Effects { asks, rows })
     }
 
@@ -145,7 +135,7 @@ impl Books {
             alloc,
             issue,
             &self.book,
-            &self.orders,
+            self.orders(),
             &self.priorities,
             were_long.as_slice(),
         )
@@ -155,7 +145,7 @@ impl Books {
     pub(crate) fn avail(&self, issue: Cusip) -> u128
         ensures { result ≡ avail_in self.now.books.orders issue }
     {
-        avail_of(&self.orders, issue)
+        self.orders.avail(issue)
     }
 
     /// The shares that a member is long of in an issue, less those of its open deliveries.
@@ -168,29 +158,21 @@ impl Books {
         } else {
             0
         };
-        long.saturating_sub(self.orders.open_of(MoveKind::Delivery, member, issue))
+        long.saturating_sub(self.orders().open_of(MoveKind::Delivery, member, issue))
     }
 
     /// Whether orders are more than the numbers that are left.
     pub(crate) fn are_spent(&self, asks: &[Ask]) -> bool
         ensures { result ≡ are_numbers_spent self.now.books.orders asks.now }
     {
-        !asks.is_empty() && asks.len() > MAX_ORDERS - self.orders.len()
+        self.orders.are_spent(asks)
     }
 
     /// The answer to a confirmation.
     pub(crate) fn answer(&self, reply: &Reply) -> Confirm
         ensures { result ≡ confirm_answer self.now.books.orders reply.now }
     {
-        let Some(order) = self.orders.get(reply.number) else {
-            return Confirm::UnknownMove;
-        };
-        match self.orders.confirmed(reply.number) {
-            Some(moved) if moved == reply.moved => Confirm::Again,
-            Some(_) => Confirm::Conflict,
-            None if reply.moved.count() > order.asked.shares() => Confirm::TooMuch,
-            None => Confirm::Done,
-        }
+        self.orders.answer(reply)
     }
 
     /// The latest cycle.
@@ -209,6 +191,13 @@ impl Books {
 
     /// The orders and their confirmations.
     pub(crate) fn orders(&self) -> &OrderBook
+        ensures { result.now.book ≡ self.now.books.orders }
+    {
+        self.orders.book()
+    }
+
+    /// The orders with what the orders of each issue come to.
+    pub(crate) fn pooled(&self) -> &PooledOrders
         ensures { result.now.book ≡ self.now.books.orders }
     {
         &self.orders
@@ -248,10 +237,10 @@ impl Books {
         ensures same { self.new.books ≡ self.old.books }
         ensures room { OnOk result ((0 < self.new.entry_room) × (1 ≤ self.new.reply_room)) }
     {
-        let Some(order) = self.orders.get(reply.number) else {
+        let Some(order) = self.orders().get(reply.number) else {
             unreachable!()
         };
-        self.orders.confirm_room(*reply)?;
+        self.orders.confirm_room(reply)?;
         self.book
             .settle_room(order.member, order.issue, amount_of(&order, reply))
     }
@@ -285,7 +274,7 @@ impl Books {
             }
             ClearRecord::Cycle(id) => self.cycle(id, effects),
             ClearRecord::Allocate(_) => {
-                issue_orders(&mut self.orders, effects.asks.as_slice());
+                self.orders.issue(effects.asks.as_slice());
                 0
             }
             ClearRecord::Confirm(reply) => {
@@ -333,7 +322,7 @@ impl Books {
         ensures books { self.new.books ≡ with_record (ClearRecord.Cycle id.now) self.old.books }
         ensures due { result ≡ becoming_due self.old.books.history id.now.day }
     {
-        issue_orders(&mut self.orders, effects.asks.as_slice());
+        self.orders.issue(effects.asks.as_slice());
         let Ok(due) = self.book.net(id.day) else {
             unreachable!()
         };
@@ -348,12 +337,10 @@ impl Books {
         requires allowed { Allows self.old.books (ClearRecord.Confirm reply.now) }
         ensures { self.new.books ≡ with_record (ClearRecord.Confirm reply.now) self.old.books }
     {
-        let Some(order) = self.orders.get(reply.number) else {
+        let Some(order) = self.orders().get(reply.number) else {
             unreachable!()
         };
-        let Ok(_) = self.orders.confirm(*reply) else {
-            unreachable!()
-        };
+        self.orders.confirm(reply);
         let amount = amount_of(&order, reply);
         let Ok(()) = self.book.settle(order.member, order.issue, amount) else {
             unreachable!()
@@ -382,18 +369,4 @@ fn long_member(issue: Cusip, row: &PositionRow) -> Option<MemberNo>
     } else {
         None
     }
-}
-
-// Issues orders for which there are numbers and room.
-fn issue_orders(orders: &mut OrderBook, asks: &[Ask])
-    requires room { length asks.now ≤ orders.old.order_room }
-    requires numbers { are_numbers_spent orders.old.book asks.now ≡ false }
-    ensures { orders.new.book ≡ with_asks orders.old.book asks.now }
-{
-    if asks.is_empty() {
-        return;
-    }
-    let Ok(_) = orders.issue(asks) else {
-        unreachable!()
-    };
 }

@@ -17,7 +17,7 @@ use crate::books::Books;
 use crate::closing::{allocation_of, asked_in_all};
 use crate::effects::Effects;
 use crate::lot::{Lot, Lots};
-use crate::pools::{PoolRows, free_of, lent_of, out_of, pool_rows};
+use crate::pools::{PoolRows, free_of, lent_of, pool_rows};
 use cns_allocate::{Plan, are_served, deliveries};
 use cns_ids::{Cusip, CycleId, MemberNo, Shares};
 use cns_journal::{CommitFault, Keeper, NotPlanned, RecordLog, Refused, ReplayFault, Restarted};
@@ -60,6 +60,9 @@ impl<K: Keeper> Clearing<K> {
     ///
     /// Refuses `BadJournal` where a payload is no record, or of a record that may not stand after
     /// those before it. (This project's own rule.)
+    ///
+    /// Costs each record that the journal gives what the call that made it cost, and an allocation the
+    /// square of its tickets.
     pub fn open(alloc: Global, keeper: K) -> Result<Clearing<K>, Refused<K>>
         ensures ok { IfOk result (IsOpened
             (record { honest = K.honest keeper; run = K.run keeper; journal = K.journal keeper; foresight = K.foresight keeper })) }
@@ -95,6 +98,9 @@ impl<K: Keeper> Clearing<K> {
     /// Refuses `Down`, then `Trade` with the verdict of the accepted trades where that is not `New`.
     /// After `Device` the trade is not accepted, and the node is down until it is restarted. (This
     /// project's own rule.)
+    ///
+    /// Costs look-ups of the trade's id and of its two holdings, a place among the trades that are not
+    /// due, and one commit.
     pub fn take_trade(&mut self, trade: &Trade) -> Result<(), Refusal>
         ensures { TradeLeaves trade.now result self.old self.new }
     {
@@ -112,6 +118,8 @@ impl<K: Keeper> Clearing<K> {
     ///
     /// Refuses `Down`. After `Device` nothing is exempted, and the node is down until it is
     /// restarted. (This project's own rule.)
+    ///
+    /// Costs a look-up and one commit.
     pub fn exempt(&mut self, member: MemberNo, issue: Cusip, shares: Shares) -> Result<(), Refusal>
         ensures { SettingLeaves (Exempt member issue shares) result self.old self.new }
     {
@@ -126,6 +134,8 @@ impl<K: Keeper> Clearing<K> {
     ///
     /// Refuses `Down`. After `Device` nothing is set, and the node is down until it is restarted.
     /// (This project's own rule.)
+    ///
+    /// Costs a look-up and one commit.
     pub fn priority(&mut self, member: MemberNo, issue: Cusip, on: bool) -> Result<(), Refusal>
         ensures { SettingLeaves (Priority member issue on) result self.old self.new }
     {
@@ -138,6 +148,9 @@ impl<K: Keeper> Clearing<K> {
     /// Refuses `Down`, then `CycleOrder`, then `LotsOpen`, then `NumbersSpent`, which never comes where
     /// there is nothing to cover. After `Device` the cycle was not run and nothing is ordered, and the
     /// node is down until it is restarted. (This project's own rule.)
+    ///
+    /// Costs one pass over all holdings that trades or movements named, the trades that become due, a
+    /// sort of the positions, a look-up for each short one, and one commit.
     pub fn cycle(&mut self, id: CycleId) -> Result<Cycled, Refusal>
         ensures { CycleLeaves id result self.old self.new }
     {
@@ -162,6 +175,9 @@ impl<K: Keeper> Clearing<K> {
     /// Opens a lot of an issue: all its free shares are poured into it, and its plan is fixed.
     ///
     /// Refuses `Down`, then `LotAlready`. It adds no record. (This project's own rule.)
+    ///
+    /// Costs one pass over all holdings and over the positions after the cycle before the latest, and
+    /// look-ups for each member that is long in the issue.
     pub fn lot_open(&mut self, issue: Cusip) -> Result<Plan, Refusal>
         ensures { LotOpenLeaves issue result self.old self.new }
     {
@@ -188,6 +204,8 @@ impl<K: Keeper> Clearing<K> {
     /// Pours the shares of an issue into its lot that have become free, and answers how many.
     ///
     /// Refuses `Down`, then `NoLot`. It adds no record and takes no memory. (This project's own rule.)
+    ///
+    /// Costs a look-up, and a walk over the open lots.
     pub fn lot_pour(&mut self, issue: Cusip) -> Result<u64, Refusal>
         ensures { LotPourLeaves issue result self.old self.new }
     {
@@ -210,6 +228,9 @@ impl<K: Keeper> Clearing<K> {
     /// Refuses `Down`, then `NoLot`, then `BadTickets` where the tickets do not serve the lot's plan,
     /// then `NumbersSpent`, which never comes where nothing is granted. After `Device` the lot is open
     /// and nothing is ordered, and the node is down until it is restarted. (This project's own rule.)
+    ///
+    /// Costs its plan and its tickets, where these were drawn in the plan's order or nearly so, a walk
+    /// over the open lots, and one commit.
     pub fn lot_close(
         &mut self,
         issue: Cusip,
@@ -237,6 +258,8 @@ impl<K: Keeper> Clearing<K> {
     /// The order of this number, where its record was acknowledged.
     ///
     /// Refuses `Down`, then `UnknownMove`.
+    ///
+    /// Costs a look-up.
     pub fn order(&self, number: MoveNo) -> Result<Order, Refusal>
         ensures { OrderGives number result self.now }
     {
@@ -250,6 +273,8 @@ impl<K: Keeper> Clearing<K> {
     ///
     /// Refuses `Down`, then `UnknownMove`, then `Conflict`, then `TooMuch`. After `Device` nothing is
     /// confirmed, and the node is down until it is restarted. (This project's own rule.)
+    ///
+    /// Costs look-ups and one commit.
     pub fn take_reply(&mut self, reply: &Reply) -> Result<Taken, Refusal>
         ensures { ReplyLeaves reply.now result self.old self.new }
     {
@@ -271,6 +296,9 @@ impl<K: Keeper> Clearing<K> {
     ///
     /// Refuses `BadJournal` where a payload is no record, or of a record that may not stand after
     /// those before it. (This project's own rule.)
+    ///
+    /// Costs each record that the journal gives what the call that made it cost, and an allocation the
+    /// square of its tickets.
     pub fn restart(&mut self) -> Result<Restarted, ReplayFault>
         ensures { RestartLeaves result self.old self.new }
     {
@@ -315,6 +343,8 @@ impl<K: Keeper> Clearing<K> {
     /// The position of a member in an issue, in shares: above 0 it is to receive, below 0 to deliver.
     /// It is what the member bought less what it sold in due trades, with what its confirmed covers
     /// moved, and less what its confirmed deliveries moved. (This project's own rule.)
+    ///
+    /// Costs a look-up.
     pub fn position(&self, member: MemberNo, issue: Cusip) -> i128
         ensures value { result ≡ position_in self.now.log.records member issue }
 
@@ -325,16 +355,20 @@ impl<K: Keeper> Clearing<K> {
     }
 
     /// The shares of an issue in account 0 that are free.
+    ///
+    /// Costs a look-up, and a walk over the open lots.
     pub fn free(&self, issue: Cusip) -> u128
         ensures value { result ≡ free_in (orders_of self.now.log.records) self.now.lots issue }
 
         // With those that are lent they are at most 10^18.
         ensures small { result + lent_in self.now.lots issue ≤ 10 ^ 18 }
     {
-        free_of(self.books().orders(), self.lots(), issue)
+        free_of(self.books().pooled(), self.lots(), issue)
     }
 
     /// The shares of an issue that are lent: those that were poured into its open lot.
+    ///
+    /// Costs a walk over the open lots.
     pub fn lent(&self, issue: Cusip) -> u128
         ensures { result ≡ lent_in self.now.lots issue }
     {
@@ -342,6 +376,8 @@ impl<K: Keeper> Clearing<K> {
     }
 
     /// The shares of an issue that unconfirmed deliveries ask for.
+    ///
+    /// Costs a look-up.
     pub fn out(&self, issue: Cusip) -> u128
         ensures value { result ≡ out_in (orders_of self.now.log.records) issue }
 
@@ -355,14 +391,18 @@ impl<K: Keeper> Clearing<K> {
     }
 
     /// The pools that have shares, by issue.
+    ///
+    /// Costs one pass over all orders, and a look-up for each issue that they name.
     pub fn pools(&self, alloc: Global) -> Result<PoolRows, AllocError>
         ensures { IfOk result (λ rows. rows ≡ rows_of (orders_of self.now.log.records) self.now.lots) }
     {
-        pool_rows(alloc, self.books().orders(), self.lots())
+        pool_rows(alloc, self.books().pooled(), self.lots())
     }
 
     /// The plan that a lot of an issue would have if it were opened now: the members that are to
     /// receive shares, and how many.
+    ///
+    /// Costs what opening the lot does.
     pub fn lot_plan(&self, issue: Cusip) -> Result<Plan, AllocError>
         ensures { IfOk result (λ plan. plan ≡ plan_in self.now.log.records issue) }
     {
@@ -370,6 +410,8 @@ impl<K: Keeper> Clearing<K> {
     }
 
     /// The open lot of an issue.
+    ///
+    /// Costs a walk over the open lots.
     pub fn lot(&self, issue: Cusip) -> Option<&Lot>
         ensures { option_map (λ lot. lot.now) result ≡ lot_of self.now.lots issue }
     {
@@ -475,7 +517,7 @@ impl<K: Keeper> Clearing<K> {
             free_in book self.now.lots issue + lent_in self.now.lots issue + result + delivered_in book issue
             ≡ covered_in book issue }
     {
-        out_of(self.books().orders(), issue)
+        self.books().pooled().going_out(issue)
     }
 
     // The allocation that closes the lot of an issue with these tickets.

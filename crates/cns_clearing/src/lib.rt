@@ -13,6 +13,8 @@ mod closing;
 mod effects;
 mod ledger;
 mod lot;
+mod pool_sums;
+mod pooled_orders;
 mod pools;
 
 pub use answer::{Closed, Cycled, Orders, Taken};

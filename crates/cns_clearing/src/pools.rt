@@ -1,10 +1,11 @@
-ghost use Rattle.std.specs.Prelude.{◌≡◌, ◌*◌, ◌^◌, ◌≤◌, length, IfOk};
+ghost use Rattle.std.specs.Prelude.{◌≡◌, IfOk};
 ghost use Rattle.std.specs.List.{filter_map};
-ghost use Rattle.cns_clearing.specs.Pools.{covered_by_order, taken_by_order, out_by_order, covered_of as covered_in, taken_of as taken_in, out_of as out_in, avail_of as avail_in, lent_of as lent_in, free_of as free_in, issues_of, pool_row as pool_row_of, rows_of};
+ghost use Rattle.cns_clearing.specs.Pools.{lent_of as lent_in, free_of as free_in, issues_of, pool_row as pool_row_of, rows_of};
 
 use crate::lot::Lots;
+use crate::pooled_orders::PooledOrders;
 use cns_ids::Cusip;
-use cns_movements::{MoveKind, Order, OrderBook};
+use cns_movements::Order;
 use std::alloc::{AllocError, Global};
 use std::collections::BTreeSet;
 use std::marker::Model;
@@ -46,94 +47,6 @@ impl PoolRows {
     }
 }
 
-// What an order counts among the covers of an issue.
-fn covered_by(orders: &OrderBook, issue: Cusip, order: &Order) -> u128
-    ensures part { result ≡ covered_by_order orders.now.book.replies issue order.now }
-    ensures small { result ≤ 10 ^ 18 }
-{
-    if order.kind == MoveKind::Cover && order.issue == issue {
-        match orders.confirmed(order.number) {
-            Some(moved) => u128::from(moved.count()),
-            None => 0,
-        }
-    } else {
-        0
-    }
-}
-
-// What an order takes of the pool of an issue.
-fn taken_by(orders: &OrderBook, issue: Cusip, order: &Order) -> u128
-    ensures part { result ≡ taken_by_order orders.now.book.replies issue order.now }
-    ensures small { result ≤ 10 ^ 18 }
-{
-    if order.kind == MoveKind::Delivery && order.issue == issue {
-        match orders.confirmed(order.number) {
-            Some(moved) => u128::from(moved.count()),
-            None => u128::from(order.asked.shares()),
-        }
-    } else {
-        0
-    }
-}
-
-// What an order counts among the unconfirmed deliveries of an issue.
-fn out_by(orders: &OrderBook, issue: Cusip, order: &Order) -> u128
-    ensures part { result ≡ out_by_order orders.now.book.replies issue order.now }
-    ensures small { result ≤ 10 ^ 18 }
-{
-    if order.kind == MoveKind::Delivery
-        && order.issue == issue
-        && orders.confirmed(order.number).is_none()
-    {
-        u128::from(order.asked.shares())
-    } else {
-        0
-    }
-}
-
-// The shares that confirmed covers brought in an issue.
-#[tactic(auto, unfolding(crate::specs::Pools::covered_of))]
-fn covered(orders: &OrderBook, issue: Cusip) -> u128
-    ensures { result ≡ covered_in orders.now.book issue }
-{
-    let mut total: u128 = 0;
-    for order in orders.orders() {
-        total += covered_by(orders, issue, order);
-    }
-    total
-}
-
-// The shares that deliveries in an issue took, or still may take.
-#[tactic(auto, unfolding(crate::specs::Pools::taken_of))]
-fn taken(orders: &OrderBook, issue: Cusip) -> u128
-    ensures { result ≡ taken_in orders.now.book issue }
-{
-    let mut total: u128 = 0;
-    for order in orders.orders() {
-        total += taken_by(orders, issue, order);
-    }
-    total
-}
-
-// The shares that unconfirmed deliveries in an issue ask for.
-#[tactic(auto, unfolding(crate::specs::Pools::out_of))]
-pub(crate) fn out_of(orders: &OrderBook, issue: Cusip) -> u128
-    ensures { result ≡ out_in orders.now.book issue }
-{
-    let mut total: u128 = 0;
-    for order in orders.orders() {
-        total += out_by(orders, issue, order);
-    }
-    total
-}
-
-// The shares that covers brought in an issue, less those that deliveries took or still may take.
-pub(crate) fn avail_of(orders: &OrderBook, issue: Cusip) -> u128
-    ensures { result ≡ avail_in orders.now.book issue }
-{
-    covered(orders, issue).saturating_sub(taken(orders, issue))
-}
-
 // The shares that are lent in an issue.
 pub(crate) fn lent_of(lots: &Lots, issue: Cusip) -> u128
     ensures { result ≡ lent_in lots.now.lots issue }
@@ -145,10 +58,10 @@ pub(crate) fn lent_of(lots: &Lots, issue: Cusip) -> u128
 }
 
 // The shares that are free in an issue.
-pub(crate) fn free_of(orders: &OrderBook, lots: &Lots, issue: Cusip) -> u128
+pub(crate) fn free_of(orders: &PooledOrders, lots: &Lots, issue: Cusip) -> u128
     ensures { result ≡ free_in orders.now.book lots.now.lots issue }
 {
-    avail_of(orders, issue).saturating_sub(lent_of(lots, issue))
+    orders.avail(issue).saturating_sub(lent_of(lots, issue))
 }
 
 // The issues that some order names, each once, in order.
@@ -173,12 +86,12 @@ fn issues_in_order(alloc: Global, orders: &[Order]) -> Result<Vec<Cusip>, AllocE
 
 // The pool of an issue, where it has shares.
 #[tactic(auto, unfolding(crate::specs::Pools::pool_row))]
-fn pool_row(orders: &OrderBook, lots: &Lots, issue: Cusip) -> Option<PoolRow>
+fn pool_row(orders: &PooledOrders, lots: &Lots, issue: Cusip) -> Option<PoolRow>
     ensures { result ≡ pool_row_of orders.now.book lots.now.lots issue }
 {
     let free = free_of(orders, lots, issue);
     let lent = lent_of(lots, issue);
-    let out = out_of(orders, issue);
+    let out = orders.going_out(issue);
     if free == 0 && lent == 0 && out == 0 {
         return None;
     }
@@ -193,12 +106,12 @@ fn pool_row(orders: &OrderBook, lots: &Lots, issue: Cusip) -> Option<PoolRow>
 // The pools that have shares, free, lent or out, by issue. (This project's own rule.)
 pub(crate) fn pool_rows(
     alloc: Global,
-    orders: &OrderBook,
+    orders: &PooledOrders,
     lots: &Lots,
 ) -> Result<PoolRows, AllocError>
     ensures { IfOk result (λ rows. rows ≡ rows_of orders.now.book lots.now.lots) }
 {
-    let issues = issues_in_order(alloc, orders.orders())?;
+    let issues = issues_in_order(alloc, orders.book().orders())?;
     let rows = rows_of_issues(alloc, orders, lots, issues.as_slice())?;
     Ok(PoolRows { rows })
 }
@@ -206,7 +119,7 @@ pub(crate) fn pool_rows(
 // The pools of issues that have shares, in their order.
 fn rows_of_issues(
     alloc: Global,
-    orders: &OrderBook,
+    orders: &PooledOrders,
     lots: &Lots,
     issues: &[Cusip],
 ) -> Result<Vec<PoolRow>, AllocError>

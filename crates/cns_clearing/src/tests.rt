@@ -1,4 +1,5 @@
 use crate::lot::Lots;
+use crate::pooled_orders::PooledOrders;
 use crate::pools::pool_rows;
 use crate::test_support::{
     CYCLED, Call, FAILED, FILLED, LOST, Look, NIGHT, SALE, Sale, Step, asked, assert_same, issue,
@@ -6,7 +7,7 @@ use crate::test_support::{
 };
 use crate::{PoolRow, Taken};
 use cns_ids::{Cusip, CycleKind};
-use cns_movements::{Ask, Confirm, MoveKind, MoveNo, OrderBook, Reply};
+use cns_movements::{Ask, Confirm, MoveKind, MoveNo, Reply};
 use cns_records::Refusal;
 use cns_trades::Verdict;
 use std::alloc::Global;
@@ -124,21 +125,34 @@ fn ask(placed: &Placed) -> Result<Ask, Fail> {
     })
 }
 
-fn confirm(rt: &impl Abort, book: &mut OrderBook, number: MoveNo, moved: u64) -> Result<(), Fail> {
+fn confirm(orders: &mut PooledOrders, number: MoveNo, moved: u64) -> Result<(), Fail> {
     let moved = shares(moved)?;
-    assert_same(
-        rt,
-        &book.confirm(Reply { number, moved }),
-        &Ok(Confirm::Done),
-    );
+    let reply = Reply { number, moved };
+    orders.confirm_room(&reply)?;
+    if orders.answer(&reply) != Confirm::Done {
+        return Err(Fail::from("a first confirmation"));
+    }
+    orders.confirm(&reply);
     Ok(())
 }
 
-fn place(rt: &impl Abort, book: &mut OrderBook, placed: &Placed) -> Result<(), Fail> {
-    let asked = ask(placed)?;
-    let number = book.issue(&[asked])?;
+fn issue_one(orders: &mut PooledOrders, asked: Ask) -> Result<(), Fail> {
+    let asks = [asked];
+    orders.issue_room(&asks)?;
+    if orders.are_spent(&asks) {
+        return Err(Fail::from("a number for an order"));
+    }
+    orders.issue(&asks);
+    Ok(())
+}
+
+fn place(orders: &mut PooledOrders, placed: &Placed) -> Result<(), Fail> {
+    let Some(number) = orders.book().next_number() else {
+        return Err(Fail::from("a number for an order"));
+    };
+    issue_one(orders, ask(placed)?)?;
     match placed.4 {
-        Some(moved) => confirm(rt, book, number, moved),
+        Some(moved) => confirm(orders, number, moved),
         None => Ok(()),
     }
 }
@@ -146,11 +160,11 @@ fn place(rt: &impl Abort, book: &mut OrderBook, placed: &Placed) -> Result<(), F
 fn assert_pools(
     rt: &impl Abort,
     alloc: Global,
-    book: &OrderBook,
+    orders: &PooledOrders,
     wanted: &[PoolRow],
 ) -> Result<(), Fail> {
     let lots = Lots::new(alloc);
-    let rows = pool_rows(alloc, book, &lots);
+    let rows = pool_rows(alloc, orders, &lots);
     drop(lots);
     let rows = rows?;
     assert_same(rt, &rows.as_slice(), &wanted);
@@ -158,20 +172,20 @@ fn assert_pools(
     Ok(())
 }
 
-fn place_all(rt: &impl Abort, alloc: Global, book: &mut OrderBook) -> Result<(), Fail> {
+fn place_all(rt: &impl Abort, alloc: Global, orders: &mut PooledOrders) -> Result<(), Fail> {
     let wanted = pool(issue()?, 12, 0, 7);
-    assert_pools(rt, alloc, book, &[])?;
+    assert_pools(rt, alloc, orders, &[])?;
     for placed in &PLACED {
-        place(rt, book, placed)?;
+        place(orders, placed)?;
     }
-    assert_pools(rt, alloc, book, &[wanted])
+    assert_pools(rt, alloc, orders, &[wanted])
 }
 
 #[test]
 fn pools_of_an_order_book(rt: HostRuntime) -> Result<(), Fail> {
-    let mut book = OrderBook::new(rt.alloc());
-    let placed = place_all(&rt, rt.alloc(), &mut book);
-    drop(book);
+    let mut orders = PooledOrders::new(rt.alloc());
+    let placed = place_all(&rt, rt.alloc(), &mut orders);
+    drop(orders);
     placed
 }
 

@@ -7,6 +7,6 @@ use Rattle.cns_clearing.proofs.clearing.Clearing.going_out.Goals as goal
 
 pub returns-clause-whole : goal.returns-clause-whole
 returns-clause-whole g c =
-    let book = c.orders.ensures ∙ ap (λ (b : Books). b.orders) c.books.ensures.books in
-    let is : c.out_of.result ≡ out_of (orders_of c.args.self.now.log.records) c.args.issue = c.out_of.ensures ∙ ap (λ (o : Orders). out_of o c.args.issue) book in
+    let book = c.pooled.ensures ∙ ap (λ (b : Books). b.orders) c.books.ensures.books in
+    let is : c.going_out.result ≡ out_of (orders_of c.args.self.now.log.records) c.args.issue = c.going_out.ensures ∙ ap (λ (o : Orders). out_of o c.args.issue) book in
     omega (arith, is, pool_whole c.args.self.now.log.records c.args.self.now.lots c.args.issue c.books.ensures.lawful c.books.ensures.lots)

@@ -1,0 +1,183 @@
+-- What the orders of each issue come to, as orders are issued and confirmed.
+use Rattle.std.proofs.Common.{◌≡◌, ℕ, suc, ◌+◌, ◌*◌, ◌^◌, ◌≤◌, Bool, true, false, List, [], ◌∷◌, length, length-append, Some, refl, sym, ap, ◌∙◌, arith, subst}
+use Rattle.std.specs.Prelude.{◌==◌, ◌&&◌, sum_by, if◌then◌else◌}
+use Rattle.std.proofs.lemmas.Bool.{eq-eqb}
+use Rattle.std.proofs.lemmas.List.Sums.{sum_by-append, sum_by-cons}
+use Rattle.cns_movements.specs.Book.{IsOrderBook, Orders, with_asks, with_reply}
+use Rattle.cns_movements.specs.Order.{is_cover, is_delivery, moved_part, numbered, open_part, order_of}
+use Rattle.cns_movements.specs.declared.order.Ask.{Ask}
+use Rattle.cns_movements.specs.declared.order.MoveKind.TheVariants.{Cover, Delivery}
+use Rattle.cns_movements.specs.declared.order.Order.{Order}
+use Rattle.cns_movements.specs.declared.order.Reply.{Reply}
+use Rattle.cns_movements.proofs.ConfirmLemmas.{IsTaken}
+use Rattle.cns_movements.proofs.OrderLemmas.{length-numbered, sum_le_found}
+use Rattle.cns_movements.proofs.ReplyLemmas.{moved_new, moved_of_above, moved_with_reply, open_new, open_with_reply, parts_le_asked}
+use Rattle.cns_clearing.specs.Pools.{asked_of_pool, covered_of, delivered_by_order, delivered_of, out_by_order, out_of}
+use Rattle.cns_clearing.specs.PoolSums.{AreSumsOf}
+use Rattle.cns_clearing.specs.declared.pool_sums.PoolSums.{PoolSums}
+use Rattle.cns_movements.proofs.BookLemmas.{with_asks_lawful, with_reply_lawful}
+use Rattle.cns_clearing.specs.Books.{are_spent}
+use Rattle.cns_clearing.proofs.BooksLemmas.{numbers_suffice}
+use Rattle.cns_clearing.proofs.PoolLemmas.{covered_ordered}
+
+-- ---- as they are
+
+pub sums_none : (sums : ℕ → PoolSums) (book : Orders) → book ≡ record { orders = []; replies = [] } → ((i : ℕ) → sums i ≡ record { covered = 0; delivered = 0; out = 0 })
+    → AreSumsOf sums book
+unfolding covered_of delivered_of out_of
+sums_none sums book none are = Prim.rw none (record {
+  lawful = record { numbered = tt; few = omega arith; known = tt; once = tt };
+  covered = λ i. ap (λ (s : PoolSums). s.covered) (are i);
+  delivered = λ i. ap (λ (s : PoolSums). s.delivered) (are i);
+  out = λ i. ap (λ (s : PoolSums). s.out) (are i);
+  asked = omega arith;
+})
+
+pub sums_kept : (old new : ℕ → PoolSums) (book now : Orders) → AreSumsOf old book → ((i : ℕ) → new i ≡ old i) → now ≡ book → AreSumsOf new now
+sums_kept old new book now are same is = subst (AreSumsOf new) (sym is) (record {
+  lawful = are.lawful;
+  covered = λ i. ap (λ (s : PoolSums). s.covered) (same i) ∙ are.covered i;
+  delivered = λ i. ap (λ (s : PoolSums). s.delivered) (same i) ∙ are.delivered i;
+  out = λ i. ap (λ (s : PoolSums). s.out) (same i) ∙ are.out i;
+  asked = are.asked;
+})
+
+-- ---- with more orders
+
+-- new orders ask for what their asks do
+numbered_asked : (n : ℕ) (asks : List Ask) → sum_by (λ (o : Order). o.asked) (numbered n asks) ≡ sum_by (λ (a : Ask). a.asked) asks
+numbered_asked n [] = refl
+numbered_asked n (a ∷ asks) =
+    let o : Order = record { number = n; kind = a.kind; member = a.member; issue = a.issue; asked = a.asked } in
+    omega (arith, sum_by-cons (λ (x : Order). x.asked) o (numbered (suc n) asks), sum_by-cons (λ (x : Ask). x.asked) a asks, numbered_asked (suc n) asks)
+
+-- of which the deliveries ask of the pool
+numbered_out : (n : ℕ) (asks : List Ask) (issue : ℕ)
+    → sum_by (λ (o : Order). if is_delivery o.kind && (o.issue == issue) then o.asked else 0) (numbered n asks) ≡ asked_of_pool issue asks
+unfolding asked_of_pool
+numbered_out n [] issue = refl
+numbered_out n (a ∷ asks) issue =
+    let o : Order = record { number = n; kind = a.kind; member = a.member; issue = a.issue; asked = a.asked } in
+    omega (arith, sum_by-cons (λ (x : Order). if is_delivery x.kind && (x.issue == issue) then x.asked else 0) o (numbered (suc n) asks), numbered_out (suc n) asks issue)
+
+-- an ask that is a delivery, and one that is a cover, at the head of others
+pub delivery_first : (a : Ask) (asks : List Ask) (issue : ℕ) → a.kind ≡ Delivery → asked_of_pool issue (a ∷ asks) ≡ (if a.issue == issue then a.asked else 0) + asked_of_pool issue asks
+unfolding asked_of_pool
+delivery_first a asks issue kind = rw kind refl
+
+pub cover_first : (a : Ask) (asks : List Ask) (issue : ℕ) → a.kind ≡ Cover → asked_of_pool issue (a ∷ asks) ≡ asked_of_pool issue asks
+unfolding asked_of_pool
+cover_first a asks issue kind = rw kind (omega arith)
+
+-- no asks ask for nothing
+pub nothing_asked : (asks : List Ask) (issue : ℕ) → length asks ≡ 0 → asked_of_pool issue asks ≡ 0
+unfolding asked_of_pool
+nothing_asked [] issue none = refl
+nothing_asked (a ∷ asks) issue none = absurd (omega arith)
+
+delivered_ordered : (book : Orders) (asks : List Ask) (issue : ℕ) → IsOrderBook book → delivered_of (with_asks book asks) issue ≡ delivered_of book issue
+unfolding delivered_of
+delivered_ordered book asks issue lawful =
+    let next : ℕ = length book.orders + 1 in
+    let new =
+    moved_new (λ (o : Order). is_delivery o.kind && (o.issue == issue)) next asks book.replies
+    (λ j le. moved_of_above book.orders book.replies j lawful.numbered lawful.known (omega arith)) in
+    omega (arith, sum_by-append (delivered_by_order book.replies issue) book.orders (numbered next asks), new)
+
+out_ordered : (book : Orders) (asks : List Ask) (issue : ℕ) → IsOrderBook book → out_of (with_asks book asks) issue ≡ out_of book issue + asked_of_pool issue asks
+unfolding out_of
+out_ordered book asks issue lawful =
+    let next : ℕ = length book.orders + 1 in
+    let new =
+    open_new (λ (o : Order). is_delivery o.kind && (o.issue == issue)) next asks book.replies
+    (λ j le. moved_of_above book.orders book.replies j lawful.numbered lawful.known (omega arith)) in
+    omega (arith, sum_by-append (out_by_order book.replies issue) book.orders (numbered next asks), new, numbered_out next asks issue)
+
+asked_ordered : (book : Orders) (asks : List Ask) → sum_by (λ (o : Order). o.asked) book.orders ≤ 10 ^ 18 * length book.orders
+    → sum_by (λ (a : Ask). a.asked) asks ≤ 10 ^ 18 * length asks
+    → sum_by (λ (o : Order). o.asked) (with_asks book asks).orders ≤ 10 ^ 18 * length (with_asks book asks).orders
+asked_ordered book asks before most =
+    let next : ℕ = length book.orders + 1 in
+    omega (
+      arith,
+      before,
+      most,
+      sum_by-append (λ (o : Order). o.asked) book.orders (numbered next asks),
+      numbered_asked next asks,
+      length-append book.orders (numbered next asks),
+      length-numbered next asks,
+    )
+
+pub sums_ordered : (old new : ℕ → PoolSums) (book : Orders) (asks : List Ask) → AreSumsOf old book → are_spent book asks ≡ false
+    → ((i : ℕ) → (new i).covered ≡ (old i).covered) → ((i : ℕ) → (new i).delivered ≡ (old i).delivered) → ((i : ℕ) → (new i).out ≡ (old i).out + asked_of_pool i asks)
+    → sum_by (λ (a : Ask). a.asked) asks ≤ 10 ^ 18 * length asks → AreSumsOf new (with_asks book asks)
+sums_ordered old new book asks sums enough covered delivered out most = record {
+  lawful = with_asks_lawful book asks sums.lawful (numbers_suffice book asks sums.lawful.few enough);
+  covered = λ i. covered i ∙ sums.covered i ∙ sym (covered_ordered book asks i sums.lawful);
+  delivered = λ i. delivered i ∙ sums.delivered i ∙ sym (delivered_ordered book asks i sums.lawful);
+  out = λ i. omega (arith, out i, sums.out i, out_ordered book asks i sums.lawful);
+  asked = asked_ordered book asks sums.asked most;
+}
+
+-- ---- with one more confirmation
+
+pub sums_confirmed : (old new : ℕ → PoolSums) (book : Orders) (r : Reply) (o : Order) → AreSumsOf old book → (taken : IsTaken book r) → taken.order ≡ o
+    → ((i : ℕ) → (new i).covered ≡ (old i).covered + (if is_cover o.kind && (o.issue == i) then r.moved else 0))
+    → ((i : ℕ) → (new i).delivered ≡ (old i).delivered + (if is_delivery o.kind && (o.issue == i) then r.moved else 0))
+    → ((i : ℕ) → (new i).out + (if is_delivery o.kind && (o.issue == i) then o.asked else 0) ≡ (old i).out)
+    → AreSumsOf new (with_reply book r)
+unfolding covered_of delivered_of out_of
+sums_confirmed old new book r o sums taken same covered delivered out =
+    let found : order_of book.orders r.number ≡ Some o = taken.found ∙ ap (λ (x : Order). Some x) same in
+    let within : r.moved ≤ o.asked = subst (λ (x : Order). r.moved ≤ x.asked) same taken.within in
+    record {
+      lawful = with_reply_lawful book r o sums.lawful found taken.first within;
+      covered = λ i. omega (arith, covered i, sums.covered i, moved_with_reply (λ (x : Order). is_cover x.kind && (x.issue == i)) book.orders book.replies r o sums.lawful.numbered found taken.first);
+      delivered = λ i. omega (arith, delivered i, sums.delivered i, moved_with_reply (λ (x : Order). is_delivery x.kind && (x.issue == i)) book.orders book.replies r o sums.lawful.numbered found taken.first);
+      out = λ i. omega (arith, out i, sums.out i, open_with_reply (λ (x : Order). is_delivery x.kind && (x.issue == i)) book.orders book.replies r o sums.lawful.numbered found taken.first);
+      asked = sums.asked;
+    }
+
+-- ---- that they fit
+
+-- what is counted of each order is at most what it asks for
+counted_most : (part : Order → ℕ) (counted : Order → Bool) (book : Orders) → IsOrderBook book → ((o : Order) → order_of book.orders o.number ≡ Some o → part o ≤ o.asked)
+    → sum_by (λ (o : Order). if counted o then part o else 0) book.orders ≤ sum_by (λ (o : Order). o.asked) book.orders
+counted_most part counted book lawful within =
+    sum_le_found (λ (o : Order). if counted o then part o else 0) (λ (o : Order). o.asked) book.orders 1 lawful.numbered
+    (λ o found. by (counted o) (part o) o.asked (within o found))
+  where
+    by : (b : Bool) (p n : ℕ) → p ≤ n → (if b then p else 0) ≤ n
+    by true p n le = le
+    by false p n le = omega arith
+
+pub record AreSmall (sums : PoolSums) : Type 0 where
+  pub covered : sums.covered ≤ 10 ^ 24
+  pub delivered : sums.delivered ≤ 10 ^ 24
+  pub out : sums.out ≤ 10 ^ 24
+
+pub sums_small : (sums : ℕ → PoolSums) (book : Orders) (i : ℕ) → AreSumsOf sums book → AreSmall (sums i)
+unfolding covered_of delivered_of out_of
+sums_small sums book i are =
+    let lawful = are.lawful in
+    let moved : (o : Order) → order_of book.orders o.number ≡ Some o → moved_part book.replies o ≤ o.asked =
+    λ o found. omega (arith, parts_le_asked book.orders book.replies o lawful.known found) in
+    let still : (o : Order) → order_of book.orders o.number ≡ Some o → open_part book.replies o ≤ o.asked =
+    λ o found. omega (arith, parts_le_asked book.orders book.replies o lawful.known found) in
+    record {
+      covered = omega (arith, are.asked, lawful.few, are.covered i, counted_most (moved_part book.replies) (λ (o : Order). is_cover o.kind && (o.issue == i)) book lawful moved);
+      delivered = omega (arith, are.asked, lawful.few, are.delivered i, counted_most (moved_part book.replies) (λ (o : Order). is_delivery o.kind && (o.issue == i)) book lawful moved);
+      out = omega (arith, are.asked, lawful.few, are.out i, counted_most (open_part book.replies) (λ (o : Order). is_delivery o.kind && (o.issue == i)) book lawful still);
+    }
+
+-- an unconfirmed delivery is counted among those that are out
+pub out_has : (sums : ℕ → PoolSums) (book : Orders) (r : Reply) (o : Order) → AreSumsOf sums book → (taken : IsTaken book r) → taken.order ≡ o
+    → is_delivery o.kind ≡ true → o.asked ≤ (sums o.issue).out
+unfolding out_of
+out_has sums book r o are taken same delivery =
+    let found : order_of book.orders r.number ≡ Some o = taken.found ∙ ap (λ (x : Order). Some x) same in
+    let with : sum_by (λ (x : Order). if is_delivery x.kind && (x.issue == o.issue) then open_part (r ∷ book.replies) x else 0) book.orders
+    + (if is_delivery o.kind && (o.issue == o.issue) then o.asked else 0) ≡ out_of book o.issue =
+    open_with_reply (λ (x : Order). is_delivery x.kind && (x.issue == o.issue)) book.orders book.replies r o are.lawful.numbered found taken.first in
+    let here : (if is_delivery o.kind && (o.issue == o.issue) then o.asked else 0) ≡ o.asked = rw (delivery, eq-eqb o.issue o.issue refl) refl in
+    omega (arith, with, here, are.out o.issue)

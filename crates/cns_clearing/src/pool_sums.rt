@@ -1,0 +1,128 @@
+ghost use Rattle.std.specs.Prelude.{◌≡◌, ℕ, ◌+◌, ◌*◌, ◌^◌, ◌<◌, ◌≤◌, ◌&&◌, ◌==◌, nat_eq, true, length, sum_by, if◌then◌else◌};
+ghost use Rattle.std.specs.HashMap.{get, spare};
+ghost use Rattle.cns_movements.specs.Order.{is_cover, is_delivery};
+ghost use Rattle.cns_movements.specs.declared.order.Ask.{Ask};
+ghost use Rattle.cns_clearing.specs.Pools.{asked_of_pool};
+ghost use Rattle.cns_clearing.specs.PoolSums.{sums_at};
+
+use cns_ids::{Cusip, Shares};
+use cns_movements::{Ask, MoveKind, Order};
+use std::collections::HashMap;
+
+/// What the orders of an issue come to, in shares.
+#[derive(Clone, Copy)]
+pub(crate) struct PoolSums {
+    /// What confirmed covers brought.
+    pub(crate) covered: u128,
+    /// What confirmed deliveries took.
+    pub(crate) delivered: u128,
+    /// What unconfirmed deliveries ask for.
+    pub(crate) out: u128,
+}
+
+/// The sums of an issue: all 0 where it has none.
+pub(crate) fn sums_of(pools: &HashMap<Cusip, PoolSums>, issue: Cusip) -> PoolSums
+    ensures { result ≡ sums_at (get nat_eq pools.now issue) }
+{
+    match pools.get(&issue) {
+        Some(sums) => *sums,
+        None => PoolSums {
+            covered: 0,
+            delivered: 0,
+            out: 0,
+        },
+    }
+}
+
+// Sets the sums of an issue, for which there is room.
+fn put(pools: &mut HashMap<Cusip, PoolSums>, issue: Cusip, sums: PoolSums)
+    requires { 0 < spare pools.old }
+    ensures sums { (i : ℕ) → sums_at (get nat_eq pools.new i)
+        ≡ (if issue == i then sums else sums_at (get nat_eq pools.old i)) }
+    ensures left { spare pools.old ≤ spare pools.new + 1 }
+{
+    let Ok(_) = pools.insert(issue, sums) else {
+        unreachable!()
+    };
+}
+
+// Adds what a new delivery asks for, where there is room for its issue.
+fn ask(pools: &mut HashMap<Cusip, PoolSums>, issue: Cusip, asked: u64)
+    requires room { 0 < spare pools.old }
+    requires small { (sums_at (get nat_eq pools.old issue)).out + asked < 2 ^ 128 }
+    ensures covered { (i : ℕ) → (sums_at (get nat_eq pools.new i)).covered ≡ (sums_at (get nat_eq pools.old i)).covered }
+    ensures delivered { (i : ℕ) → (sums_at (get nat_eq pools.new i)).delivered ≡ (sums_at (get nat_eq pools.old i)).delivered }
+    ensures out { (i : ℕ) → (sums_at (get nat_eq pools.new i)).out
+        ≡ (sums_at (get nat_eq pools.old i)).out + (if issue == i then asked else 0) }
+    ensures left { spare pools.old ≤ spare pools.new + 1 }
+{
+    let sums = sums_of(pools, issue);
+    let asked_more = PoolSums {
+        out: sums.out + u128::from(asked),
+        ..sums
+    };
+    put(pools, issue, asked_more);
+}
+
+/// Adds what new orders ask of the pools, where there is room for their issues.
+pub(crate) fn ask_all(pools: &mut HashMap<Cusip, PoolSums>, asks: &[Ask])
+    requires room { length asks.now ≤ spare pools.old }
+    requires small { (i : ℕ) → (sums_at (get nat_eq pools.old i)).out + 10 ^ 18 * length asks.now < 2 ^ 128 }
+    ensures covered { (i : ℕ) → (sums_at (get nat_eq pools.new i)).covered ≡ (sums_at (get nat_eq pools.old i)).covered }
+    ensures delivered { (i : ℕ) → (sums_at (get nat_eq pools.new i)).delivered ≡ (sums_at (get nat_eq pools.old i)).delivered }
+    ensures out { (i : ℕ) → (sums_at (get nat_eq pools.new i)).out
+        ≡ (sums_at (get nat_eq pools.old i)).out + asked_of_pool i asks.now }
+    ensures most { sum_by (λ (a : Ask). a.asked) asks.now ≤ 10 ^ 18 * length asks.now }
+{
+    let mut left = asks;
+    while let Some((first, rest)) = left.split_first() {
+        let asked = first.asked.shares();
+        match first.kind {
+            MoveKind::Delivery => ask(pools, first.issue, asked),
+            MoveKind::Cover => {}
+        }
+        left = rest;
+    }
+}
+
+/// Adds what an order moved, and takes off what it asked for, where there is room for its issue.
+pub(crate) fn settle(pools: &mut HashMap<Cusip, PoolSums>, order: &Order, moved: Shares)
+    requires room { 0 < spare pools.old }
+    requires covered { (sums_at (get nat_eq pools.old order.now.issue)).covered ≤ 10 ^ 24 }
+    requires delivered { (sums_at (get nat_eq pools.old order.now.issue)).delivered ≤ 10 ^ 24 }
+    requires out { is_delivery order.now.kind ≡ true
+        → order.now.asked ≤ (sums_at (get nat_eq pools.old order.now.issue)).out }
+    ensures covered { (i : ℕ) → (sums_at (get nat_eq pools.new i)).covered
+        ≡ (sums_at (get nat_eq pools.old i)).covered + (if is_cover order.now.kind && (order.now.issue == i) then moved else 0) }
+    ensures delivered { (i : ℕ) → (sums_at (get nat_eq pools.new i)).delivered
+        ≡ (sums_at (get nat_eq pools.old i)).delivered + (if is_delivery order.now.kind && (order.now.issue == i) then moved else 0) }
+    ensures out { (i : ℕ) → (sums_at (get nat_eq pools.new i)).out + (if is_delivery order.now.kind && (order.now.issue == i) then order.now.asked else 0)
+        ≡ (sums_at (get nat_eq pools.old i)).out }
+{
+    let sums = sums_of(pools, order.issue);
+    let settled = settled(sums, order, moved);
+    put(pools, order.issue, settled);
+}
+
+// The sums of an order's issue after it moved these shares.
+fn settled(sums: PoolSums, order: &Order, moved: Shares) -> PoolSums
+    requires covered { sums.covered ≤ 10 ^ 24 }
+    requires delivered { sums.delivered ≤ 10 ^ 24 }
+    requires out { is_delivery order.now.kind ≡ true → order.now.asked ≤ sums.out }
+    ensures covered { result.covered ≡ sums.covered + (if is_cover order.now.kind then moved else 0) }
+    ensures delivered { result.delivered ≡ sums.delivered + (if is_delivery order.now.kind then moved else 0) }
+    ensures out { result.out + (if is_delivery order.now.kind then order.now.asked else 0) ≡ sums.out }
+{
+    let moved = u128::from(moved.count());
+    match order.kind {
+        MoveKind::Cover => PoolSums {
+            covered: sums.covered + moved,
+            ..sums
+        },
+        MoveKind::Delivery => PoolSums {
+            delivered: sums.delivered + moved,
+            out: sums.out - u128::from(order.asked.shares()),
+            ..sums
+        },
+    }
+}
