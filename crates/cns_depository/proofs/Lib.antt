@@ -1,7 +1,8 @@
 pub mod OpeningLemmas
-pub mod StockLemmas
+pub mod TotalLemmas
 pub mod NodeLemmas
 pub mod BalanceLemmas
 pub mod PlaceLemmas
 pub mod RowLemmas
+pub mod KeyLemmas
 pub mod IndexLemmas

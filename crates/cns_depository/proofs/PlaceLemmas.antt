@@ -5,7 +5,7 @@ use Rattle.cns_depository.specs.declared.account.Account.{Account}
 use Rattle.cns_depository.specs.declared.account.Account.TheVariants.{Cns, Member}
 use Rattle.cns_depository.specs.Balances.{account_cmp, place_cmp}
 use Rattle.cns_depository.specs.contracts.account.AccountOrd.TheImpl as account
-use Rattle.cns_depository.specs.contracts.balances.PlaceOrd.TheImpl as place
+use Rattle.cns_depository.specs.contracts.place.PlaceOrd.TheImpl as place
 
 account_order : (a b : Account) → account.ghosts.cmp a b ≡ account_cmp a b
 account_order Cns Cns = refl

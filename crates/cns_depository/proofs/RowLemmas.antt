@@ -19,13 +19,13 @@ use Rattle.cns_records.specs.declared.dep_record.DepRecord.{DepRecord}
 use Rattle.cns_trades.specs.declared.opening.Opening.{Opening}
 use Rattle.cns_depository.specs.declared.account.Account.{Account}
 use Rattle.cns_depository.specs.declared.account.Account.TheVariants.{Cns, Member}
-use Rattle.cns_depository.specs.declared.balances.Place.{Place}
+use Rattle.cns_depository.specs.declared.place.Place.{Place}
 use Rattle.cns_depository.specs.declared.balances.BalanceRow.{BalanceRow}
 use Rattle.cns_depository.specs.Account.{enters}
 use Rattle.cns_depository.specs.Openings.{is_opening_of, member_opening, opening_shares}
 use Rattle.cns_depository.specs.Stock.{order_in, moved_by, part_in, moved_in, balance_of}
 use Rattle.cns_depository.specs.Balances.{account_cmp, place_cmp, place_at, with_opening, with_order, opened_places, places_of, balance_row, balance_rows, row_place, AreComplete, AreAscending}
-use Rattle.cns_depository.specs.contracts.balances.PlaceOrd.TheImpl.Laws.{total-law}
+use Rattle.cns_depository.specs.contracts.place.PlaceOrd.TheImpl.Laws.{total-law}
 use Rattle.cns_depository.proofs.BalanceLemmas.{and_left, and_right}
 use Rattle.cns_depository.proofs.PlaceLemmas.{place_order}
 
@@ -44,17 +44,17 @@ both_equal Less y e = absurd cc
 both_equal Equal y e = (refl, e)
 both_equal Greater y e = absurd cc
 
-same_place : (a b : Place) → place_cmp a b ≡ Equal → a ≡ b
+pub same_place : (a b : Place) → place_cmp a b ≡ Equal → a ≡ b
 same_place a b e =
     let both = both_equal (nat_cmp a.issue b.issue) (account_cmp a.account b.account) e in
     ap (λ (i : ℕ). place_at i a.account) (same_number a.issue b.issue both.0) ∙ ap (λ (x : Account). place_at b.issue x) (same_account a.account b.account both.1)
 
 -- a place is one of these
-abbrev IsAmong : Place → List Place → Type 0
+abbrev pub IsAmong : Place → List Place → Type 0
 IsAmong q [] = ⊥
 IsAmong q (x ∷ xs) = (x ≡ q) ⊎ IsAmong q xs
 
-insert_keeps : (ks : List Place) (k q : Place) → IsAmong q ks → IsAmong q (insert_key place_cmp ks k)
+pub insert_keeps : (ks : List Place) (k q : Place) → IsAmong q ks → IsAmong q (insert_key place_cmp ks k)
 insert_keeps [] k q in' = absurd in'
 insert_keeps (x ∷ xs) k q in' = by (place_cmp k x) in' (insert_keeps xs k q)
   where
@@ -63,7 +63,7 @@ insert_keeps (x ∷ xs) k q in' = by (place_cmp k x) in' (insert_keeps xs k q)
     by Equal h rest = h
     by Greater h rest = elim h [ inl e ↦ inl e | inr more ↦ inr (rest more) ]
 
-insert_has : (ks : List Place) (k : Place) → IsAmong k (insert_key place_cmp ks k)
+pub insert_has : (ks : List Place) (k : Place) → IsAmong k (insert_key place_cmp ks k)
 insert_has [] k = inl refl
 insert_has (x ∷ xs) k = by (place_cmp k x) refl (insert_has xs k)
   where
@@ -77,7 +77,7 @@ opened_keeps : (os : List Opening) (ps : List Place) (q : Place) → IsAmong q p
 opened_keeps [] ps q in' = in'
 opened_keeps (o ∷ os) ps q in' = opened_keeps os (with_opening ps o) q (insert_keeps ps (place_at o.issue (Member o.member)) q in')
 
-opened_has : (os : List Opening) (ps : List Place) (m i : ℕ) → member_opening os m i ≢ 0 → IsAmong (place_at i (Member m)) (fold with_opening ps os)
+pub opened_has : (os : List Opening) (ps : List Place) (m i : ℕ) → member_opening os m i ≢ 0 → IsAmong (place_at i (Member m)) (fold with_opening ps os)
 unfolding member_opening
 opened_has [] ps m i held = absurd (held refl)
 opened_has (o ∷ os) ps m i held = by (is_opening_of m i o) refl (opened_has os (with_opening ps o) m i)
@@ -128,7 +128,7 @@ moved_place openings (e ∷ p) a i held = by (enters a (order_in e) && eqb (orde
         order_keeps (places_of openings p) (order_in e) (place_at i a) (rest (λ z. held (omega (arith, sum_by-cons (part_in a i) e p, none, z))))
 
 -- a balance other than 0 is of a place that is named
-held_place : (openings : List Opening) (p : List DepRecord) (a : Account) (i : ℕ) → balance_of openings p a i ≢ 0 → IsAmong (place_at i a) (places_of openings p)
+pub held_place : (openings : List Opening) (p : List DepRecord) (a : Account) (i : ℕ) → balance_of openings p a i ≢ 0 → IsAmong (place_at i a) (places_of openings p)
 unfolding balance_of
 held_place openings p a i held =
     elim (cases_Bool (eqb (opening_shares openings a i) 0)) [
@@ -169,7 +169,7 @@ rows_complete openings p a i held =
     (held_row openings p (place_at i a) held)
 
 -- the order of places is one
-place_total : IsTotalOrder place_cmp
+pub place_total : IsTotalOrder place_cmp
 place_total = subst (λ (f : Place → Place → Ordering). IsTotalOrder f) place_order total-law
 
 -- what stands after a place stands after one before it
@@ -190,7 +190,7 @@ all_insert x k (y ∷ ys) below after = by (place_cmp k y) after (all_insert x k
 above : (k x : Place) → place_cmp k x ≡ Greater → place_cmp x k ≡ Less
 above k x e = let back = place_total.antisymm x k in rw (back, e) refl
 
-sorted_insert : (xs : List Place) (k : Place) → IsStrictlySortedBy place_cmp xs → IsStrictlySortedBy place_cmp (insert_key place_cmp xs k)
+pub sorted_insert : (xs : List Place) (k : Place) → IsStrictlySortedBy place_cmp xs → IsStrictlySortedBy place_cmp (insert_key place_cmp xs k)
 unfolding IsStrictlySortedBy
 sorted_insert [] k sorted = (tt, tt)
 sorted_insert (x ∷ xs) k sorted = by (place_cmp k x) refl (sorted_insert xs k sorted.1)
@@ -201,11 +201,11 @@ sorted_insert (x ∷ xs) k sorted = by (place_cmp k x) refl (sorted_insert xs k 
     by Equal e rest = sorted
     by Greater e rest = (all_insert x k xs (above k x e) sorted.0, rest)
 
-opened_sorted : (os : List Opening) (ps : List Place) → IsStrictlySortedBy place_cmp ps → IsStrictlySortedBy place_cmp (fold with_opening ps os)
+pub opened_sorted : (os : List Opening) (ps : List Place) → IsStrictlySortedBy place_cmp ps → IsStrictlySortedBy place_cmp (fold with_opening ps os)
 opened_sorted [] ps sorted = sorted
 opened_sorted (o ∷ os) ps sorted = opened_sorted os (with_opening ps o) (sorted_insert ps (place_at o.issue (Member o.member)) sorted)
 
-places_sorted : (openings : List Opening) (p : List DepRecord) → IsStrictlySortedBy place_cmp (places_of openings p)
+pub places_sorted : (openings : List Opening) (p : List DepRecord) → IsStrictlySortedBy place_cmp (places_of openings p)
 unfolding places_of opened_places IsStrictlySortedBy
 places_sorted openings [] = opened_sorted openings [] tt
 places_sorted openings (e ∷ p) =

@@ -16,6 +16,15 @@ giver_by Delivery member = Cns
 abbrev pub giver : Order → Account
 giver o = giver_by o.kind o.member
 
+-- the account that receives, of a movement of this kind and member
+abbrev pub receiver_by : MoveKind → ℕ → Account
+receiver_by Cover member = Cns
+receiver_by Delivery member = Member member
+
+-- the account that receives
+abbrev pub receiver : Order → Account
+receiver o = receiver_by o.kind o.member
+
 -- whether an order moves shares into an account
 abbrev pub enters : Account → Order → Bool
 enters Cns o = is_cover o.kind

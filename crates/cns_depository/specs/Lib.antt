@@ -4,4 +4,5 @@ pub mod OpeningIndex
 pub mod Stock
 pub mod Balances
 pub mod Node
+pub mod Totals
 pub mod Answers

@@ -1,12 +1,12 @@
 ghost use Rattle.std.specs.Prelude.{◌≡◌};
-ghost use Rattle.cns_depository.specs.Account.{giver, enters, leaves};
+ghost use Rattle.cns_depository.specs.Account.{giver, receiver};
 
 use cns_ids::MemberNo;
 use cns_movements::{MoveKind, Order};
 
 /// An account at the depository. The CNS account stands before the members' accounts, and these stand
 /// by number. (This project's own rule.)
-#[derive(Clone, Copy, PartialEq, Eq, PartialOrd, Ord, Debug)]
+#[derive(Clone, Copy, PartialEq, Eq, PartialOrd, Ord, Hash, Debug)]
 pub enum Account {
     /// The CNS account, through which each movement goes.
     Cns,
@@ -24,22 +24,12 @@ pub(crate) fn giver_of(order: &Order) -> Account
     }
 }
 
-// Whether an order moves shares into an account.
-pub(crate) fn does_enter(account: &Account, order: &Order) -> bool
-    ensures { result ≡ enters account.now order.now }
+// The account that receives.
+pub(crate) fn receiver_of(order: &Order) -> Account
+    ensures { result ≡ receiver order.now }
 {
-    match account {
-        Account::Cns => order.kind == MoveKind::Cover,
-        Account::Member(member) => order.kind == MoveKind::Delivery && order.member == *member,
-    }
-}
-
-// Whether an order moves shares out of an account.
-pub(crate) fn does_leave(account: &Account, order: &Order) -> bool
-    ensures { result ≡ leaves account.now order.now }
-{
-    match account {
-        Account::Cns => order.kind == MoveKind::Delivery,
-        Account::Member(member) => order.kind == MoveKind::Cover && order.member == *member,
+    match order.kind {
+        MoveKind::Cover => Account::Cns,
+        MoveKind::Delivery => Account::Member(order.member),
     }
 }

@@ -1,12 +1,15 @@
-ghost use Rattle.std.specs.Prelude.{◌≡◌, reverse, IfOk, OnOk};
-ghost use Rattle.cns_depository.specs.Stock.{order_in};
-ghost use Rattle.cns_depository.specs.Balances.{with_order, opened_places as opened_places_of, places_of, balance_row as balance_row_of, balance_rows as balance_rows_of};
+ghost use Rattle.std.specs.Prelude.{◌≡◌, fold, IfOk, List};
+ghost use Rattle.std.specs.BTreeSet.{insert_key};
+ghost use Rattle.std.specs.HashMap.{keys};
+ghost use Rattle.cns_records.specs.declared.dep_record.DepRecord.{DepRecord};
+ghost use Rattle.cns_depository.specs.Balances.{opened_places as opened_places_of, balance_row as balance_row_of, balance_rows as balance_rows_of, place_cmp};
+ghost use Rattle.cns_depository.specs.Totals.{IsStockOf};
 
 use crate::account::Account;
 use crate::openings::Openings;
-use crate::stock::balance_of;
+use crate::place::Place;
+use crate::stock::Stock;
 use cns_ids::Cusip;
-use cns_records::DepRecord;
 use cns_trades::Opening;
 use std::alloc::{AllocError, Global};
 use std::collections::BTreeSet;
@@ -47,13 +50,6 @@ impl BalanceRows {
     }
 }
 
-// An account in an issue. Places stand by issue, then account.
-#[derive(Clone, Copy, PartialEq, Eq, PartialOrd, Ord)]
-struct Place {
-    issue: Cusip,
-    account: Account,
-}
-
 // The places that some opening names, each once, in order.
 fn opened_places(alloc: Global, openings: &[Opening]) -> Result<BTreeSet<Place>, AllocError>
     ensures { IfOk result (λ s. s.keys ≡ opened_places_of openings.now) }
@@ -68,35 +64,13 @@ fn opened_places(alloc: Global, openings: &[Opening]) -> Result<BTreeSet<Place>,
     Ok(places)
 }
 
-// Adds the places that a record's order names.
-fn add_places(places: &mut BTreeSet<Place>, entry: &DepRecord) -> Result<(), AllocError>
-    ensures { OnOk result (places.new.keys ≡ with_order places.old.keys (order_in entry.now)) }
-{
-    let DepRecord::Exec { order, .. } = entry;
-    let issue = order.issue;
-    places.insert(Place {
-        issue,
-        account: Account::Cns,
-    })?;
-    places.insert(Place {
-        issue,
-        account: Account::Member(order.member),
-    })?;
-    Ok(())
-}
-
-// The places that some opening or order names, each once, in order.
-fn places(
-    alloc: Global,
-    openings: &Openings,
-    records: &[DepRecord],
-) -> Result<BTreeSet<Place>, AllocError>
-    ensures { IfOk result (λ s. s.keys ≡ places_of openings.now (reverse records.now)) }
+// The places that some opening names, or into which or out of which something was moved, each once, in
+// order.
+fn places(alloc: Global, openings: &Openings, stock: &Stock) -> Result<BTreeSet<Place>, AllocError>
+    ensures { IfOk result (λ s. s.keys ≡ fold (insert_key place_cmp) (opened_places_of openings.now) (keys stock.now.moved)) }
 {
     let mut places = opened_places(alloc, openings.as_slice())?;
-    for entry in records {
-        add_places(&mut places, entry)?;
-    }
+    stock.add_places(&mut places)?;
     Ok(places)
 }
 
@@ -104,20 +78,20 @@ fn places(
 fn places_in_order(
     alloc: Global,
     openings: &Openings,
-    records: &[DepRecord],
+    stock: &Stock,
 ) -> Result<Vec<Place>, AllocError>
-    ensures { IfOk result (λ v. v.items ≡ places_of openings.now (reverse records.now)) }
+    ensures { IfOk result (λ v. v.items ≡ fold (insert_key place_cmp) (opened_places_of openings.now) (keys stock.now.moved)) }
 {
-    let places = places(alloc, openings, records)?;
+    let places = places(alloc, openings, stock)?;
     places.iter().copied().collect(alloc)
 }
 
 // The row of a place, where its balance is not 0.
 #[tactic(auto, unfolding(crate::specs::Balances::balance_row))]
-fn balance_row(openings: &Openings, records: &[DepRecord], place: &Place) -> Option<BalanceRow>
-    ensures { result ≡ balance_row_of openings.now (reverse records.now) place.now }
+fn balance_row(openings: &Openings, stock: &Stock, place: &Place) -> Option<BalanceRow>
+    ensures { (p : List DepRecord) → IsStockOf stock.now p → result ≡ balance_row_of openings.now p place.now }
 {
-    let shares = balance_of(openings, records, &place.account, place.issue);
+    let shares = stock.balance(openings, place);
     if shares == 0 {
         return None;
     }
@@ -132,14 +106,15 @@ fn balance_row(openings: &Openings, records: &[DepRecord], place: &Place) -> Opt
 fn rows_of_places(
     alloc: Global,
     openings: &Openings,
-    records: &[DepRecord],
+    stock: &Stock,
 ) -> Result<Vec<BalanceRow>, AllocError>
-    ensures { IfOk result (λ v. v.items ≡ balance_rows_of openings.now (reverse records.now)) }
+    ensures { (p : List DepRecord) → IsStockOf stock.now p
+        → IfOk result (λ v. v.items ≡ balance_rows_of openings.now p) }
 {
-    let places = places_in_order(alloc, openings, records)?;
+    let places = places_in_order(alloc, openings, stock)?;
     places
         .iter()
-        .filter_map(|place| balance_row(openings, records, place))
+        .filter_map(|place| balance_row(openings, stock, place))
         .collect(alloc)
 }
 
@@ -147,10 +122,11 @@ fn rows_of_places(
 pub(crate) fn balance_rows(
     alloc: Global,
     openings: &Openings,
-    records: &[DepRecord],
+    stock: &Stock,
 ) -> Result<BalanceRows, AllocError>
-    ensures { IfOk result (λ rows. rows ≡ balance_rows_of openings.now (reverse records.now)) }
+    ensures { (p : List DepRecord) → IsStockOf stock.now p
+        → IfOk result (λ rows. rows ≡ balance_rows_of openings.now p) }
 {
-    let rows = rows_of_places(alloc, openings, records)?;
+    let rows = rows_of_places(alloc, openings, stock)?;
     Ok(BalanceRows { rows })
 }

@@ -1,20 +1,20 @@
 ghost use Rattle.std.specs.Prelude.{◌≡◌, ◌+◌, ◌≤◌, true, false, option_map, reverse, IfOk, IfErr};
 ghost use Rattle.cns_depository.specs.Openings.{opening_shares};
-ghost use Rattle.cns_depository.specs.Stock.{IsLawfulDepot, order_in, moved_by, record_of as record_in, moved_in, moved_out, balance_of as balance_in};
+ghost use Rattle.cns_depository.specs.Stock.{IsExecutable, IsLawfulDepot, order_in, moved_by, record_of as record_in, moved_in, moved_out, balance_of as balance_in};
 ghost use Rattle.cns_depository.specs.Balances.{balance_rows as balance_rows_of, AreComplete, AreAscending};
 ghost use Rattle.cns_depository.specs.Answers.{OrderLeaves, IsKnownAnswer};
-ghost use Rattle.cns_depository.specs.Node.{IsOpened, IsUnread, NodePlanned, RestartLeaves};
+ghost use Rattle.cns_depository.specs.Node.{Commits, IsOpened, IsUnread, NodePlanned, RestartLeaves};
 ghost use Rattle.cns_journal.specs.RecordLog.{Keeps};
 ghost use Rattle.cns_records.specs.Dep.{dep_spelling};
 
 use crate::account::Account;
 use crate::balances::{BalanceRows, balance_rows};
 use crate::fault::{Answer, DepFault};
-use crate::ledger::NoTotals;
 use crate::openings::Openings;
-use crate::stock::{balance_of, movement, record_of};
+use crate::place::Place;
+use crate::stock::Stock;
 use cns_ids::{Cusip, Shares};
-use cns_journal::{Keeper, NotPlanned, RecordLog, Refused, ReplayFault, Restarted};
+use cns_journal::{CommitFault, Keeper, NotPlanned, RecordLog, Refused, ReplayFault, Restarted};
 use cns_movements::{MoveNo, Order, Reply};
 use cns_records::DepRecord;
 use std::alloc::{AllocError, Global};
@@ -28,20 +28,28 @@ use std::marker::Model;
 /// its keeper's device has failed; whether its keeper is honest; and what is known beforehand of its
 /// keeper: how the next commit ends, and whether a restart keeps the record whose commit failed. (This
 /// project's own rules.)
+///
+/// Beside the records it keeps what they moved into each account and out of it, in each issue, and the
+/// index of the record of each number: so a call costs the look-ups that it makes, however many records
+/// there are.
 #[derive(Drop)]
 pub struct Depository<K: Keeper> {
     openings: Openings,
     log: RecordLog<K, DepRecord>,
+    // What the records of the log come to, by look-up.
+    stock: Stock,
+    alloc: Global,
 }
 
 impl<K: Keeper> Model for Depository<K> {
-    ghost use Rattle.cns_depository.specs.Node.{DepNode, IsNode};
+    ghost use Rattle.cns_depository.specs.Node.{DepNode};
+    ghost use Rattle.cns_depository.specs.Totals.{IsKept};
 
     ghost Value = { DepNode };
 
     ghost view = { λ d. record { openings = d.openings; log = d.log } };
 
-    ghost invariant = { λ d. IsNode (record { openings = d.openings; log = d.log }) };
+    ghost invariant = { λ d. IsKept d.stock (record { openings = d.openings; log = d.log }) };
 }
 
 impl<K: Keeper> Depository<K> {
@@ -49,7 +57,8 @@ impl<K: Keeper> Depository<K> {
     /// gives. A refused opening hands the keeper back, and drops the openings.
     ///
     /// Refuses `BadJournal` where a payload is no record of a movement that may stand after those
-    /// before it, beginning from the openings. (This project's own rule.)
+    /// before it, beginning from the openings. Costs a few look-ups for each payload. (This project's
+    /// own rule.)
     pub fn open(alloc: Global, keeper: K, openings: Openings) -> Result<Depository<K>, Refused<K>>
         ensures ok { IfOk result (IsOpened openings
             (record { honest = K.honest keeper; run = K.run keeper; journal = K.journal keeper; foresight = K.foresight keeper })) }
@@ -57,9 +66,19 @@ impl<K: Keeper> Depository<K> {
             (record { honest = K.honest keeper; run = K.run keeper; journal = K.journal keeper; foresight = K.foresight keeper })
             (record { honest = K.honest refused.keeper; run = K.run refused.keeper; journal = K.journal refused.keeper; foresight = K.foresight refused.keeper })) }
     {
-        match RecordLog::open(alloc, keeper, &openings, &mut NoTotals) {
-            Ok(log) => Ok(Depository { openings, log }),
-            Err(refused) => Err(refused),
+        let mut stock = Stock::new(alloc);
+        match RecordLog::open(alloc, keeper, &openings, &mut stock) {
+            Ok(log) => Ok(Depository {
+                openings,
+                log,
+                stock,
+                alloc,
+            }),
+            Err(refused) => {
+                drop(stock);
+                drop(openings);
+                Err(refused)
+            }
         }
     }
 
@@ -79,17 +98,17 @@ impl<K: Keeper> Depository<K> {
         self.log.records()
     }
 
-    /// The order that was executed under this number, and the shares that it moved.
+    /// The order that was executed under this number, and the shares that it moved. Costs a look-up.
     pub fn executed(&self, number: MoveNo) -> Option<(Order, Shares)>
         ensures { result
             ≡ option_map (λ entry. (order_in entry, moved_by entry)) (record_in self.now.log.records number) }
     {
-        let DepRecord::Exec { order, moved } = record_of(self.log.records(), number)?;
+        let DepRecord::Exec { order, moved } = self.known(number)?;
         Some((order, moved))
     }
 
     /// The shares that an account holds in an issue: its opening, and what was moved into it, less
-    /// what was moved out of it. (This project's own rule.)
+    /// what was moved out of it. Costs two look-ups. (This project's own rule.)
     pub fn balance(&self, account: Account, issue: Cusip) -> u128
         ensures balance { result ≡ balance_in self.now.openings self.now.log.records account issue }
 
@@ -97,11 +116,13 @@ impl<K: Keeper> Depository<K> {
         ensures covered { moved_out self.now.log.records account issue
             ≤ opening_shares self.now.openings account issue + moved_in self.now.log.records account issue }
     {
-        balance_of(&self.openings, self.log.records(), &account, issue)
+        let place = Place { issue, account };
+        self.stock.balance(&self.openings, &place)
     }
 
     /// Each balance that is not 0, by issue, then account: the CNS account first, then the members by
-    /// number. (This project's own rule.)
+    /// number. Costs two look-ups for each account and issue that has an opening or that an order named,
+    /// and what it takes to sort these. (This project's own rule.)
     pub fn balances(&self, alloc: Global) -> Result<BalanceRows, AllocError>
         ensures rows { IfOk result (λ rows. rows ≡ balance_rows_of self.now.openings self.now.log.records) }
 
@@ -109,27 +130,27 @@ impl<K: Keeper> Depository<K> {
         ensures complete { IfOk result (AreComplete self.now.openings self.now.log.records) }
         ensures ascending { IfOk result AreAscending }
     {
-        balance_rows(alloc, &self.openings, self.log.records())
+        balance_rows(alloc, &self.openings, &self.stock)
     }
 
     /// Executes an order once: it moves what the giving account has, at most what is asked, and
     /// possibly nothing. The same order again is answered with the reply that was kept.
     ///
     /// Refuses `Down`, then `Conflict` where another order was executed under the number. After
-    /// `Device` nothing is executed, and the depository is down until it is restarted. (This
-    /// project's own rule.)
+    /// `Device` nothing is executed, and the depository is down until it is restarted. Costs a few
+    /// look-ups, and the commit of its record. (This project's own rule.)
     pub fn take_order(&mut self, order: &Order) -> Result<Answer, DepFault>
         ensures { OrderLeaves order.now result self.old self.new }
     {
         if self.is_down() {
             return Err(DepFault::Down);
         }
-        if let Some(known) = record_of(self.log.records(), order.number) {
+        if let Some(known) = self.known(order.number) {
             return again(&known, order);
         }
-        let entry = movement(&self.openings, self.log.records(), order);
+        let entry = self.stock.movement(&self.openings, order);
         let DepRecord::Exec { moved, .. } = entry;
-        self.log.commit(entry)?;
+        self.execute(&entry)?;
         Ok(Answer::Done(Reply {
             number: order.number,
             moved,
@@ -141,11 +162,21 @@ impl<K: Keeper> Depository<K> {
     /// whose commit failed stands. How the next commit ends stays known in any case.
     ///
     /// Refuses `BadJournal` where a payload is no record of a movement that may stand after those
-    /// before it. (This project's own rule.)
+    /// before it. Costs a few look-ups for each payload. (This project's own rule.)
     pub fn restart(&mut self) -> Result<Restarted, ReplayFault>
         ensures { RestartLeaves result self.old self.new }
     {
-        self.log.restart(&self.openings, &mut NoTotals)
+        let mut stock = Stock::new(self.alloc);
+        match self.log.restart(&self.openings, &mut stock) {
+            Ok(restarted) => {
+                self.stock = stock;
+                Ok(restarted)
+            }
+            Err(fault) => {
+                drop(stock);
+                Err(fault)
+            }
+        }
     }
 
     /// Makes the next commit of the keeper fail. Its record stands at the restart, or does not.
@@ -169,6 +200,31 @@ impl<K: Keeper> Depository<K> {
         ensures foresight { K.foresight result ≡ self.log.foresight }
     {
         self.log.into_keeper()
+    }
+}
+
+impl<K: Keeper> Depository<K> {
+    // The record of this number.
+    fn known(&self, number: MoveNo) -> Option<DepRecord>
+        ensures { result ≡ record_in self.now.log.records number }
+    {
+        self.stock.record(self.log.records(), number)
+    }
+
+    // Commits a record that may stand after the others, and then adds it to the stock.
+    fn execute(&mut self, entry: &DepRecord) -> Result<(), CommitFault>
+        requires up { self.old.log.down ≡ false }
+        requires executable { IsExecutable self.old.openings self.old.log.records entry.now }
+        ensures { Commits entry.now result self.old self.new }
+    {
+        if self.stock.room().is_err() {
+            return Err(CommitFault::OutOfMemory);
+        }
+        let index = self.log.records().len();
+        self.log.commit(*entry)?;
+        let DepRecord::Exec { order, moved } = entry;
+        self.stock.add(index, order, *moved);
+        Ok(())
     }
 }
 

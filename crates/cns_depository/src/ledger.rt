@@ -1,17 +1,12 @@
 use crate::openings::Openings;
-use crate::stock::is_executable;
+use crate::stock::Stock;
 use cns_journal::Ledger;
 use cns_records::DepRecord;
 use std::alloc::AllocError;
 
-// What the records of a depository come to beside themselves: nothing, since each balance is summed
-// over them.
-#[derive(Drop)]
-pub(crate) struct NoTotals;
-
-impl Ledger for NoTotals {
-    ghost use Rattle.std.specs.Prelude.{⊤};
+impl Ledger for Stock {
     ghost use Rattle.cns_depository.specs.Stock.{IsExecutable};
+    ghost use Rattle.cns_depository.specs.Totals.{IsStockOf};
 
     type Record = DepRecord;
 
@@ -19,7 +14,7 @@ impl Ledger for NoTotals {
 
     ghost allows = { IsExecutable };
 
-    ghost comes_to = { λ _ _. ⊤ };
+    ghost comes_to = { IsStockOf };
 
     fn admit(
         &mut self,
@@ -27,6 +22,12 @@ impl Ledger for NoTotals {
         records: &[DepRecord],
         entry: &DepRecord,
     ) -> Result<bool, AllocError> {
-        Ok(is_executable(openings, records, entry))
+        if !self.is_executable(openings, records, entry) {
+            return Ok(false);
+        }
+        self.room()?;
+        let DepRecord::Exec { order, moved } = entry;
+        self.add(records.len(), order, *moved);
+        Ok(true)
     }
 }

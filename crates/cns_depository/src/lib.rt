@@ -10,8 +10,10 @@ mod balances;
 mod depository;
 mod fault;
 mod ledger;
+mod moved;
 mod opening_index;
 mod openings;
+mod place;
 mod stock;
 
 pub use account::Account;

@@ -1,0 +1,177 @@
+-- The rows by the places of a stock: its places and those of the openings have the rows, in order.
+use Rattle.std.proofs.Common.{◌≡◌, ℕ, Bool, true, false, List, [], ◌∷◌, Option, Some, None, cond, eqb, refl, sym, ap, ◌∙◌, subst, arith, inl, inr}
+use Rattle.std.specs.Prelude.{◌≢◌, ◌⊎◌, fold}
+use Rattle.std.specs.BTreeSet.{insert_key}
+use Rattle.std.specs.HashMap.{keys}
+use Rattle.std.specs.List.{filter_map, cons_option, AllByRecursion}
+use Rattle.std.specs.List.Sorted.{IsStrictlySortedBy}
+use Rattle.std.specs.Map.{keys_of, lookup}
+use Rattle.std.specs.Ordering.{ordering_reverse}
+use Rattle.std.specs.declared.cmp.Ordering.{Ordering}
+use Rattle.std.specs.declared.cmp.Ordering.TheVariants.{Less, Equal, Greater}
+use Rattle.std.proofs.lemmas.Bool.{eq-eqb, eqb-true, cases_Bool, cond-true}
+use Rattle.std.proofs.lemmas.Option.{none-some}
+use Rattle.cns_records.specs.declared.dep_record.DepRecord.{DepRecord}
+use Rattle.cns_trades.specs.declared.opening.Opening.{Opening}
+use Rattle.cns_depository.specs.declared.account.Account.{Account}
+use Rattle.cns_depository.specs.declared.account.Account.TheVariants.{Cns, Member}
+use Rattle.cns_depository.specs.declared.balances.BalanceRow.{BalanceRow}
+use Rattle.cns_depository.specs.declared.moved.Moved.{Moved}
+use Rattle.cns_depository.specs.declared.place.Place.{Place}
+use Rattle.cns_depository.specs.declared.stock.Stock.{Stock}
+use Rattle.cns_depository.specs.Balances.{balance_row, balance_rows, opened_places, place_at, place_cmp, places_of}
+use Rattle.cns_depository.specs.Openings.{opening_shares}
+use Rattle.cns_depository.specs.Stock.{balance_of, moved_in}
+use Rattle.cns_depository.specs.Totals.{IsStockOf, moved_at, place_eq}
+use Rattle.cns_depository.proofs.TotalLemmas.{equal_places}
+use Rattle.cns_depository.proofs.RowLemmas.{held_place, insert_has, insert_keeps, IsAmong, opened_has, opened_sorted, place_total, places_sorted, same_place, sorted_insert}
+
+-- ---- lists that have the same places with rows
+
+abbrev Ascend : List Place → Type 0
+Ascend ks = IsStrictlySortedBy place_cmp ks
+
+-- the places of xs that give rows are among ys
+abbrev Has : (Place → Option BalanceRow) → List Place → List Place → Type 0
+Has f xs ys = (q : Place) (row : BalanceRow) → f q ≡ Some row → IsAmong q xs → IsAmong q ys
+
+abbrev HaveSame : (Place → Option BalanceRow) → List Place → List Place → Type 0
+HaveSame f xs ys = Ascend xs → Ascend ys → Has f xs ys → Has f ys xs → filter_map f xs ≡ filter_map f ys
+
+abbrev GivesNone : (Place → Option BalanceRow) → Place → Type 0
+GivesNone f x = (row : BalanceRow) → f x ≡ Some row → ⊥
+
+skip : (f : Place → Option BalanceRow) (x : Place) (xs : List Place) → GivesNone f x → filter_map f (x ∷ xs) ≡ filter_map f xs
+skip f x xs none = by (f x) refl
+  where
+    by : (r : Option BalanceRow) → f x ≡ r → cons_option r (filter_map f xs) ≡ filter_map f xs
+    by None e = refl
+    by (Some row) e = absurd (none row e)
+
+not_before : (x y : Place) → place_cmp x y ≡ Less → place_cmp y x ≡ Less → ⊥
+not_before x y e f = let turned : Less ≡ Greater = sym e ∙ place_total.antisymm x y ∙ ap ordering_reverse f in cc turned
+
+below : (x q : Place) (ys : List Place) → AllByRecursion (λ y. place_cmp x y ≡ Less) ys → IsAmong q ys → place_cmp x q ≡ Less
+below x q [] all in' = absurd in'
+below x q (y ∷ ys) all in' =
+    elim in' [
+      | inl e ↦ subst (λ (z : Place). place_cmp x z ≡ Less) e all.0
+      | inr more ↦ below x q ys all.1 more
+    ]
+
+not_after_itself : (x : Place) (xs : List Place) → AllByRecursion (λ y. place_cmp x y ≡ Less) xs → IsAmong x xs → ⊥
+not_after_itself x xs all in' = let less = below x x xs all in' in not_before x x less less
+
+-- a place below the first of a list that ascends is not among it
+not_among : (x y : Place) (ys : List Place) → place_cmp x y ≡ Less → Ascend (y ∷ ys) → IsAmong x (y ∷ ys) → ⊥
+unfolding IsStrictlySortedBy
+not_among x y ys less order in' =
+    elim in' [
+      | inl e ↦ let itself = subst (λ (z : Place). place_cmp x z ≡ Less) e less in not_before x x itself itself
+      | inr more ↦ not_before x y less (below y x ys order.0 more)
+    ]
+
+others : (f : Place → Option BalanceRow) (x : Place) (xs ys : List Place) → GivesNone f x → Has f ys (x ∷ xs) → Has f ys xs
+others f x xs ys none has q row is in' =
+    elim (has q row is in') [
+      | inl e ↦ absurd (none row (ap f e ∙ is))
+      | inr more ↦ more
+    ]
+
+rest : (f : Place → Option BalanceRow) (x y : Place) (xs ys : List Place) → x ≡ y → AllByRecursion (λ z. place_cmp x z ≡ Less) xs → Has f (x ∷ xs) (y ∷ ys) → Has f xs ys
+rest f x y xs ys same order has q row is in' =
+    elim (has q row is (inr in')) [
+      | inl e ↦ absurd (not_after_itself x xs order (subst (λ (z : Place). IsAmong z xs) (sym (same ∙ e)) in'))
+      | inr more ↦ more
+    ]
+
+step : (f : Place → Option BalanceRow) (x y : Place) (xs ys : List Place) (r : Ordering) → place_cmp x y ≡ r
+    → HaveSame f xs (y ∷ ys) → HaveSame f xs ys → HaveSame f (x ∷ xs) ys → HaveSame f (x ∷ xs) (y ∷ ys)
+unfolding IsStrictlySortedBy
+step f x y xs ys Less e left both right sx sy there back =
+    let none : GivesNone f x = λ row is. not_among x y ys e sy (there x row is (inl refl)) in
+    skip f x xs none ∙ left sx.1 sy (λ q row is in'. there q row is (inr in')) (others f x xs (y ∷ ys) none back)
+step f x y xs ys Equal e left both right sx sy there back =
+    let same = same_place x y e in
+    ap (λ (z : Place). cons_option (f z) (filter_map f xs)) same
+    ∙ ap (cons_option (f y)) (both sx.1 sy.1 (rest f x y xs ys same sx.0 there) (rest f y x ys xs (sym same) sy.0 back))
+step f x y xs ys Greater e left both right sx sy there back =
+    let less : place_cmp y x ≡ Less = let turned = place_total.antisymm y x in turned ∙ ap ordering_reverse e in
+    let none : GivesNone f y = λ row is. not_among y x xs less sx (back y row is (inl refl)) in
+    right sx sy.1 (others f y ys (x ∷ xs) none there) (λ q row is in'. back q row is (inr in')) ∙ sym (skip f y ys none)
+
+same_rows : (f : Place → Option BalanceRow) (xs ys : List Place) → HaveSame f xs ys
+unfolding IsStrictlySortedBy
+same_rows f [] [] sx sy there back = refl
+same_rows f [] (y ∷ ys) sx sy there back =
+    let none : GivesNone f y = λ row is. absurd (back y row is (inl refl)) in
+    same_rows f [] ys tt sy.1 (λ q row is in'. absurd in') (λ q row is in'. back q row is (inr in')) ∙ sym (skip f y ys none)
+same_rows f (x ∷ xs) [] sx sy there back =
+    let none : GivesNone f x = λ row is. absurd (there x row is (inl refl)) in
+    skip f x xs none ∙ same_rows f xs [] sx.1 tt (λ q row is in'. there q row is (inr in')) (λ q row is in'. absurd in')
+same_rows f (x ∷ xs) (y ∷ ys) sx sy there back = step f x y xs ys (place_cmp x y) refl (same_rows f xs (y ∷ ys)) (same_rows f xs ys) (same_rows f (x ∷ xs) ys) sx sy there back
+
+-- ---- places with more of them
+
+added_keeps : (ks ps : List Place) (q : Place) → IsAmong q ps → IsAmong q (fold (insert_key place_cmp) ps ks)
+added_keeps [] ps q in' = in'
+added_keeps (k ∷ ks) ps q in' = added_keeps ks (insert_key place_cmp ps k) q (insert_keeps ps k q in')
+
+added_has : (ks ps : List Place) (q : Place) → IsAmong q ks → IsAmong q (fold (insert_key place_cmp) ps ks)
+added_has [] ps q in' = absurd in'
+added_has (k ∷ ks) ps q in' =
+    elim in' [
+      | inl e ↦ added_keeps ks (insert_key place_cmp ps k) q (subst (λ (z : Place). IsAmong z (insert_key place_cmp ps k)) e (insert_has ps k))
+      | inr more ↦ added_has ks (insert_key place_cmp ps k) q more
+    ]
+
+added_sorted : (ks ps : List Place) → Ascend ps → Ascend (fold (insert_key place_cmp) ps ks)
+added_sorted [] ps order = order
+added_sorted (k ∷ ks) ps order = added_sorted ks (insert_key place_cmp ps k) (sorted_insert ps k order)
+
+-- ---- the places of a stock
+
+-- what is found is of a place that is named
+found_among : (es : List (Place × Moved)) (q : Place) → lookup (place_eq q) es ≢ None → IsAmong q (keys_of es)
+found_among [] q found = absurd (found refl)
+found_among (e ∷ es) q found = by (place_eq q e.0) refl (found_among es q) found
+  where
+    by : (b : Bool) → place_eq q e.0 ≡ b → (lookup (place_eq q) es ≢ None → IsAmong q (keys_of es)) → cond b (Some e.1) (lookup (place_eq q) es) ≢ None → (e.0 ≡ q) ⊎ IsAmong q (keys_of es)
+    by true is more there = inl (sym (equal_places q e.0 is))
+    by false is more there = inr (more there)
+
+moved_named : (s : Stock) (p : List DepRecord) (a : Account) (issue : ℕ) → IsStockOf s p → moved_in p a issue ≢ 0 → IsAmong (place_at issue a) (keys s.moved)
+moved_named s p a issue stock some =
+    found_among s.moved.entries (place_at issue a) (λ none. some (sym (stock.entered a issue) ∙ ap (λ (m : Option Moved). (moved_at m).entered) none))
+
+-- a balance other than 0 is of a place that is opened, or into which something was moved
+stock_place : (s : Stock) (openings : List Opening) (p : List DepRecord) (a : Account) (issue : ℕ) → IsStockOf s p → balance_of openings p a issue ≢ 0
+    → IsAmong (place_at issue a) (fold (insert_key place_cmp) (opened_places openings) (keys s.moved))
+unfolding balance_of opened_places
+stock_place s openings p a issue stock held =
+    elim (cases_Bool (eqb (opening_shares openings a issue) 0)) [
+      | inl none ↦
+          let zero_of : opening_shares openings a issue ≡ 0 = eqb-true (opening_shares openings a issue) 0 none in
+          added_has (keys s.moved) (opened_places openings) (place_at issue a) (moved_named s p a issue stock (λ z. held (omega (arith, zero_of, z))))
+      | inr some ↦ added_keeps (keys s.moved) (opened_places openings) (place_at issue a) (opened a (λ z. absurd cc))
+    ]
+  where
+    opened : (b : Account) → opening_shares openings b issue ≢ 0 → IsAmong (place_at issue b) (opened_places openings)
+    opened Cns some = absurd (some refl)
+    opened (Member m) some = opened_has openings [] m issue some
+
+-- the row of a balance other than 0
+row_held : (openings : List Opening) (p : List DepRecord) (q : Place) (row : BalanceRow) → balance_row openings p q ≡ Some row → balance_of openings p q.account q.issue ≢ 0
+unfolding balance_row
+row_held openings p q row is none =
+    absurd (none-some row (sym (cond-true (eqb (balance_of openings p q.account q.issue) 0) None (Some (record { issue = q.issue; account = q.account; shares = balance_of openings p q.account q.issue })) (eq-eqb (balance_of openings p q.account q.issue) 0 none)) ∙ is))
+
+-- the places of the openings and of a stock have the rows
+pub rows_by_stock : (s : Stock) (openings : List Opening) (p : List DepRecord) → IsStockOf s p
+    → filter_map (balance_row openings p) (fold (insert_key place_cmp) (opened_places openings) (keys s.moved)) ≡ balance_rows openings p
+unfolding opened_places IsStrictlySortedBy
+rows_by_stock s openings p stock =
+    same_rows (balance_row openings p) (fold (insert_key place_cmp) (opened_places openings) (keys s.moved)) (places_of openings p)
+    (added_sorted (keys s.moved) (opened_places openings) (opened_sorted openings [] tt)) (places_sorted openings p)
+    (λ q row is in'. held_place openings p q.account q.issue (row_held openings p q row is))
+    (λ q row is in'. stock_place s openings p q.account q.issue stock (row_held openings p q row is))

@@ -1,0 +1,176 @@
+-- What the records of a depository come to, as there are more of them.
+use Rattle.std.proofs.Common.{◌≡◌, ℕ, ◌+◌, ◌^◌, ◌<◌, ◌≤◌, Bool, true, false, ◌&&◌, List, [], ◌∷◌, ◌++◌, reverse, length, length-append, Option, Some, None, eqb, refl, sym, ap, ◌∙◌, subst, arith}
+use Rattle.std.specs.Prelude.{◌==◌, if◌then◌else◌}
+use Rattle.std.specs.List.{slice_get}
+use Rattle.std.proofs.Math.Seq.{get_or-append_seam}
+use Rattle.std.proofs.lemmas.Bool.{eqb-true, cond-true, cond-false}
+use Rattle.std.proofs.lemmas.List.{get_or_append_left, length-reverse, reverse-append}
+use Rattle.std.proofs.lemmas.List.Sums.{sum_by-cons}
+use Rattle.std.proofs.lemmas.Option.{slice_get-get_or}
+use Rattle.cns_movements.specs.Order.{is_cover, is_delivery}
+use Rattle.cns_movements.specs.declared.order.MoveKind.{MoveKind}
+use Rattle.cns_movements.specs.declared.order.MoveKind.TheVariants.{Cover, Delivery}
+use Rattle.cns_movements.specs.declared.order.Order.{Order}
+use Rattle.cns_records.specs.declared.dep_record.DepRecord.{DepRecord}
+use Rattle.cns_depository.specs.declared.account.Account.{Account}
+use Rattle.cns_depository.specs.declared.account.Account.TheVariants.{Cns, Member}
+use Rattle.cns_depository.specs.declared.moved.Moved.{Moved}
+use Rattle.cns_depository.specs.declared.place.Place.{Place}
+use Rattle.cns_depository.specs.Account.{enters, giver, giver_by, leaves, receiver, receiver_by}
+use Rattle.cns_depository.specs.Balances.{place_at}
+use Rattle.cns_depository.specs.Stock.{order_in, moved_by, moved_in, moved_out, part_in, part_out, record_of}
+use Rattle.cns_depository.proofs.BalanceLemmas.{and_left, and_right}
+use Rattle.cns_depository.specs.Totals.{AreTotalsOf, place_eq, HasIndex}
+
+-- ---- the index of a record
+
+slice_more : (xs : List DepRecord) (e : DepRecord) (i : ℕ) → i < length xs → slice_get (xs ++ e ∷ []) i ≡ slice_get xs i
+slice_more xs e i within =
+    slice_get-get_or (xs ++ e ∷ []) i e (omega (arith, within, length-append xs (e ∷ []))) ∙ ap (λ (x : DepRecord). Some x) (get_or_append_left xs (e ∷ []) e i within)
+    ∙ sym (slice_get-get_or xs i e within)
+
+slice_last : (xs : List DepRecord) (e : DepRecord) → slice_get (xs ++ e ∷ []) (length xs) ≡ Some e
+slice_last xs e = slice_get-get_or (xs ++ e ∷ []) (length xs) e (omega (arith, length-append xs (e ∷ []))) ∙ ap (λ (x : DepRecord). Some x) (get_or-append_seam xs e [] e)
+
+-- the record that is added stands after the others
+index_more : (p : List DepRecord) (e : DepRecord) (n : ℕ) (index : Option ℕ) → HasIndex p n index
+    → HasIndex (e ∷ p) n (if (order_in e).number == n then Some (length p) else index)
+index_more p e n index has = by ((order_in e).number == n) refl index has
+  where
+    turned : reverse (e ∷ p) ≡ reverse p ++ e ∷ []
+    turned = reverse-append (e ∷ []) p
+
+    by : (b : Bool) → ((order_in e).number == n) ≡ b → (o : Option ℕ) → HasIndex p n o → HasIndex (e ∷ p) n (if b then Some (length p) else o)
+    by true is o had =
+        let last : slice_get (reverse p ++ e ∷ []) (length p) ≡ Some e = ap (slice_get (reverse p ++ e ∷ [])) (sym (length-reverse p)) ∙ slice_last (reverse p) e in
+        (omega arith, ap (λ (xs : List DepRecord). slice_get xs (length p)) turned ∙ last ∙ sym (cond-true ((order_in e).number == n) (Some e) (record_of p n) is))
+    by false is None had = cond-false ((order_in e).number == n) (Some e) (record_of p n) is ∙ had
+    by false is (Some i) had =
+        let within : i < length (reverse p) = omega (arith, had.0, length-reverse p) in (
+          omega (arith, had.0),
+          ap (λ (xs : List DepRecord). slice_get xs i) turned ∙ slice_more (reverse p) e i within ∙ had.1 ∙ sym (cond-false ((order_in e).number == n) (Some e) (record_of p n) is),
+        )
+
+-- the record of a number by the index that is found
+pub index_none_of : (p : List DepRecord) (n : ℕ) (o : Option ℕ) → HasIndex p n o → o ≡ None → record_of p n ≡ None
+index_none_of p n o stands none = subst (HasIndex p n) none stands
+
+pub index_some_of : (p : List DepRecord) (n i : ℕ) (o : Option ℕ) → HasIndex p n o → o ≡ Some i → slice_get (reverse p) i ≡ record_of p n
+index_some_of p n i o stands some = let at = subst (HasIndex p n) some stands in at.1
+
+-- ---- places
+
+equal_accounts : (issue other : ℕ) (a b : Account) → place_eq (place_at issue a) (place_at other b) ≡ true → (issue ≡ other) × (a ≡ b)
+equal_accounts issue other Cns Cns e = (eqb-true issue other (and_left (eqb issue other) true e), refl)
+equal_accounts issue other Cns (Member k) e = cc (and_right (eqb issue other) false e)
+equal_accounts issue other (Member m) Cns e = cc (and_right (eqb issue other) false e)
+equal_accounts issue other (Member m) (Member k) e = (eqb-true issue other (and_left (eqb issue other) (eqb m k) e), ap Member (eqb-true m k (and_right (eqb issue other) (eqb m k) e)))
+
+pub equal_places : (a b : Place) → place_eq a b ≡ true → a ≡ b
+equal_places a b e =
+    let both = equal_accounts a.issue b.issue a.account b.account e in
+    λ i. record { issue = both.0 i; account = both.1 i }
+
+-- a number of each place grows by n where w is put at a place, and stays everywhere else
+pub put_adds : (at : Moved → ℕ) (k : Place) (w : Moved) (n : ℕ) (old new : Place → Moved) → ((q : Place) → new q ≡ (if place_eq k q then w else old q)) → at w ≡ at (old k) + n
+    → (q : Place) → at (new q) ≡ at (old q) + (if place_eq k q then n else 0)
+put_adds at k w n old new puts more q = by (place_eq k q) refl (puts q)
+  where
+    by : (b : Bool) → place_eq k q ≡ b → new q ≡ (if b then w else old q) → at (new q) ≡ at (old q) + (if b then n else 0)
+    by true e is = ap at is ∙ more ∙ ap (λ (z : Place). at (old z) + n) (equal_places k q e)
+    by false e is = ap at is ∙ omega arith
+
+-- and all stay where w has the number that was there
+pub put_same : (at : Moved → ℕ) (k : Place) (w : Moved) (old new : Place → Moved) → ((q : Place) → new q ≡ (if place_eq k q then w else old q)) → at w ≡ at (old k)
+    → (q : Place) → at (new q) ≡ at (old q)
+put_same at k w old new puts same q = by (place_eq k q) refl (puts q)
+  where
+    by : (b : Bool) → place_eq k q ≡ b → new q ≡ (if b then w else old q) → at (new q) ≡ at (old q)
+    by true e is = ap at is ∙ same ∙ ap (λ (z : Place). at (old z)) (equal_places k q e)
+    by false e is = ap at is
+
+swap : (a b : Bool) → (a && b) ≡ (b && a)
+swap true true = refl
+swap true false = refl
+swap false true = refl
+swap false false = refl
+
+-- the place of the account that receives is the one that the order enters
+received : (a : Account) (issue : ℕ) (o : Order) → place_eq (place_at o.issue (receiver o)) (place_at issue a) ≡ (enters a o && (o.issue == issue))
+received Cns issue o = by o.kind
+  where
+    by : (kind : MoveKind) → place_eq (place_at o.issue (receiver_by kind o.member)) (place_at issue Cns) ≡ (is_cover kind && (o.issue == issue))
+    by Cover = swap (o.issue == issue) true
+    by Delivery = swap (o.issue == issue) false
+received (Member m) issue o = by o.kind
+  where
+    by : (kind : MoveKind) → place_eq (place_at o.issue (receiver_by kind o.member)) (place_at issue (Member m)) ≡ ((is_delivery kind && (o.member == m)) && (o.issue == issue))
+    by Cover = swap (o.issue == issue) false
+    by Delivery = swap (o.issue == issue) (o.member == m)
+
+-- and that of the account that gives is the one that it leaves
+given : (a : Account) (issue : ℕ) (o : Order) → place_eq (place_at o.issue (giver o)) (place_at issue a) ≡ (leaves a o && (o.issue == issue))
+given Cns issue o = by o.kind
+  where
+    by : (kind : MoveKind) → place_eq (place_at o.issue (giver_by kind o.member)) (place_at issue Cns) ≡ (is_delivery kind && (o.issue == issue))
+    by Cover = swap (o.issue == issue) false
+    by Delivery = swap (o.issue == issue) true
+given (Member m) issue o = by o.kind
+  where
+    by : (kind : MoveKind) → place_eq (place_at o.issue (giver_by kind o.member)) (place_at issue (Member m)) ≡ ((is_cover kind && (o.member == m)) && (o.issue == issue))
+    by Cover = swap (o.issue == issue) (o.member == m)
+    by Delivery = swap (o.issue == issue) false
+
+-- ---- the totals
+
+at_most : (b : Bool) (n : ℕ) → (if b then n else 0) ≤ n
+at_most true n = omega arith
+at_most false n = omega arith
+
+-- those of no records
+pub totals_none : (moved : Place → Moved) (indices : ℕ → Option ℕ) → ((k : Place) → moved k ≡ record { entered = 0; left = 0 }) → ((n : ℕ) → indices n ≡ None) → AreTotalsOf moved indices []
+unfolding moved_in moved_out
+totals_none moved indices nothing none = record {
+  entered = λ a i. ap (λ (m : Moved). m.entered) (nothing (place_at i a));
+  left = λ a i. ap (λ (m : Moved). m.left) (nothing (place_at i a));
+  found = λ n. subst (HasIndex [] n) (sym (none n)) refl;
+  few = omega arith;
+  entered_small = λ a i. omega arith;
+  left_small = λ a i. omega arith;
+}
+
+-- look-ups alone count
+pub totals_kept : (moved now : Place → Moved) (indices after : ℕ → Option ℕ) (p : List DepRecord) → ((k : Place) → now k ≡ moved k) → ((n : ℕ) → after n ≡ indices n)
+    → AreTotalsOf moved indices p → AreTotalsOf now after p
+totals_kept moved now indices after p same found totals = record {
+  entered = λ a i. ap (λ (m : Moved). m.entered) (same (place_at i a)) ∙ totals.entered a i;
+  left = λ a i. ap (λ (m : Moved). m.left) (same (place_at i a)) ∙ totals.left a i;
+  found = λ n. subst (HasIndex p n) (sym (found n)) (totals.found n);
+  few = totals.few;
+  entered_small = totals.entered_small;
+  left_small = totals.left_small;
+}
+
+-- those with one more record
+pub totals_more : (moved now : Place → Moved) (indices after : ℕ → Option ℕ) (p : List DepRecord) (e : DepRecord) → AreTotalsOf moved indices p
+    → length p < 2 ^ 64 → moved_by e ≤ 10 ^ 18
+    → ((k : Place) → (now k).entered ≡ (moved k).entered + (if place_eq (place_at (order_in e).issue (receiver (order_in e))) k then moved_by e else 0))
+    → ((k : Place) → (now k).left ≡ (moved k).left + (if place_eq (place_at (order_in e).issue (giver (order_in e))) k then moved_by e else 0))
+    → ((n : ℕ) → after n ≡ (if (order_in e).number == n then Some (length p) else indices n))
+    → AreTotalsOf now after (e ∷ p)
+unfolding moved_in moved_out
+totals_more moved now indices after p e totals few small entered left found =
+    let o = order_in e in
+    let m = moved_by e in
+    record {
+      entered = λ a i.
+          let here = ap (λ (b : Bool). if b then m else 0) (received a i o) in
+          omega (arith, entered (place_at i a), totals.entered a i, here, sum_by-cons (part_in a i) e p);
+      left = λ a i.
+          let here = ap (λ (b : Bool). if b then m else 0) (given a i o) in
+          omega (arith, left (place_at i a), totals.left a i, here, sum_by-cons (part_out a i) e p);
+      found = λ n. subst (HasIndex (e ∷ p) n) (sym (found n)) (index_more p e n (indices n) (totals.found n));
+      few = omega (arith, few);
+      entered_small = λ a i. omega (arith, totals.entered_small a i, small, at_most (enters a o && (o.issue == i)) m, sum_by-cons (part_in a i) e p);
+      left_small = λ a i. omega (arith, totals.left_small a i, small, at_most (leaves a o && (o.issue == i)) m, sum_by-cons (part_out a i) e p);
+    }
