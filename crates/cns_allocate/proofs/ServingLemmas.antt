@@ -107,6 +107,22 @@ module _ (plan : List Planned) (m n r : ℕ) (is : IsPlan plan) (below : m < len
         no_tickets [] none = refl
         no_tickets (t ∷ ts) none = absurd (omega (arith, none))
 
+    -- somebody has no ticket then, and the seal was not met
+    pub fault-part : HasDrawn old [] new → length new.tickets < length plan
+    fault-part draws =
+        omega (
+          arith,
+          below,
+          ap length draws.added,
+          length-append old.tickets draws.tickets,
+          drawn-most old.seen.asked [] draws.tickets draws.drawn,
+          followed-count (take m plan) old.tickets follow,
+          length-take m plan,
+        )
+
+    pub fault-unmet : HasDrawn old [] new → new.seen.sealed ≡ old.seen.sealed
+    fault-unmet draws = draws.all (omega (arith, drawn-most old.seen.asked [] draws.tickets draws.drawn))
+
     module _ (draws : HasDrawn old (take n (drop m plan)) new) (ends : EndWithin old.seen.asked old.tickets) where
       after : (sealed : Bool) → (sealed ≡ false → length draws.tickets ≡ length (take n (drop m plan))) → FollowPlanByStart (take (m + n) plan) new.tickets sealed
       after sealed whole =

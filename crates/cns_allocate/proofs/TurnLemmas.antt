@@ -1,7 +1,7 @@
 -- Whose turn it is among those who wait, and what is left of them once it is served.
-use Rattle.std.proofs.Common.{◌≡◌, ◌≤◌, ◌+◌, ℕ, List, [], ◌∷◌, Bool, true, false, not, Option, Some, None, cond, ap, refl, sym, arith, inl, inr, ◌∙◌}
-use Rattle.std.specs.Prelude.{◌==◌, ◌&&◌, nat_lt, All, IsPermutation, count_by, filter, find}
-use Rattle.std.specs.List.{list_any}
+use Rattle.std.proofs.Common.{◌≡◌, ◌≤◌, ◌+◌, ℕ, suc, zero, List, [], ◌∷◌, Bool, true, false, not, Option, Some, None, cond, ap, refl, sym, arith, inl, inr, ◌∙◌}
+use Rattle.std.specs.Prelude.{◌==◌, ◌&&◌, ◌||◌, nat_lt, slice_get, All, AllPairs, IsPermutation, count_by, filter, find}
+use Rattle.std.specs.List.{list_any, position_from, remove}
 use Rattle.std.proofs.lemmas.Bool.{and_parts, cases_eq, cond-false, cond-true, eq-eqb, eqb-true, le-ltb, ltb-false, ne_eqb, or_parts}
 use Rattle.std.proofs.lemmas.List.Elements.{All-cons, All-filter, All-head, All-nil, All-tail, All-weaker}
 use Rattle.std.proofs.lemmas.List.Filters.{sum_by-filter_both}
@@ -227,7 +227,63 @@ find-without member (p ∷ plan) q once found = by (is_planned_as member p) refl
         rw (← same, without-other member plan others) (IsPermutation-refl (p ∷ plan))
     by false e f rest = past_first p q (without member plan) plan (rest (omega (arith, counted, once)) f)
 
+-- where no one is the member, nobody is left out
+pub without-none : (member k : ℕ) (plan : List Planned) → position_from (is_planned_as member) k plan ≡ None → without member plan ≡ plan
+without-none member k [] none = refl
+without-none member k (p ∷ plan) none = by (is_planned_as member p) refl none (without-none member (k + 1) plan)
+  where
+    by : (b : Bool) → is_planned_as member p ≡ b → cond b (Some k) (position_from (is_planned_as member) (k + 1) plan) ≡ None
+        → (position_from (is_planned_as member) (k + 1) plan ≡ None → without member plan ≡ plan) → cond (not b) (p ∷ without member plan) (without member plan) ≡ p ∷ plan
+    by true e f rest = cc
+    by false e f rest = ap (λ ps. p ∷ ps) (rest f)
+
+-- places are counted from k on
+position-least : (member k : ℕ) (plan : List Planned) (i : ℕ) → position_from (is_planned_as member) k plan ≡ Some i → k ≤ i
+position-least member k [] i found = cc
+position-least member k (p ∷ plan) i found = by (is_planned_as member p) found (position-least member (k + 1) plan i)
+  where
+    by : (b : Bool) → cond b (Some k) (position_from (is_planned_as member) (k + 1) plan) ≡ Some i → (position_from (is_planned_as member) (k + 1) plan ≡ Some i → k + 1 ≤ i) → k ≤ i
+    by true f rest = let same : k ≡ i = cc in omega arith
+    by false f rest = let above = rest f in omega arith
+
+-- where one is, those that are not stand before and behind
+pub without-at : (member k : ℕ) (plan : List Planned) (i j : ℕ) → count_by (is_planned_as member) plan ≤ 1 → position_from (is_planned_as member) k plan ≡ Some i → i ≡ k + j
+    → remove plan j ≡ without member plan
+without-at member k [] i j once found is = cc
+without-at member k (p ∷ plan) i j once found is = by (is_planned_as member p) refl found j is (without-at member (k + 1) plan i)
+  where
+    counted : count_by (is_planned_as member) (p ∷ plan) ≡ cond (is_planned_as member p) 1 0 + count_by (is_planned_as member) plan
+    counted = sum_by-cons (λ (r : Planned). cond (is_planned_as member r) 1 0) p plan
+
+    by : (b : Bool) → is_planned_as member p ≡ b → cond b (Some k) (position_from (is_planned_as member) (k + 1) plan) ≡ Some i → (n : ℕ) → i ≡ k + n
+        → ((n : ℕ) → count_by (is_planned_as member) plan ≤ 1 → position_from (is_planned_as member) (k + 1) plan ≡ Some i → i ≡ k + 1 + n → remove plan n ≡ without member plan)
+        → remove (p ∷ plan) n ≡ cond (not b) (p ∷ without member plan) (without member plan)
+    by true e f zero at rest =
+        let one : ◌≡◌ {A = ℕ} (cond (is_planned_as member p) 1 0) 1 = cond-true _ 1 0 e in
+        sym (without-other member plan (count_none (is_planned_as member) plan (omega (arith, counted, one, once))))
+    by true e f (suc n) at rest = let same : k ≡ i = cc in absurd (omega arith)
+    by false e f zero at rest = let above = position-least member (k + 1) plan i f in absurd (omega arith)
+    by false e f (suc n) at rest = ap (λ ps. p ∷ ps) (rest n (omega (arith, counted, once)) f (omega arith))
+
 -- ---- turns
+
+-- the first of a plan is of no later group than the others
+after-first : (p first : Planned) (plan : List Planned) → AllPairs (λ (p q : Planned). rank p.group ≤ rank q.group) (first ∷ plan)
+    → nat_lt (rank first.group) (rank p.group) ≡ is_after_others (first ∷ plan) p
+after-first p first plan groups = by (nat_lt (rank first.group) (rank p.group)) refl
+  where
+    by : (b : Bool) → nat_lt (rank first.group) (rank p.group) ≡ b → b ≡ (b || list_any (λ (q : Planned). nat_lt (rank q.group) (rank p.group)) plan)
+    by true e = refl
+    by false e =
+        sym (list_any_none (λ (q : Planned). nat_lt (rank q.group) (rank p.group)) plan
+        (All-weaker (λ (q : Planned). rank first.group ≤ rank q.group) (λ (q : Planned). nat_lt (rank q.group) (rank p.group) ≡ false)
+        (λ q le. le-ltb (rank q.group) (rank p.group) (let least = ltb-false (rank first.group) (rank p.group) e in omega arith)) plan (λ i d l. groups 0 (suc i) d (omega arith) (omega arith))))
+
+-- so it decides whether one of an earlier group waits
+pub after-head : (p first : Planned) (plan : List Planned) → AllPairs (λ (p q : Planned). rank p.group ≤ rank q.group) plan → slice_get plan 0 ≡ Some first
+    → nat_lt (rank first.group) (rank p.group) ≡ is_after_others plan p
+after-head p first [] groups found = cc
+after-head p first (x ∷ plan) groups found = let same : x ≡ first = cc in rw (← same) (after-first p x plan groups)
 
 -- the one that may draw a ticket: it is found by its member, and none of an earlier group waits
 pub record IsTurn (plan : List Planned) (member asked : ℕ) : Type 0 where

@@ -4,7 +4,7 @@ ghost use Rattle.cns_allocate.specs.Group.{rank};
 ghost use Rattle.cns_allocate.specs.Plan.{IsPlan};
 ghost use Rattle.cns_allocate.specs.Serving.{HasDrawn, Serves, shares_of};
 ghost use Rattle.cns_allocate.specs.declared.planned.Planned.{Planned};
-ghost use Rattle.cns_allocate.specs.declared.serving.ServeCause.TheVariants.{TooManyWorkers};
+ghost use Rattle.cns_allocate.specs.declared.serving.ServeCause.TheVariants.{OutOfMemory, TooManyWorkers};
 
 use crate::gate::Gate;
 use crate::planned::Planned;
@@ -30,7 +30,8 @@ pub struct Served {
 pub enum ServeCause {
     /// There are no workers, or more than `MAX_WORKERS`. The seat is as it was handed in.
     TooManyWorkers,
-    /// There is no memory for the seats of the workers.
+    /// There is no memory for the seats of the workers. No worker met the seal, and some of those
+    /// planned have no ticket.
     OutOfMemory,
 }
 
@@ -68,7 +69,10 @@ pub fn serve<G: Gate + Sync, R: Threads + Sync>(
     requires calls { length plan.now ≤ seat.calls }
     ensures served { IfOk result (λ served. Serves plan.now seat served.seat served.sealed) }
     ensures sealed { IfOk result (λ served. served.seat.seen.sealed ≡ (served.sealed || seat.seen.sealed)) }
+    ensures met { IfOk result (λ served. served.sealed ≡ true → length served.seat.tickets < length plan.now) }
     ensures fault { IfErr result (λ fault. Serves plan.now seat fault.seat true) }
+    ensures unmet { IfErr result (λ fault. fault.seat.seen.sealed ≡ seat.seen.sealed) }
+    ensures part { IfErr result (λ fault. fault.cause ≡ OutOfMemory → length fault.seat.tickets < length plan.now) }
     ensures same { IfErr result (λ fault. fault.cause ≡ TooManyWorkers → fault.seat ≡ seat) }
     ensures many { IfErr result (λ fault. fault.cause ≡ TooManyWorkers ↔ ((workers ≡ 0) ⊎ (MAX_WORKERS < workers))) }
     ensures few { OnOk result ((0 < workers) × (workers ≤ MAX_WORKERS)) }
@@ -105,7 +109,10 @@ fn serve_groups<G: Gate + Sync, R: Threads + Sync>(
     requires calls { length plan.now ≤ seat.old.calls }
     ensures served { IfOk result (λ sealed. Serves plan.now seat.old seat.new sealed) }
     ensures sealed { IfOk result (λ sealed. seat.new.seen.sealed ≡ (sealed || seat.old.seen.sealed)) }
+    ensures met { IfOk result (λ sealed. sealed ≡ true → length seat.new.tickets < length plan.now) }
     ensures fault { OnErr result (Serves plan.now seat.old seat.new true) }
+    ensures unmet { OnErr result (seat.new.seen.sealed ≡ seat.old.seen.sealed) }
+    ensures part { OnErr result (length seat.new.tickets < length plan.now) }
 {
     let mut served = 0;
     while served < plan.len() {

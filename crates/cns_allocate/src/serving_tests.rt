@@ -1,5 +1,5 @@
-use crate::tests::even_plan;
-use crate::{Gate, MAX_WORKERS, OpenGate, Plan, ServeCause, ServeFault, Served, serve};
+use crate::tests::{assert_same, even_plan, member};
+use crate::{Gate, Grants, MAX_WORKERS, OpenGate, Plan, ServeCause, ServeFault, Served, serve};
 use cns_pool::{Closed, PoolCell};
 use std::alloc::Global;
 use std::process::Abort;
@@ -29,6 +29,24 @@ fn served_and_closed<G: Gate + Sync, R: Threads + Sync>(
         Ok(Served { seat, sealed: _ }) => Ok(cell.close(feeder, seat)),
         Err(ServeFault { cause: _, seat: _ }) => Err("not served")?,
     }
+}
+
+// One seat draws a ticket, and the other one meets the seal.
+#[test]
+fn the_ticket_of_a_sealed_cell_is_granted(rt: HostRuntime) -> Result<(), Fail> {
+    let (two, three) = (member(2)?, member(3)?);
+    let (cell, mut feeder, mut first) = PoolCell::open(rt.alloc(), 60, 100, 4)?;
+    cell.pour(&mut feeder, 5);
+    let mut second = cell.split(&mut first, 30, 2)?;
+    cell.pour(&mut feeder, 35);
+    cell.reserve(&mut first, two, 30);
+    cell.seal(&mut feeder);
+    cell.reserve(&mut second, three, 30);
+    assert!(rt; cell.join(&mut first, second).is_ok());
+    let closed = cell.close(feeder, first);
+    let grants = Grants::of(rt.alloc(), closed.tickets.as_slice(), closed.poured)?;
+    assert_same(&rt, &grants.as_slice(), &[30].as_slice());
+    Ok(())
 }
 
 // The members' numbers and the starts of two tickets.
@@ -128,6 +146,7 @@ fn the_second_worker_draws_first(rt: HostRuntime) -> Result<(), Fail> {
         turns: AtomicU64::new(0),
     };
     let closed = served_and_closed(&rt, rt.alloc(), &plan, 2, &gate)?;
+    assert!(rt; gate.answered.load(Ordering::SeqCst));
     assert!(rt; gate.turns.load(Ordering::SeqCst) < MOST_TURNS);
     assert_both(&rt, &closed);
     let drawn = two_tickets(&closed);
@@ -163,6 +182,7 @@ fn both_workers_draw_side_by_side(rt: HostRuntime) -> Result<(), Fail> {
         most: AtomicU64::new(0),
     };
     let closed = served_and_closed(&rt, rt.alloc(), &plan, 2, &gate)?;
+    assert!(rt; gate.came[0].load(Ordering::SeqCst) && gate.came[1].load(Ordering::SeqCst));
     assert!(rt; gate.most.load(Ordering::SeqCst) < MOST_TURNS);
     assert_both(&rt, &closed);
     Ok(())

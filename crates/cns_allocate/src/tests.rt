@@ -19,7 +19,7 @@ type PlannedRow = (u16, u64, Group);
 // A member's number, where its shares start and how many they are.
 type TicketRow = (u16, u64, u64);
 
-fn assert_same<T: PartialEq + Debug>(rt: &impl Abort, got: &T, wanted: &T) {
+pub(crate) fn assert_same<T: PartialEq + Debug>(rt: &impl Abort, got: &T, wanted: &T) {
     assert!(rt; got == wanted, "{got:?} and not {wanted:?}");
 }
 
@@ -36,7 +36,7 @@ fn assert_turns(rt: &impl Abort, turns: &Turns, wanted: &[(MemberNo, Turn)]) {
     }
 }
 
-fn member(number: u16) -> Result<MemberNo, Fail> {
+pub(crate) fn member(number: u16) -> Result<MemberNo, Fail> {
     Ok(MemberNo::new(number).ok_or("member")?)
 }
 

@@ -1,4 +1,5 @@
-ghost use Rattle.std.specs.Prelude.{◌≡◌, ◌↔◌, ◌==◌, [], length, find, IfOk, IsTrue, nat_lt};
+ghost use Rattle.std.specs.Prelude.{◌≡◌, ◌↔◌, ◌<◌, ◌==◌, [], length, find, IfOk, IfSome, IsTrue, nat_lt};
+ghost use Rattle.std.specs.List.{position_from};
 ghost use Rattle.cns_allocate.specs.Group.{rank};
 ghost use Rattle.cns_allocate.specs.Plan.{IsPlan};
 ghost use Rattle.cns_allocate.specs.Served.{is_after_others, turn_of, without};
@@ -71,7 +72,9 @@ impl Turns {
     pub fn serve(&mut self, member: MemberNo)
         ensures { self.new ≡ without member self.old }
     {
-        self.list.retain(|planned| planned.member != member);
+        if let Some(place) = place_of(self.list.as_slice(), member) {
+            self.list.remove(place);
+        }
     }
 
     /// The members that wait, in the plan's order.
@@ -96,12 +99,23 @@ impl Turns {
         self.list.is_empty()
     }
 
-    // Whether a member of an earlier group waits.
+    // Whether a member of an earlier group waits: then the first one is of such a group.
     fn is_after_others(&self, planned: &Planned) -> bool
         ensures { result ≡ is_after_others self.now planned.now }
     {
-        self.list.iter().any(|other| is_before(other, planned))
+        match self.list.first() {
+            Some(first) => is_before(first, planned),
+            None => false,
+        }
     }
+}
+
+// The place of what is planned for a member.
+fn place_of(plan: &[Planned], member: MemberNo) -> Option<usize>
+    ensures place { result ≡ position_from (λ (p : Planned). p.member == member) 0 plan.now }
+    ensures within { IfSome result (λ place. place < length plan.now) }
+{
+    plan.iter().position(|planned| planned.member == member)
 }
 
 // What is planned for a member.

@@ -6,7 +6,7 @@ use Rattle.cns_allocate.specs.Group.{rank}
 use Rattle.cns_allocate.specs.Serving.{FollowPlanByStart, HasDrawn, Serves, shares_of}
 use Rattle.cns_allocate.specs.declared.planned.Planned.{Planned}
 use Rattle.cns_allocate.proofs.FollowLemmas.{follow-none}
-use Rattle.cns_allocate.proofs.ServingLemmas.{fault-follow, group_size, sealed-follow, sealed-met, shares-group, whole-follow, whole-sealed}
+use Rattle.cns_allocate.proofs.ServingLemmas.{fault-follow, fault-part, fault-unmet, group_size, sealed-follow, sealed-met, shares-group, whole-follow, whole-sealed}
 use Rattle.cns_allocate.proofs.serving.serve_groups.Goals as goal
 
 pub loop-served-init : goal.loop-served-init
@@ -34,6 +34,34 @@ returns-in_err-serve_group-clause-fault g c =
     let serves : Serves c.args.plan.now c.args.seat.now c.serve_group.new.seat true =
     record { cell = draws.cell ∙ i.cell ∙ sym c.requires.cell; out = omega (arith, draws.given, draws.made, i.given, i.made); follow = follow } in
     search (rules, serves)
+
+pub returns-in_err-serve_group-clause-unmet : goal.returns-in_err-serve_group-clause-unmet
+returns-in_err-serve_group-clause-unmet g c =
+    let i = c.loop-served.invariant in
+    let rest = take_rest c.args.plan.now c.loop-served.served in
+    let one = c.group_len.ensures.group in
+    let same = subst (λ (l : List Planned). All (λ (p : Planned). rank p.group ≡ one.0) (take c.group_len.result l)) rest one.1 in
+    let unmet =
+    fault-unmet c.args.plan.now c.loop-served.served c.group_len.result one.0 c.requires.plan c.loop-served-test.true c.group_len.ensures.some same c.loop-served.seat
+    c.serve_group.new.seat i.follow c.in_err-serve_group.ensures.fault
+    ∙ i.sealed in
+    search (rules, unmet)
+
+pub returns-in_err-serve_group-clause-part : goal.returns-in_err-serve_group-clause-part
+returns-in_err-serve_group-clause-part g c =
+    let i = c.loop-served.invariant in
+    let rest = take_rest c.args.plan.now c.loop-served.served in
+    let one = c.group_len.ensures.group in
+    let same = subst (λ (l : List Planned). All (λ (p : Planned). rank p.group ≡ one.0) (take c.group_len.result l)) rest one.1 in
+    let part =
+    fault-part c.args.plan.now c.loop-served.served c.group_len.result one.0 c.requires.plan c.loop-served-test.true c.group_len.ensures.some same c.loop-served.seat
+    c.serve_group.new.seat i.follow c.in_err-serve_group.ensures.fault in
+    search (rules, part)
+
+pub returns-then-tickets-served-clause-met : goal.returns-then-tickets-served-clause-met
+returns-then-tickets-served-clause-met g c =
+    let size = group_size c.args.plan.now c.loop-served.served c.group_len.result c.group_len.ensures.within in
+    λ e. omega (arith, c.if-tickets-served.true, ap length c.tickets.ensures, size.count, size.within, c.loop-served-test.true)
 
 pub returns-then-tickets-served-clause-served : goal.returns-then-tickets-served-clause-served
 returns-then-tickets-served-clause-served g c =
