@@ -1,2 +1,9 @@
+pub mod AppendLemmas
+pub mod CloseLemmas
+pub mod DiskJournalLemmas
 pub mod KeeperLemmas
+pub mod LayoutLemmas
 pub mod LogLemmas
+pub mod MemDiskLemmas
+pub mod Moments
+pub mod ReadLemmas

@@ -1,4 +1,10 @@
+pub mod Disk
+pub mod DiskJournal
 pub mod Keeper
+pub mod Layout
 pub mod ListKeeper
+pub mod MemCall
+pub mod MemDisk
+pub mod RecordFile
 pub mod RecordLog
 pub mod Replay

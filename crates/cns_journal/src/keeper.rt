@@ -3,6 +3,7 @@
 ghost use Rattle.std.specs.Prelude.{◌≡◌, ◌≤◌, Bool, true, false, None, length};
 ghost use Rattle.cns_journal.specs.Keeper.{Running, Journal, Foresight, CommitLeaves, CommitKeeps, CommitForeseen, ReopenLeaves, ReopenKeeps, ReopenForeseen, StandsAsForeseen, PlanLeaves, given_by};
 
+use crate::disk::DiskFault;
 use std::alloc::{AllocError, AllocFailed};
 use thiserror::Error;
 
@@ -45,6 +46,17 @@ impl<T: Drop> From<AllocFailed<T>> for KeepFault {
 
     fn from(_: AllocFailed<T>) -> KeepFault {
         KeepFault::Memory
+    }
+}
+
+impl From<DiskFault> for KeepFault {
+    ghost use Rattle.std.specs.Prelude.{◌≡◌};
+    ghost use Rattle.cns_journal.specs.declared.keeper.KeepFault.TheVariants.{Device};
+
+    ghost from_gives = { λ _ fault. fault ≡ Device };
+
+    fn from(_: DiskFault) -> KeepFault {
+        KeepFault::Device
     }
 }
 

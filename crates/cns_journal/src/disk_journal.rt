@@ -1,0 +1,185 @@
+//! A journal on a disk.
+
+ghost use Rattle.std.specs.Prelude.{◌≡◌, ◌⊎◌, ◌≤◌, true, false, None, ℕ, List, length, map, vec_items, IfOk, OnOk, IsErr, IsErrOf};
+ghost use Rattle.cns_journal.specs.declared.keeper.KeepFault.TheVariants.{Memory, Down};
+ghost use Rattle.cns_journal.specs.Disk.{EachImage, LeavesOnly};
+ghost use Rattle.cns_journal.specs.Keeper.{CommitKeeps, CommitLeaves, IsReopened, ReopenForeseen, ReopenKeeps, ReopenLeaves, given_by};
+ghost use Rattle.cns_journal.specs.Layout.{HasWithOrWithout, journal_of};
+ghost use Rattle.cns_journal.specs.DiskJournal.{fallen, nothing_known};
+
+use crate::disk::Disk;
+use crate::keeper::{KeepFault, Keeper, MAX_PAYLOAD, NotPlanned};
+use crate::record_file::{Records, append, closed_record, reread};
+use std::alloc::Global;
+use std::marker::Model;
+
+// Whether the file was read, whether the journal is up, and where its records end: there stands the gate
+// that the next commit opens.
+#[derive(Clone, Copy)]
+enum Stage {
+    Unread,
+    Up(u64),
+    Down(u64),
+}
+
+impl Stage {
+    // The stage after a failure of the device.
+    fn fallen(self) -> Stage
+        ensures { result ≡ fallen self }
+    {
+        match self {
+            Stage::Unread => Stage::Unread,
+            Stage::Up(end) | Stage::Down(end) => Stage::Down(end),
+        }
+    }
+}
+
+/// A journal in the file of a disk. It is down until it is reopened, and it is honest where its disk is.
+///
+/// After a crash at any moment the file stands for the acknowledged records, and then at most the one
+/// whose commit was under way or had failed. (This project's own rules.)
+#[derive(Drop)]
+pub struct DiskJournal<D: Disk> {
+    disk: D,
+    stage: Stage,
+    count: u64,
+    undecided: Option<Vec<u8>>,
+    alloc: Global,
+}
+
+impl<D: Disk> Model for DiskJournal<D> {
+    ghost use Rattle.std.specs.Prelude.{option_map, vec_items};
+    ghost use Rattle.cns_journal.specs.DiskJournal.{DiskState, IsJournal, down_at, kept_of};
+
+    ghost Value = { DiskState D };
+
+    ghost view = { λ j. record {
+      disk = j.disk;
+      run = record { down = down_at j.stage; failures = D.failures j.disk; count = j.count };
+      journal = record { kept = kept_of j.stage (D.seen j.disk); undecided = option_map vec_items j.undecided };
+    } };
+
+    ghost invariant = { λ j. IsJournal (D.honest j.disk) (D.seen j.disk) (D.images j.disk) j.stage j.count (option_map vec_items j.undecided) };
+}
+
+impl<D: Disk> DiskJournal<D> {
+    /// A journal on this disk, which no call is made of yet: it keeps what the file reads as.
+    pub fn new(alloc: Global, disk: D) -> DiskJournal<D>
+        ensures { result ≡ record {
+          disk = disk;
+          run = record { down = true; failures = D.failures disk; count = 0 };
+          journal = record { kept = journal_of (D.seen disk); undecided = None };
+        } }
+    {
+        DiskJournal {
+            disk,
+            stage: Stage::Unread,
+            count: 0,
+            undecided: None,
+            alloc,
+        }
+    }
+
+    /// Gives the disk back.
+    pub fn into_disk(self) -> D
+        ensures disk { result ≡ self.disk }
+        ensures keeps { D.honest self.disk ≡ true → IsReopened self.journal (journal_of (D.seen self.disk)) }
+    {
+        self.disk
+    }
+}
+
+impl<D: Disk> Keeper for DiskJournal<D> {
+    ghost run = { λ j. j.run };
+
+    ghost journal = { λ j. j.journal };
+
+    ghost honest = { λ j. D.honest j.disk };
+
+    ghost foresight = { λ _. nothing_known };
+
+    /// Nothing has been written where it answers `Memory` or `Down`. A crash at any moment of the call
+    /// leaves the acknowledged records, with the new one or without; once it has answered `Ok`, with it.
+    fn commit(&mut self, payload: &[u8]) -> Result<(), KeepFault>
+        requires { length payload.now ≤ MAX_PAYLOAD }
+        ensures honest { D.honest self.new.disk ≡ D.honest self.old.disk }
+        ensures leaves { CommitLeaves result self.old.run self.new.run }
+        ensures keeps { D.honest self.old.disk ≡ true → CommitKeeps payload.now result self.old.journal self.new.journal }
+        ensures any_moment { D.honest self.old.disk ≡ true → self.old.run.down ≡ false
+            → LeavesOnly D.moment D.left_since self.old.disk self.new.disk (HasWithOrWithout self.old.journal.kept payload.now) }
+        ensures durable { D.honest self.old.disk ≡ true
+            → OnOk result (EachImage (D.images self.new.disk) (λ image. journal_of image ≡ self.new.journal.kept)) }
+        ensures unchanged { (IsErrOf result Memory ⊎ IsErrOf result Down) → self.new ≡ self.old }
+    {
+        let Stage::Up(end) = self.stage else {
+            return Err(KeepFault::Down);
+        };
+        let behind_gate = closed_record(self.alloc, payload)?;
+        let copy = payload.to_vec(self.alloc)?;
+        match append(&mut self.disk, end, payload, behind_gate.as_slice()) {
+            Ok(()) => {
+                self.stage = Stage::Up(end + 5 + payload.len() as u64);
+                self.count += 1;
+                Ok(())
+            }
+            Err(_) => {
+                self.stage = Stage::Down(end);
+                self.undecided = Some(copy);
+                Err(KeepFault::Device)
+            }
+        }
+    }
+
+    /// Gives what the file reads as. Where each image stands for the acknowledged records, with the
+    /// undecided one or without, a crash at any moment of the call leaves one that does; once it has
+    /// answered `Ok`, each stands for what was given.
+    fn reopen(&mut self) -> Result<Vec<Vec<u8>>, KeepFault>
+        ensures honest { D.honest self.new.disk ≡ D.honest self.old.disk }
+        ensures leaves { ReopenLeaves (given_by result) self.old.run self.new.run }
+        ensures keeps { D.honest self.old.disk ≡ true → ReopenKeeps (given_by result) self.old.journal self.new.journal }
+        ensures foreseen { ReopenForeseen (given_by result) nothing_known nothing_known }
+        ensures value { D.honest self.old.disk ≡ true
+            → IfOk result (λ records. map vec_items (vec_items records) ≡ journal_of (D.seen self.old.disk)) }
+        ensures any_moment { D.honest self.old.disk ≡ true
+            → EachImage (D.images self.old.disk) (λ image. IsReopened self.old.journal (journal_of image))
+            → LeavesOnly D.moment D.left_since self.old.disk self.new.disk (λ image. IsReopened self.old.journal (journal_of image)) }
+        ensures durable { D.honest self.old.disk ≡ true
+            → IfOk result (λ records. EachImage (D.images self.new.disk) (λ image. journal_of image ≡ map vec_items (vec_items records))) }
+    {
+        match reread(self.alloc, &mut self.disk) {
+            Ok(Records { payloads, end, .. }) => {
+                self.stage = Stage::Up(end);
+                self.count = payloads.len() as u64;
+                self.undecided = None;
+                Ok(payloads)
+            }
+            Err(KeepFault::Device) => {
+                self.stage = self.stage.fallen();
+                Err(KeepFault::Device)
+            }
+            Err(fault) => Err(fault),
+        }
+    }
+
+    /// While the journal is up, each image of the disk stands for the acknowledged records.
+    fn is_down(&self) -> bool
+        ensures value { result ≡ self.now.run.down }
+        ensures decided { result ≡ false → self.now.journal.undecided ≡ None }
+        ensures durable { D.honest self.now.disk ≡ true → result ≡ false
+            → EachImage (D.images self.now.disk) (λ image. journal_of image ≡ self.now.journal.kept) }
+    {
+        !matches!(self.stage, Stage::Up(_))
+    }
+
+    fn count(&self) -> u64 {
+        self.count
+    }
+
+    /// Of a disk nothing is known beforehand.
+    fn plan(&mut self, _stands: bool) -> Result<(), NotPlanned>
+        ensures refused { IsErr result }
+        ensures unchanged { self.new ≡ self.old }
+    {
+        Err(NotPlanned)
+    }
+}
