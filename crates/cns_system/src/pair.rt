@@ -84,7 +84,7 @@ impl<C: Keeper + Drop, D: Keeper + Drop> Pair<C, D> {
             Err(refused) => {
                 return Err(Unopened {
                     fault: StartFault::Depot(refused.fault),
-                    clear: clear.into_keeper(),
+                    clear: clear_keeper(clear),
                     depot: refused.keeper,
                 });
             }
@@ -92,8 +92,8 @@ impl<C: Keeper + Drop, D: Keeper + Drop> Pair<C, D> {
         if !agree(&clear, &depot) {
             return Err(Unopened {
                 fault: StartFault::Disagree,
-                clear: clear.into_keeper(),
-                depot: depot.into_keeper(),
+                clear: clear_keeper(clear),
+                depot: depot_keeper(depot),
             });
         }
         Ok(Pair {
@@ -118,8 +118,25 @@ impl<C: Keeper + Drop, D: Keeper + Drop> Pair<C, D> {
             replies,
         } = self;
         drop((orders, replies));
-        (clear.into_node().into_keeper(), depot.into_keeper())
+        (clear_keeper(clear.into_node()), depot_keeper(depot))
     }
+}
+
+// Gives the keeper of a clearing node up. A call that ends in one of these two is checked in few steps,
+// however many fields a node has.
+fn clear_keeper<C: Keeper>(node: Clearing<C>) -> C
+    ensures { IsGivenUp spelling node.log
+        (record { honest = C.honest result; run = C.run result; journal = C.journal result; foresight = C.foresight result }) }
+{
+    node.into_keeper()
+}
+
+// Gives the keeper of a depository up.
+fn depot_keeper<D: Keeper>(node: Depository<D>) -> D
+    ensures { IsGivenUp dep_spelling node.log
+        (record { honest = D.honest result; run = D.run result; journal = D.journal result; foresight = D.foresight result }) }
+{
+    node.into_keeper()
 }
 
 impl<C: Keeper, D: Keeper> Pair<C, D> {
