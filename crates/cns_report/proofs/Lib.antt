@@ -1,1 +1,2 @@
 pub mod RightLemmas
+pub mod LineLemmas
