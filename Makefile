@@ -1,7 +1,7 @@
 # The proved program, where `make build` and `make test` leave it.
 program := crates/cnsd/out/cnsd
 
-.PHONY: demo run test build fuzz bench wrong limits format
+.PHONY: demo run test build fuzz bench wrong limits stress format
 
 # Runs the worked example, by the built program where it is up to date, else unproved: a minute or two.
 demo:
@@ -24,9 +24,10 @@ build:
 fuzz: build
 	oracle/fuzz.py $(program) --seed $${SEED:-1} --count $${COUNT:-2000}
 
-# Times and memory on large inputs.
+# Times and memory on large inputs, and the rate of the cell beside plain Rust.
 bench: build
 	bench/run.sh $(program)
+	bench/cell.sh
 
 # Wrong bodies beside those of the gate, each of which the proofs must refuse; of one crate by CRATE=NAME.
 wrong:
@@ -35,6 +36,10 @@ wrong:
 # Inputs at the limits of what the program takes.
 limits: build
 	tests/limits.sh $(program)
+
+# Threads that race at the cell, checked from outside; SEED may be given.
+stress:
+	tests/stress.sh $${SEED:-}
 
 # Lays out all source, definitions and proofs.
 format:

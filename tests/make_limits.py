@@ -8,6 +8,7 @@ The first form writes the names, with --quick of those alone that take some seco
 one writes the two files. What is to be written follows from the rules by the input's own plain
 shape; no program and no oracle is asked.
 """
+import datetime
 import sys
 
 MOST = 1000000
@@ -113,8 +114,7 @@ def shares():
 def orders():
     """As many orders as there are numbers: a cover of each trade. Then a lot whose delivery has no number left.
 
-    The second cycle's covers would have none either; but each of a million shorts looks at each of
-    a million open covers there, for an hour or so.
+    A second cycle finds each short covered by an open order, and orders nothing.
     """
     each = 1000                                              # sellers of an issue
     rows = [trade(1, 2, 1, FIRST, 10)]
@@ -123,15 +123,15 @@ def orders():
         seller, issue, quantity = (number - 2) % each + 1, cusip((number - 2) // each + 1), 1 + number % 77
         rows.append(trade(number, 9999, seller, issue, quantity))
         out.append('order %d COVER %04d %s %d' % (number, seller, issue, quantity))
-    lines = ['TAKE ALL', 'CYCLE NIGHT ' + DATE, 'SEND %d' % MOST, 'SEND %d' % (MOST + 1), 'SEND 1', 'ORDER 2',
+    lines = ['TAKE ALL', 'CYCLE NIGHT ' + DATE, 'CYCLE DAY ' + DATE, 'SEND %d' % MOST, 'SEND %d' % (MOST + 1), 'SEND 1', 'ORDER 2',
              'REPLY 1', 'LOT ' + FIRST,
              'RESERVE 1 2', 'CLOSE 1', 'LOOK 1', 'RESTART CLEAR', 'SEND %d' % MOST, 'ALLOCATE ' + FIRST, 'LOOK 2']
     refused = ['ticket 0002 start 0 asked 10', 'close refused NumbersSpent', 'look poured 10 asked 10 sealed no']
-    out = accepted(MOST) + ['cycle %s NIGHT due %d' % (DATE, MOST)] + out + ['send %d packet 1' % MOST,
-                                                                             'send refused UnknownMove']
+    out = accepted(MOST) + ['cycle %s NIGHT due %d' % (DATE, MOST)] + out
+    out += ['cycle %s DAY due 0' % DATE, 'send %d packet 1' % MOST, 'send refused UnknownMove']
     out += ['send 1 packet 2', 'exec 1 moved 10 packet 1', 'confirm 1 moved 10 done',
             'lot 1 poured 10 longs 1'] + refused
-    out += ['restart CLEAR records %d kept no' % (MOST + 2), 'send %d packet 3' % MOST,
+    out += ['restart CLEAR records %d kept no' % (MOST + 3), 'send %d packet 3' % MOST,
             'lot 2 poured 10 longs 1'] + refused
     return ['1,%s,10' % FIRST], rows, lines, out
 
@@ -148,9 +148,58 @@ def lots():
             'restart CLEAR records %d kept no' % MOST, 'lot refused LotsSpent']
     return [], [], lines, out
 
+def cycles():
+    """100,000 trades of one seller over 50 days with a cycle on each, and one lot: what is left is a plain sum."""
+    count, days, issues, seller = 100000, 50, 701, 9999
+    dates = [str(datetime.date(2025, 3, 3) + datetime.timedelta(day)) for day in range(days)]
+    rows, due = [], [{} for _ in range(days)]                # of a day, by issue: its shares by member
+    for number in range(1, count + 1):
+        day, issue, member, quantity = number % days, number % issues, 1 + number * 7919 % 9998, 1 + number % 977
+        rows.append('T%d,%s,%d,%d,%s,%d' % (number, dates[day], member, seller, cusip(issue), quantity))
+        bought = due[day].setdefault(issue, {})
+        bought[member] = bought.get(member, 0) + quantity
+    lines, out, orders = ['TAKE ALL'], accepted(count), []
+    for day, date in enumerate(dates):
+        lines.append('CYCLE NIGHT ' + date)
+        out.append('cycle %s NIGHT due %d' % (date, count // days))
+        for issue in sorted(due[day]):
+            orders.append((issue, sum(due[day][issue].values())))
+            out.append('order %d COVER %d %s %d' % (len(orders), seller, cusip(issue), orders[-1][1]))
+    for number, (issue, asked) in enumerate(orders, 1):
+        out += passed_on(number, number, 0 if issue else asked)
+    before, total = {}, {}
+    for day in range(days):
+        for issue, bought in due[day].items():
+            for member, shares in bought.items():
+                total.setdefault(issue, {}).setdefault(member, 0)
+                total[issue][member] += shares
+                if issue == 0 and day < days - 1:
+                    before[member] = True
+    longs = sorted(before) + sorted(set(total[0]) - set(before))
+    given, start = sum(total[0].values()), 0
+    out.append('lot 1 poured %d longs %d' % (given, len(longs)))
+    for member in longs:
+        out.append('ticket %04d start %d asked %d' % (member, start, total[0][member]))
+        start += total[0][member]
+    out.append('close granted %d' % given)
+    first = len(orders) + 1
+    out += ['order %d DELIVERY %04d %s %d' % (number, member, cusip(0), total[0][member])
+            for number, member in enumerate(longs, first)]
+    # A cover that moved nothing is confirmed, so the pump sends the deliveries alone.
+    for number, member in enumerate(longs, first):
+        out += passed_on(number, number, total[0][member])
+    out.append('REPORT cycle %s NIGHT' % dates[-1])
+    for issue in range(1, issues):
+        out += ['POS %s %04d %20d' % (cusip(issue), member, total[issue][member]) for member in sorted(total[issue])]
+        out.append('POS %s %d %20d' % (cusip(issue), seller, -sum(total[issue].values())))
+    out += ['BAL %s %04d %20d' % (cusip(0), member, total[0][member]) for member in sorted(total[0])]
+    lines += ['PUMP', 'ALLOCATE ' + cusip(0), 'PUMP', 'REPORT']
+    return ['%d,%s,%d' % (seller, cusip(0), given + 5)], rows, lines, out + [
+        'BAL %s %d %20d' % (cusip(0), seller, 5), 'END']
+
 
 QUICK = [openings, longs]
-LIMITS = QUICK + [trades, shares, orders, lots]
+LIMITS = QUICK + [cycles, trades, shares, orders, lots]
 
 
 def main(words):
