@@ -1,7 +1,7 @@
 # The proved program, where `make build` and `make test` leave it.
 program := crates/cnsd/out/cnsd
 
-.PHONY: demo run test build fuzz bench wrong limits stress format
+.PHONY: demo run test build fuzz bench wrong crash limits stress format
 
 # Runs the worked example, by the built program where it is up to date, else unproved: a minute or two.
 demo:
@@ -24,10 +24,11 @@ build:
 fuzz: build
 	oracle/fuzz.py $(program) --seed $${SEED:-1} --count $${COUNT:-2000}
 
-# Times and memory on large inputs, and the rate of the cell beside plain Rust.
+# Times and memory on large inputs, and the rates of the cell and of commits to a disk beside plain Rust.
 bench: build
 	bench/run.sh $(program)
 	bench/cell.sh
+	bench/journal.sh $(program)
 
 # Wrong bodies beside those of the gate, each of which the proofs must refuse; of one crate by CRATE=NAME.
 wrong:
@@ -36,6 +37,10 @@ wrong:
 # Inputs at the limits of what the program takes.
 limits: build
 	tests/limits.sh $(program)
+
+# Each call on the journals failed, and the program killed before and after it.
+crash: build
+	tests/crash.sh $(program)
 
 # Threads that race at the cell, checked from outside; SEED may be given.
 stress:

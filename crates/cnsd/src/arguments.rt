@@ -1,6 +1,6 @@
-ghost use Rattle.std.specs.Prelude.{◌≡◌, IfOk, map};
-ghost use Rattle.clap.specs.Words.{FailsBy, app_of, fault_of, subcommand_of, subcommand_rows_of};
-ghost use Rattle.cnsd.specs.CommandLine.{AsksFor, asked_text, cnsd_app};
+ghost use Rattle.std.specs.Prelude.{◌≡◌, false, IfOk, map, option_map};
+ghost use Rattle.clap.specs.Words.{FailsBy, app_of, fault_of, rule_of, subcommand_of, subcommand_rows_of};
+ghost use Rattle.cnsd.specs.CommandLine.{AsksFor, cnsd_app, journal_rule, text_rule, value_in};
 
 use crate::fault::BatchFault;
 use crate::help;
@@ -13,8 +13,9 @@ use std::{env, io};
 /// What the command line asks for.
 #[derive(PartialEq, Eq, Debug, Drop)]
 pub(crate) enum Request {
-    /// `cnsd run`: one batch from standard input to standard output.
-    Run,
+    /// `cnsd run`: one batch from standard input to standard output, over the journals in this folder
+    /// where one is given, and else over keepers in memory.
+    Run { journal: Option<String> },
     /// `cnsd cusip TEXT`: whether this text is a CUSIP.
     Cusip(String),
     /// Help or the version, which was printed.
@@ -23,46 +24,76 @@ pub(crate) enum Request {
     Faulty,
 }
 
+// The option of `run` for the folder of the journals.
+fn journal_option<'a>(alloc: Global) -> Arg<'a>
+    ensures rule { rule_of result ≡ journal_rule }
+    ensures local { result.global ≡ false }
+{
+    Arg::new(alloc, "journal")
+        .long("journal")
+        .value_name("DIR")
+        .help("Keep both nodes' journals in this folder, and begin with what they hold")
+        .action(ArgAction::Set)
+}
+
+// The argument of `cusip`.
+fn text_argument<'a>(alloc: Global) -> Arg<'a>
+    ensures rule { rule_of result ≡ text_rule }
+    ensures local { result.global ≡ false }
+{
+    Arg::new(alloc, "text")
+        .value_name("TEXT")
+        .help("The text, such as 037833100")
+        .required(true)
+        .action(ArgAction::Set)
+}
+
 // The command line that there is.
 fn command<'a>(alloc: Global) -> Result<Command<'a>, AllocError>
     ensures { IfOk result (λ c. app_of c ≡ cnsd_app) }
 {
-    let run = Command::new(alloc, "run")
+    let batch = Command::new(alloc, "run")
         .about(
             "Reads openings, trades and a script from standard input, and writes what they come to",
         )
-        .after_help(help::RUN);
-    let text = Arg::new(alloc, "text")
-        .value_name("TEXT")
-        .help("The text, such as 037833100")
-        .required(true)
-        .action(ArgAction::Set);
+        .after_help(help::RUN)
+        .arg(journal_option(alloc))?;
     let cusip = Command::new(alloc, "cusip")
         .about("Reads a text as a CUSIP, and writes `ok` or its first fault")
-        .arg(text)?;
+        .arg(text_argument(alloc))?;
     Command::new(alloc, "cnsd")
         .about("A Continuous Net Settlement book and a depository's stock record")
         .version("0.1.0")
         .subcommand_required(true)
         .arg_required_else_help(true)
-        .subcommand(run)?
+        .subcommand(batch)?
         .subcommand(cusip)
+}
+
+// The first value of an argument of a subcommand, where the words name that one.
+fn value_in<'a>(matches: &ArgMatches<'a>, subcommand: &str, id: &str) -> Option<&'a str>
+    ensures { option_map (λ s. s.now) result ≡ value_in subcommand.now id.now (subcommand_rows_of matches.now) }
+{
+    matches.subcommand_matches(subcommand)?.get_str(id)
 }
 
 // What the matches of a command line ask for; the library refuses a `cusip` with no text.
 fn request_of(alloc: Global, matches: &ArgMatches) -> Result<Request, AllocError>
-    ensures { IfOk result (AsksFor (asked_text (subcommand_rows_of matches.now))) }
+    ensures { IfOk result (AsksFor (subcommand_rows_of matches.now)) }
 {
-    let Some(cusip) = matches.subcommand_matches("cusip") else {
-        return Ok(Request::Run);
+    if let Some(text) = value_in(matches, "cusip", "text") {
+        return Ok(Request::Cusip(String::from_str(alloc, text)?));
+    }
+    let Some(folder) = value_in(matches, "run", "journal") else {
+        return Ok(Request::Run { journal: None });
     };
-    let text = cusip.get_str("text").unwrap_or("");
-    Ok(Request::Cusip(String::from_str(alloc, text)?))
+    let journal = Some(String::from_str(alloc, folder)?);
+    Ok(Request::Run { journal })
 }
 
 // Reads words as a command line; help, the version and faults come as the library's own errors.
 fn parse<'a>(alloc: Global, words: &'a [&'a str]) -> Result<Request, Error>
-    ensures asks { IfOk result (AsksFor (asked_text (subcommand_of cnsd_app (map (λ w. w.now) words.now)))) }
+    ensures asks { IfOk result (AsksFor (subcommand_of cnsd_app (map (λ w. w.now) words.now))) }
     ensures fails { FailsBy (fault_of cnsd_app (map (λ w. w.now) words.now)) result }
 {
     let matches = command(alloc)?.try_get_matches_from(words)?;

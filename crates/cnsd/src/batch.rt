@@ -252,3 +252,28 @@ pub fn run_uncounted<R: Read, W: Write, L: Ledger>(
     let mut steps = Steps::<L>::new(blank);
     run_batch(alloc, reader, writer, &mut steps)
 }
+
+/// `run_batch_kept` for a caller that counts nothing.
+pub fn run_kept_uncounted<R: Read, W: Write, L: Ledger, C: Keeper + Drop, D: Keeper + Drop>(
+    alloc: Global,
+    reader: &mut R,
+    writer: &mut W,
+    blank: Blank,
+    clear: C,
+    depot: D,
+) -> Kept<C, D>
+    requires name { blank.name ≡ L.name }
+    requires parts { blank.parts ≡ L.parts }
+    requires some { 0 < L.parts }
+    ensures leaves { IfSome (R.remaining reader.old) (λ bytes. KeptLeaves result.result bytes
+        (record { honest = C.honest clear; run = C.run clear; journal = C.journal clear; foresight = C.foresight clear })
+        (record { honest = D.honest depot; run = D.run depot; journal = D.journal depot; foresight = D.foresight depot })
+        (record { honest = C.honest result.clear; run = C.run result.clear; journal = C.journal result.clear; foresight = C.foresight result.clear })
+        (record { honest = D.honest result.depot; run = D.run result.depot; journal = D.journal result.depot; foresight = D.foresight result.depot })
+        (W.contents writer.old) (W.contents writer.new)) }
+    ensures none { IfErr result.result (λ e. WritesNothing e → W.contents writer.new ≡ W.contents writer.old) }
+    ensures end { OnOk result.result (IsAtEnd (R.remaining reader.new)) }
+{
+    let mut steps = Steps::<L>::new(blank);
+    run_batch_kept(alloc, reader, writer, &mut steps, clear, depot)
+}

@@ -42,4 +42,4 @@ Exit status:
   0  all was read, run and written
   1  the command line is wrong
   2  the input cannot be read, is too long, or has bad sections or bad rows
-  3  there was no memory, or the output failed";
+  3  there was no memory, the output failed, or a journal failed";

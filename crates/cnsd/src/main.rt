@@ -11,6 +11,7 @@ mod commands;
 mod fault;
 mod help;
 mod input;
+mod journal;
 mod line;
 mod opening;
 mod output;
@@ -20,9 +21,10 @@ mod sections;
 mod steps;
 
 use arguments::{Request, read_request};
-use batch::run_uncounted;
+use batch::{run_kept_uncounted, run_uncounted};
 use check::check_cusip;
 use fault::BatchFault;
+use journal::open_journals;
 use std::io;
 use std::marker::Brand;
 use std::process::ExitCode;
@@ -34,14 +36,35 @@ fn tell_fault(rt: &HostRuntime, fault: BatchFault) -> ExitCode {
     ExitCode::from(fault.status())
 }
 
-// One batch from standard input to standard output; a fault is told on standard error.
-fn run(rt: &HostRuntime) -> ExitCode {
-    let mut reader = rt.reader();
-    let mut writer = io::writer(rt);
-    match run_uncounted::<_, _, Brand>(rt.alloc(), &mut reader, &mut writer, Blank::new(1)) {
+// The exit status of a batch; a fault is told on standard error.
+fn exit_status(rt: &HostRuntime, ended: Result<(), BatchFault>) -> ExitCode {
+    match ended {
         Ok(()) => ExitCode::SUCCESS,
         Err(fault) => tell_fault(rt, fault),
     }
+}
+
+// One batch from standard input to standard output, over keepers in memory.
+fn run(rt: &HostRuntime) -> Result<(), BatchFault> {
+    let mut reader = rt.reader();
+    let mut writer = io::writer(rt);
+    run_uncounted::<_, _, Brand>(rt.alloc(), &mut reader, &mut writer, Blank::new(1))
+}
+
+// One batch from standard input to standard output, over the journals in a folder.
+fn run_over(rt: &HostRuntime, folder: &str) -> Result<(), BatchFault> {
+    let journals = open_journals(rt, folder)?;
+    let mut reader = rt.reader();
+    let mut writer = io::writer(rt);
+    let kept = run_kept_uncounted::<_, _, Brand, _, _>(
+        rt.alloc(),
+        &mut reader,
+        &mut writer,
+        Blank::new(1),
+        journals.clear,
+        journals.depot,
+    );
+    kept.result
 }
 
 // Tells on standard output whether a text is a CUSIP; a fault is told on standard error.
@@ -56,7 +79,12 @@ fn cusip(rt: &HostRuntime, text: &[u8]) -> ExitCode {
 
 fn main(rt: HostRuntime) -> ExitCode {
     match read_request(&rt) {
-        Ok(Request::Run) => run(&rt),
+        Ok(Request::Run { journal: None }) => exit_status(&rt, run(&rt)),
+        Ok(
+            Request::Run {
+                journal: Some(folder),
+            },
+        ) => exit_status(&rt, run_over(&rt, folder.as_str())),
         Ok(Request::Cusip(text)) => cusip(&rt, text.as_bytes()),
         Ok(Request::Told) => ExitCode::SUCCESS,
         Ok(Request::Faulty) => ExitCode::from(1),
@@ -64,6 +92,8 @@ fn main(rt: HostRuntime) -> ExitCode {
     }
 }
 
+#[cfg(test)]
+mod disk_tests;
 #[cfg(test)]
 mod story_tests;
 #[cfg(test)]

@@ -1,15 +1,14 @@
 ghost use Rattle.std.specs.Prelude.{◌≡◌, ◌<◌};
 
-use crate::batch::{Kept, run_batch_kept, run_uncounted};
+use crate::batch::{Kept, run_kept_uncounted, run_uncounted};
 use crate::check::check_cusip;
 use crate::fault::BatchFault;
-use crate::steps::Steps;
-use cns_journal::ListKeeper;
+use cns_journal::{Keeper, ListKeeper};
 use std::alloc::Global;
 use std::io;
 use std::io::{Read, Write};
 use std::marker::Brand;
-use std::sync::ledger::{Blank, Ledger};
+use std::sync::ledger::Blank;
 use std::test::Fail;
 
 // A reader that gives one byte a call, and fails after a number of calls.
@@ -120,31 +119,16 @@ fn run(alloc: Global, input: &[u8]) -> Result<Vec<u8>, BatchFault> {
     Ok(out)
 }
 
-// `run_batch_kept` over keepers in memory, for a caller that counts nothing.
-fn kept_uncounted<R: Read, W: Write, L: Ledger>(
-    alloc: Global,
-    reader: &mut R,
-    writer: &mut W,
-    blank: Blank,
-    keepers: (ListKeeper, ListKeeper),
-) -> Kept<ListKeeper, ListKeeper>
-    requires name { blank.name ≡ L.name }
-    requires parts { blank.parts ≡ L.parts }
-    requires some { 0 < L.parts }
-{
-    let mut steps = Steps::<L>::new(blank);
-    run_batch_kept(alloc, reader, writer, &mut steps, keepers.0, keepers.1)
-}
-
 // What an input comes to over these keepers, and both keepers then.
-pub(crate) fn kept(
+pub(crate) fn kept<C: Keeper + Drop, D: Keeper + Drop>(
     alloc: Global,
     input: &[u8],
-    keepers: (ListKeeper, ListKeeper),
+    keepers: (C, D),
     out: &mut Vec<u8>,
-) -> Kept<ListKeeper, ListKeeper> {
+) -> Kept<C, D> {
     let mut reader = input;
-    kept_uncounted::<_, _, Brand>(alloc, &mut reader, out, Blank::new(1), keepers)
+    let (clear, depot) = keepers;
+    run_kept_uncounted::<_, _, Brand, _, _>(alloc, &mut reader, out, Blank::new(1), clear, depot)
 }
 
 // Of 60 shares that member 1 sells, it has the 20 with which it opens.

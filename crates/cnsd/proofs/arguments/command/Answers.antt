@@ -1,18 +1,18 @@
 use Rattle.std.proofs.Common.{rules, ◌≡◌, ◌∙◌, ap, ap₂, codes, true}
 use Rattle.std.proofs.lemmas.Result.{IfOk-weaker}
-use Rattle.clap.specs.Words.{App, app_of, new_app, rule_of, with_rule, with_subcommand}
+use Rattle.clap.specs.Words.{App, app_of, new_app, with_rule, with_subcommand}
 use Rattle.clap.specs.Simple.{on_top, app_of_fields}
-use Rattle.cnsd.specs.CommandLine.{cusip_app, text_rule}
+use Rattle.cnsd.specs.CommandLine.{cusip_app, run_app}
 use Rattle.cnsd.proofs.arguments.command.Goals as goal
 
 pub returns : goal.returns
 returns c =
-    let text_is : rule_of c.action-text.result ≡ text_rule = search rules in
     let told_is : app_of c.about.result ≡ new_app (codes "run") = ap app_of_fields c.about.ensures ∙ c.new.ensures.app in
-    let run_is : app_of c.after_help-run.result ≡ new_app (codes "run") = ap app_of_fields c.after_help-run.ensures ∙ told_is in
-    let made_is : app_of c.about-2.result ≡ new_app (codes "cusip") = ap app_of_fields c.about-2.ensures ∙ c.new-3.ensures.app in
-    let cusip_is : app_of c.in_ok-cusip.cusip ≡ cusip_app = c.in_ok-cusip.ensures.shape (search rules) ∙ ap₂ with_rule made_is text_is in
-    let about_is : app_of c.about-3.result ≡ new_app (codes "cnsd") = ap app_of_fields c.about-3.ensures ∙ c.new-4.ensures.app in
+    let helped_is : app_of c.after_help.result ≡ new_app (codes "run") = ap app_of_fields c.after_help.ensures ∙ told_is in
+    let run_is : app_of c.in_ok-batch.batch ≡ run_app = c.in_ok-batch.ensures.shape c.journal_option.ensures.local ∙ ap₂ with_rule helped_is c.journal_option.ensures.rule in
+    let made_is : app_of c.about-2.result ≡ new_app (codes "cusip") = ap app_of_fields c.about-2.ensures ∙ c.new-2.ensures.app in
+    let cusip_is : app_of c.in_ok-cusip.cusip ≡ cusip_app = c.in_ok-cusip.ensures.shape c.text_argument.ensures.local ∙ ap₂ with_rule made_is c.text_argument.ensures.rule in
+    let about_is : app_of c.about-3.result ≡ new_app (codes "cnsd") = ap app_of_fields c.about-3.ensures ∙ c.new-3.ensures.app in
     let version_is : app_of c.version.result ≡ on_top (λ s. record s { has_version = true }) (new_app (codes "cnsd")) =
     ap app_of_fields c.version.ensures ∙ ap (on_top (λ s. record s { has_version = true })) about_is in
     let top_is : app_of c.subcommand_required.result ≡ on_top (λ s. record s { has_version = true; subcommand_required = true }) (new_app (codes "cnsd")) =

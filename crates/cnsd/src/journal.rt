@@ -1,0 +1,61 @@
+//! The two journals in a folder.
+
+use crate::fault::BatchFault;
+use cns_journal::{DiskJournal, FileDisk};
+use std::fs::{File, OpenOptions};
+use std::path::Path;
+use std::rt::Files;
+
+/// The journals of both nodes, which nobody else writes while they are held.
+#[derive(Drop)]
+pub(crate) struct Journals {
+    pub(crate) clear: DiskJournal<FileDisk>,
+    pub(crate) depot: DiskJournal<FileDisk>,
+}
+
+// Opens a file of a folder for reading and writing, makes it where it is missing, and takes its lock.
+fn open_locked<R: Files<File = File> + AllocGlobal>(
+    rt: &R,
+    folder: &str,
+    name: &str,
+) -> Result<File, BatchFault> {
+    let path = Path::new(folder).join(rt.alloc(), name)?;
+    let mut how = OpenOptions::new();
+    how.read(true).write(true).create(true);
+    let Ok(file) = how.open(rt, path) else {
+        return Err(BatchFault::Journal);
+    };
+    match file.try_lock() {
+        Ok(()) => Ok(file),
+        Err(_) => Err(BatchFault::Journal),
+    }
+}
+
+// Waits until the names in a folder are on the disk.
+fn sync_folder<R: Files<File = File>>(rt: &R, folder: &str) -> Result<(), BatchFault> {
+    let Ok(folder) = File::open(rt, folder) else {
+        return Err(BatchFault::Journal);
+    };
+    match folder.sync_all() {
+        Ok(()) => Ok(()),
+        Err(_) => Err(BatchFault::Journal),
+    }
+}
+
+/// Opens `clear.journal` and `depot.journal` in a folder, empty where they are missing. The folder is
+/// not made. No record is read yet.
+///
+/// Refuses `Journal` where a file cannot be opened for reading and writing or its lock is held elsewhere,
+/// and where the folder cannot be synced; `Memory` where there was none.
+pub(crate) fn open_journals<R: Files<File = File> + AllocGlobal>(
+    rt: &R,
+    folder: &str,
+) -> Result<Journals, BatchFault> {
+    let clear = open_locked(rt, folder, "clear.journal")?;
+    let depot = open_locked(rt, folder, "depot.journal")?;
+    sync_folder(rt, folder)?;
+    Ok(Journals {
+        clear: DiskJournal::new(rt.alloc(), FileDisk::new(clear)),
+        depot: DiskJournal::new(rt.alloc(), FileDisk::new(depot)),
+    })
+}
