@@ -1,17 +1,20 @@
 #!/usr/bin/env python3
 """Tries the wrong bodies that stand beside the gate: each must be refused by the prover.
 
-    tests/wrong.py [CRATE..] [--lanes N] [--only WORD]
+    tests/wrong.py [CRATE..] [--lanes N] [--only WORD] [--alone]
 
-Sets the edits of wrong-bodies/CRATE (of every crate, where none is named) beside a copy of the crate
-and calls `rt must-fail`, in as many lanes as there are processors and memory; --only takes those whose
-names have WORD. What the crates below a crate need is built first, from what earlier checks of the tree
-left where that is up to date. Prints what rt says of each edit, then for each crate its edits, minutes
-and processor minutes. The last line is `N passed, M failed`; the exit status is 0 where M is 0 and N is
+Edits of wrong-bodies/CRATE (of every crate, where none is named) are set into copies of the crate, several at once where
+they change different functions, and `rt check` must say of each of these functions that a goal of its own is not proved. An
+edit of which that is not said (the text cannot be read, a callee is not proved, it changes no single function) is tried
+once more with others, and then by itself by `rt must-fail`, which has the last word; with --alone each is. All goes on in
+as many lanes as there are processors and memory; --only takes the edits whose names have WORD. What the crates below a crate need is
+built first, from what earlier checks of the tree left where that is up to date. Prints each edit that is refused, then for each
+crate its edits, minutes and processor minutes. The last line is `N passed, M failed`; the exit status is 0 where M is 0 and N is
 not.
 """
 import argparse
 import os
+import re
 import shutil
 import signal
 import subprocess
@@ -21,12 +24,15 @@ import threading
 import time
 from concurrent.futures import ThreadPoolExecutor
 
-from wrong_bodies import FOLDER, TOP, below, crates, edits
+from wrong_bodies import FOLDER, TOP, below, crates, edits, texts_of
 
 # What a check of a crate takes at most, and how many edits a lane tries one after another at least: the
 # first of them costs a check of the whole crate.
 MEMORY_OF_A_LANE = 4 << 30
 LEAST_OF_A_LANE = 12
+# How many edits a check tries at once at most, and how often an edit is tried so.
+MOST_AT_ONCE = 16
+ROUNDS = 2
 PARTS = ("src", "specs", "proofs")
 
 
@@ -51,7 +57,9 @@ def copy_crate(name, to):
 def run(words, folder):
     """Runs a command; answers its exit status, what it said, and its processor seconds."""
     with tempfile.TemporaryFile("w+", errors="replace") as said:
-        started = subprocess.Popen(words, cwd=folder, stdin=subprocess.DEVNULL, stdout=said, stderr=subprocess.STDOUT)
+        # (of itself `rt must-fail` takes all processors)
+        started = subprocess.Popen(words, cwd=folder, env=dict(os.environ, RT_JOBS="1"), stdin=subprocess.DEVNULL, stdout=said,
+                                   stderr=subprocess.STDOUT)
         _, status, used = os.wait4(started.pid, 0)
         started.returncode = os.waitstatus_to_exitcode(status)
         said.seek(0)
@@ -77,6 +85,7 @@ def build_libraries(wanted, tree, lanes):
     for name in wanted:
         if name not in needed:
             copy_crate(name, tree)
+    write_lines_of(tree, [name for name in crates() if name in needed or name in wanted])
 
 
 def all_below(name, stands_on):
@@ -91,6 +100,121 @@ def split(found, lanes):
     """Parts of a crate's edits, each for a lane of its own."""
     parts = max(1, min(lanes, len(found) // LEAST_OF_A_LANE))
     return [found[at::parts] for at in range(parts)]
+
+
+FUNCTION = re.compile(r"\s*(?:pub(?:\([a-z]+\))? )?(?:const )?fn (\w+)")
+# What a proof file says where an edit took a name away: that tells nothing of the contract.
+NAMES = re.compile(r"(note: )?(\./)?proofs/.*(has no field|is not in scope|has no `|was not admitted)")
+# Where a message says that a goal of a function is not proved.
+IN_PROOFS = re.compile(r"(?:note: )?(?:\./)?proofs/([\w/+]+)/(?:Answers|Invariants|Proof)\.antt:\d+:\d+: error")
+IN_SOURCE = re.compile(r"note: (?:\./)?(src/[\w/]+\.rt):(\d+):\d+: it is not proved that")
+
+
+def function_at(lines, number):
+    """The name and the lines of the function in which a line stands, counted from 0; None outside of one."""
+    for first in range(number, -1, -1):
+        found = FUNCTION.match(lines[first])
+        if found:
+            indent = len(lines[first]) - len(lines[first].lstrip())
+            last = next((at for at in range(first + 1, len(lines)) if lines[at] == " " * indent + "}"), None)
+            return (found[1], first, last) if last is not None and number <= last else None
+    return None
+
+
+def changed_functions(edit, name):
+    """The functions that an edit changes: file, name; None where it changes something else too."""
+    found = set()
+    for path, before, after in texts_of(edit, name):
+        old, new = before.split("\n"), after.split("\n")
+        if len(old) != len(new):
+            return None
+        for number, (left, right) in enumerate(zip(old, new)):
+            if left != right:
+                function = function_at(old, number)
+                if function is None or function[1] == number:
+                    return None
+                found.add((path, function[0]))
+    return found or None
+
+
+def batches(found, name):
+    """The edits in parts that change different functions, and those that can be tried only alone."""
+    parts, alone = [], []
+    for edit in found:
+        functions = changed_functions(edit, name)
+        if functions is None:
+            alone.append(edit)
+            continue
+        for part in parts:
+            if len(part) < MOST_AT_ONCE and not any(functions & other for _, other in part):
+                part.append((edit, functions))
+                break
+        else:
+            parts.append([(edit, functions)])
+    return parts, alone
+
+
+def room_for(name, tree, room):
+    """A tree with a crate and those below it."""
+    os.makedirs(f"{room}/crates", exist_ok=True)
+    for one in all_below(name, below()):
+        shutil.copytree(f"{tree}/crates/{one}", f"{room}/crates/{one}", copy_function=os.link)
+    shutil.copytree(f"{tree}/crates/{name}", f"{room}/crates/{name}")
+    write_lines_of(room, [name, *all_below(name, below())])
+
+
+def refused_in(said, folder, functions):
+    """Whether each of these functions has a goal that is not proved, by what a check said."""
+    told = set()
+    for line in said.splitlines():
+        if NAMES.match(line):
+            continue
+        in_proofs, in_source = IN_PROOFS.match(line), IN_SOURCE.match(line)
+        if in_proofs:
+            words = in_proofs[1].split("/")
+            told.add((f"src/{words[0]}.rt", words[-1]))
+        elif in_source:
+            with open(f"{folder}/{in_source[1]}", encoding="utf-8") as lines:
+                function = function_at(lines.read().split("\n"), int(in_source[2]) - 1)
+            if function:
+                told.add((in_source[1], function[0]))
+    return functions <= told
+
+
+def try_batch(job):
+    """Tries edits of different functions at once; answers those that were refused, and what it cost."""
+    name, part, tree = job
+    began = time.monotonic()
+    with tempfile.TemporaryDirectory(prefix="wrong-") as room:
+        room_for(name, tree, room)
+        folder = f"{room}/crates/{name}"
+        for edit, _ in part:
+            for path, _, after in texts_of(edit, name, folder):
+                with open(f"{folder}/{path}", "w", encoding="utf-8") as out:
+                    out.write(after)
+        status, said, used = run(["rt", "check", "--jobs", "1"], folder)
+        good = [edit for edit, functions in part if status and refused_in(said, folder, functions)]
+    with SAYING:
+        for edit in good:
+            print(f"{name}/{os.path.basename(edit)}: refused at its function", flush=True)
+    return good, time.monotonic() - began, used
+
+
+def try_crate(name, found, tree, pool, alone):
+    """Tries a crate's edits; answers how many were refused, the others' names, seconds and processor seconds."""
+    left, seconds, used = list(found), 0.0, 0.0
+    for _ in range(0 if alone else ROUNDS):
+        parts, _ = batches(left, name)
+        if all(len(part) < 2 for part in parts):
+            break
+        for good, spent, taken in pool.map(try_batch, [(name, part, tree) for part in parts]):
+            left = [edit for edit in left if edit not in good]
+            seconds, used = seconds + spent, used + taken
+    failed = []
+    for _, _, bad, spent, taken in pool.map(try_edits, [(name, part, tree) for part in split(left, pool._max_workers) if part]):
+        failed += bad
+        seconds, used = seconds + spent, used + taken
+    return len(found) - len(failed), failed, seconds, used
 
 
 def try_edits(job):
@@ -137,6 +261,7 @@ def main():
     parser.add_argument("crates", nargs="*", metavar="CRATE")
     parser.add_argument("--lanes", type=int, default=lanes_here())
     parser.add_argument("--only", default="")
+    parser.add_argument("--alone", action="store_true")
     asked = parser.parse_args()
     unknown = [name for name in asked.crates if name not in crates()]
     if unknown:
@@ -150,13 +275,11 @@ def main():
     passed, failed, rows = 0, [], {}
     with tempfile.TemporaryDirectory(prefix="wrong-tree-") as tree, ThreadPoolExecutor(asked.lanes) as pool:
         build_libraries(list(tried), tree, asked.lanes)
-        # the highest crates first: their checks are the longest
-        jobs = [(name, part, tree) for name in reversed(crates()) for part in split(tried.get(name, []), asked.lanes)]
-        jobs = [job for job in jobs if job[1]]
-        for name, good, bad, seconds, used in pool.map(try_edits, jobs):
-            row = rows.setdefault(name, [0, 0, 0.0, 0.0])
-            row[0], row[1], row[2], row[3] = row[0] + good, row[1] + len(bad), row[2] + seconds, row[3] + used
-            passed, failed = passed + good, failed + [f"{name}/{one}" for one in bad]
+        for name in crates():
+            if name in tried:
+                good, bad, seconds, used = try_crate(name, tried[name], tree, pool, asked.alone)
+                rows[name] = good, len(bad), seconds, used
+                passed, failed = passed + good, failed + [f"{name}/{one}" for one in bad]
     print(f"{'crate':16} {'refused':>8} {'other':>6} {'minutes':>8} {'processor minutes':>18}")
     for name in crates():
         if name in rows:

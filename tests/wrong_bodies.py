@@ -33,6 +33,25 @@ def edits(folder):
     return [os.path.join(folder, name) for name in names if name.endswith(".edit")]
 
 
+def texts_of(edit, crate, folder=None):
+    """The files that an edit changes, each with its text before and after; of the crate, or of a copy in a folder."""
+    path, old, texts = None, None, {}
+    with open(edit, encoding="utf-8") as lines:
+        for line in lines.read().split("\n"):
+            if line.startswith("file: "):
+                path = line[len("file: "):].strip()
+                if path not in texts:
+                    with open(os.path.join(folder or os.path.join(TOP, "crates", crate), path), encoding="utf-8") as source:
+                        before = source.read()
+                    texts[path] = before, before
+            elif line.startswith("old: "):
+                old = line[len("old: "):]
+            elif line.startswith("new:"):
+                before, after = texts[path]
+                texts[path] = before, after.replace(old, line[len("new:"):].removeprefix(" "))
+    return [(path, before, after) for path, (before, after) in texts.items()]
+
+
 def fault_of(edit, crate):
     """Why an edit does not fit its crate, or None."""
     path, old, pairs, texts = None, None, 0, {}
