@@ -1,9 +1,12 @@
 pub mod AppendLemmas
 pub mod CloseLemmas
 pub mod DiskJournalLemmas
+pub mod FillLemmas
 pub mod KeeperLemmas
 pub mod LayoutLemmas
 pub mod LogLemmas
+pub mod MemCallLemmas
 pub mod MemDiskLemmas
 pub mod Moments
+pub mod PayloadLemmas
 pub mod ReadLemmas

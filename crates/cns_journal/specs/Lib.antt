@@ -5,6 +5,7 @@ pub mod Layout
 pub mod ListKeeper
 pub mod MemCall
 pub mod MemDisk
+pub mod Payloads
 pub mod RecordFile
 pub mod RecordLog
 pub mod Replay

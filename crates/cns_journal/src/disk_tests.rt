@@ -1,3 +1,4 @@
+use crate::tests::{Step, are_records, tell};
 use crate::{DiskJournal, FileDisk, KeepFault, Keeper, MemDisk, NotPlanned};
 use std::alloc::Global;
 use std::fs;
@@ -28,134 +29,229 @@ fn acknowledged(journal: &mut Journal) -> usize {
     PAYLOADS.len()
 }
 
-// Asserts that these are the first records, those acknowledged and at most one more.
-fn assert_first(rt: &impl Abort, records: &[Vec<u8>], acknowledged: usize) {
-    assert!(rt; acknowledged <= records.len());
-    assert!(rt; records.len() - acknowledged <= 1);
-    assert!(rt; records.len() <= PAYLOADS.len());
-    for (record, payload) in records.iter().zip(&PAYLOADS) {
-        assert_eq!(rt; record.as_slice(), *payload);
+// Whether these are the first records, those acknowledged and at most one more.
+fn are_first(records: &[Vec<u8>], acknowledged: usize) -> bool {
+    let count = records.len();
+    acknowledged <= count
+        && count - acknowledged <= 1
+        && count <= PAYLOADS.len()
+        && are_records(records, &PAYLOADS[..count])
+}
+
+// Whether a reopening gives the first records, those acknowledged and at most one more.
+fn gives_first(journal: &mut Journal, acknowledged: usize) -> bool {
+    let Ok(records) = journal.reopen() else {
+        return false;
+    };
+    let first = are_first(records.as_slice(), acknowledged);
+    drop(records);
+    first
+}
+
+// A disk whose file has these bytes.
+fn disk_of(alloc: Global, file: &[u8]) -> Option<MemDisk> {
+    MemDisk::of(alloc, file).ok()
+}
+
+// What a run came to.
+#[derive(Clone, Copy, PartialEq, Eq)]
+enum Outcome {
+    // All was acknowledged.
+    Whole,
+    // A call failed, and the records that were acknowledged stand.
+    Outlived,
+    Lost,
+}
+
+// What a run came to, by how many records were acknowledged, and by whether they stand.
+fn come_to(acknowledged: usize, stand: bool) -> Outcome {
+    match stand {
+        false => Outcome::Lost,
+        true if acknowledged == PAYLOADS.len() => Outcome::Whole,
+        true => Outcome::Outlived,
     }
 }
 
-// A run whose n-th device call fails, and then a reopening: whether all was acknowledged.
-fn outlives_a_failure(rt: &impl Abort, alloc: Global, call: u64) -> Result<bool, Fail> {
-    let mut disk = MemDisk::of(alloc, &[])?;
+// A run whose n-th device call fails, and then, where one has failed, a reopening.
+fn run_failing(alloc: Global, call: u64) -> Outcome {
+    let Some(mut disk) = disk_of(alloc, &[]) else {
+        return Outcome::Lost;
+    };
     disk.fail_at(call);
     let mut journal = Journal::new(alloc, disk);
     let count = acknowledged(&mut journal);
-    if count == PAYLOADS.len() {
-        return Ok(true);
-    }
-    let records = journal.reopen()?;
-    assert_first(rt, records.as_slice(), count);
-    Ok(false)
+    let stand = count == PAYLOADS.len() || gives_first(&mut journal, count);
+    drop(journal);
+    come_to(count, stand)
 }
 
-// A run whose disk stops at the n-th call, and then a reopening after the power is back.
-fn outlives_a_stop(
-    rt: &impl Abort,
-    alloc: Global,
-    call: u64,
-    fill: Option<u8>,
-) -> Result<bool, Fail> {
-    let mut disk = MemDisk::of(alloc, &[])?;
+// The disk after a run that stops at the n-th call, and how many records were acknowledged.
+fn run_stopping(alloc: Global, mut disk: MemDisk, call: u64) -> (MemDisk, usize) {
     disk.stop_at(call);
     let mut journal = Journal::new(alloc, disk);
     let count = acknowledged(&mut journal);
-    let mut disk = journal.into_disk();
-    disk.power(fill)?;
+    (journal.into_disk(), count)
+}
+
+// Whether a journal on this disk gives the first records.
+fn stand_on(alloc: Global, disk: MemDisk, acknowledged: usize) -> bool {
     let mut journal = Journal::new(alloc, disk);
-    let records = journal.reopen()?;
-    assert_first(rt, records.as_slice(), count);
-    Ok(count == PAYLOADS.len())
+    let stand = gives_first(&mut journal, acknowledged);
+    drop(journal);
+    stand
+}
+
+// A run whose disk stops at the n-th call, and then a reopening after the power is back.
+fn run_crashing(alloc: Global, call: u64, fill: Option<u8>) -> Outcome {
+    let Some(disk) = disk_of(alloc, &[]) else {
+        return Outcome::Lost;
+    };
+    let (mut disk, count) = run_stopping(alloc, disk, call);
+    let is_back = disk.power(fill).is_ok();
+    let stand = stand_on(alloc, disk, count);
+    come_to(count, is_back && stand)
 }
 
 // How many calls a run makes where none fails: 4 for the reopening of an empty file, and 4 for each commit.
 const CALLS: u64 = 16;
 
-#[test]
-fn a_failed_call_leaves_what_was_acknowledged(rt: HostRuntime) -> Result<(), Fail> {
-    for call in 1..20 {
-        let whole = outlives_a_failure(&rt, rt.alloc(), call)?;
-        assert_eq!(rt; whole, call > CALLS);
+// What a run comes to whose n-th call fails.
+fn wanted(call: u64) -> Outcome {
+    if call > CALLS {
+        Outcome::Whole
+    } else {
+        Outcome::Outlived
     }
-    Ok(())
 }
 
 #[test]
-fn a_crash_leaves_what_was_acknowledged(rt: HostRuntime) -> Result<(), Fail> {
+fn a_failed_call_leaves_what_was_acknowledged(rt: HostRuntime) {
+    for call in 1..20 {
+        assert!(rt;
+            run_failing(rt.alloc(), call) == wanted(call),
+            "call {call}"
+        );
+    }
+}
+
+#[test]
+fn a_crash_leaves_what_was_acknowledged(rt: HostRuntime) {
     for fill in [None, Some(0), Some(0xa5)] {
         for call in 1..20 {
-            let whole = outlives_a_stop(&rt, rt.alloc(), call, fill)?;
-            assert_eq!(rt; whole, call > CALLS);
+            assert!(rt;
+                run_crashing(rt.alloc(), call, fill) == wanted(call),
+                "call {call}"
+            );
         }
     }
-    Ok(())
 }
 
-// What a journal gives over a file with these bytes, and what the file is then.
-fn assert_read(
-    rt: &impl Abort,
-    alloc: Global,
-    file: &[u8],
-    wanted: usize,
-    closed: &[u8],
-) -> Result<(), Fail> {
-    let mut journal = Journal::new(alloc, MemDisk::of(alloc, file)?);
-    assert_eq!(rt; journal.reopen()?.len(), wanted);
-    assert_eq!(rt; journal.count(), wanted as u64);
-    assert_eq!(rt; journal.into_disk().file(), closed);
-    Ok(())
+// Whether a journal's file has these bytes.
+fn has_file(journal: Journal, file: &[u8]) -> bool {
+    let disk = journal.into_disk();
+    let same = disk.file() == file;
+    drop(disk);
+    same
+}
+
+// Whether a reopening gives so many records.
+fn gives<K: Keeper>(keeper: &mut K, wanted: usize) -> bool {
+    let Ok(records) = keeper.reopen() else {
+        return false;
+    };
+    let count = records.len();
+    drop(records);
+    count == wanted && keeper.count() == wanted as u64
+}
+
+// A file, how many records a journal over it gives, and the file then.
+type Read = (&'static [u8], usize, &'static [u8]);
+
+static READS: [Read; 8] = [
+    (&[], 0, &[0]),
+    (&[0], 0, &[0]),
+    (&[0, 7], 0, &[0, 7]),
+    (&[0xa5], 0, &[0]),
+    (&[7, 0xa5], 0, &[0]),
+    (&[0xa5, 0xff, 0xff, 0xff, 0xff, 1, 2], 0, &[0]),
+    (&[0xa5, 0, 0, 0, 0], 0, &[0]),
+    (TWO, 2, TWO),
+];
+
+// Whether a journal over a file gives what it should.
+fn is_read(alloc: Global, read: &Read) -> bool {
+    let (file, wanted, closed) = *read;
+    let Some(disk) = disk_of(alloc, file) else {
+        return false;
+    };
+    let mut journal = Journal::new(alloc, disk);
+    let given = gives(&mut journal, wanted);
+    has_file(journal, closed) && given
 }
 
 #[test]
-fn any_bytes_are_a_journal(rt: HostRuntime) -> Result<(), Fail> {
-    let cases: [(&[u8], usize, &[u8]); 8] = [
-        (&[], 0, &[0]),
-        (&[0], 0, &[0]),
-        (&[0, 7], 0, &[0, 7]),
-        (&[0xa5], 0, &[0]),
-        (&[7, 0xa5], 0, &[0]),
-        (&[0xa5, 0xff, 0xff, 0xff, 0xff, 1, 2], 0, &[0]),
-        (&[0xa5, 0, 0, 0, 0], 0, &[0]),
-        (TWO, 2, TWO),
-    ];
-    for (file, wanted, closed) in cases {
-        assert_read(&rt, rt.alloc(), file, wanted, closed)?;
+fn any_bytes_are_a_journal(rt: HostRuntime) {
+    for read in &READS {
+        assert!(rt; is_read(rt.alloc(), read));
     }
-    Ok(())
 }
+
+static COMMITS: [Step; 7] = [
+    Step::Down(true),
+    Step::Commit(b"early", Err(KeepFault::Down)),
+    Step::Reopen(&[]),
+    Step::Commit(b"first", Ok(())),
+    Step::Commit(b"", Ok(())),
+    Step::Plan(true, Err(NotPlanned)),
+    Step::Count(2),
+];
 
 #[test]
 fn commits_stand_in_the_file(rt: HostRuntime) -> Result<(), Fail> {
-    let mut journal = Journal::new(rt.alloc(), MemDisk::of(rt.alloc(), &[])?);
-    assert!(rt; journal.is_down());
-    assert_eq!(rt; journal.commit(b"early"), Err(KeepFault::Down));
-    assert_eq!(rt; journal.reopen()?.len(), 0);
-    journal.commit(b"first")?;
-    journal.commit(b"")?;
-    assert_eq!(rt; journal.plan(true), Err(NotPlanned));
-    assert_eq!(rt; journal.count(), 2);
-    assert_eq!(rt; journal.into_disk().file(), TWO);
+    let disk = MemDisk::of(rt.alloc(), &[])?;
+    let mut journal = Journal::new(rt.alloc(), disk);
+    tell(&rt, &mut journal, &COMMITS);
+    assert!(rt; has_file(journal, TWO));
     Ok(())
 }
 
 // Where the test of a file has its journal.
 const PATH: &str = "cns_journal_test.journal";
 
+// The file, made where there is none.
+fn opened(rt: &HostRuntime) -> Result<File, Fail> {
+    let mut options = File::options();
+    options.read(true).write(true).create(true);
+    Ok(options.open(rt, PATH)?)
+}
+
+static BEGINS: [Step; 2] = [Step::Reopen(&[]), Step::Commit(b"first", Ok(()))];
+
+static GOES_ON: [Step; 2] = [Step::Reopen(&[b"first"]), Step::Commit(b"", Ok(()))];
+
+// A journal in the file, which answers these steps as they say.
+fn tell_file(rt: &impl Abort, alloc: Global, file: File, steps: &[Step]) {
+    let mut journal = DiskJournal::new(alloc, FileDisk::new(file));
+    tell(rt, &mut journal, steps);
+    drop(journal);
+}
+
+// Whether the file has these bytes.
+fn reads_as(rt: &HostRuntime, wanted: &[u8]) -> bool {
+    let Ok(bytes) = fs::read(rt, PATH) else {
+        return false;
+    };
+    let same = bytes.as_slice() == wanted;
+    drop(bytes);
+    same
+}
+
 #[test]
 fn a_file_is_read_again(rt: HostRuntime) -> Result<(), Fail> {
     let _ = fs::remove_file(&rt, PATH);
-    for (given, payload) in [(0, b"first".as_slice()), (1, b"".as_slice())] {
-        let mut options = File::options();
-        options.read(true).write(true).create(true);
-        let file = options.open(&rt, PATH)?;
-        let mut journal = DiskJournal::new(rt.alloc(), FileDisk::new(file));
-        assert_eq!(rt; journal.reopen()?.len(), given);
-        journal.commit(payload)?;
-    }
-    assert_eq!(rt; fs::read(&rt, PATH)?.as_slice(), TWO);
+    tell_file(&rt, rt.alloc(), opened(&rt)?, &BEGINS);
+    tell_file(&rt, rt.alloc(), opened(&rt)?, &GOES_ON);
+    assert!(rt; reads_as(&rt, TWO));
     fs::remove_file(&rt, PATH)?;
     Ok(())
 }

@@ -7,6 +7,7 @@ mod file_disk;
 mod keeper;
 mod list_keeper;
 mod mem_disk;
+mod payloads;
 mod record_file;
 mod record_log;
 

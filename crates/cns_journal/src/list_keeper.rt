@@ -5,7 +5,8 @@ ghost use Rattle.cns_journal.specs.Keeper.{CommitLeaves, CommitKeeps, ReopenLeav
 ghost use Rattle.cns_journal.specs.ListKeeper.{running_of, journal_of, foresight_of, ListCommit, ListReopen};
 
 use crate::keeper::{KeepFault, Keeper, MAX_PAYLOAD, NotPlanned};
-use std::alloc::{AllocError, Global};
+use crate::payloads::Payloads;
+use std::alloc::Global;
 use std::marker::Model;
 
 // A record whose commit failed, and whether it stands at the reopening.
@@ -16,12 +17,15 @@ struct FailedRecord {
 }
 
 impl Model for FailedRecord {
-    ghost use Rattle.std.specs.Prelude.{vec_items};
+    ghost use Rattle.std.specs.Prelude.{◌≤◌, length, vec_items};
+    ghost use Rattle.cns_journal.specs.declared.keeper.TheConstants.{MAX_PAYLOAD};
     ghost use Rattle.cns_journal.specs.ListKeeper.{Failed};
 
     ghost Value = { Failed };
 
     ghost view = { λ f. record { payload = vec_items f.payload; stands = f.stands } };
+
+    ghost invariant = { λ f. length (vec_items f.payload) ≤ MAX_PAYLOAD };
 }
 
 /// A keeper in memory, which fails as planned and otherwise only for want of memory.
@@ -30,7 +34,7 @@ impl Model for FailedRecord {
 /// it is down while a record is undecided. (This project's own rules.)
 #[derive(Drop)]
 pub struct ListKeeper {
-    kept: Vec<Vec<u8>>,
+    kept: Payloads,
     undecided: Option<FailedRecord>,
     plan: Option<bool>,
     failures: u64,
@@ -38,21 +42,20 @@ pub struct ListKeeper {
 }
 
 impl Model for ListKeeper {
-    ghost use Rattle.std.specs.Prelude.{◌≤◌, map, vec_items, vec_len};
+    ghost use Rattle.std.specs.Prelude.{◌≤◌, length};
     ghost use Rattle.cns_journal.specs.declared.keeper.TheConstants.{MAX_RECORDS};
     ghost use Rattle.cns_journal.specs.ListKeeper.{ListState};
 
     ghost Value = { ListState };
 
     ghost view = { λ k. record {
-      kept = map vec_items k.kept.items;
+      kept = k.kept;
       undecided = k.undecided;
       plan = k.plan;
       failures = k.failures;
     } };
 
-    // A `Vec` of more records would not fit in memory.
-    ghost invariant = { λ k. vec_len k.kept ≤ MAX_RECORDS };
+    ghost invariant = { λ k. length k.kept ≤ MAX_RECORDS };
 }
 
 impl ListKeeper {
@@ -61,7 +64,7 @@ impl ListKeeper {
         ensures { result ≡ record { kept = []; undecided = None; plan = None; failures = 0 } }
     {
         ListKeeper {
-            kept: Vec::new(alloc),
+            kept: Payloads::new(alloc),
             undecided: None,
             plan: None,
             failures: 0,
@@ -96,9 +99,10 @@ impl Keeper for ListKeeper {
         if self.undecided.is_some() {
             return Err(KeepFault::Down);
         }
-        let payload = copy_of(self.alloc, payload)?;
-        match self.plan.take() {
+        match self.plan {
             Some(stands) => {
+                let payload = payload.to_vec(self.alloc)?;
+                self.plan = None;
                 self.failures = self.failures.saturating_add(1);
                 self.undecided = Some(FailedRecord { payload, stands });
                 Err(KeepFault::Device)
@@ -116,13 +120,12 @@ impl Keeper for ListKeeper {
         ensures keeps { ReopenKeeps (given_by result) (journal_of self.old) (journal_of self.new) }
         ensures exact { ListReopen (given_by result) self.old self.new }
     {
-        let mut given = copies_of(self.alloc, self.kept.as_slice())?;
+        let mut given = self.kept.to_vecs(self.alloc)?;
         if let Some(failed) = &self.undecided
             && failed.stands
         {
-            given.push(copy_of(self.alloc, failed.payload.as_slice())?)?;
-            let kept = copy_of(self.alloc, failed.payload.as_slice())?;
-            self.kept.push(kept)?;
+            given.push(failed.payload.as_slice().to_vec(self.alloc)?)?;
+            self.kept.push(failed.payload.as_slice())?;
         }
         self.undecided = None;
         Ok(given)
@@ -144,20 +147,4 @@ impl Keeper for ListKeeper {
         self.plan = Some(stands);
         Ok(())
     }
-}
-
-fn copy_of(alloc: Global, payload: &[u8]) -> Result<Vec<u8>, AllocError>
-    ensures { IfOk result (λ copy. copy.items ≡ payload.now) }
-{
-    payload.iter().copied().collect(alloc)
-}
-
-fn copies_of(alloc: Global, payloads: &[Vec<u8>]) -> Result<Vec<Vec<u8>>, AllocError>
-    ensures { IfOk result (λ copies. map vec_items copies.items ≡ map vec_items payloads.now) }
-{
-    let mut copies = Vec::with_capacity(alloc, payloads.len())?;
-    for payload in payloads {
-        copies.push(copy_of(alloc, payload.as_slice())?)?;
-    }
-    Ok(copies)
 }

@@ -5,7 +5,7 @@ use crate::{
     CommitFault, Keeper, Ledger, ListKeeper, Record, RecordFault, RecordLog, ReplayFault, Restarted,
 };
 use std::alloc::{AllocError, Global};
-use std::fmt::{Debug, Display};
+use std::fmt::Display;
 use std::process::Abort;
 use std::test::Fail;
 
@@ -67,27 +67,30 @@ type Log = RecordLog<ListKeeper, Mark>;
 // The most that a number may be.
 const LIMIT: u8 = 9;
 
-fn assert_same<T: PartialEq + Debug>(rt: &impl Abort, got: &T, wanted: &T) {
-    assert!(rt; got == wanted, "{got:?} and not {wanted:?}");
+// Whether a keeper adds each of these payloads.
+fn adds_all(keeper: &mut ListKeeper, payloads: &[&[u8]]) -> bool {
+    for payload in payloads {
+        if payload.len() > 9 || keeper.commit(payload).is_err() {
+            return false;
+        }
+    }
+    true
 }
 
 // A keeper that has these payloads.
-fn keeper_of(alloc: Global, payloads: &[&[u8]]) -> Result<ListKeeper, Fail> {
+fn keeper_of(alloc: Global, payloads: &[&[u8]]) -> Option<ListKeeper> {
     let mut keeper = ListKeeper::new(alloc);
-    for payload in payloads {
-        if payload.len() > 9 {
-            return Err(Fail::from("a long payload"));
-        }
-        keeper.commit(payload)?;
+    if adds_all(&mut keeper, payloads) {
+        return Some(keeper);
     }
-    Ok(keeper)
+    drop(keeper);
+    None
 }
 
-// The answer of an opening over a keeper with these payloads: how many records there are.
-fn opened(alloc: Global, payloads: &[&[u8]]) -> Result<Result<usize, ReplayFault>, Fail> {
-    let keeper = keeper_of(alloc, payloads)?;
+// The answer of an opening over this keeper: how many records there are.
+fn opened(alloc: Global, keeper: ListKeeper) -> Result<usize, ReplayFault> {
     let mut count = Count { marks: 0 };
-    Ok(match Log::open(alloc, keeper, &LIMIT, &mut count) {
+    match Log::open(alloc, keeper, &LIMIT, &mut count) {
         Ok(log) => {
             let records = log.records().len();
             drop(log);
@@ -98,75 +101,131 @@ fn opened(alloc: Global, payloads: &[&[u8]]) -> Result<Result<usize, ReplayFault
             drop(refused);
             Err(fault)
         }
-    })
+    }
+}
+
+// The payloads of a journal, and the answer of an opening over it.
+type Opening = (&'static [&'static [u8]], Result<usize, ReplayFault>);
+
+static OPENINGS: [Opening; 5] = [
+    (&[], Ok(0)),
+    (&[&[3], &[9]], Ok(2)),
+    (
+        &[&[3], &[10], &[]],
+        Err(ReplayFault::BadJournal { place: 2 }),
+    ),
+    (&[&[]], Err(ReplayFault::BadJournal { place: 1 })),
+    (
+        &[&[1], &[2], &[3, 4]],
+        Err(ReplayFault::BadJournal { place: 3 }),
+    ),
+];
+
+fn opens(alloc: Global, opening: &Opening) -> bool {
+    let (payloads, wanted) = *opening;
+    let Some(keeper) = keeper_of(alloc, payloads) else {
+        return false;
+    };
+    opened(alloc, keeper) == wanted
 }
 
 #[test]
-fn an_opening_gives_what_its_keeper_has(rt: HostRuntime) -> Result<(), Fail> {
-    let bad = |place| Err(ReplayFault::BadJournal { place });
-    let cases: [(&[&[u8]], Result<usize, ReplayFault>); 5] = [
-        (&[], Ok(0)),
-        (&[&[3], &[9]], Ok(2)),
-        (&[&[3], &[10], &[]], bad(2)),
-        (&[&[]], bad(1)),
-        (&[&[1], &[2], &[3, 4]], bad(3)),
-    ];
-    for (payloads, wanted) in cases {
-        assert_same(&rt, &opened(rt.alloc(), payloads)?, &wanted);
+fn an_opening_gives_what_its_keeper_has(rt: HostRuntime) {
+    for opening in &OPENINGS {
+        assert!(rt; opens(rt.alloc(), opening));
     }
-    Ok(())
 }
 
 // A failed commit of a log with one record, and the restart after it.
-fn restarted(log: &mut Log, stands: bool) -> Result<Restarted, Fail>
+fn restarted(log: &mut Log, stands: bool) -> Option<Restarted>
     requires up { log.old.down ≡ false }
     requires lawful { IsLawfulLog (λ _ m. m.number ≤ LIMIT) log.old }
 {
-    log.plan(stands)?;
+    if log.plan(stands).is_err() {
+        return None;
+    }
     let Err(CommitFault::Device) = log.commit(Mark { number: 7 }) else {
-        return Err(Fail::from("a planned failure did not come"));
+        return None;
     };
     let mut count = Count { marks: 0 };
-    Ok(log.restart(&LIMIT, &mut count)?)
+    log.restart(&LIMIT, &mut count).ok()
+}
+
+// Whether the failed record stands, and what the restart answers then, with the latest record.
+type Restart = (bool, Restarted, u8);
+
+static RESTARTS: [Restart; 2] = [
+    (
+        true,
+        Restarted {
+            records: 2,
+            kept: true,
+        },
+        7,
+    ),
+    (
+        false,
+        Restarted {
+            records: 1,
+            kept: false,
+        },
+        3,
+    ),
+];
+
+// Whether a failed commit and a restart come to what they should.
+fn restarts(log: &mut Log, restart: &Restart) -> bool
+    requires up { log.old.down ≡ false }
+    requires lawful { IsLawfulLog (λ _ m. m.number ≤ LIMIT) log.old }
+{
+    let (stands, wanted, number) = *restart;
+    let Some(answer) = restarted(log, stands) else {
+        return false;
+    };
+    answer == wanted && !log.is_down() && log.latest().copied() == Some(Mark { number })
+}
+
+// Whether a keeper counts so many records.
+fn counts(keeper: ListKeeper, records: u64) -> bool {
+    let count = keeper.count();
+    drop(keeper);
+    count == records
+}
+
+// Whether a log over this keeper comes back from a failed commit as it should.
+fn comes_back(alloc: Global, keeper: ListKeeper, restart: &Restart) -> bool {
+    let mut count = Count { marks: 0 };
+    let Ok(mut log) = Log::open(alloc, keeper, &LIMIT, &mut count) else {
+        return false;
+    };
+    let so = restarts(&mut log, restart);
+    counts(log.into_keeper(), restart.1.records) && so
 }
 
 #[test]
 fn a_restart_gives_what_was_acknowledged(rt: HostRuntime) -> Result<(), Fail> {
-    for stands in [true, false] {
-        let keeper = keeper_of(rt.alloc(), &[&[3]])?;
-        let mut count = Count { marks: 0 };
-        let Ok(mut log) = Log::open(rt.alloc(), keeper, &LIMIT, &mut count) else {
-            return Err(Fail::from("an opening"));
-        };
-        let (records, number) = if stands { (2, 7) } else { (1, 3) };
-        let answer = restarted(&mut log, stands);
-        let is_down = log.is_down();
-        let latest = log.latest().copied();
-        let kept = log.into_keeper().count();
-        assert_same(
-            &rt,
-            &answer?,
-            &Restarted {
-                records,
-                kept: stands,
-            },
-        );
-        assert_same(&rt, &(is_down, kept), &(false, records));
-        assert_same(&rt, &latest, &Some(Mark { number }));
+    for restart in &RESTARTS {
+        let keeper = keeper_of(rt.alloc(), &[&[3]]).ok_or("a keeper")?;
+        assert!(rt; comes_back(rt.alloc(), keeper, restart));
     }
     Ok(())
 }
 
+// Whether a fault has this text.
+fn prints<T: Display>(alloc: Global, fault: &T, words: &str) -> bool {
+    let Ok(text) = fault.to_string(alloc) else {
+        return false;
+    };
+    let same = text.as_str() == words;
+    drop(text);
+    same
+}
+
 // Faults, each with its text.
-fn assert_texts<T: Display>(
-    rt: &impl Abort,
-    alloc: Global,
-    cases: &[(T, &str)],
-) -> Result<(), Fail> {
+pub(crate) fn assert_texts<T: Display>(rt: &impl Abort, alloc: Global, cases: &[(T, &str)]) {
     for (fault, words) in cases {
-        assert_same(rt, &fault.to_string(alloc)?.as_str(), words);
+        assert!(rt; prints(alloc, fault, words), "{words}");
     }
-    Ok(())
 }
 
 const MEMORY: &str = "out of memory";
@@ -193,8 +252,8 @@ static COMMITS: [(CommitFault, &str); 2] = [
 ];
 
 #[test]
-fn faults_of_a_log_print(rt: HostRuntime) -> Result<(), Fail> {
-    assert_texts(&rt, rt.alloc(), &REPLAYS)?;
-    assert_texts(&rt, rt.alloc(), &RECORDS)?;
-    assert_texts(&rt, rt.alloc(), &COMMITS)
+fn faults_of_a_log_print(rt: HostRuntime) {
+    assert_texts(&rt, rt.alloc(), &REPLAYS);
+    assert_texts(&rt, rt.alloc(), &RECORDS);
+    assert_texts(&rt, rt.alloc(), &COMMITS);
 }

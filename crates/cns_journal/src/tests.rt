@@ -1,132 +1,185 @@
-use crate::{KeepFault, Keeper, ListKeeper, NotPlanned};
+use crate::log_tests::assert_texts;
+use crate::{KeepFault, Keeper, ListKeeper, MAX_PAYLOAD, NotPlanned};
 use std::process::Abort;
 use std::test::Fail;
 
-// Asserts that these are the payloads of a keeper's records, in their order.
-fn assert_records(rt: &impl Abort, records: &[Vec<u8>], wanted: &[&[u8]]) {
-    assert_eq!(rt; records.len(), wanted.len());
+// A call of a keeper, and its answer.
+#[derive(Clone, Copy)]
+pub(crate) enum Step {
+    Commit(&'static [u8], Result<(), KeepFault>),
+    Plan(bool, Result<(), NotPlanned>),
+    // The payloads of the records that it gives.
+    Reopen(&'static [&'static [u8]]),
+    Down(bool),
+    Count(u64),
+}
+
+// Whether these are the payloads of a keeper's records, in their order.
+pub(crate) fn are_records(records: &[Vec<u8>], wanted: &[&[u8]]) -> bool {
+    if records.len() != wanted.len() {
+        return false;
+    }
     for (record, payload) in records.iter().zip(wanted) {
-        assert_eq!(rt; record.as_slice(), *payload);
-    }
-}
-
-#[test]
-fn a_reopening_gives_what_was_acknowledged(rt: HostRuntime) -> Result<(), Fail> {
-    let mut keeper = ListKeeper::new(rt.alloc());
-    assert_eq!(rt; keeper.count(), 0);
-    assert_records(&rt, keeper.reopen()?.as_slice(), &[]);
-    keeper.commit(b"trade")?;
-    keeper.commit(b"")?;
-    keeper.commit(b"order")?;
-    assert_eq!(rt; keeper.count(), 3);
-    assert!(rt; !keeper.is_down());
-    let records = keeper.reopen()?;
-    assert_records(&rt, records.as_slice(), &[b"trade", b"", b"order"]);
-    assert_eq!(rt; keeper.count(), 3);
-    assert_eq!(rt; keeper.failures(), 0);
-    Ok(())
-}
-
-// A failed commit between two that are acknowledged.
-fn assert_failure(rt: &impl Abort, keeper: &mut ListKeeper, wanted: &[&[u8]]) -> Result<(), Fail> {
-    assert_eq!(rt; keeper.commit(b"second"), Err(KeepFault::Device));
-    assert!(rt; keeper.is_down());
-    assert_eq!(rt; keeper.count(), 1);
-    assert_eq!(rt; keeper.commit(b"refused"), Err(KeepFault::Down));
-    let records = keeper.reopen()?;
-    assert_records(rt, records.as_slice(), wanted);
-    assert!(rt; !keeper.is_down());
-    assert_eq!(rt; keeper.count(), wanted.len() as u64);
-    keeper.commit(b"third")?;
-    assert_eq!(rt; keeper.count(), wanted.len() as u64 + 1);
-    Ok(())
-}
-
-#[test]
-fn a_failed_record_stands_as_the_last_plan_says(rt: HostRuntime) -> Result<(), Fail> {
-    let kept: &[&[u8]] = &[b"first"];
-    let with_failed: &[&[u8]] = &[b"first", b"second"];
-    let cases: [(&[bool], &[&[u8]]); 4] = [
-        (&[true], with_failed),
-        (&[false], kept),
-        (&[true, false], kept),
-        (&[false, true], with_failed),
-    ];
-    for (plans, wanted) in cases {
-        let mut keeper = ListKeeper::new(rt.alloc());
-        keeper.commit(b"first")?;
-        for stands in plans {
-            keeper.plan(*stands)?;
+        if record.as_slice() != *payload {
+            return false;
         }
-        assert_failure(&rt, &mut keeper, wanted)?;
-        assert_eq!(rt; keeper.failures(), 1);
     }
-    Ok(())
+    true
 }
 
-#[test]
-fn a_plan_waits_for_the_next_commit(rt: HostRuntime) -> Result<(), Fail> {
-    let mut keeper = ListKeeper::new(rt.alloc());
-    keeper.plan(true)?;
-    assert_records(&rt, keeper.reopen()?.as_slice(), &[]);
-    assert_eq!(rt; keeper.commit(b"first"), Err(KeepFault::Device));
-    // This plan is for the next commit: the first record stands by its own.
-    keeper.plan(false)?;
-    assert_eq!(rt; keeper.commit(b"refused"), Err(KeepFault::Down));
-    assert_records(&rt, keeper.reopen()?.as_slice(), &[b"first"]);
-    assert_eq!(rt; keeper.commit(b"second"), Err(KeepFault::Device));
-    assert_records(&rt, keeper.reopen()?.as_slice(), &[b"first"]);
-    keeper.commit(b"third")?;
-    assert_records(&rt, keeper.reopen()?.as_slice(), &[b"first", b"third"]);
-    assert_eq!(rt; keeper.failures(), 2);
-    Ok(())
+fn commits<K: Keeper>(keeper: &mut K, payload: &[u8], wanted: Result<(), KeepFault>) -> bool {
+    payload.len() <= MAX_PAYLOAD && keeper.commit(payload) == wanted
 }
 
-// What a keeper gives back, of any kind, after a failure that leaves its record standing.
-fn given_after_a_failure<K: Keeper>(keeper: &mut K) -> Result<Vec<Vec<u8>>, Fail> {
-    keeper.commit(b"first")?;
-    keeper.plan(true)?;
-    let Err(KeepFault::Device) = keeper.commit(b"second") else {
-        return Err(Fail::from("a planned failure did not come"));
+fn reopens<K: Keeper>(keeper: &mut K, wanted: &[&[u8]]) -> bool {
+    let Ok(records) = keeper.reopen() else {
+        return false;
     };
-    Ok(keeper.reopen()?)
+    let same = are_records(records.as_slice(), wanted);
+    drop(records);
+    same
 }
 
-#[test]
-fn any_keeper_gives_back_its_records(rt: HostRuntime) -> Result<(), Fail> {
-    let mut keeper = ListKeeper::new(rt.alloc());
-    let records = given_after_a_failure(&mut keeper)?;
-    assert_records(&rt, records.as_slice(), &[b"first", b"second"]);
-    Ok(())
+// Whether a keeper, of any kind, answers a step as it says.
+fn answers<K: Keeper>(keeper: &mut K, step: &Step) -> bool {
+    match *step {
+        Step::Commit(payload, wanted) => commits(keeper, payload, wanted),
+        Step::Plan(stands, wanted) => keeper.plan(stands) == wanted,
+        Step::Reopen(wanted) => reopens(keeper, wanted),
+        Step::Down(wanted) => keeper.is_down() == wanted,
+        Step::Count(wanted) => keeper.count() == wanted,
+    }
 }
 
+// Asserts that a keeper answers each step as it says.
+pub(crate) fn tell<K: Keeper>(rt: &impl Abort, keeper: &mut K, steps: &[Step]) {
+    for (place, step) in steps.iter().enumerate() {
+        assert!(rt; answers(keeper, step), "step {place}");
+    }
+}
+
+// Asserts that a keeper with no records answers these steps as they say, and how many commits have
+// failed then.
+fn tell_new(rt: &impl Abort, mut keeper: ListKeeper, parts: &[&[Step]], failures: u64) {
+    for steps in parts {
+        tell(rt, &mut keeper, steps);
+    }
+    assert!(rt; keeper.failures() == failures);
+}
+
+static ACKNOWLEDGED: [Step; 9] = [
+    Step::Count(0),
+    Step::Reopen(&[]),
+    Step::Commit(b"trade", Ok(())),
+    Step::Commit(b"", Ok(())),
+    Step::Commit(b"order", Ok(())),
+    Step::Count(3),
+    Step::Down(false),
+    Step::Reopen(&[b"trade", b"", b"order"]),
+    Step::Count(3),
+];
+
 #[test]
-fn faults_print(rt: HostRuntime) -> Result<(), Fail> {
-    let alloc = rt.alloc();
-    assert_eq!(rt;
-        KeepFault::Memory.to_string(alloc)?.as_str(),
-        "out of memory"
-    );
-    assert_eq!(rt;
-        KeepFault::Down.to_string(alloc)?.as_str(),
-        "the journal is down"
-    );
-    assert_eq!(rt;
-        KeepFault::Device.to_string(alloc)?.as_str(),
-        "the journal's device failed"
-    );
-    assert_eq!(rt;
-        NotPlanned.to_string(alloc)?.as_str(),
-        "this journal plans no failures"
-    );
-    Ok(())
+fn a_reopening_gives_what_was_acknowledged(rt: HostRuntime) {
+    tell_new(&rt, ListKeeper::new(rt.alloc()), &[&ACKNOWLEDGED], 0);
+}
+
+const FIRST: &[Step] = &[Step::Commit(b"first", Ok(()))];
+
+const STANDS: Step = Step::Plan(true, Ok(()));
+
+const IS_LOST: Step = Step::Plan(false, Ok(()));
+
+const SECOND_FAILS: Step = Step::Commit(b"second", Err(KeepFault::Device));
+
+const IS_REFUSED: Step = Step::Commit(b"refused", Err(KeepFault::Down));
+
+const THIRD: Step = Step::Commit(b"third", Ok(()));
+
+// A failed commit between two that are acknowledged, whose record stands.
+const WITH_FAILED: &[Step] = &[
+    SECOND_FAILS,
+    Step::Down(true),
+    Step::Count(1),
+    IS_REFUSED,
+    Step::Reopen(&[b"first", b"second"]),
+    Step::Down(false),
+    Step::Count(2),
+    THIRD,
+    Step::Count(3),
+];
+
+// The same, where it does not stand.
+const WITHOUT_FAILED: &[Step] = &[
+    SECOND_FAILS,
+    Step::Down(true),
+    Step::Count(1),
+    IS_REFUSED,
+    Step::Reopen(&[b"first"]),
+    Step::Down(false),
+    Step::Count(1),
+    THIRD,
+    Step::Count(2),
+];
+
+static PLANS: [(&[Step], &[Step]); 4] = [
+    (&[STANDS], WITH_FAILED),
+    (&[IS_LOST], WITHOUT_FAILED),
+    (&[STANDS, IS_LOST], WITHOUT_FAILED),
+    (&[IS_LOST, STANDS], WITH_FAILED),
+];
+
+#[test]
+fn a_failed_record_stands_as_the_last_plan_says(rt: HostRuntime) {
+    for (plans, then) in &PLANS {
+        tell_new(&rt, ListKeeper::new(rt.alloc()), &[FIRST, plans, then], 1);
+    }
+}
+
+// The second plan is for the commit after the failed one, whose record stands by its own.
+static PLANS_WAIT: [Step; 12] = [
+    STANDS,
+    Step::Reopen(&[]),
+    Step::Commit(b"first", Err(KeepFault::Device)),
+    IS_LOST,
+    IS_REFUSED,
+    Step::Reopen(&[b"first"]),
+    SECOND_FAILS,
+    Step::Reopen(&[b"first"]),
+    THIRD,
+    Step::Reopen(&[b"first", b"third"]),
+    Step::Count(2),
+    Step::Down(false),
+];
+
+#[test]
+fn a_plan_waits_for_the_next_commit(rt: HostRuntime) {
+    tell_new(&rt, ListKeeper::new(rt.alloc()), &[&PLANS_WAIT], 2);
+}
+
+static KEEP_FAULTS: [(KeepFault, &str); 3] = [
+    (KeepFault::Memory, "out of memory"),
+    (KeepFault::Down, "the journal is down"),
+    (KeepFault::Device, "the journal's device failed"),
+];
+
+static NOT_PLANNED: [(NotPlanned, &str); 1] = [(NotPlanned, "this journal plans no failures")];
+
+#[test]
+fn faults_print(rt: HostRuntime) {
+    assert_texts(&rt, rt.alloc(), &KEEP_FAULTS);
+    assert_texts(&rt, rt.alloc(), &NOT_PLANNED);
+}
+
+// Whether a keeper gives a payload back.
+fn keeps(keeper: &mut ListKeeper, payload: &[u8]) -> bool {
+    commits(keeper, payload, Ok(())) && reopens(keeper, &[payload])
 }
 
 #[test]
 fn the_longest_payload_is_kept(rt: HostRuntime) -> Result<(), Fail> {
-    let payload = Vec::from_elem(rt.alloc(), 0xa5_u8, 1_048_576)?;
+    let payload = Vec::from_elem(rt.alloc(), 0xa5_u8, MAX_PAYLOAD)?;
     let mut keeper = ListKeeper::new(rt.alloc());
-    keeper.commit(payload.as_slice())?;
-    assert_records(&rt, keeper.reopen()?.as_slice(), &[payload.as_slice()]);
+    assert!(rt; keeps(&mut keeper, payload.as_slice()));
     Ok(())
 }

@@ -1,8 +1,9 @@
-use Rattle.cns_journal.proofs.MemDiskLemmas.{fewer_idle, fewer_noted}
+use Rattle.std.proofs.Common.{rules}
+use Rattle.cns_journal.proofs.MemDiskLemmas.{fewer_idle}
 use Rattle.cns_journal.proofs.mem_disk.MemDiskDisk.len.Goals as goal
 
-pub returns-in_err-note-clause-crash : goal.returns-in_err-note-clause-crash
-returns-in_err-note-clause-crash c honest = fewer_idle _ _ c.in_err-note.ensures.err
+pub returns-in-Runs-clause-crash : goal.returns-in-Runs-clause-crash
+returns-in-Runs-clause-crash c = fewer_idle c.args.self.now.steps c.note_idle.new.self.steps (search rules)
 
-pub returns-clause-crash : goal.returns-clause-crash
-returns-clause-crash c honest = fewer_noted _ _ c.in_ok-note.ensures.ok
+pub returns-in_default-clause-crash : goal.returns-in_default-clause-crash
+returns-in_default-clause-crash c = fewer_idle c.args.self.now.steps c.refuse.new.self.steps (search rules)

@@ -1,5 +1,22 @@
-use Rattle.cns_journal.proofs.MemDiskLemmas.{either_way, fewer_after_sync, fewer_idle}
+use Rattle.std.proofs.Common.{rules, ◌≡◌, ◌++◌, ◌∷◌, [], ◌∙◌, sym, ap, subst}
+use Rattle.cns_journal.specs.MemDisk.{MemState, Syncs, content_of, images_of}
+use Rattle.cns_journal.proofs.MemCallLemmas.{did_noted}
+use Rattle.cns_journal.proofs.MemDiskLemmas.{fewer_idle, fewer_synced}
 use Rattle.cns_journal.proofs.mem_disk.MemDiskDisk.sync.Goals as goal
 
+pub invariant_of-self-2 : goal.invariant_of-self-2
+invariant_of-self-2 c =
+    let items : c.push_reserved.new.self.items ≡ c.self.inside.calls.items ++ record { step = Syncs; idle = c.self.inside.idle } ∷ [] = search rules in
+    c.self.invariant ∙ ap content_of (sym (did_noted _ _ _ items))
+
+pub returns-in_default-clause-crash : goal.returns-in_default-clause-crash
+returns-in_default-clause-crash c = fewer_idle c.args.self.now.steps c.refuse.new.self.steps (search rules)
+
+pub returns-then-is_err-clause-crash : goal.returns-then-is_err-clause-crash
+returns-then-is_err-clause-crash c = fewer_idle c.args.self.now.steps c.refuse-then-is_err.new.self.steps (search rules)
+
 pub returns-clause-crash : goal.returns-clause-crash
-returns-clause-crash c honest = either_way c.note.result c.note.ensures.ok c.note.ensures.err (fewer_after_sync _ _) (fewer_idle _ _)
+returns-clause-crash c image here =
+    let items : c.push_reserved.new.self.items ≡ c.self.inside.calls.items ++ record { step = Syncs; idle = c.self.inside.idle } ∷ [] = search rules in
+    let steps = did_noted _ _ _ items ∙ ap (λ (d : MemState). Syncs ∷ d.steps) (c.self.view_is ∙ c.turn.ensures.leaves) in
+    fewer_synced c.args.self.now.steps image (subst (λ s. images_of s image) steps here)

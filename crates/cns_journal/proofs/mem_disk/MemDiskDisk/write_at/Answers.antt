@@ -1,9 +1,19 @@
-use Rattle.std.proofs.Common.{rules, ◌≡◌}
-use Rattle.cns_journal.proofs.MemDiskLemmas.{either_way, follows_copy_failed, follows_write_done}
+use Rattle.std.proofs.Common.{rules, length}
+use Rattle.cns_journal.specs.Disk.{Torn}
+use Rattle.cns_journal.specs.MemDisk.{Calls, Writes}
+use Rattle.cns_journal.proofs.MemDiskLemmas.{calls_write_crash, follows_idle}
 use Rattle.cns_journal.proofs.mem_disk.MemDiskDisk.write_at.Goals as goal
 
+pub returns-then-matches-clause-crash : goal.returns-then-matches-clause-crash
+returns-then-matches-clause-crash c within = follows_idle (Torn c.args.at (length c.args.bytes.now)) c.args.self.now.steps c.refuse.new.self.steps (search rules)
+
+pub returns-in_default-written-clause-crash : goal.returns-in_default-written-clause-crash
+returns-in_default-written-clause-crash c within = follows_idle (Torn c.args.at (length c.args.bytes.now)) c.args.self.now.steps c.refuse-in_default-written.new.self.steps (search rules)
+
+pub returns-in_default-to_vec-clause-crash : goal.returns-in_default-to_vec-clause-crash
+returns-in_default-to_vec-clause-crash c within = follows_idle (Torn c.args.at (length c.args.bytes.now)) c.args.self.now.steps c.refuse-in_default-to_vec.new.self.steps (search rules)
+
 pub returns-clause-crash : goal.returns-clause-crash
-returns-clause-crash c honest within =
-    let same : c.in-Ok-to_vec.copy.items ≡ c.args.bytes.now = search rules in
-    either_way c.change.result c.change.ensures.ok c.change.ensures.err
-    (follows_write_done _ _ c.args.at _ _ same within) (follows_copy_failed _ _ c.args.at _ _ same within)
+returns-clause-crash c within =
+    let called : Calls (Writes c.args.at c.args.bytes.now) c.change.result c.args.self.now c.change.new.self = search rules in
+    calls_write_crash c.change.result _ _ c.args.at c.args.bytes.now called within
