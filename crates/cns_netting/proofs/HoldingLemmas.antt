@@ -1,13 +1,15 @@
 -- The holdings of a history stand in order.
-use Rattle.std.proofs.Common.{◌≡◌, ◌∙◌, List, [], ◌∷◌, refl, ap, Ordering, Less, Equal, Greater}
+use Rattle.std.proofs.Common.{◌≡◌, ◌∙◌, List, [], ◌∷◌, refl, ap, Ordering, Less, Equal, Greater, true, arith, rules}
 use Rattle.std.specs.Prelude.{All}
-use Rattle.std.specs.Cmp.{IsTotalOrder}
+use Rattle.std.specs.Cmp.{IsEquivalence, IsTotalOrder}
+use Rattle.std.specs.Cmp.Rules.{comparing}
 use Rattle.std.specs.Ordering.{match_ordering, ordering_reverse}
 use Rattle.std.specs.BTreeSet.{insert_key}
+use Rattle.std.proofs.lemmas.Bool.Decides.{nat_tests}
 use Rattle.std.proofs.lemmas.Cmp.{nat_cmp_total, on_total, then_total}
 use Rattle.std.proofs.lemmas.List.Elements.{All-cons, All-nil, All-weaker}
 use Rattle.std.proofs.lemmas.Map.Views.{All-insert_key}
-use Rattle.cns_ids.specs.Holding.{holding_cmp}
+use Rattle.cns_ids.specs.Holding.{holding_cmp, holding_eq}
 use Rattle.cns_netting.specs.Rows.{holdings_of}
 use Rattle.cns_netting.specs.declared.entry.NetEntry.{NetEntry}
 use Rattle.cns_netting.specs.declared.entry.NetEntry.TheVariants.{Accepted, Netted, Settled}
@@ -16,6 +18,15 @@ use Rattle.cns_ids.specs.declared.holding.Holding.{Holding}
 -- holdings are compared by issue and then by member
 pub holding_order : IsTotalOrder holding_cmp
 holding_order = then_total (on_total (λ (k : Holding). k.issue) nat_cmp_total) (on_total (λ (k : Holding). k.member) nat_cmp_total)
+
+pub holding_eq_laws : IsEquivalence holding_eq
+holding_eq_laws = Prim.search (comparing, rules)
+
+pub equal_holdings : (a b : Holding) → holding_eq a b ≡ true → a ≡ b
+equal_holdings a b e =
+    let issue : a.issue ≡ b.issue = grind (arith, nat_tests) in
+    let member : a.member ≡ b.member = grind (arith, nat_tests) in
+    λ i. record { issue = issue i; member = member i }
 
 -- each holding stands before all that follow it
 abbrev pub AreAscending : List Holding → Type 0

@@ -3,6 +3,8 @@ pub mod SidesLemmas
 pub mod QueueLemmas
 pub mod BookLemmas
 pub mod HoldingLemmas
+pub mod OrderLemmas
+pub mod SumLemmas
 pub mod RowLemmas
 pub mod BalanceLemmas
 pub mod KeptLemmas

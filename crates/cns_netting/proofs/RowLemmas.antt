@@ -1,77 +1,28 @@
--- The rows of a history by look-ups: a map that has each holding's row has the rows, in order.
-use Rattle.std.proofs.Common.{◌≡◌, ℕ, List, [], ◌∷◌, Option, Some, None, Bool, true, false, T, cond, refl, sym, ap, ◌∙◌, arith, rules, subst, Ordering, Less, Equal, Greater}
-use Rattle.std.specs.Prelude.{◌||◌, ◌&&◌, ◌==◌, All, if◌then◌else◌, filter}
-use Rattle.std.specs.List.{AllByRecursion, cons_option, filter_map, IsDistinct, list_any}
-use Rattle.std.specs.List.Sorted.{IsStrictlySortedBy}
-use Rattle.std.specs.Map.{keys_of, lookup, values_of}
-use Rattle.std.specs.Ordering.{eq_by_cmp, is_eq, is_lt, match_ordering}
-use Rattle.std.specs.BTreeMap.{BTreeMap, get, IsOrdered, values}
+-- The rows of a history by the sides of its holdings: rows in order that have their sums are those.
+use Rattle.std.proofs.Common.{◌≡◌, ℕ, List, [], ◌∷◌, Option, Some, None, Bool, true, false, cond, refl, sym, ap, ◌∙◌, arith, subst, Ordering, Less, Equal, Greater}
+use Rattle.std.specs.Prelude.{◌||◌, ◌&&◌, ◌==◌, All, if◌then◌else◌, filter, sum_by}
+use Rattle.std.specs.List.{cons_option, filter_map, IsDistinct, list_any}
+use Rattle.std.specs.Map.{keys_of, lookup}
+use Rattle.std.specs.Ordering.{eq_by_cmp, match_ordering}
 use Rattle.std.specs.HashMap as hash
 use Rattle.std.specs.HashMap.{HashMap}
-use Rattle.std.specs.Cmp.{IsEquivalence}
-use Rattle.std.specs.Cmp.Rules.{comparing}
-use Rattle.std.proofs.lemmas.Map.{lookup-none}
-use Rattle.std.proofs.lemmas.Map.Entries.{none_past_head}
 use Rattle.std.specs.BTreeSet.{insert_key}
-use Rattle.std.specs.FinMap.Entries.{below_all, find, is_sorted, same_entries}
 use Rattle.std.proofs.lemmas.Bool.Decides.{nat_tests}
-use Rattle.std.proofs.lemmas.Bool.{eq-eqb}
-use Rattle.std.proofs.lemmas.List.Elements.{All-head, All-tail}
+use Rattle.std.proofs.lemmas.Bool.{eq-eqb, or_parts}
+use Rattle.std.proofs.lemmas.List.Elements.{All-cons, All-head, All-nil, All-tail, All-weaker, recursion_from_All}
 use Rattle.cns_netting.specs.History.{bought, credit, credit_part, debit, debit_part, due_since, is_reached, latest, position_of, settled_in, settled_out, sold}
 use Rattle.cns_ids.specs.Holding.{holding_at, holding_cmp, holding_eq}
 use Rattle.cns_netting.specs.Rows.{holdings_of, is_row_in, open_row, rows_of}
-use Rattle.cns_netting.specs.Sides.{AreSidesOf, credit_at, debit_at, row_by, row_if, row_left, rows_if}
+use Rattle.cns_netting.specs.Sides.{AreInOrder, AreSidesOf, credit_at, debit_at, holding_of, row_by, row_if, row_part, rows_if}
 use Rattle.cns_netting.specs.declared.sides.Sides.{Sides}
 use Rattle.cns_netting.specs.declared.entry.NetEntry.{NetEntry}
 use Rattle.cns_netting.specs.declared.entry.NetEntry.TheVariants.{Accepted, Netted, Settled}
 use Rattle.cns_ids.specs.declared.holding.Holding.{Holding}
 use Rattle.cns_netting.specs.declared.position.PositionRow.{PositionRow}
-use Rattle.cns_netting.proofs.HoldingLemmas.{AreAscending, holding_order, holdings-ascending}
+use Rattle.cns_netting.proofs.HoldingLemmas.{AreAscending, holdings-ascending}
+use Rattle.cns_netting.proofs.OrderLemmas.{AreRising, same_rows}
+use Rattle.cns_netting.proofs.SumLemmas.{agree, entries-sum, filter_map-sum, same_sums}
 use Rattle.cns_netting.proofs.TradeLemmas.{bought-due, sold-due}
-
-abbrev Rows : Type 0
-Rows = List (Holding × PositionRow)
-
--- ---- the rows of some holdings, with their holdings
-
-pair : Holding → Option PositionRow → Rows → Rows
-pair k None rest = rest
-pair k (Some row) rest = (k, row) ∷ rest
-
-pairs : (Holding → Option PositionRow) → List Holding → Rows
-pairs rows [] = []
-pairs rows (k ∷ ks) = pair k (rows k) (pairs rows ks)
-
-pairs-values : (rows : Holding → Option PositionRow) (ks : List Holding) → values_of (pairs rows ks) ≡ filter_map rows ks
-unfolding pairs pair
-pairs-values rows [] = refl
-pairs-values rows (k ∷ ks) = by (rows k) (pairs-values rows ks)
-  where
-    by : (o : Option PositionRow) → values_of (pairs rows ks) ≡ filter_map rows ks → values_of (pair k o (pairs rows ks)) ≡ cons_option o (filter_map rows ks)
-    by None rest = rest
-    by (Some row) rest = ap (λ l. row ∷ l) rest
-
-both : (a b : Bool) → T a → T b → T (a && b)
-both true b p q = q
-both false b p q = p
-
-pairs-below : (rows : Holding → Option PositionRow) (k : Holding) (ks : List Holding) → All (λ (q : Holding). holding_cmp k q ≡ Less) ks → T (below_all holding_cmp k (pairs rows ks))
-unfolding pairs pair
-pairs-below rows k [] less = tt
-pairs-below rows k (q ∷ qs) less = by (rows q) (pairs-below rows k qs (All-tail (λ (x : Holding). holding_cmp k x ≡ Less) q qs less))
-  where
-    by : (o : Option PositionRow) → T (below_all holding_cmp k (pairs rows qs)) → T (below_all holding_cmp k (pair q o (pairs rows qs)))
-    by None rest = rest
-    by (Some row) rest = both _ _ (subst (λ r. T (is_lt r)) (sym (All-head (λ (x : Holding). holding_cmp k x ≡ Less) q qs less)) tt) rest
-
-pairs-sorted : (rows : Holding → Option PositionRow) (ks : List Holding) → AreAscending ks → T (is_sorted holding_cmp (pairs rows ks))
-unfolding pairs pair
-pairs-sorted rows [] order = tt
-pairs-sorted rows (k ∷ ks) order = by (rows k) (pairs-sorted rows ks order.1)
-  where
-    by : (o : Option PositionRow) → T (is_sorted holding_cmp (pairs rows ks)) → T (is_sorted holding_cmp (pair k o (pairs rows ks)))
-    by None rest = rest
-    by (Some row) rest = both _ _ (pairs-below rows k ks order.0) rest
 
 -- holdings that stand at the same place are the same
 same_holding : (a b : Holding) → holding_cmp a b ≡ Equal → a ≡ b
@@ -80,45 +31,8 @@ same_holding a b e =
     let member : a.member ≡ b.member = grind (arith, nat_tests) in
     λ i. record { issue = issue i; member = member i }
 
-equal_holdings : (a b : Holding) → holding_eq a b ≡ true → a ≡ b
-equal_holdings a b e =
-    let issue : a.issue ≡ b.issue = grind (arith, nat_tests) in
-    let member : a.member ≡ b.member = grind (arith, nat_tests) in
-    λ i. record { issue = issue i; member = member i }
-
-same_itself : (k : Holding) → holding_eq k k ≡ true
-same_itself k = grind (arith, nat_tests)
-
-pub holding_eq_laws : IsEquivalence holding_eq
-holding_eq_laws = Prim.search (comparing, rules)
-
-is_eq-equal : (r : Ordering) → is_eq r ≡ true → r ≡ Equal
-is_eq-equal Less e = cc e
-is_eq-equal Equal e = refl
-is_eq-equal Greater e = cc e
-
 is_there : Holding → List Holding → Bool
 is_there q ks = list_any (eq_by_cmp holding_cmp q) ks
-
-pairs-found : (rows : Holding → Option PositionRow) (q : Holding) (ks : List Holding) → find holding_cmp q (pairs rows ks) ≡ cond (is_there q ks) (rows q) None
-unfolding pairs pair is_there
-pairs-found rows q [] = refl
-pairs-found rows q (k ∷ ks) = by (eq_by_cmp holding_cmp q k) refl (rows k) refl (pairs-found rows q ks)
-  where
-    none : (b : Bool) (o : Option PositionRow) → o ≡ None → cond b o None ≡ None
-    none true o e = e
-    none false o e = refl
-
-    here : eq_by_cmp holding_cmp q k ≡ true → rows q ≡ rows k
-    here e = ap rows (same_holding q k (is_eq-equal (holding_cmp q k) e))
-
-    by : (b : Bool) → eq_by_cmp holding_cmp q k ≡ b → (o : Option PositionRow) → rows k ≡ o
-        → find holding_cmp q (pairs rows ks) ≡ cond (is_there q ks) (rows q) None
-        → find holding_cmp q (pair k o (pairs rows ks)) ≡ cond (b || is_there q ks) (rows q) None
-    by true e None f rest = rest ∙ none (is_there q ks) (rows q) (here e ∙ f) ∙ sym (here e ∙ f)
-    by true e (Some row) f rest = Prim.rw e (sym (here e ∙ f))
-    by false e None f rest = rest
-    by false e (Some row) f rest = Prim.rw e rest
 
 -- ---- which holdings a history names
 
@@ -198,41 +112,30 @@ no_row h q none =
     eq-eqb (credit h q.member q.issue) (debit h q.member q.issue) (omega (arith, nothing.bought, nothing.sold, nothing.settled_in, nothing.settled_out)) in
     Prim.rw same refl
 
--- ---- the rows of a map
+-- ---- the rows of holdings
 
-sorted-below : (k : Holding) (es : Rows) → AllByRecursion (λ (q : Holding). holding_cmp k q ≡ Less) (keys_of es) → T (below_all holding_cmp k es)
-sorted-below k [] less = tt
-sorted-below k (e ∷ es) less = both _ _ (subst (λ r. T (is_lt r)) (sym less.0) tt) (sorted-below k es less.1)
+eq_by_order : (q k : Holding) → eq_by_cmp holding_cmp q k ≡ holding_eq q k
+eq_by_order q k = grind (arith, nat_tests)
 
-sorted : (es : Rows) → IsStrictlySortedBy holding_cmp (keys_of es) → T (is_sorted holding_cmp es)
-unfolding IsStrictlySortedBy
-sorted [] order = tt
-sorted (e ∷ es) order = both _ _ (sorted-below e.0 es order.0) (sorted es order.1)
+there_by_order : (q : Holding) (ks : List Holding) → is_there q ks ≡ list_any (holding_eq q) ks
+unfolding is_there
+there_by_order q [] = refl
+there_by_order q (k ∷ ks) = ap (λ b. b || is_there q ks) (eq_by_order q k) ∙ ap (λ b. holding_eq q k || b) (there_by_order q ks)
 
--- a map that has each row at its holding has them in the order of the holdings
-rows_in_order : (rows : Holding → Option PositionRow) (h : List NetEntry) (m : BTreeMap Holding PositionRow) → IsOrdered holding_cmp m
-    → ((q : Holding) → get holding_cmp m q ≡ rows q) → ((q : Holding) → is_there q (holdings_of h) ≡ false → rows q ≡ None)
-    → values m ≡ filter_map rows (holdings_of h)
-rows_in_order rows h m order has bare =
-    let found : (q : Holding) → find holding_cmp q m.entries ≡ find holding_cmp q (pairs rows (holdings_of h)) =
-    λ q. lookup-find q m.entries ∙ has q ∙ sym (pairs-found rows q (holdings_of h) ∙ if_there q (is_there q (holdings_of h)) refl) in
-    let same = same_entries holding_cmp holding_order same_holding m.entries (pairs rows (holdings_of h)) (sorted m.entries order) (pairs-sorted rows (holdings_of h) (holdings-ascending h)) found in
-    ap values_of same ∙ pairs-values rows (holdings_of h)
+apart : (k : Holding) (ks : List Holding) → AreAscending ks → IsDistinct holding_eq ks
+unfolding IsDistinct
+apart k [] order = tt
+apart k (x ∷ xs) order = (recursion_from_All _ xs (All-weaker (λ (q : Holding). holding_cmp x q ≡ Less) (λ (q : Holding). holding_eq x q ≡ false) (λ q less. differ x q less) xs order.0), apart k xs order.1)
   where
-    if_there : (q : Holding) (b : Bool) → is_there q (holdings_of h) ≡ b → cond b (rows q) None ≡ rows q
-    if_there q true e = refl
-    if_there q false e = sym (bare q e)
+    differ : (a b : Holding) → holding_cmp a b ≡ Less → holding_eq a b ≡ false
+    differ a b e = grind (arith, nat_tests)
 
-    lookup-find : (q : Holding) (es : Rows) → find holding_cmp q es ≡ Rattle.std.specs.Map.lookup (λ k. eq_by_cmp holding_cmp q k) es
-    lookup-find q [] = refl
-    lookup-find q (e ∷ es) = ap (λ rest. cond (eq_by_cmp holding_cmp q e.0) (Some e.1) rest) (lookup-find q es)
-
--- a row is one of its holding's issue
-row_issue : (h : List NetEntry) (k : Holding) (row : PositionRow) → open_row h k ≡ Some row → row.issue ≡ k.issue
+-- a row is its holding's
+open_row-holding : (h : List NetEntry) (k : Holding) (row : PositionRow) → open_row h k ≡ Some row → holding_of row ≡ k
 unfolding open_row
-row_issue h k row e = by (credit h k.member k.issue == debit h k.member k.issue) e
+open_row-holding h k row e = by (credit h k.member k.issue == debit h k.member k.issue) e
   where
-    by : (b : Bool) → (if b then None else Some (record { issue = k.issue; member = k.member; position = position_of h k.member k.issue })) ≡ Some row → row.issue ≡ k.issue
+    by : (b : Bool) → (if b then None else Some (record { issue = k.issue; member = k.member; position = position_of h k.member k.issue })) ≡ Some row → holding_of row ≡ k
     by true g = cc g
     by false g = cc g
 
@@ -254,9 +157,9 @@ rows_in_issue i h (k ∷ ks) = by (k.issue == i) refl (open_row h k) refl (rows_
         → filter_map (row_in i h) ks ≡ filter (is_row_in i) (filter_map (open_row h) ks)
         → cons_option (if b then o else None) (filter_map (row_in i h) ks) ≡ filter (is_row_in i) (cons_option o (filter_map (open_row h) ks))
     by true e None f rest = rest
-    by true e (Some row) f rest = kept row (filter_map (open_row h) ks) _ (ap (λ n. n == i) (row_issue h k row f) ∙ e) rest
+    by true e (Some row) f rest = kept row (filter_map (open_row h) ks) _ (ap (λ (q : Holding). q.issue == i) (open_row-holding h k row f) ∙ e) rest
     by false e None f rest = rest
-    by false e (Some row) f rest = left_out row (filter_map (open_row h) ks) _ (ap (λ n. n == i) (row_issue h k row f) ∙ e) rest
+    by false e (Some row) f rest = left_out row (filter_map (open_row h) ks) _ (ap (λ (q : Holding). q.issue == i) (open_row-holding h k row f) ∙ e) rest
 
 -- a holding's row by its sides is its row by the history
 row_by-history : {S : Type 0} (sides : HashMap Holding Sides S) (h : List NetEntry) → AreSidesOf sides h → (q : Holding) → row_by q (hash.get holding_eq sides q) ≡ open_row h q
@@ -267,38 +170,88 @@ row_by-history sides h are q = by (hash.get holding_eq sides q) (are.credit q.me
     by None c d = Prim.rw (← c, ← d) refl
     by (Some s) c d = Prim.rw (← c, ← d) refl
 
--- a map that has each holding's row by its sides has the rows of the history
-pub rows_by_sides : {S : Type 0} (issue : Option ℕ) (sides : HashMap Holding Sides S) (h : List NetEntry) (m : BTreeMap Holding PositionRow) → AreSidesOf sides h → IsOrdered holding_cmp m
-    → ((q : Holding) → get holding_cmp m q ≡ row_if issue q (hash.get holding_eq sides q)) → values m ≡ rows_if issue (rows_of h)
-rows_by_sides None sides h m are order has = rows_in_order (open_row h) h m order (λ q. has q ∙ row_by-history sides h are q) (no_row h)
-rows_by_sides (Some i) sides h m are order has =
-    rows_in_order (row_in i h) h m order (λ q. has q ∙ ap (λ o. if q.issue == i then o else None) (row_by-history sides h are q)) (λ q none. nothing (q.issue == i) q (no_row h q none)) ∙ rows_in_issue i h (holdings_of h)
+-- the row of a holding, of an issue alone, where one is given
+abbrev row_for : Option ℕ → List NetEntry → Holding → Option PositionRow
+row_for None h k = open_row h k
+row_for (Some i) h k = row_in i h k
+
+row_if-history : {S : Type 0} (issue : Option ℕ) (sides : HashMap Holding Sides S) (h : List NetEntry) → AreSidesOf sides h → (q : Holding) → row_if issue q (hash.get holding_eq sides q) ≡ row_for issue h q
+row_if-history None sides h are q = row_by-history sides h are q
+row_if-history (Some i) sides h are q = ap (λ o. if q.issue == i then o else None) (row_by-history sides h are q)
+
+no_row_for : (issue : Option ℕ) (h : List NetEntry) (q : Holding) → open_row h q ≡ None → row_for issue h q ≡ None
+no_row_for None h q none = none
+no_row_for (Some i) h q none = by (q.issue == i) none
   where
-    nothing : (b : Bool) (q : Holding) → open_row h q ≡ None → (if b then open_row h q else None) ≡ None
-    nothing true q e = e
-    nothing false q e = refl
+    by : (b : Bool) → open_row h q ≡ None → (if b then open_row h q else None) ≡ None
+    by true e = e
+    by false e = refl
 
--- ---- the map as it grows
-
-abbrev pub LeftRows : Option ℕ → (Holding → Option Sides) → List (Holding × Sides) → (Holding → Option PositionRow) → Type 0
-LeftRows issue all rest found = (q : Holding) → found q ≡ row_left (lookup (holding_eq q) rest) (row_if issue q (all q))
-
--- with the next holding's row found too, where it has one
-pub left-next : (issue : Option ℕ) (all : Holding → Option Sides) (k : Holding) (s : Sides) (rest : List (Holding × Sides)) (was now : Holding → Option PositionRow)
-    → IsDistinct holding_eq (keys_of ((k, s) ∷ rest)) → all k ≡ Some s → LeftRows issue all ((k, s) ∷ rest) was
-    → now k ≡ row_if issue k (Some s) → ((q : Holding) → holding_eq q k ≡ false → now q ≡ was q) → LeftRows issue all rest now
-left-next issue all k s rest was now distinct is left here there q = by (holding_eq q k) refl (left q)
+row_for-holding : (issue : Option ℕ) (h : List NetEntry) (k : Holding) (row : PositionRow) → row_for issue h k ≡ Some row → holding_of row ≡ k
+row_for-holding None h k row e = open_row-holding h k row e
+row_for-holding (Some i) h k row e = by (k.issue == i) (open_row-holding h k row) e
   where
-    past : holding_eq q k ≡ true → lookup (holding_eq q) rest ≡ None
-    past e = lookup-none (holding_eq q) rest (none_past_head holding_eq_laws q (k, s) rest distinct e)
+    by : (b : Bool) → (open_row h k ≡ Some row → holding_of row ≡ k) → (if b then open_row h k else None) ≡ Some row → holding_of row ≡ k
+    by true own g = own g
+    by false own g = cc g
 
-    by : (b : Bool) → holding_eq q k ≡ b → was q ≡ row_left (cond b (Some s) (lookup (holding_eq q) rest)) (row_if issue q (all q)) → now q ≡ row_left (lookup (holding_eq q) rest) (row_if issue q (all q))
-    by true e before =
-        let same : q ≡ k = equal_holdings q k e in
-        ap now same ∙ here ∙ sym (ap (λ o. row_left o (row_if issue q (all q))) (past e) ∙ ap (λ x. row_if issue x (all x)) same ∙ ap (row_if issue k) is)
-    by false e before = there q e ∙ before
+-- the rows of holdings that rise do so
+rows-rising : (rows : Holding → Option PositionRow) → ((k : Holding) (row : PositionRow) → rows k ≡ Some row → holding_of row ≡ k) → (ks : List Holding) → AreAscending ks → AreRising (filter_map rows ks)
+rows-rising rows own [] order = tt
+rows-rising rows own (k ∷ ks) order = by (rows k) refl (rows-rising rows own ks order.1)
+  where
+    above : (x : Holding) (qs : List Holding) → All (λ (q : Holding). holding_cmp x q ≡ Less) qs → All (λ (r : PositionRow). holding_cmp x (holding_of r) ≡ Less) (filter_map rows qs)
+    above x [] less = All-nil _
+    above x (q ∷ qs) less = at (rows q) refl (above x qs (All-tail (λ (p : Holding). holding_cmp x p ≡ Less) q qs less))
+      where
+        at : (o : Option PositionRow) → rows q ≡ o → All (λ (r : PositionRow). holding_cmp x (holding_of r) ≡ Less) (filter_map rows qs) → All (λ (r : PositionRow). holding_cmp x (holding_of r) ≡ Less) (cons_option o (filter_map rows qs))
+        at None e rest = rest
+        at (Some row) e rest = All-cons (λ (r : PositionRow). holding_cmp x (holding_of r) ≡ Less) row (filter_map rows qs) (subst (λ (p : Holding). holding_cmp x p ≡ Less) (sym (own q row e)) (All-head (λ (p : Holding). holding_cmp x p ≡ Less) q qs less)) rest
 
--- no row was found for a holding that is yet to come
-pub left-none : (issue : Option ℕ) (all : Holding → Option Sides) (k : Holding) (s : Sides) (rest : List (Holding × Sides)) (was : Holding → Option PositionRow)
-    → LeftRows issue all ((k, s) ∷ rest) was → was k ≡ None
-left-none issue all k s rest was left = left k ∙ Prim.rw (same_itself k) refl
+    by : (o : Option PositionRow) → rows k ≡ o → AreRising (filter_map rows ks) → AreRising (cons_option o (filter_map rows ks))
+    by None e rest = rest
+    by (Some row) e rest = (subst (λ (p : Holding). All (λ (r : PositionRow). holding_cmp p (holding_of r) ≡ Less) (filter_map rows ks)) (sym (own k row e)) (above k ks order.0), rest)
+
+rows_for : (issue : Option ℕ) (h : List NetEntry) → filter_map (row_for issue h) (holdings_of h) ≡ rows_if issue (rows_of h)
+rows_for None h = refl
+rows_for (Some i) h = rows_in_issue i h (holdings_of h)
+
+-- rows in order that have the sums of all holdings' rows are those of the history
+pub rows_by_sums : {S : Type 0} (issue : Option ℕ) (sides : HashMap Holding Sides S) (h : List NetEntry) (xs : List PositionRow) → hash.IsUnique holding_eq sides → AreSidesOf sides h
+    → ((f : PositionRow → ℕ) → sum_by f xs ≡ sum_by (λ (e : Holding × Sides). row_part f (row_if issue e.0 (Some e.1))) sides.entries)
+    → AreInOrder xs → xs ≡ rows_if issue (rows_of h)
+rows_by_sums issue sides h xs unique are sums order =
+    same_rows xs (filter_map (row_for issue h) (holdings_of h)) order (rows-rising (row_for issue h) (row_for-holding issue h) (holdings_of h) (holdings-ascending h)) same ∙ rows_for issue h
+  where
+    mine : (PositionRow → ℕ) → Holding → ℕ
+    mine f q = row_part f (row_for issue h q)
+
+    theirs : (f : PositionRow → ℕ) → (q : Holding) → row_part f (row_if issue q (hash.get holding_eq sides q)) ≡ row_part f (row_for issue h q)
+    theirs f q = ap (row_part f) (row_if-history issue sides h are q)
+
+    unnamed : (q : Holding) → list_any (holding_eq q) (keys_of sides.entries) ≡ false → row_for issue h q ≡ None
+    unnamed q none = sym (row_if-history issue sides h are q) ∙ ap (row_if issue q) (lookup_none q sides.entries none) ∙ nothing issue q
+      where
+        lookup_none : (q : Holding) (es : List (Holding × Sides)) → list_any (holding_eq q) (keys_of es) ≡ false → lookup (holding_eq q) es ≡ None
+        lookup_none q [] e = refl
+        lookup_none q (x ∷ es) e = here (holding_eq q x.0) (or_parts (holding_eq q x.0) (list_any (holding_eq q) (keys_of es)) e).0 (lookup_none q es (or_parts (holding_eq q x.0) (list_any (holding_eq q) (keys_of es)) e).1)
+          where
+            here : (b : Bool) → b ≡ false → lookup (holding_eq q) es ≡ None → cond b (Some x.1) (lookup (holding_eq q) es) ≡ None
+            here true e rest = cc e
+            here false e rest = rest
+
+        nothing : (issue : Option ℕ) (q : Holding) → row_if issue q None ≡ None
+        nothing None q = refl
+        nothing (Some i) q = by (q.issue == i)
+          where
+            by : (b : Bool) → ◌≡◌ {A = Option PositionRow} (if b then None else None) None
+            by true = refl
+            by false = refl
+
+    same : (f : PositionRow → ℕ) → sum_by f xs ≡ sum_by f (filter_map (row_for issue h) (holdings_of h))
+    same f =
+        sums f ∙ entries-sum (λ q o. row_part f (row_if issue q o)) sides.entries unique
+        ∙ agree (λ q. row_part f (row_if issue q (hash.get holding_eq sides q))) (λ q. row_part f (row_for issue h q)) (theirs f) (keys_of sides.entries)
+        ∙ same_sums (λ q. row_part f (row_for issue h q)) (keys_of sides.entries) (holdings_of h) unique (apart (holding_at 0 0) (holdings_of h) (holdings-ascending h)) (λ q none. ap (row_part f) (unnamed q none))
+        (λ q none. ap (row_part f) (no_row_for issue h q (no_row h q (there_by_order q (holdings_of h) ∙ none))))
+        ∙ sym (filter_map-sum f (row_for issue h) (holdings_of h))

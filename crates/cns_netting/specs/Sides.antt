@@ -1,9 +1,10 @@
 -- What stands for each holding and against it, by look-up.
-use Rattle.std.specs.Prelude.{◌≡◌, ℕ, ◌&&◌, ◌==◌, Bool, ◌-ℤ◌, pos, List, Option, Some, None, IsSome, filter, if◌then◌else◌}
+use Rattle.std.specs.Prelude.{◌≡◌, ℕ, ◌&&◌, ◌==◌, ◌-ℤ◌, pos, List, [], ◌∷◌, All, Option, Some, None, IsSome, filter, if◌then◌else◌}
+use Rattle.std.specs.declared.cmp.Ordering.TheVariants.{Less}
 use Rattle.std.specs.HashMap.{HashMap, get}
 use Rattle.cns_trades.specs.declared.trade.Trade.{Trade}
 use Rattle.cns_netting.specs.History.{credit, debit}
-use Rattle.cns_ids.specs.Holding.{holding_eq, holding_at}
+use Rattle.cns_ids.specs.Holding.{holding_at, holding_cmp, holding_eq}
 use Rattle.cns_netting.specs.Rows.{is_row_in}
 use Rattle.cns_netting.specs.declared.entry.NetEntry.{NetEntry}
 use Rattle.cns_ids.specs.declared.holding.Holding.{Holding}
@@ -58,7 +59,16 @@ abbrev pub rows_if : Option ℕ → List PositionRow → List PositionRow
 rows_if None rows = rows
 rows_if (Some issue) rows = filter (is_row_in issue) rows
 
--- what is found for a holding that is yet to come, and for one that is not
-abbrev pub row_left : Option Sides → Option PositionRow → Option PositionRow
-row_left None row = row
-row_left (Some s) row = None
+-- a number of a row, where there is one
+abbrev pub row_part : (PositionRow → ℕ) → Option PositionRow → ℕ
+row_part f None = 0
+row_part f (Some row) = f row
+
+-- the holding of a row
+abbrev pub holding_of : PositionRow → Holding
+holding_of row = holding_at row.issue row.member
+
+-- no row's holding stands before that of an earlier row
+abbrev pub AreInOrder : List PositionRow → Type 0
+AreInOrder [] = Unit {0}
+AreInOrder (row ∷ rows) = All (λ (r : PositionRow). holding_cmp (holding_of r) (holding_of row) ≡ Less → ⊥) rows × AreInOrder rows

@@ -20,3 +20,6 @@ pub mod LinkHappens
 pub mod HappensLemmas
 pub mod DecisionLemmas
 pub mod SceneLemmas
+pub mod SpareLemmas
+pub mod FloorLemmas
+pub mod BeginLemmas

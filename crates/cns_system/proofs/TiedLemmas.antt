@@ -71,7 +71,7 @@ found_new open_lots new issue is none =
 
 -- ---- the lot of a number
 
-get_set_same : (lots : List LotState) (i : ℕ) (l x : LotState) → slice_get lots i ≡ Some l → slice_get (slice_set lots i x) i ≡ Some x
+pub get_set_same : (lots : List LotState) (i : ℕ) (l x : LotState) → slice_get lots i ≡ Some l → slice_get (slice_set lots i x) i ≡ Some x
 get_set_same [] i l x found = cc
 get_set_same (y ∷ lots) zero l x found = refl
 get_set_same (y ∷ lots) (suc i) l x found = get_set_same lots i l x found
@@ -83,7 +83,7 @@ get_set_other (y ∷ lots) zero (suc j) x differ = refl
 get_set_other (y ∷ lots) (suc i) zero x differ = refl
 get_set_other (y ∷ lots) (suc i) (suc j) x differ = get_set_other lots i j x (λ e. differ (ap suc e))
 
-get_more : (lots : List LotState) (i : ℕ) (x l : LotState) → slice_get (lots ++ x ∷ []) i ≡ Some l → (slice_get lots i ≡ Some l) ⊎ ((i ≡ length lots) × (x ≡ l))
+pub get_more : (lots : List LotState) (i : ℕ) (x l : LotState) → slice_get (lots ++ x ∷ []) i ≡ Some l → (slice_get lots i ≡ Some l) ⊎ ((i ≡ length lots) × (x ≡ l))
 get_more [] zero x l found = inr (refl, same_Some x l found)
 get_more [] (suc i) x l found = cc
 get_more (y ∷ lots) zero x l found = inl found
@@ -105,7 +105,7 @@ at_place lots n l found = by (n == 0) refl found
     by true e is = cc
     by false e is = (positive n (eqb-false n 0 e), is)
 
-from_place : (lots : List LotState) (n : ℕ) (l : LotState) → 1 ≤ n → slice_get lots (n - 1) ≡ Some l → lot_at lots n ≡ Some l
+pub from_place : (lots : List LotState) (n : ℕ) (l : LotState) → 1 ≤ n → slice_get lots (n - 1) ≡ Some l → lot_at lots n ≡ Some l
 from_place lots n l some found =
     let given : (n == 0) ≡ false = false_from_ne_true (n == 0) (λ e. absurd (omega (arith, some, eqb-true n 0 e))) in
     ap (λ b. if b then None else slice_get lots (n - 1)) given ∙ found
@@ -119,7 +119,7 @@ record IsFrom (lots : List LotState) (m : ℕ) (k : LotState) : Type 0 where
   going : before.ended ≡ false
   issue : before.issue ≡ k.issue
 
-at_changed : (lots : List LotState) (n m : ℕ) (l x k : LotState) → lot_at lots n ≡ Some l → lot_at (update_at lots n x) m ≡ Some k
+pub at_changed : (lots : List LotState) (n m : ℕ) (l x k : LotState) → lot_at lots n ≡ Some l → lot_at (update_at lots n x) m ≡ Some k
     → ((m ≡ n) × (x ≡ k)) ⊎ ((m ≡ n → ⊥) × (lot_at lots m ≡ Some k))
 at_changed lots n m l x k found changed = by (cases_eq m n)
   where
@@ -206,7 +206,7 @@ tied_more open_lots lots new x are none issue plan poured = record {
     once m p k j up_k up_j same (inr h) (inr g) = h.0 ∙ sym g.0
 
 -- lots that have all ended
-ended_at : (lots : List LotState) (n : ℕ) (k : LotState) → lot_at (map with_end lots) n ≡ Some k → k.ended ≡ true
+pub ended_at : (lots : List LotState) (n : ℕ) (k : LotState) → lot_at (map with_end lots) n ≡ Some k → k.ended ≡ true
 ended_at lots n k at =
     let here = at_place (map with_end lots) n k at in
     by (slice_get lots (n - 1)) (sym (slice_get-map with_end lots (n - 1)) ∙ here.1)

@@ -15,3 +15,5 @@ pub mod Headline
 pub mod Run
 pub mod Readers
 pub mod Scene
+pub mod Floor
+pub mod Begin

@@ -12,7 +12,7 @@ use std::alloc::{AllocError, Global};
 use std::marker::Model;
 
 // The most shares that are poured into a lot.
-const MAX_POURED: u64 = 1_000_000_000_000_000_000;
+pub(crate) const MAX_POURED: u64 = 1_000_000_000_000_000_000;
 
 /// What a look at a lot shows.
 #[derive(Clone, Copy, PartialEq, Eq, Debug)]
@@ -193,7 +193,7 @@ impl LotEntry {
 }
 
 // How many shares are planned.
-fn shares(plan: &[Planned]) -> u64
+pub(crate) fn shares(plan: &[Planned]) -> u64
     requires { planned_sum plan.now ≤ 10 ^ 18 }
     ensures { result ≡ planned_sum plan.now }
 {

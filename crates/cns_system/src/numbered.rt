@@ -23,7 +23,7 @@ use std::alloc::{AllocError, Global};
 use std::marker::Model;
 
 // How many lots may be opened in all.
-const MAX_LOTS: u64 = 1_000_000;
+pub(crate) const MAX_LOTS: u64 = 1_000_000;
 
 /// A lot that was opened.
 #[derive(Debug, Drop)]
@@ -279,7 +279,7 @@ impl<K: Keeper> NumberedClearing<K> {
 }
 
 // The plan that a lot of an issue would have if it were opened now.
-fn plan_of<K: Keeper>(node: &Clearing<K>, issue: Cusip) -> Result<Plan, AllocError>
+pub(crate) fn plan_of<K: Keeper>(node: &Clearing<K>, issue: Cusip) -> Result<Plan, AllocError>
     ensures plan { IfOk result (λ plan. plan ≡ plan_in node.now.log.records issue) }
     ensures small { IfOk result (λ plan. planned_sum plan ≤ 10 ^ 18) }
 {

@@ -202,7 +202,7 @@ impl<C: Keeper, D: Keeper> System<C, D> {
     }
 
     // Does nothing, and tells what is so of the nodes and the link.
-    fn agreed(&self)
+    pub(crate) fn agreed(&self)
         ensures accord { IsInAccord self.now }
         ensures headline { IsAgreed self.now }
     {

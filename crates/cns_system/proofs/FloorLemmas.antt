@@ -1,0 +1,360 @@
+-- Busy lots by number, and what an event leaves of them.
+use Rattle.std.proofs.Common.{◌≡◌, ◌∙◌, ◌≤◌, ◌<◌, ◌-◌, ◌+◌, ℕ, zero, suc, Bool, true, false, cond, List, [], ◌∷◌, take, get_or, Option, Some, None, Result, Ok, Err, ap, sym, subst, refl, arith, inl, inr}
+use Rattle.std.specs.Prelude.{◌⊎◌, ◌==◌, All, MatchOption, slice_get, slice_set, if◌then◌else◌}
+use Rattle.std.proofs.lemmas.Bool.{eq-eqb, eqb-false, eqb-true, false_from_ne_true}
+use Rattle.std.proofs.lemmas.List.Elements.{All-cons, All-head, All-map, All-nil, All-tail, All-weaker}
+use Rattle.std.proofs.lemmas.List.{set-get_or}
+use Rattle.std.proofs.lemmas.Option.{get_or_from_slice_get, same_Some, slice_get_within}
+use Rattle.cns_records.specs.declared.refusal.Refusal.{Refusal}
+use Rattle.cns_records.specs.declared.refusal.Refusal.TheVariants as refusal
+use Rattle.cns_system.specs.Floor.{AreBusy, AreInOrder, BusyLot, BySystem, FloorState, FloorStep, IsBusy, IsFed, IsPlaceOf, NamesLot, NumbersRise, PourFits, SparesBusy, busy_after_pour, busy_at, busy_with_pour, busy_with_seal, changed_at, is_open, lot_changed, served_at, with_busy}
+use Rattle.cns_system.specs.Headline.{AreStrict}
+use Rattle.cns_system.specs.Lot.{IsLot, LotState, with_pour}
+use Rattle.cns_system.specs.Lots.{AreLotsLawful, lot_at, update_at}
+use Rattle.cns_system.specs.Numbered.{NumberedNode, PourLeaves}
+use Rattle.cns_system.specs.Run.{Occurs}
+use Rattle.cns_system.specs.Step.{Step}
+use Rattle.cns_system.specs.Outcomes.{pour_outcome}
+use Rattle.cns_system.specs.World.{World}
+use Rattle.cns_system.specs.declared.event.Event.{Event}
+use Rattle.cns_system.specs.declared.event.Event.TheVariants as event
+use Rattle.cns_system.specs.declared.outcome.Outcome.{Outcome}
+use Rattle.cns_system.specs.declared.outcome.Outcome.TheVariants as outcomes
+use Rattle.cns_system.proofs.LotsLemmas.{open-parts}
+use Rattle.cns_system.proofs.SpareLemmas.{Spares, spares_same, spares_update, step_spares}
+use Rattle.cns_system.proofs.TiedLemmas.{at_changed, at_place, get_set_same}
+
+-- ---- the busy lot of a number
+
+apart : (a b : ℕ) → a < b → (a == b) ≡ false
+apart a b below = false_from_ne_true (a == b) (λ e. let same = eqb-true a b e in absurd (omega (arith, below, same)))
+
+-- where none is found, none has the number
+pub none_busy : (busy : List BusyLot) (n : ℕ) → busy_at busy n ≡ None → All (λ (b : BusyLot). b.lot ≡ n → ⊥) busy
+none_busy [] n none = All-nil (λ (b : BusyLot). b.lot ≡ n → ⊥)
+none_busy (x ∷ busy) n none = by (x.lot == n) refl none (none_busy busy n)
+  where
+    by : (b : Bool) → (x.lot == n) ≡ b → cond b (Some x) (busy_at busy n) ≡ None → (busy_at busy n ≡ None → All (λ (c : BusyLot). c.lot ≡ n → ⊥) busy)
+        → All (λ (c : BusyLot). c.lot ≡ n → ⊥) (x ∷ busy)
+    by true e found rest = cc
+    by false e found rest = All-cons (λ (c : BusyLot). c.lot ≡ n → ⊥) x busy (eqb-false x.lot n e) (rest found)
+
+-- what is found has the number
+pub busy_number : (busy : List BusyLot) (n : ℕ) (b : BusyLot) → busy_at busy n ≡ Some b → b.lot ≡ n
+busy_number [] n b found = cc
+busy_number (x ∷ busy) n b found = by (x.lot == n) refl found (busy_number busy n b)
+  where
+    by : (t : Bool) → (x.lot == n) ≡ t → cond t (Some x) (busy_at busy n) ≡ Some b → (busy_at busy n ≡ Some b → b.lot ≡ n) → b.lot ≡ n
+    by true e is rest = subst (λ (c : BusyLot). c.lot ≡ n) (same_Some x b is) (eqb-true x.lot n e)
+    by false e is rest = rest is
+
+-- where none has the number, none is found
+pub none_found : (busy : List BusyLot) (n : ℕ) → All (λ (b : BusyLot). b.lot ≡ n → ⊥) busy → busy_at busy n ≡ None
+none_found [] n others = refl
+none_found (x ∷ busy) n others =
+    let P : BusyLot → Type 0 = λ b. b.lot ≡ n → ⊥ in
+    let differs = false_from_ne_true (x.lot == n) (λ e. All-head P x busy others (eqb-true x.lot n e)) in
+    ap (λ (t : Bool). cond t (Some x) (busy_at busy n)) differs ∙ none_found busy n (All-tail P x busy others)
+
+-- the first that has the number is found
+pub first_found : (busy : List BusyLot) (n place : ℕ) (b : BusyLot) → All (λ (c : BusyLot). c.lot ≡ n → ⊥) (take place busy) → slice_get busy place ≡ Some b → b.lot ≡ n
+    → busy_at busy n ≡ Some b
+first_found [] n place b others found is = cc
+first_found (x ∷ busy) n zero b others found is =
+    let same : x ≡ b = same_Some x b found in
+    ap (λ (t : Bool). cond t (Some x) (busy_at busy n)) (eq-eqb x.lot n (ap (λ (c : BusyLot). c.lot) same ∙ is)) ∙ ap Some same
+first_found (x ∷ busy) n (suc place) b others found is =
+    let P : BusyLot → Type 0 = λ c. c.lot ≡ n → ⊥ in
+    let differs = false_from_ne_true (x.lot == n) (λ e. All-head P x (take place busy) others (eqb-true x.lot n e)) in
+    ap (λ (t : Bool). cond t (Some x) (busy_at busy n)) differs ∙ first_found busy n place b (All-tail P x (take place busy) others) found is
+
+-- a busy lot that stands in a place, and has the number
+pub record IsAt (busy : List BusyLot) (n place : ℕ) (x : BusyLot) : Type 0 where
+  pub found : slice_get busy place ≡ Some x
+  pub number : x.lot ≡ n
+
+-- the one that is read in the place where it was found
+pub read_busy : (busy items : List BusyLot) (n place : ℕ) (x : BusyLot) → items ≡ busy → IsPlaceOf (busy_at items n) items (Some place) → x ≡ get_or busy place x → IsAt busy n place x
+read_busy busy items n place x same is read =
+    let there : slice_get busy place ≡ Some is.0 = ap (λ (bs : List BusyLot). slice_get bs place) (sym same) ∙ is.2 in
+    let one : x ≡ is.0 = read ∙ get_or_from_slice_get busy place is.0 x there in
+    record { found = there ∙ ap Some (sym one); number = ap (λ (b : BusyLot). b.lot) one ∙ busy_number items n is.0 is.1 }
+
+-- one that is served is busy
+served_busy : (f : FloorState) (n : ℕ) (b : BusyLot) → served_at f n ≡ Some b → busy_at f.busy n ≡ Some b
+served_busy f n b found = by (is_open f.system.clear.lots n) found
+  where
+    by : (t : Bool) → (if t then busy_at f.busy n else None) ≡ Some b → busy_at f.busy n ≡ Some b
+    by true is = is
+    by false is = cc
+
+pub read_served : (f now : FloorState) (n place : ℕ) (x : BusyLot) → f ≡ now → IsPlaceOf (served_at now n) now.busy (Some place) → x ≡ get_or f.busy place x → IsAt f.busy n place x
+read_served f now n place x same is read =
+    read_busy f.busy now.busy n place x (ap (λ (g : FloorState). g.busy) (sym same)) (is.0, served_busy now n is.0 is.1, is.2) read
+
+-- ---- a change of the busy lot of a number
+
+stays : (change : BusyLot → BusyLot) (n : ℕ) (b : BusyLot) → (b.lot ≡ n → ⊥) → changed_at change n b ≡ b
+stays change n b other = by (b.lot == n) refl
+  where
+    by : (t : Bool) → (b.lot == n) ≡ t → (if t then change b else b) ≡ b
+    by true e = absurd (other (eqb-true b.lot n e))
+    by false e = refl
+
+changes : (change : BusyLot → BusyLot) (n : ℕ) (b : BusyLot) → b.lot ≡ n → changed_at change n b ≡ change b
+changes change n b is = ap (λ (t : Bool). if t then change b else b) (eq-eqb b.lot n is)
+
+pub all_stay : (change : BusyLot → BusyLot) (n : ℕ) (busy : List BusyLot) → All (λ (b : BusyLot). b.lot ≡ n → ⊥) busy → with_busy change n busy ≡ busy
+all_stay change n [] others = refl
+all_stay change n (x ∷ busy) others =
+    let P : BusyLot → Type 0 = λ b. b.lot ≡ n → ⊥ in
+    ap (λ (y : BusyLot). y ∷ with_busy change n busy) (stays change n x (All-head P x busy others))
+    ∙ ap (λ (ys : List BusyLot). x ∷ ys) (all_stay change n busy (All-tail P x busy others))
+
+-- it is a change in its place
+pub change_in_place : (change : BusyLot → BusyLot) (n : ℕ) (busy : List BusyLot) (place : ℕ) (b : BusyLot) → AreInOrder busy → slice_get busy place ≡ Some b → b.lot ≡ n
+    → with_busy change n busy ≡ slice_set busy place (change b)
+change_in_place change n [] place b order found is = cc
+change_in_place change n (x ∷ busy) zero b order found is =
+    let same : x ≡ b = same_Some x b found in
+    let here : x.lot ≡ n = ap (λ (c : BusyLot). c.lot) same ∙ is in
+    let others = All-weaker (λ (c : BusyLot). x.lot < c.lot) (λ (c : BusyLot). c.lot ≡ n → ⊥) (λ c below e. absurd (omega (arith, below, e, here))) busy order.0 in
+    ap (λ (ys : List BusyLot). changed_at change n x ∷ ys) (all_stay change n busy others)
+    ∙ ap (λ (y : BusyLot). y ∷ busy) (changes change n x here ∙ ap change same)
+change_in_place change n (x ∷ busy) (suc place) b order found is =
+    let at = order.0 place x (slice_get_within busy place b found) in
+    let later : x.lot < n = subst (λ (m : ℕ). x.lot < m) (ap (λ (c : BusyLot). c.lot) (get_or_from_slice_get busy place b x found) ∙ is) at in
+    ap (λ (y : BusyLot). y ∷ with_busy change n busy) (stays change n x (λ e. absurd (omega (arith, later, e))))
+    ∙ ap (λ (ys : List BusyLot). x ∷ ys) (change_in_place change n busy place b order.1 found is)
+
+-- the numbers stay
+number_stays : (change : BusyLot → BusyLot) (n : ℕ) → ((b : BusyLot) → (change b).lot ≡ b.lot) → (b : BusyLot) → (changed_at change n b).lot ≡ b.lot
+number_stays change n same b = by (b.lot == n)
+  where
+    by : (t : Bool) → (if t then change b else b).lot ≡ b.lot
+    by true = same b
+    by false = refl
+
+pub order_stays : (change : BusyLot → BusyLot) (n : ℕ) → ((b : BusyLot) → (change b).lot ≡ b.lot) → (busy : List BusyLot) → AreInOrder busy → AreInOrder (with_busy change n busy)
+order_stays change n same [] order = tt
+order_stays change n same (x ∷ busy) order = (
+  All-map (λ (c : BusyLot). (changed_at change n x).lot < c.lot) (changed_at change n) busy
+      (All-weaker (λ (c : BusyLot). x.lot < c.lot) (λ (c : BusyLot). (changed_at change n x).lot < (changed_at change n c).lot)
+      (λ c below. rw (number_stays change n same x, number_stays change n same c) below) busy order.0),
+  order_stays change n same busy order.1,
+)
+
+-- ---- what an event leaves
+
+pub busy_kept : (changed : Option ℕ) (old new : List LotState) (b : BusyLot) → IsBusy old b → Spares changed old new → (changed ≡ Some b.lot → is_open old b.lot ≡ false) → IsBusy new b
+busy_kept changed old new b is spares spared = record {
+  given = let a = is.given in let l = spares.longer in omega arith;
+  fed = λ lot found going. is.fed lot (spares.same b.lot lot spared is.given found going) going;
+}
+
+pub all_kept : (changed : Option ℕ) (old new : List LotState) (busy : List BusyLot) → AreBusy old busy → Spares changed old new
+    → All (λ (b : BusyLot). changed ≡ Some b.lot → is_open old b.lot ≡ false) busy → AreBusy new busy
+all_kept changed old new busy are spares spared = record {
+  each = λ k d below. busy_kept changed old new _ (are.each k d below) spares (spared k d below);
+  order = are.order;
+}
+
+-- an event that changes no busy lot, but one that has ended
+pub step_kept : (e : Event) (outcome : Outcome) (old new : World) (f : FloorState) → f.system ≡ old → Step e outcome old new → AreBusy old.clear.lots f.busy → SparesBusy e f
+    → AreBusy new.clear.lots f.busy
+step_kept e outcome old new f is step are spared =
+    all_kept (lot_changed e) old.clear.lots new.clear.lots f.busy are (step_spares e outcome old new step)
+    (subst (λ (w : World). All (λ (b : BusyLot). lot_changed e ≡ Some b.lot → is_open w.clear.lots b.lot ≡ false) f.busy) is spared)
+
+-- ---- a pour
+
+-- what is poured into the lot of a number is poured into its cell
+poured_busy : (n shares : ℕ) (old new : List LotState) (lot : LotState) (b : BusyLot) → lot_at old n ≡ Some lot → lot.ended ≡ false → new ≡ update_at old n (with_pour shares lot)
+    → IsBusy old b → IsBusy new (changed_at (busy_with_pour shares) n b)
+poured_busy n shares old new lot b found going is busy = by (b.lot == n) refl
+  where
+    spares : Spares (Some n) old new
+    spares = spares_update old new n lot (with_pour shares lot) found going is
+
+    more : b.lot ≡ n → (l : LotState) → ((b.lot ≡ n) × (with_pour shares lot ≡ l)) ⊎ ((b.lot ≡ n → ⊥) × (lot_at old b.lot ≡ Some l)) → IsFed (busy_with_pour shares b) l
+    more same l (inl h) =
+        let before = busy.fed lot (ap (lot_at old) same ∙ found) going in
+        subst (IsFed (busy_with_pour shares b)) h.1
+        (record { poured = ap (λ (m : ℕ). m + shares) before.poured; tickets = before.tickets; unsealed = before.unsealed })
+    more same l (inr h) = absurd (h.0 same)
+
+    by : (t : Bool) → (b.lot == n) ≡ t → IsBusy new (if t then busy_with_pour shares b else b)
+    by true e = record {
+      given = let a = busy.given in let l = spares.longer in omega arith;
+      fed = λ l here up.
+          more (eqb-true b.lot n e) l (at_changed old n b.lot lot (with_pour shares lot) l found (ap (λ (lots : List LotState). lot_at lots b.lot) (sym is) ∙ here));
+    }
+    by false e = busy_kept (Some n) old new b busy spares (λ some. absurd (eqb-false b.lot n e (sym (same_Some n b.lot some))))
+
+pour_leaves : (n : ℕ) (result : Result ℕ Refusal) (old new : NumberedNode) (busy : List BusyLot) → PourLeaves n result old new → AreBusy old.lots busy
+    → AreBusy new.lots (busy_after_pour (pour_outcome result) n busy)
+pour_leaves n (Ok shares) old new busy h are =
+    let at = open-parts old.lots n _ h in
+    record {
+      each =
+          All-map (IsBusy new.lots) (changed_at (busy_with_pour shares) n) busy
+          (All-weaker (IsBusy old.lots) (λ (b : BusyLot). IsBusy new.lots (changed_at (busy_with_pour shares) n b))
+          (λ b is. poured_busy n shares old.lots new.lots at.lot b at.found at.going at.holds.1 is) busy are.each);
+      order = order_stays (busy_with_pour shares) n (λ b. refl) busy are.order;
+    }
+pour_leaves n (Err refusal.NoLot) old new busy h are = subst (λ (m : NumberedNode). AreBusy m.lots busy) (sym h.1) are
+pour_leaves n (Err refusal.StaleLot) old new busy h are = subst (λ (m : NumberedNode). AreBusy m.lots busy) (sym h.1) are
+pour_leaves n (Err refusal.Down) old new busy h are = subst (λ (m : NumberedNode). AreBusy m.lots busy) (sym h.1) are
+pour_leaves n (Err _) old new busy h are = absurd h
+
+pub pour_kept : (n : ℕ) (outcome : Outcome) (old new : World) (busy : List BusyLot) → Step (event.LotPour n) outcome old new → AreBusy old.clear.lots busy
+    → AreBusy new.clear.lots (busy_after_pour outcome n busy)
+pour_kept n outcome old new busy h are =
+    subst (λ (o : Outcome). AreBusy new.clear.lots (busy_after_pour o n busy)) (sym h.3.1) (pour_leaves n h.3.0 old.clear new.clear busy h.3.2 are)
+
+-- the cell takes what was poured into the lot
+fits_when : (n shares : ℕ) (result : Result ℕ Refusal) (old new : NumberedNode) (busy : List BusyLot) → PourLeaves n result old new → outcomes.Poured shares ≡ pour_outcome result
+    → AreBusy old.lots busy → AreLotsLawful new.lots → PourFits n shares busy
+fits_when n shares (Ok more) old new busy h told are lawful =
+    let at = open-parts old.lots n _ h in
+    let same : shares ≡ more = cc in
+    let x = with_pour more at.lot in
+    let here = at_place old.lots n at.lot at.found in
+    let there : slice_get new.lots (n - 1) ≡ Some x = ap (λ (lots : List LotState). slice_get lots (n - 1)) at.holds.1 ∙ get_set_same old.lots (n - 1) at.lot x here.1 in
+    let is : IsLot x = subst IsLot (get_or_from_slice_get new.lots (n - 1) x x there) (lawful (n - 1) x (slice_get_within new.lots (n - 1) x there)) in
+    let most = is.poured in
+    λ k d below number.
+    let fed = (are.each k d below).fed at.lot (ap (lot_at old.lots) number ∙ at.found) at.going in
+    let poured = fed.poured in omega (arith, same, most, poured)
+fits_when n shares (Err r) old new busy h told are lawful = cc
+
+pub pour_fits : (n shares : ℕ) (outcome : Outcome) (old new : World) (busy : List BusyLot) → Step (event.LotPour n) outcome old new → outcome ≡ outcomes.Poured shares
+    → AreBusy old.clear.lots busy → AreLotsLawful new.clear.lots → PourFits n shares busy
+pour_fits n shares outcome old new busy h told are lawful = fits_when n shares h.3.0 old.clear new.clear busy h.3.2 (sym told ∙ h.3.1) are lawful
+
+pub not_poured : (outcome : Outcome) (n : ℕ) (busy : List BusyLot) → ((shares : ℕ) → outcome ≡ outcomes.Poured shares → ⊥) → busy_after_pour outcome n busy ≡ busy
+not_poured (outcomes.Poured shares) n busy other = absurd (other shares refl)
+not_poured _ n busy other = refl
+
+-- ---- what an event comes to, by the busy lot that is found
+
+pub match_some : (found : Option BusyLot) (P : Type 0) (A : BusyLot → Type 0) (b : BusyLot) → found ≡ Some b → A b → MatchOption found P A
+match_some found P A b is a = subst (λ (o : Option BusyLot). MatchOption o P A) (sym is) a
+
+pub match_none : (found : Option BusyLot) (P : Type 0) (A : BusyLot → Type 0) → found ≡ None → P → MatchOption found P A
+match_none found P A is p = subst (λ (o : Option BusyLot). MatchOption o P A) (sym is) p
+
+-- both nodes and the link change by an event, or stay
+abbrev Goes : Outcome → FloorState → FloorState → Type 0
+Goes o old new = ((e : Event) × Occurs e o old.system new.system) ⊎ (new.system ≡ old.system)
+
+goes_by : (found : Option BusyLot) (A : BusyLot → Type 0) (e : Event) (o : Outcome) (old new : FloorState) → ((b : BusyLot) → A b → new.system ≡ old.system)
+    → MatchOption found (BySystem e o old new) A → Goes o old new
+goes_by None A e o old new same h = inl (e, h.0)
+goes_by (Some b) A e o old new same h = inr (same b h)
+
+floor_goes : (e : Event) (o : Outcome) (old new : FloorState) → FloorStep e o old new → Goes o old new
+floor_goes (event.Reserve lot member) o old new h =
+    goes_by (busy_at old.busy lot) (λ (b : BusyLot). (o ≡ outcomes.Refused refusal.LotBusy) × (new ≡ old)) (event.Reserve lot member) o old new (λ b a. ap (λ (f : FloorState). f.system) a.1) h
+floor_goes (event.LotClose lot) o old new h =
+    goes_by (busy_at old.busy lot) (λ (b : BusyLot). (o ≡ outcomes.Refused refusal.LotBusy) × (new ≡ old)) (event.LotClose lot) o old new (λ b a. ap (λ (f : FloorState). f.system) a.1) h
+floor_goes (event.LotPour lot) o old new h = inl (event.LotPour lot, h.0)
+floor_goes (event.LookPoured lot) o old new h =
+    goes_by (served_at old lot) (λ (b : BusyLot). (o ≡ outcomes.LookedPoured b.poured) × (new ≡ old)) (event.LookPoured lot) o old new (λ b a. ap (λ (f : FloorState). f.system) a.1) h
+floor_goes (event.LookAsked lot) o old new h =
+    goes_by (served_at old lot) (λ (b : BusyLot). ((asked : ℕ) × (o ≡ outcomes.LookedAsked asked b.sealed)) × (new ≡ old)) (event.LookAsked lot) o old new
+    (λ b a. ap (λ (f : FloorState). f.system) a.1) h
+floor_goes (event.Seal lot) o old new h =
+    goes_by (served_at old lot) (λ (b : BusyLot). (o ≡ outcomes.Done) × (new ≡ record old { busy = with_busy busy_with_seal lot old.busy })) (event.Seal lot) o old new
+    (λ b a. ap (λ (f : FloorState). f.system) a.1) h
+floor_goes e o old new h = inl (e, h.0)
+
+pub floor_strict : (e : Event) (o : Outcome) (old new : FloorState) → FloorStep e o old new → AreStrict old.system → AreStrict new.system
+floor_strict e o old new h strict = by (floor_goes e o old new h)
+  where
+    by : Goes o old new → AreStrict new.system
+    by (inl g) = g.1.strict strict
+    by (inr same) = subst AreStrict (sym same) strict
+
+pub floor_rises : (e : Event) (o : Outcome) (old new : FloorState) → FloorStep e o old new → NumbersRise old.system new.system
+floor_rises e o old new h = by (floor_goes e o old new h)
+  where
+    by : Goes o old new → NumbersRise old.system new.system
+    by (inl g) = (step_spares g.0 o old.system new.system g.1.step).longer
+    by (inr same) = (spares_same None old.system.clear.lots new.system.clear.lots (ap (λ (w : World). w.clear.lots) same)).longer
+
+-- ---- the cell's own events
+
+-- so many more may be poured into the cell that is read
+pub fits_at : (n shares place : ℕ) (busy : List BusyLot) (x : BusyLot) → PourFits n shares busy → IsAt busy n place x → x.poured + shares ≤ 1000000000000000000
+fits_at n shares place busy x fits at =
+    let same = get_or_from_slice_get busy place x x at.found in
+    subst (λ (b : BusyLot). b.lot ≡ n → b.poured + shares ≤ 1000000000000000000) same (fits place x (slice_get_within busy place x at.found)) at.number
+
+-- what a change in its place leaves
+pub changed_in_place : (change : BusyLot → BusyLot) (n place : ℕ) (busy : List BusyLot) (x new : BusyLot) → AreInOrder busy → IsAt busy n place x → new ≡ change x
+    → slice_set busy place new ≡ with_busy change n busy
+changed_in_place change n place busy x new order at is =
+    ap (λ (b : BusyLot). slice_set busy place b) is ∙ sym (change_in_place change n busy place x order at.found at.number)
+
+-- a look leaves the busy lot, and so all, as it was; it is of the one that is served
+pub record LooksAt (f now : FloorState) (n place : ℕ) (x new : BusyLot) : Type 0 where
+  pub found : served_at now n ≡ Some x
+  pub same : record f { busy = slice_set f.busy place new } ≡ now
+
+pub looks_at : (f now : FloorState) (n place : ℕ) (x new : BusyLot) → f ≡ now → IsPlaceOf (served_at now n) now.busy (Some place) → x ≡ get_or f.busy place x → new ≡ x
+    → LooksAt f now n place x new
+looks_at f now n place x new same is read stays =
+    let at = read_served f now n place x same is read in
+    let one : is.0 ≡ x = same_Some is.0 x (sym is.2 ∙ ap (λ (g : FloorState). slice_get g.busy place) (sym same) ∙ at.found) in
+    let items : slice_set f.busy place new ≡ f.busy = ap (λ (b : BusyLot). slice_set f.busy place b) (stays ∙ read) ∙ set-get_or f.busy place x in
+    record {
+      found = is.1 ∙ ap Some one;
+      same = ap (λ (bs : List BusyLot). record f { busy = bs }) items ∙ same;
+    }
+
+-- a seal changes neither what was poured nor the number
+sealed_busy : (lots : List LotState) (n : ℕ) (b : BusyLot) → IsBusy lots b → IsBusy lots (changed_at busy_with_seal n b)
+sealed_busy lots n b is = by (b.lot == n)
+  where
+    by : (t : Bool) → IsBusy lots (if t then busy_with_seal b else b)
+    by true = record {
+      given = is.given;
+      fed = λ l found going. let fed = is.fed l found going in record { poured = fed.poured; tickets = fed.tickets; unsealed = fed.unsealed };
+    }
+    by false = is
+
+seal_kept : (lots : List LotState) (n : ℕ) (busy : List BusyLot) → AreBusy lots busy → AreBusy lots (with_busy busy_with_seal n busy)
+seal_kept lots n busy are = record {
+  each =
+      All-map (IsBusy lots) (changed_at busy_with_seal n) busy
+      (All-weaker (IsBusy lots) (λ (b : BusyLot). IsBusy lots (changed_at busy_with_seal n b)) (λ b is. sealed_busy lots n b is) busy are.each);
+  order = order_stays busy_with_seal n (λ b. refl) busy are.order;
+}
+
+pub sealed_kept : (f now : FloorState) (n place : ℕ) (x new : BusyLot) → f ≡ now → IsPlaceOf (served_at now n) now.busy (Some place) → x ≡ get_or f.busy place x → new ≡ busy_with_seal x
+    → AreBusy f.system.clear.lots f.busy → AreBusy f.system.clear.lots (slice_set f.busy place new)
+sealed_kept f now n place x new same is read sealed are =
+    subst (AreBusy f.system.clear.lots) (sym (changed_in_place busy_with_seal n place f.busy x new are.order (read_served f now n place x same is read) sealed))
+    (seal_kept f.system.clear.lots n f.busy are)
+
+pub seals_at : (f now : FloorState) (n place : ℕ) (x new : BusyLot) → f ≡ now → IsPlaceOf (served_at now n) now.busy (Some place) → x ≡ get_or f.busy place x → new ≡ busy_with_seal x
+    → AreBusy f.system.clear.lots f.busy → record f { busy = slice_set f.busy place new } ≡ record now { busy = with_busy busy_with_seal n now.busy }
+seals_at f now n place x new same is read sealed are =
+    ap (λ (bs : List BusyLot). record f { busy = bs }) (changed_in_place busy_with_seal n place f.busy x new are.order (read_served f now n place x same is read) sealed)
+    ∙ ap (λ (g : FloorState). record g { busy = with_busy busy_with_seal n g.busy }) same
+
+-- ---- events that change no busy lot, but one that has ended
+
+pub seal_spared : (f : FloorState) (n : ℕ) → served_at f n ≡ None → All (λ (b : BusyLot). Some n ≡ Some b.lot → is_open f.system.clear.lots b.lot ≡ false) f.busy
+seal_spared f n none = by (is_open f.system.clear.lots n) refl none
+  where
+    by : (t : Bool) → is_open f.system.clear.lots n ≡ t → (if t then busy_at f.busy n else None) ≡ None
+        → All (λ (b : BusyLot). Some n ≡ Some b.lot → is_open f.system.clear.lots b.lot ≡ false) f.busy
+    by true e is = λ k d below some. absurd (none_busy f.busy n is k d below (sym (same_Some n _ some)))
+    by false e is = λ k d below some. subst (λ (i : ℕ). is_open f.system.clear.lots i ≡ false) (same_Some n _ some) e
+
+pub unless_spared : (e : Event) (n : ℕ) (f : FloorState) (items : List BusyLot) → items ≡ f.busy → NamesLot e n → busy_at items n ≡ None → SparesBusy e f
+unless_spared e n f items same names none =
+    let none' : busy_at f.busy n ≡ None = ap (λ (bs : List BusyLot). busy_at bs n) (sym same) ∙ none in
+    λ k d below some. absurd (none_busy f.busy n none' k d below (sym (same_Some n _ (sym names ∙ some))))

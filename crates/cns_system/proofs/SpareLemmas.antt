@@ -1,0 +1,159 @@
+-- What each event may leave of the lots by number.
+use Rattle.std.proofs.Common.{◌≡◌, ◌∙◌, ◌≤◌, ◌-◌, ◌+◌, ℕ, true, false, not, List, [], ◌∷◌, ◌++◌, length, map, Option, Some, None, Result, Ok, Err, ap, sym, subst, arith, inl, inr, length-set}
+use Rattle.std.specs.Prelude.{◌⊎◌, slice_get}
+use Rattle.std.proofs.lemmas.List.{length-append, length-map}
+use Rattle.cns_clearing.specs.declared.answer.Closed.{Closed}
+use Rattle.cns_movements.specs.declared.order.Order.{Order}
+use Rattle.cns_movements.specs.declared.order.Reply.{Reply}
+use Rattle.cns_pool.specs.declared.ticket.Ticket.{Ticket}
+use Rattle.cns_records.specs.declared.refusal.Refusal.{Refusal}
+use Rattle.cns_records.specs.declared.refusal.Refusal.TheVariants as refusal
+use Rattle.cns_wire.specs.Packet.{packet_at}
+use Rattle.cns_system.specs.Floor.{has_not_ended, is_open, lot_changed}
+use Rattle.cns_system.specs.Lot.{LotState, with_end, with_seal}
+use Rattle.cns_system.specs.Lots.{LotLeaves, ReserveLeaves, lot_at, update_at}
+use Rattle.cns_system.specs.Numbered.{NumberedNode, CloseLeaves, OpenLeaves, PourLeaves}
+use Rattle.cns_system.specs.Step.{OrderInStep, ReplyInStep, SendStep, Step}
+use Rattle.cns_system.specs.World.{World, order_in_packet, reply_in_packet}
+use Rattle.cns_system.specs.declared.event.Event.{Event}
+use Rattle.cns_system.specs.declared.event.Event.TheVariants as event
+use Rattle.cns_system.specs.declared.event.NodeName.TheVariants as node
+use Rattle.cns_system.specs.declared.numbered.Opened.{Opened}
+use Rattle.cns_system.specs.declared.outcome.Outcome.{Outcome}
+use Rattle.cns_system.proofs.LotsLemmas.{open-parts}
+use Rattle.cns_system.proofs.TiedLemmas.{at_changed, at_place, ended_at, from_place, get_more}
+
+-- numbers that were given stay given; and a lot of theirs that has not ended was just the same before, but for the one of this number, where
+-- it had not ended
+pub record Spares (changed : Option ℕ) (old new : List LotState) : Type 0 where
+  pub longer : length old ≤ length new
+  pub same : (n : ℕ) (l : LotState) → (changed ≡ Some n → is_open old n ≡ false) → n ≤ length old → lot_at new n ≡ Some l → l.ended ≡ false → lot_at old n ≡ Some l
+
+-- ---- by what takes the place of the lots
+
+pub spares_same : (changed : Option ℕ) (old new : List LotState) → new ≡ old → Spares changed old new
+spares_same changed old new same = record {
+  longer = omega (arith, ap length same);
+  same = λ n l spared given found going. ap (λ (lots : List LotState). lot_at lots n) (sym same) ∙ found;
+}
+
+-- whether a lot has not ended, as it is found
+pub open_found : (lots : List LotState) (n : ℕ) (l : LotState) → lot_at lots n ≡ Some l → l.ended ≡ false → is_open lots n ≡ true
+open_found lots n l found going = ap has_not_ended found ∙ ap not going
+
+pub spares_update : (old new : List LotState) (m : ℕ) (k x : LotState) → lot_at old m ≡ Some k → k.ended ≡ false → new ≡ update_at old m x → Spares (Some m) old new
+spares_update old new m k x found going is = record {
+  longer = let len = ap length is ∙ length-set _ _ _ in omega (arith, len);
+  same = λ n l spared given here up. by n l spared (at_changed old m n k x l found (ap (λ (lots : List LotState). lot_at lots n) (sym is) ∙ here));
+}
+  where
+    by : (n : ℕ) (l : LotState) → (Some m ≡ Some n → is_open old n ≡ false) → ((n ≡ m) × (x ≡ l)) ⊎ ((n ≡ m → ⊥) × (lot_at old n ≡ Some l)) → lot_at old n ≡ Some l
+    by n l spared (inl h) =
+        let shut : is_open old m ≡ false = subst (λ (i : ℕ). is_open old i ≡ false) h.0 (spared (ap Some (sym h.0))) in
+        let no : true ≡ false = sym (open_found old m k found going) ∙ shut in cc
+    by n l spared (inr h) = h.1
+
+pub spares_more : (changed : Option ℕ) (old new : List LotState) (x : LotState) → new ≡ old ++ x ∷ [] → Spares changed old new
+spares_more changed old new x is = record {
+  longer = let len = ap length is ∙ length-append old (x ∷ []) in omega (arith, len);
+  same = λ n l spared given found going.
+      let here = at_place (old ++ x ∷ []) n l (ap (λ (lots : List LotState). lot_at lots n) (sym is) ∙ found) in
+      by n l given here.0 (get_more old (n - 1) x l here.1);
+}
+  where
+    by : (n : ℕ) (l : LotState) → n ≤ length old → 1 ≤ n → (slice_get old (n - 1) ≡ Some l) ⊎ ((n - 1 ≡ length old) × (x ≡ l)) → lot_at old n ≡ Some l
+    by n l given some (inl h) = from_place old n l some h
+    by n l given some (inr h) = absurd (omega (arith, given, some, h.0))
+
+pub spares_ended : (changed : Option ℕ) (old new : List LotState) → new ≡ map with_end old → Spares changed old new
+spares_ended changed old new is = record {
+  longer = let len = ap length is ∙ length-map old with_end in omega (arith, len);
+  same = λ n l spared given found going.
+      let no : true ≡ false = sym (ended_at old n l (ap (λ (lots : List LotState). lot_at lots n) (sym is) ∙ found)) ∙ going in cc;
+}
+
+-- no lot changes
+node_same : (changed : Option ℕ) (old new : NumberedNode) → new ≡ old → Spares changed old.lots new.lots
+node_same changed old new same = spares_same changed old.lots new.lots (ap (λ (n : NumberedNode). n.lots) same)
+
+world_same : (changed : Option ℕ) (old new : World) → new ≡ old → Spares changed old.clear.lots new.clear.lots
+world_same changed old new same = spares_same changed old.clear.lots new.clear.lots (ap (λ (w : World). w.clear.lots) same)
+
+-- ---- by what the calls leave
+
+open_spares : (changed : Option ℕ) (issue : ℕ) (result : Result Opened Refusal) (old new : NumberedNode) → OpenLeaves issue result old new → Spares changed old.lots new.lots
+open_spares changed issue (Ok opened) old new h = spares_more changed old.lots new.lots _ h.3
+open_spares changed issue (Err refusal.Down) old new h = node_same changed old new h.1
+open_spares changed issue (Err refusal.LotAlready) old new h = node_same changed old new h.2
+open_spares changed issue (Err refusal.LotsSpent) old new h = node_same changed old new h.3
+open_spares changed issue (Err refusal.OutOfMemory) old new h = node_same changed old new h.3
+open_spares changed issue (Err _) old new h = absurd h
+
+pour_spares : (n : ℕ) (result : Result ℕ Refusal) (old new : NumberedNode) → PourLeaves n result old new → Spares (Some n) old.lots new.lots
+pour_spares n (Ok shares) old new h =
+    let at = open-parts old.lots n _ h in spares_update old.lots new.lots n at.lot _ at.found at.going at.holds.1
+pour_spares n (Err refusal.NoLot) old new h = node_same (Some n) old new h.1
+pour_spares n (Err refusal.StaleLot) old new h = node_same (Some n) old new h.1
+pour_spares n (Err refusal.Down) old new h = node_same (Some n) old new h.1
+pour_spares n (Err _) old new h = absurd h
+
+reserve_spares : (n member : ℕ) (result : Result Ticket Refusal) (old new : List LotState) → ReserveLeaves n member result old new → Spares (Some n) old new
+reserve_spares n member (Ok ticket) old new h =
+    let at = open-parts old n _ h in spares_update old new n at.lot _ at.found at.going at.holds.3
+reserve_spares n member (Err refusal.NoLot) old new h = spares_same (Some n) old new h.1
+reserve_spares n member (Err refusal.StaleLot) old new h = spares_same (Some n) old new h.1
+reserve_spares n member (Err refusal.NotLong) old new h = spares_same (Some n) old new h.1
+reserve_spares n member (Err refusal.EarlierGroup) old new h = spares_same (Some n) old new h.1
+reserve_spares n member (Err refusal.Sealed) old new h = spares_same (Some n) old new h.1
+reserve_spares n member (Err _) old new h = absurd h
+
+seal_spares : (n : ℕ) (result : Result (Unit {0}) Refusal) (old new : List LotState) → LotLeaves with_seal n result old new → Spares (Some n) old new
+seal_spares n (Ok done) old new h =
+    let at = open-parts old n _ h in spares_update old new n at.lot _ at.found at.going at.holds
+seal_spares n (Err refusal.NoLot) old new h = spares_same (Some n) old new h.1
+seal_spares n (Err refusal.StaleLot) old new h = spares_same (Some n) old new h.1
+seal_spares n (Err _) old new h = absurd h
+
+close_spares : (n : ℕ) (result : Result Closed Refusal) (old new : NumberedNode) → CloseLeaves n result old new → Spares (Some n) old.lots new.lots
+close_spares n (Ok done) old new h =
+    let at = open-parts old.lots n _ h in spares_update old.lots new.lots n at.lot _ at.found at.going at.holds.2
+close_spares n (Err refusal.NoLot) old new h = node_same (Some n) old new h.1
+close_spares n (Err refusal.StaleLot) old new h = node_same (Some n) old new h.1
+close_spares n (Err refusal.Down) old new h = node_same (Some n) old new h.1
+close_spares n (Err refusal.Unserved) old new h = node_same (Some n) old new h.1
+close_spares n (Err refusal.NumbersSpent) old new h = node_same (Some n) old new h.1
+close_spares n (Err refusal.OutOfMemory) old new h = node_same (Some n) old new h.1
+close_spares n (Err refusal.Device) old new h = spares_same (Some n) old.lots new.lots h.1
+close_spares n (Err _) old new h = absurd h
+
+send_spares : (changed : Option ℕ) (n : ℕ) (outcome : Outcome) (old new : World) → SendStep n outcome old new → Spares changed old.clear.lots new.clear.lots
+send_spares changed n outcome old new (inl h) = spares_same changed old.clear.lots new.clear.lots (ap (λ (w : World). w.clear.lots) h.2.put)
+send_spares changed n outcome old new (inr h) = world_same changed old new h.3
+
+order_spares : (changed : Option ℕ) (held : Option Order) (outcome : Outcome) (old new : World) → OrderInStep held outcome old new → Spares changed old.clear.lots new.clear.lots
+order_spares changed None outcome old new h = world_same changed old new h.1
+order_spares changed (Some o) outcome old new h = node_same changed old.clear new.clear h.0
+
+reply_spares : (changed : Option ℕ) (held : Option Reply) (outcome : Outcome) (old new : World) → ReplyInStep held outcome old new → Spares changed old.clear.lots new.clear.lots
+reply_spares changed None outcome old new h = world_same changed old new h.1
+reply_spares changed (Some r) outcome old new h = spares_same changed old.clear.lots new.clear.lots h.3.2.1
+
+-- ---- events
+
+pub step_spares : (e : Event) (outcome : Outcome) (old new : World) → Step e outcome old new → Spares (lot_changed e) old.clear.lots new.clear.lots
+step_spares (event.Trade t) outcome old new h = spares_same None old.clear.lots new.clear.lots h.3.2.1
+step_spares (event.Exempt m i s) outcome old new h = spares_same None old.clear.lots new.clear.lots h.3.2.1
+step_spares (event.Priority m i on) outcome old new h = spares_same None old.clear.lots new.clear.lots h.3.2.1
+step_spares (event.Cycle id) outcome old new h = spares_same None old.clear.lots new.clear.lots h.3.2.1
+step_spares (event.LotOpen issue) outcome old new h = open_spares None issue h.3.0 old.clear new.clear h.3.2
+step_spares (event.LotPour lot) outcome old new h = pour_spares lot h.3.0 old.clear new.clear h.3.2
+step_spares (event.Reserve lot member) outcome old new h = reserve_spares lot member h.3.0 old.clear.lots new.clear.lots h.3.2.0
+step_spares (event.LookPoured lot) outcome old new h = node_same None old.clear new.clear h.3.2.1
+step_spares (event.LookAsked lot) outcome old new h = node_same None old.clear new.clear h.3.2.1
+step_spares (event.Seal lot) outcome old new h = seal_spares lot h.3.0 old.clear.lots new.clear.lots h.3.2.0
+step_spares (event.LotClose lot) outcome old new h = close_spares lot h.3.0 old.clear new.clear h.3.2
+step_spares (event.Send number) outcome old new h = send_spares None number outcome old new h
+step_spares (event.OrderIn packet) outcome old new h = order_spares None (order_in_packet (packet_at old.orders packet)) outcome old new h
+step_spares (event.ReplyIn packet) outcome old new h = reply_spares None (reply_in_packet (packet_at old.replies packet)) outcome old new h
+step_spares (event.Restart node.Clear) outcome old new h = spares_ended None old.clear.lots new.clear.lots h.3.2.1
+step_spares (event.Restart node.Depot) outcome old new h = node_same None old.clear new.clear h.0
