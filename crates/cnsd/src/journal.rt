@@ -31,11 +31,16 @@ fn open_locked<R: Files<File = File> + AllocGlobal>(
     }
 }
 
+// Opens a folder.
+fn open_folder<R: Files<File = File>>(rt: &R, folder: &str) -> Result<File, BatchFault> {
+    match File::open(rt, folder) {
+        Ok(folder) => Ok(folder),
+        Err(_) => Err(BatchFault::Journal),
+    }
+}
+
 // Waits until the names in a folder are on the disk.
-fn sync_folder<R: Files<File = File>>(rt: &R, folder: &str) -> Result<(), BatchFault> {
-    let Ok(folder) = File::open(rt, folder) else {
-        return Err(BatchFault::Journal);
-    };
+fn sync_folder(folder: &File) -> Result<(), BatchFault> {
     match folder.sync_all() {
         Ok(()) => Ok(()),
         Err(_) => Err(BatchFault::Journal),
@@ -45,15 +50,17 @@ fn sync_folder<R: Files<File = File>>(rt: &R, folder: &str) -> Result<(), BatchF
 /// Opens `clear.journal` and `depot.journal` in a folder, empty where they are missing. The folder is
 /// not made. No record is read yet.
 ///
-/// Refuses `Journal` where a file cannot be opened for reading and writing or its lock is held elsewhere,
-/// and where the folder cannot be synced; `Memory` where there was none.
+/// Refuses `Journal` where the folder cannot be opened, where a file cannot be opened for reading and
+/// writing or its lock is held elsewhere, and where the folder cannot be synced; `Memory` where there was
+/// none.
 pub(crate) fn open_journals<R: Files<File = File> + AllocGlobal>(
     rt: &R,
     folder: &str,
 ) -> Result<Journals, BatchFault> {
+    let directory = open_folder(rt, folder)?;
     let clear = open_locked(rt, folder, "clear.journal")?;
     let depot = open_locked(rt, folder, "depot.journal")?;
-    sync_folder(rt, folder)?;
+    sync_folder(&directory)?;
     Ok(Journals {
         clear: DiskJournal::new(rt.alloc(), FileDisk::new(clear)),
         depot: DiskJournal::new(rt.alloc(), FileDisk::new(depot)),
