@@ -32,23 +32,19 @@ import fcntl
 import os
 import shutil
 import struct
-import subprocess
 import sys
 import tempfile
+
+from preload import SECONDS, Failure, is_program, library, run, say_end
 
 HERE = os.path.dirname(os.path.abspath(__file__))
 FOLDER = os.path.join(HERE, 'crash')
 SEEDS = range(1, 7)
-SECONDS = 20
 FAILED = (3, b'', b'cnsd: journal failed\n')
 SIDES = {'c': 'clear', 'd': 'depot'}
 NODES = {'c': 'CLEAR', 'd': 'DEPOT'}
 GATE = 0xA5
 MAX_PAYLOAD = 1048576
-
-
-class Failure(Exception):
-    """What went wrong, in words."""
 
 
 def records(path):
@@ -157,14 +153,11 @@ class Example:
     def run(self, folder, text, more=None):
         """(exit status, standard output, standard error); over keepers in memory where there is no folder."""
         command = [self.program, 'run'] + ([] if folder is None else ['--journal', folder])
-        around = dict(os.environ)
-        if more is not None:
-            around.update(more, LD_PRELOAD=self.library, CRASH_TRACE=folder + '.trace')
-        try:
-            done = subprocess.run(command, input=text, capture_output=True, timeout=SECONDS, env=around)
-        except subprocess.TimeoutExpired:
+        around = {} if more is None else {**more, 'LD_PRELOAD': self.library, 'CRASH_TRACE': folder + '.trace'}
+        ended = run(command, text, around)
+        if ended[0] is None:
             raise Failure('no end within %d seconds' % SECONDS)
-        return done.returncode, done.stdout, done.stderr
+        return ended
 
     def lines_of_commits(self):
         """The line of the script, counted from 0, in which each commit falls."""
@@ -313,35 +306,18 @@ class Example:
                     yield number, how, seed
 
 
-def library(room):
-    """The preloaded library, compiled into a folder."""
-    path = os.path.join(room, 'crash.so')
-    command = ['cc', '-shared', '-fPIC', '-O1', '-o', path, os.path.join(HERE, 'crash.c'), '-ldl']
-    try:
-        done = subprocess.run(command, capture_output=True)
-    except OSError as error:
-        raise Failure('crash.c: %s' % error)
-    if done.returncode != 0:
-        raise Failure('crash.c cannot be compiled\n%s' % done.stderr.decode('utf-8', 'replace'))
-    return path
-
-
 def main(words):
     passed = failed = 0
-    if not words or not os.access(words[0], os.X_OK) or os.path.isdir(words[0]):
-        print('no program %s' % (words[0] if words else ''))
-        print('0 passed, 1 failed')
-        return 1
+    if not is_program(words):
+        return say_end(0, 1, 'no program %s' % (words[0] if words else ''))
     program = os.path.abspath(words[0])
     paths = words[1:] or sorted(os.path.join(FOLDER, name) for name in os.listdir(FOLDER)
                                 if name.endswith('.in') and not name.endswith('.before.in'))
     with tempfile.TemporaryDirectory() as room, concurrent.futures.ThreadPoolExecutor(os.cpu_count() or 1) as pool:
         try:
-            preloaded = library(room)
+            preloaded = library('crash', room)
         except Failure as failure:
-            print('FAIL %s' % failure)
-            print('0 passed, 1 failed')
-            return 1
+            return say_end(0, 1, 'FAIL %s' % failure)
         for place, path in enumerate(paths):
             try:
                 example = Example(path, program, preloaded, room)
@@ -368,8 +344,7 @@ def main(words):
             passed += right
             print('%s: %d calls, %d commits; %d runs, %d of them as they should be'
                   % (example.name, len(example.calls), len(example.lines), len(tests), right))
-    print('%d passed, %d failed' % (passed, failed))
-    return 0 if failed == 0 and passed > 0 else 1
+    return say_end(passed, failed)
 
 
 if __name__ == '__main__':

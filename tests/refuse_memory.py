@@ -19,30 +19,17 @@ and N is not.
 import concurrent.futures
 import os
 import struct
-import subprocess
 import sys
 import tempfile
+
+from preload import SECONDS, Failure, is_program, library, run, say_end
 
 HERE = os.path.dirname(os.path.abspath(__file__))
 EXAMPLES = [os.path.join(HERE, '..', 'examples', name + '.in')
             for name in ('plain-night', 'lot-poured-twice', 'restarts-keep', 'planned-failures')]
 CUSIP = '037833100'
-SECONDS = 20
 MEMORY = b'cnsd: out of memory\n'
 REFUSED = b' refused OutOfMemory'
-
-
-class Failure(Exception):
-    """What went wrong, in words."""
-
-
-def run(command, text, more):
-    """(exit status, standard output, standard error); the status of a run without an end is None."""
-    try:
-        done = subprocess.run(command, input=text, capture_output=True, timeout=SECONDS, env=dict(os.environ, **more))
-    except subprocess.TimeoutExpired:
-        return None, b'', b''
-    return done.returncode, done.stdout, done.stderr
 
 
 class Example:
@@ -108,35 +95,18 @@ class Example:
         return '\n'.join('    ' + line for line in told)
 
 
-def library(folder):
-    """The preloaded library, compiled into a folder."""
-    path = os.path.join(folder, 'refuse_memory.so')
-    command = ['cc', '-shared', '-fPIC', '-O1', '-o', path, os.path.join(HERE, 'refuse_memory.c')]
-    try:
-        done = subprocess.run(command, capture_output=True)
-    except OSError as error:
-        raise Failure('refuse_memory.c: %s' % error)
-    if done.returncode != 0:
-        raise Failure('refuse_memory.c cannot be compiled\n%s' % done.stderr.decode('utf-8', 'replace'))
-    return path
-
-
 def main(words):
     passed = failed = 0
-    if not words or not os.access(words[0], os.X_OK) or os.path.isdir(words[0]):
-        print('no program %s' % (words[0] if words else ''))
-        print('0 passed, 1 failed')
-        return 1
+    if not is_program(words):
+        return say_end(0, 1, 'no program %s' % (words[0] if words else ''))
     program = os.path.abspath(words[0])
     inputs = [(os.path.basename(path), ['run'], path) for path in words[1:] or EXAMPLES]
     inputs.append(('cusip %s' % CUSIP, ['cusip', CUSIP], os.devnull))
     with tempfile.TemporaryDirectory() as folder, concurrent.futures.ThreadPoolExecutor(os.cpu_count() or 1) as pool:
         try:
-            preloaded = library(folder)
+            preloaded = library('refuse_memory', folder)
         except Failure as failure:
-            print('FAIL %s' % failure)
-            print('0 passed, 1 failed')
-            return 1
+            return say_end(0, 1, 'FAIL %s' % failure)
         for name, arguments, path in inputs:
             try:
                 with open(path, 'rb') as file:
@@ -155,8 +125,7 @@ def main(words):
                     right += 1
             passed += right
             print('%s: %d requests, %d of their refusals as they should be' % (name, example.requests, right))
-    print('%d passed, %d failed' % (passed, failed))
-    return 0 if failed == 0 and passed > 0 else 1
+    return say_end(passed, failed)
 
 
 if __name__ == '__main__':

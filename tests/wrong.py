@@ -67,25 +67,22 @@ def run(words, folder):
 
 
 def build_libraries(wanted, tree, lanes):
-    """Builds the libraries below the wanted crates in the copy."""
+    """Checks the wanted crates and those below them in the copy, and builds the libraries of the latter."""
     stands_on = below()
-    needed = [name for name in crates() if any(name in all_below(one, stands_on) for one in wanted)]
-    for name in needed:
+    libraries = [name for name in crates() if any(name in all_below(one, stands_on) for one in wanted)]
+    checked = [name for name in crates() if name in libraries or name in wanted]
+    for name in checked:
         copy_crate(name, tree)
-    write_lines_of(tree, needed)
-    steps = [(["rt", "all", "check", "--jobs", str(lanes)], tree)] if needed else []
-    steps += [(["rt", "lib"], f"{tree}/crates/{name}") for name in needed]
+    write_lines_of(tree, checked)
+    steps = [(["rt", "all", "check", "--jobs", str(lanes)], tree)]
+    steps += [(["rt", "lib"], f"{tree}/crates/{name}") for name in libraries]
     for words, folder in steps:
         status, said, _ = run(words, folder)
         if status:
             print(said, end="")
-            print("FAIL a library is not proved, so nothing above it can be tried")
+            print("FAIL a crate is not proved, so nothing in it or above it can be tried")
             print("0 passed, 1 failed")
             sys.exit(1)
-    for name in wanted:
-        if name not in needed:
-            copy_crate(name, tree)
-    write_lines_of(tree, [name for name in crates() if name in needed or name in wanted])
 
 
 def all_below(name, stands_on):
@@ -200,7 +197,7 @@ def try_batch(job):
     return good, time.monotonic() - began, used
 
 
-def try_crate(name, found, tree, pool, alone):
+def try_crate(name, found, tree, pool, lanes, alone):
     """Tries a crate's edits; answers how many were refused, the others' names, seconds and processor seconds."""
     left, seconds, used = list(found), 0.0, 0.0
     for _ in range(0 if alone else ROUNDS):
@@ -211,7 +208,7 @@ def try_crate(name, found, tree, pool, alone):
             left = [edit for edit in left if edit not in good]
             seconds, used = seconds + spent, used + taken
     failed = []
-    for _, _, bad, spent, taken in pool.map(try_edits, [(name, part, tree) for part in split(left, pool._max_workers) if part]):
+    for _, _, bad, spent, taken in pool.map(try_edits, [(name, part, tree) for part in split(left, lanes) if part]):
         failed += bad
         seconds, used = seconds + spent, used + taken
     return len(found) - len(failed), failed, seconds, used
@@ -225,10 +222,7 @@ def try_edits(job):
     name, found, tree = job
     began = time.monotonic()
     with tempfile.TemporaryDirectory(prefix="wrong-") as room:
-        for one in [name, *all_below(name, below())]:
-            os.makedirs(f"{room}/crates", exist_ok=True)
-            shutil.copytree(f"{tree}/crates/{one}", f"{room}/crates/{one}", copy_function=os.link)
-        write_lines_of(room, [name, *all_below(name, below())])
+        room_for(name, tree, room)
         os.makedirs(f"{room}/crates/{name}/must-fail")
         for edit in found:
             shutil.copyfile(edit, f"{room}/crates/{name}/must-fail/{os.path.basename(edit)}")
@@ -275,11 +269,13 @@ def main():
     passed, failed, rows = 0, [], {}
     with tempfile.TemporaryDirectory(prefix="wrong-tree-") as tree, ThreadPoolExecutor(asked.lanes) as pool:
         build_libraries(list(tried), tree, asked.lanes)
-        for name in crates():
-            if name in tried:
-                good, bad, seconds, used = try_crate(name, tried[name], tree, pool, asked.alone)
-                rows[name] = good, len(bad), seconds, used
-                passed, failed = passed + good, failed + [f"{name}/{one}" for one in bad]
+        # the highest crates first: their checks are the longest
+        names = [name for name in reversed(crates()) if name in tried]
+        with ThreadPoolExecutor(max(1, len(names))) as beside:
+            ended = list(beside.map(lambda name: try_crate(name, tried[name], tree, pool, asked.lanes, asked.alone), names))
+        for name, (good, bad, seconds, used) in zip(names, ended):
+            rows[name] = good, len(bad), seconds, used
+            passed, failed = passed + good, failed + [f"{name}/{one}" for one in bad]
     print(f"{'crate':16} {'refused':>8} {'other':>6} {'minutes':>8} {'processor minutes':>18}")
     for name in crates():
         if name in rows:
