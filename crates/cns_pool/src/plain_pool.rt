@@ -67,6 +67,13 @@ impl PlainPool {
     {
         self.tickets.as_slice()
     }
+
+    /// The shares of the tickets, which is where the next ticket starts.
+    pub fn asked(&self) -> u64
+        ensures { result ≡ asked_sum self.now.tickets }
+    {
+        self.asked
+    }
 }
 
 impl Pool for PlainPool {

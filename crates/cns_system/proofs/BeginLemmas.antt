@@ -6,7 +6,7 @@ use Rattle.std.proofs.lemmas.List.Elements.{All-head, All-nil, All-push, All-tai
 use Rattle.std.proofs.lemmas.Option.{get_or_from_slice_get, same_Some, slice_get_within}
 use Rattle.cns_clearing.specs.Lots.{plan_in}
 use Rattle.cns_records.specs.declared.refusal.Refusal.{Refusal}
-use Rattle.cns_system.specs.Accord.{IsInAccord}
+use Rattle.cns_system.specs.Accord.{IsInAccord, StaysSound}
 use Rattle.cns_system.specs.Begin.{IsBegun, IsNotBegun, new_busy}
 use Rattle.cns_system.specs.Floor.{AreBusy, AreInOrder, BusyLot, FloorState, IsBusy, IsFed, NumbersRise}
 use Rattle.cns_system.specs.Headline.{AreStrict, IsAgreed}
@@ -17,6 +17,7 @@ use Rattle.cns_system.specs.Outcomes.{open_outcome}
 use Rattle.cns_system.specs.Run.{Occurs}
 use Rattle.cns_system.specs.Step.{Step}
 use Rattle.cns_system.specs.World.{World}
+use Rattle.cns_system.specs.declared.event.Event.{Event}
 use Rattle.cns_system.specs.declared.event.Event.TheVariants as event
 use Rattle.cns_system.specs.declared.floor.Begun.{Begun}
 use Rattle.cns_system.specs.declared.numbered.Opened.{Opened}
@@ -28,20 +29,22 @@ use Rattle.cns_system.proofs.SceneLemmas.{step_comes}
 use Rattle.cns_system.proofs.SpareLemmas.{step_spares}
 use Rattle.cns_system.proofs.TiedLemmas.{at_place}
 
--- a lot is refused, and nothing changes
+-- an event is refused, and nothing changes
+pub occurs_refused : (e : Event) (r : Refusal) (w : World) → Step e (outcomes.Refused r) w w → StaysSound w e (outcomes.Refused r) → IsInAccord w → IsAgreed w
+    → Occurs e (outcomes.Refused r) w w
+occurs_refused e r w step sound accord agreed = record {
+  step = step;
+  decided = step_decided e (outcomes.Refused r) w w step;
+  comes = step_comes e (outcomes.Refused r) w w step;
+  sound = sound;
+  accord = accord;
+  agreed = agreed;
+  strict = λ s. s;
+}
+
 pub refused_occurs : (issue : ℕ) (r : Refusal) (w : World) → OpenLeaves issue (Err r) w.clear w.clear → IsInAccord w → IsAgreed w
     → Occurs (event.LotOpen issue) (outcomes.Refused r) w w
-refused_occurs issue r w h accord agreed =
-    let step : Step (event.LotOpen issue) (outcomes.Refused r) w w = (refl, refl, refl, (Err r, refl, h)) in
-    record {
-      step = step;
-      decided = step_decided (event.LotOpen issue) (outcomes.Refused r) w w step;
-      comes = step_comes (event.LotOpen issue) (outcomes.Refused r) w w step;
-      sound = λ a b. tt;
-      accord = accord;
-      agreed = agreed;
-      strict = λ s. s;
-    }
+refused_occurs issue r w h = occurs_refused (event.LotOpen issue) r w (refl, refl, refl, (Err r, refl, h)) (λ a b. tt)
 
 -- an opening that opened no lot was refused
 refused_when : (issue : ℕ) (outcome : Outcome) (result : Result Opened Refusal) → outcome ≡ open_outcome result → ((opened : Opened) → outcome ≡ outcomes.LotOpened opened → ⊥)

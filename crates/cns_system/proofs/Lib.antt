@@ -23,3 +23,5 @@ pub mod SceneLemmas
 pub mod SpareLemmas
 pub mod FloorLemmas
 pub mod BeginLemmas
+pub mod FinishLemmas
+pub mod OnePlanLemmas

@@ -17,3 +17,4 @@ pub mod Readers
 pub mod Scene
 pub mod Floor
 pub mod Begin
+pub mod Finish

@@ -67,3 +67,10 @@ DrawLeaves member (Err refusal.NotLong) old new = (turn_in old member ≡ turn.N
 DrawLeaves member (Err refusal.EarlierGroup) old new = (turn_in old member ≡ turn.EarlierGroup) × (new ≡ old)
 DrawLeaves member (Err refusal.Sealed) old new = (old.sealed ≡ true) × ((asked : ℕ) × IsTurnFor member old asked) × (new ≡ old)
 DrawLeaves member (Err _) old new = ⊥
+
+-- what a reserve would be answered by a lot that has not ended, and by the lot of a number
+abbrev pub WouldDraw : ℕ → Result Ticket Refusal → LotState → Type 0
+WouldDraw member result lot = (new : LotState) × DrawLeaves member result lot new
+
+abbrev pub WouldReserve : ℕ → ℕ → Result Ticket Refusal → List LotState → Type 0
+WouldReserve number member result lots = (new : List LotState) × ReserveLeaves number member result lots new

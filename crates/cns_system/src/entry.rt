@@ -2,7 +2,7 @@ ghost use Rattle.std.specs.Prelude.{◌≡◌, ◌↔◌, ◌⊎◌, ◌+◌, �
 ghost use Rattle.cns_pool.specs.Pool.{asked_sum};
 ghost use Rattle.cns_allocate.specs.Served.{waiting};
 ghost use Rattle.cns_system.specs.Lot.{IsLot, new_lot, planned_sum, ticket_in, with_end, with_pour, with_seal, with_ticket};
-ghost use Rattle.cns_system.specs.Lots.{DrawLeaves, IsTurnFor};
+ghost use Rattle.cns_system.specs.Lots.{DrawLeaves, IsTurnFor, WouldDraw};
 
 use cns_allocate::{Plan, Planned, Turn, Turns};
 use cns_ids::{Cusip, MemberNo};
@@ -82,11 +82,24 @@ impl LotEntry {
         ensures leaves { DrawLeaves member result self.old self.new }
         ensures lawful { IsLot self.new }
     {
+        let ticket = self.next_ticket(member)?;
+        Ok(self.draw(member, ticket.asked))
+    }
+
+    // The ticket that a member would draw, if it is its turn and the lot is not sealed.
+    pub(crate) fn next_ticket(&self, member: MemberNo) -> Result<Ticket, Refusal>
+        ensures would { WouldDraw member result self.now }
+        ensures lawful { IsLot self.now }
+    {
         match self.turns.turn(member) {
             Turn::NotLong => Err(Refusal::NotLong),
             Turn::EarlierGroup => Err(Refusal::EarlierGroup),
             Turn::Next { .. } if self.sealed => Err(Refusal::Sealed),
-            Turn::Next { asked } => Ok(self.draw(member, asked)),
+            Turn::Next { asked } => Ok(Ticket {
+                member,
+                start: self.pool.asked(),
+                asked,
+            }),
         }
     }
 

@@ -1,6 +1,7 @@
-ghost use Rattle.std.specs.Prelude.{◌≡◌, ◌+◌, ◌^◌, ◌<◌, ◌≤◌, [], Err, IfErr, IfOk, OnOk, vec_capacity, vec_len};
+ghost use Rattle.std.specs.Prelude.{◌≡◌, ◌+◌, ◌^◌, ◌<◌, ◌≤◌, [], Err, IfErr, IfOk, IsSome, OnOk, vec_capacity, vec_len};
 ghost use Rattle.cns_clearing.specs.Lots.{plan_in};
 ghost use Rattle.cns_system.specs.Begin.{IsBegun, IsHandedOut, IsNewCell, IsNotBegun, IsRefusal};
+ghost use Rattle.cns_system.specs.Finish.{IsReleased, IsUnserved};
 ghost use Rattle.cns_system.specs.Floor.{AreInOrder, BySystem, FloorStep, IsLawfulFloor, IsPlaceOf, NamesLot, NumbersRise, PourFits, SparesBusy, UnlessBusy, busy_at, busy_with_pour, busy_with_seal, is_open, served_at, with_busy};
 ghost use Rattle.cns_system.specs.Headline.{AreStrict};
 ghost use Rattle.cns_system.specs.Lot.{planned_sum};
@@ -244,8 +245,19 @@ impl<C: Keeper, D: Keeper> Floor<C, D> {
         }
     }
 
+    // The lot of a number is no longer busy. Answers whether the floor's seat sealed its cell, where it was
+    // busy.
+    pub(crate) fn release(&mut self, lot: u64) -> Option<bool>
+        ensures released { IsReleased lot result self.old self.new }
+        ensures unserved { IsSome result → IsUnserved lot self.new.system.clear.lots }
+    {
+        let place = place_of(self.busy.as_slice(), lot)?;
+        let mut one = self.busy.remove(place);
+        Some(one.look_asked().sealed)
+    }
+
     // Does nothing, and tells what is so between events.
-    fn lawful(&self)
+    pub(crate) fn lawful(&self)
         ensures { IsLawfulFloor self.now }
     {
         self.system.agreed();
@@ -269,7 +281,7 @@ impl<C: Keeper, D: Keeper> Floor<C, D> {
     }
 
     // Lets an event happen that changes no busy lot but one that has ended.
-    fn by_system(&mut self, event: Event) -> Outcome
+    pub(crate) fn by_system(&mut self, event: Event) -> Outcome
         requires { SparesBusy event self.old }
         ensures { BySystem event result self.old self.new }
     {

@@ -9,6 +9,7 @@ mod agreement;
 mod entry;
 mod event;
 mod fault;
+mod finish;
 mod floor;
 mod lots;
 mod numbered;

@@ -2,7 +2,7 @@ ghost use Rattle.std.specs.Prelude.{◌≡◌, ◌↔◌, ◌⊎◌, ◌+◌, �
 ghost use Rattle.cns_pool.specs.Pool.{asked_sum};
 ghost use Rattle.cns_allocate.specs.Served.{waiting};
 ghost use Rattle.cns_system.specs.Lot.{new_lot, planned_sum, with_end, with_pour, with_seal};
-ghost use Rattle.cns_system.specs.Lots.{lot_at, update_at, AreLotsLawful, LotGives, LotLeaves, HasOpenLot, ReserveLeaves};
+ghost use Rattle.cns_system.specs.Lots.{lot_at, update_at, AreLotsLawful, LotGives, LotLeaves, HasOpenLot, ReserveLeaves, WouldReserve};
 
 use crate::entry::{Look, LotEntry};
 use cns_allocate::{Plan, Planned};
@@ -91,6 +91,13 @@ impl LotBook {
         let index = self.place(number)?;
         let lot = &mut self.lots[index];
         lot.reserve(member)
+    }
+
+    // What `reserve` of a member would answer.
+    pub(crate) fn next_ticket(&self, number: u64, member: MemberNo) -> Result<Ticket, Refusal>
+        ensures { WouldReserve number member result self.now }
+    {
+        self.find(number)?.next_ticket(member)
     }
 
     /// What was poured into a lot, the shares of its tickets, and whether it is sealed.

@@ -7,13 +7,13 @@ use std::alloc::Global;
 use std::process::Abort;
 use std::test::Fail;
 
-type Served = Floor<ListKeeper, ListKeeper>;
+pub(super) type Served = Floor<ListKeeper, ListKeeper>;
 
 // An event, and what it has to come to.
-type Happens = (Deed, Told);
+pub(super) type Happens = (Deed, Told);
 
 // Members 2 and 3 are to receive 30 shares each from member 1, who has 40.
-const BEFORE: [Happens; 3] = [
+pub(super) const BEFORE: [Happens; 3] = [
     (Deed::Sell(b"A1", 2), Told::Accepted),
     (Deed::Sell(b"A2", 3), Told::Accepted),
     (Deed::Cycle(b"2025-03-04"), Told::Cycled(2, 1, 1)),
@@ -44,7 +44,11 @@ fn take(rt: &impl Abort, floor: &mut Served, deed: &Deed, wanted: &Told) -> Resu
     Ok(())
 }
 
-fn take_all(rt: &impl Abort, floor: &mut Served, happens: &[Happens]) -> Result<(), Fail> {
+pub(super) fn take_all(
+    rt: &impl Abort,
+    floor: &mut Served,
+    happens: &[Happens],
+) -> Result<(), Fail> {
     for (deed, wanted) in happens {
         take(rt, floor, deed, wanted)?;
     }
@@ -60,7 +64,7 @@ fn see_begun(rt: &impl Abort, begun: &Begun) {
     assert_same(rt, &begun.seat.calls(), &2);
 }
 
-fn begin(rt: &impl Abort, alloc: Global, floor: &mut Served) -> Result<(), Fail> {
+pub(super) fn begin(rt: &impl Abort, alloc: Global, floor: &mut Served) -> Result<(), Fail> {
     match floor.begin(alloc, issue()?) {
         Ok(begun) => {
             see_begun(rt, &begun);
@@ -76,7 +80,7 @@ fn serve(rt: &impl Abort, alloc: Global, floor: &mut Served) -> Result<(), Fail>
     take_all(rt, floor, &BUSY)
 }
 
-fn floor(alloc: Global) -> Result<Served, Fail> {
+pub(super) fn floor(alloc: Global) -> Result<Served, Fail> {
     let system = both(alloc, ListKeeper::new(alloc), ListKeeper::new(alloc), 40)?;
     Ok(Floor::new(alloc, system))
 }

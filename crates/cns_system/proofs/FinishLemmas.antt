@@ -1,0 +1,367 @@
+-- What entering the tickets of a busy lot leaves.
+use Rattle.std.proofs.Common.{◌≡◌, ◌∙◌, ◌<◌, ◌+◌, ℕ, zero, suc, Bool, true, false, not, cond, List, [], ◌∷◌, ◌++◌, length, take, drop, get_or, Option, Some, None, Result, Ok, Err, ap, sym, subst, refl, arith, inl, inr}
+use Rattle.std.specs.Prelude.{◌==◌, ◌&&◌, ◌||◌, eqb, All, IfErr, IfOk, IsErr, IsErrAnd, IsSomeAnd, OnErr, slice_get}
+use Rattle.std.proofs.lemmas.Bool.{eq-eqb, eqb-true, false_from_ne_true}
+use Rattle.std.proofs.lemmas.List.Elements.{All-filter, All-head, All-tail, All-weaker, filter_passes}
+use Rattle.std.proofs.lemmas.List.{drop_more, map-append, take-append-drop, take_more}
+use Rattle.std.proofs.lemmas.Option.{get_or_from_slice_get, same_Some, slice_get_within}
+use Rattle.cns_pool.specs.declared.ticket.Ticket.{Ticket}
+use Rattle.cns_allocate.specs.declared.turns.Turn.TheVariants as turn
+use Rattle.cns_records.specs.declared.refusal.Refusal.{Refusal}
+use Rattle.cns_records.specs.declared.refusal.Refusal.TheVariants as refusal
+use Rattle.cns_system.specs.Accord.{IsInAccord}
+use Rattle.cns_system.specs.Begin.{IsRefusal}
+use Rattle.cns_system.specs.Finish.{AreAllEntered, AreCutOff, AreEntered, FinishGives, IsClosed, IsEnded, IsFinished, IsNotEntered, IsReleased, IsSealedFirst, draws, reserves, without_busy}
+use Rattle.cns_system.specs.Floor.{AreBusy, AreInOrder, BusyLot, FloorState, IsBusy, IsPlaceOf, NumbersRise, busy_at}
+use Rattle.cns_system.specs.Headline.{AreStrict, IsAgreed}
+use Rattle.cns_system.specs.Lot.{LotState, ticket_in, turn_in, with_ticket}
+use Rattle.cns_system.specs.Lots.{DrawLeaves, HasOpenLot, LotGives, ReserveLeaves, WouldDraw, WouldReserve, lot_at, update_at}
+use Rattle.cns_system.specs.Outcomes.{done_outcome, reserve_outcome}
+use Rattle.cns_system.specs.Run.{Occurs, Run}
+use Rattle.cns_system.specs.World.{World}
+use Rattle.cns_system.specs.declared.event.Event.{Event}
+use Rattle.cns_system.specs.declared.event.Event.TheVariants as event
+use Rattle.cns_system.specs.declared.outcome.Outcome.{Outcome}
+use Rattle.cns_system.specs.declared.outcome.Outcome.TheVariants as outcomes
+use Rattle.cns_system.proofs.BeginLemmas.{occurs_refused}
+use Rattle.cns_system.proofs.FloorLemmas.{busy_number, match_some, none_busy, none_found}
+use Rattle.cns_system.proofs.LotsLemmas.{open-from, open-parts}
+use Rattle.cns_system.proofs.RunLemmas.{one_more}
+use Rattle.cns_system.proofs.SpareLemmas.{step_spares}
+
+-- ---- the busy lots without one
+
+goes : (n : ℕ) (b : BusyLot) → b.lot ≡ n → not (b.lot == n) ≡ false
+goes n b is = ap not (eq-eqb b.lot n is)
+
+remains : (n : ℕ) (b : BusyLot) → (b.lot ≡ n → ⊥) → not (b.lot == n) ≡ true
+remains n b other = ap not (false_from_ne_true (b.lot == n) (λ e. other (eqb-true b.lot n e)))
+
+pub all_remain : (n : ℕ) (busy : List BusyLot) → All (λ (b : BusyLot). b.lot ≡ n → ⊥) busy → without_busy n busy ≡ busy
+all_remain n [] others = refl
+all_remain n (x ∷ busy) others =
+    let P : BusyLot → Type 0 = λ b. b.lot ≡ n → ⊥ in
+    ap (λ (t : Bool). cond t (x ∷ without_busy n busy) (without_busy n busy)) (remains n x (All-head P x busy others))
+    ∙ ap (λ (ys : List BusyLot). x ∷ ys) (all_remain n busy (All-tail P x busy others))
+
+-- the one in a place is taken out
+taken_out : (n : ℕ) (busy : List BusyLot) (place : ℕ) (b : BusyLot) → AreInOrder busy → slice_get busy place ≡ Some b → b.lot ≡ n
+    → take place busy ++ drop (suc place) busy ≡ without_busy n busy
+taken_out n [] place b order found is = cc
+taken_out n (x ∷ busy) zero b order found is =
+    let here : x.lot ≡ n = ap (λ (c : BusyLot). c.lot) (same_Some x b found) ∙ is in
+    let others = All-weaker (λ (c : BusyLot). x.lot < c.lot) (λ (c : BusyLot). c.lot ≡ n → ⊥) (λ c below e. absurd (omega (arith, below, e, here))) busy order.0 in
+    sym (ap (λ (t : Bool). cond t (x ∷ without_busy n busy) (without_busy n busy)) (goes n x here) ∙ all_remain n busy others)
+taken_out n (x ∷ busy) (suc place) b order found is =
+    let at = order.0 place x (slice_get_within busy place b found) in
+    let later : x.lot < n = subst (λ (m : ℕ). x.lot < m) (ap (λ (c : BusyLot). c.lot) (get_or_from_slice_get busy place b x found) ∙ is) at in
+    ap (λ (ys : List BusyLot). x ∷ ys) (taken_out n busy place b order.1 found is)
+    ∙ sym (ap (λ (t : Bool). cond t (x ∷ without_busy n busy) (without_busy n busy)) (remains n x (λ e. absurd (omega (arith, later, e)))))
+
+-- what is left where the one that was found in a place is taken out
+pub left_busy : (f : FloorState) (n place : ℕ) (items rest : List BusyLot) → items ≡ f.busy → IsPlaceOf (busy_at items n) items (Some place)
+    → rest ≡ take place f.busy ++ drop (place + 1) f.busy → AreInOrder f.busy → rest ≡ without_busy n f.busy
+left_busy f n place items rest same is out order =
+    let there : slice_get f.busy place ≡ Some is.0 = ap (λ (bs : List BusyLot). slice_get bs place) (sym same) ∙ is.2 in
+    let next : place + 1 ≡ suc place = omega arith in
+    out ∙ ap (λ (i : ℕ). take place f.busy ++ drop i f.busy) next ∙ taken_out n f.busy place is.0 order there (busy_number items n is.0 is.1)
+
+pub released_from : (f now : FloorState) (n place : ℕ) (items rest : List BusyLot) (x : BusyLot) (sealed : Bool) → f ≡ now → items ≡ f.busy
+    → IsPlaceOf (busy_at items n) items (Some place) → rest ≡ without_busy n f.busy → x ≡ get_or f.busy place x → sealed ≡ x.sealed
+    → IsReleased n (Some sealed) now (record f { busy = rest })
+released_from f now n place items rest x sealed was same is left read shown =
+    let there : slice_get f.busy place ≡ Some is.0 = ap (λ (bs : List BusyLot). slice_get bs place) (sym same) ∙ is.2 in
+    let one : x ≡ is.0 = read ∙ get_or_from_slice_get f.busy place is.0 x there in
+    subst (λ (g : FloorState). IsReleased n (Some sealed) g (record f { busy = rest })) was (
+      (is.0, ap (λ (bs : List BusyLot). busy_at bs n) (sym same) ∙ is.1, shown ∙ ap (λ (b : BusyLot). b.sealed) one),
+      ap (λ (bs : List BusyLot). record f { busy = bs }) left,
+    )
+
+order_without : (n : ℕ) (busy : List BusyLot) → AreInOrder busy → AreInOrder (without_busy n busy)
+order_without n [] order = tt
+order_without n (x ∷ busy) order = by (not (x.lot == n)) (order_without n busy order.1)
+  where
+    by : (t : Bool) → AreInOrder (without_busy n busy) → AreInOrder (cond t (x ∷ without_busy n busy) (without_busy n busy))
+    by true rest = (All-filter (λ (b : BusyLot). not (b.lot == n)) (λ (c : BusyLot). x.lot < c.lot) busy order.0, rest)
+    by false rest = rest
+
+pub still_busy : (n : ℕ) (lots : List LotState) (busy : List BusyLot) → AreBusy lots busy → AreBusy lots (without_busy n busy)
+still_busy n lots busy are = record {
+  each = All-filter (λ (b : BusyLot). not (b.lot == n)) (IsBusy lots) busy are.each;
+  order = order_without n busy are.order;
+}
+
+is_other : (n : ℕ) (b : BusyLot) → not (b.lot == n) ≡ true → b.lot ≡ n → ⊥
+is_other n b kept is = let no = sym (goes n b is) ∙ kept in cc
+
+-- the lot is no longer busy
+pub is_gone : (n : ℕ) (busy : List BusyLot) → busy_at (without_busy n busy) n ≡ None
+is_gone n busy =
+    none_found (without_busy n busy) n
+    (All-weaker (λ (b : BusyLot). not (b.lot == n) ≡ true) (λ (b : BusyLot). b.lot ≡ n → ⊥) (is_other n) (without_busy n busy)
+    (filter_passes (λ (b : BusyLot). not (b.lot == n)) busy))
+
+pub none_gone : (n : ℕ) (busy : List BusyLot) → busy_at busy n ≡ None → without_busy n busy ≡ busy
+none_gone n busy none = all_remain n busy (none_busy busy n none)
+
+-- ---- what a reserve would draw
+
+-- a refusal that is passed on is the same
+pub passed_on : {X : Type 0} (P : Result X Refusal → Type 0) (result : Result X Refusal) (r : Refusal) → IsErr result → IsErrAnd result (λ (s : Refusal). s ≡ r) → P (Err r)
+    → P result
+passed_on P (Ok x) r is same holds = absurd (cc is)
+passed_on P (Err s) r is same holds = subst (λ (t : Refusal). P (Err t)) (sym same) holds
+
+-- what is refused leaves a lot as it is
+pub would_not : (member : ℕ) (r : Refusal) (lot : LotState) → WouldDraw member (Err r) lot → DrawLeaves member (Err r) lot lot
+would_not member refusal.NotLong lot would = (would.1.0, refl)
+would_not member refusal.EarlierGroup lot would = (would.1.0, refl)
+would_not member refusal.Sealed lot would = (would.1.0, would.1.1, refl)
+would_not member _ lot would = absurd would.1
+
+pub would_not_reserve : (number member : ℕ) (r : Refusal) (lots : List LotState) → WouldReserve number member (Err r) lots → ReserveLeaves number member (Err r) lots lots
+would_not_reserve number member refusal.NoLot lots would = (would.1.0, refl)
+would_not_reserve number member refusal.StaleLot lots would = (would.1.0, refl)
+would_not_reserve number member refusal.NotLong lots would = (would.1.0, refl)
+would_not_reserve number member refusal.EarlierGroup lots would = (would.1.0, refl)
+would_not_reserve number member refusal.Sealed lots would = (would.1.0, refl)
+would_not_reserve number member _ lots would = absurd would.1
+
+-- no lot is found
+pub no_lot : {X : Type 0} (number member : ℕ) (r : Refusal) (lots : List LotState) (P : LotState → X → Type 0) → LotGives P number (Err r) lots → WouldReserve number member (Err r) lots
+no_lot number member refusal.NoLot lots P gives = (lots, (gives, refl))
+no_lot number member refusal.StaleLot lots P gives = (lots, (gives, refl))
+no_lot number member _ lots P gives = absurd gives
+
+-- a lot that is found would draw what it would itself
+pub would_at : (number member : ℕ) (result : Result Ticket Refusal) (lots : List LotState) (l : LotState) → lot_at lots number ≡ Some l → l.ended ≡ false
+    → WouldDraw member result l → WouldReserve number member result lots
+would_at number member (Ok t) lots l found going would =
+    (update_at lots number (with_ticket t l), open-from lots number _ l found going (would.1.0, would.1.1, would.1.2, refl))
+would_at number member (Err refusal.NotLong) lots l found going would = (lots, (open-from lots number _ l found going would.1.0, refl))
+would_at number member (Err refusal.EarlierGroup) lots l found going would = (lots, (open-from lots number _ l found going would.1.0, refl))
+would_at number member (Err refusal.Sealed) lots l found going would = (lots, (open-from lots number _ l found going (would.1.0, would.1.1), refl))
+would_at number member (Err _) lots l found going would = absurd would.1
+
+pub would_found : (number member : ℕ) (result : Result Ticket Refusal) (lots : List LotState) (l : LotState) → HasOpenLot lots number (λ (k : LotState). l ≡ k)
+    → WouldDraw member result l → WouldReserve number member result lots
+would_found number member result lots l is would =
+    let at = open-parts lots number (λ (k : LotState). l ≡ k) is in
+    would_at number member result lots at.lot at.found at.going (subst (WouldDraw member result) at.holds would)
+
+-- a reserve that would draw a ticket draws it
+record Draws (number member : ℕ) (t : Ticket) (lots : List LotState) : Type 0 where
+  lot : LotState
+  found : lot_at lots number ≡ Some lot
+  going : lot.ended ≡ false
+  unsealed : lot.sealed ≡ false
+  turn : turn_in lot member ≡ turn.Next t.asked
+  ticket : t ≡ ticket_in lot member t.asked
+
+would_draws : (number member : ℕ) (t : Ticket) (lots : List LotState) → WouldReserve number member (Ok t) lots → Draws number member t lots
+would_draws number member t lots would =
+    let at = open-parts lots number _ would.1 in
+    record { lot = at.lot; found = at.found; going = at.going; unsealed = at.holds.0; turn = at.holds.1; ticket = at.holds.2 }
+
+-- the lot that is found there is the same
+same_turn : (number member : ℕ) (t : Ticket) (lots : List LotState) (d : Draws number member t lots) (l : LotState) → lot_at lots number ≡ Some l
+    → turn_in l member ≡ turn.Next t.asked
+same_turn number member t lots d l found = ap (λ (k : LotState). turn_in k member) (same_Some l d.lot (sym found ∙ d.found)) ∙ d.turn
+
+same_ticket : (number member : ℕ) (t s : Ticket) (lots : List LotState) (d : Draws number member t lots) (l : LotState) → lot_at lots number ≡ Some l
+    → turn_in l member ≡ turn.Next s.asked → s ≡ ticket_in l member s.asked → s ≡ t
+same_ticket number member t s lots d l found next is =
+    let one : l ≡ d.lot = same_Some l d.lot (sym found ∙ d.found) in
+    let both : turn.Next s.asked ≡ turn.Next t.asked = sym next ∙ same_turn number member t lots d l found in
+    let asked : s.asked ≡ t.asked = cc in
+    is ∙ ap (λ (k : LotState). ticket_in k member s.asked) one ∙ ap (λ (n : ℕ). ticket_in d.lot member n) asked ∙ sym d.ticket
+
+drawn_is : (number member : ℕ) (t : Ticket) (result : Result Ticket Refusal) (lots new : List LotState) → Draws number member t lots
+    → ReserveLeaves number member result lots new → result ≡ Ok t
+drawn_is number member t (Ok s) lots new d leaves =
+    let at = open-parts lots number _ leaves in
+    ap Ok (same_ticket number member t s lots d at.lot at.found at.holds.1 at.holds.2)
+drawn_is number member t (Err refusal.NoLot) lots new d leaves = let no = sym d.found ∙ leaves.0 in cc
+drawn_is number member t (Err refusal.StaleLot) lots new d leaves =
+    let ended : d.lot.ended ≡ true = subst (λ (o : Option LotState). IsSomeAnd o (λ (l : LotState). l.ended ≡ true)) d.found leaves.0 in
+    let no = sym ended ∙ d.going in cc
+drawn_is number member t (Err refusal.NotLong) lots new d leaves =
+    let at = open-parts lots number _ leaves.0 in let no = sym at.holds ∙ same_turn number member t lots d at.lot at.found in cc
+drawn_is number member t (Err refusal.EarlierGroup) lots new d leaves =
+    let at = open-parts lots number _ leaves.0 in let no = sym at.holds ∙ same_turn number member t lots d at.lot at.found in cc
+drawn_is number member t (Err refusal.Sealed) lots new d leaves =
+    let at = open-parts lots number _ leaves.0 in
+    let one : at.lot ≡ d.lot = same_Some at.lot d.lot (sym at.found ∙ d.found) in
+    let no = sym at.holds.0 ∙ ap (λ (l : LotState). l.sealed) one ∙ d.unsealed in cc
+drawn_is number member t (Err _) lots new d leaves = absurd leaves
+
+-- tickets as they are compared
+pub unlike : (s t : Ticket) → not (eqb s.member t.member && (eqb s.start t.start && eqb s.asked t.asked)) ≡ true → s ≡ t → ⊥
+unlike s t not_so same =
+    let P : Ticket → Type 0 = λ x. not (eqb x.member t.member && (eqb x.start t.start && eqb x.asked t.asked)) ≡ true in
+    let there : not (eqb t.member t.member && (eqb t.start t.start && eqb t.asked t.asked)) ≡ true = subst P same not_so in
+    let no : false ≡ true = rw (eq-eqb t.member t.member refl, eq-eqb t.start t.start refl, eq-eqb t.asked t.asked refl) at there in cc
+
+pub same_as : (s t : Ticket) → not (eqb s.member t.member && (eqb s.start t.start && eqb s.asked t.asked)) ≡ false → s ≡ t
+same_as s t so = by (eqb s.member t.member) (eqb s.start t.start) (eqb s.asked t.asked) refl refl refl so
+  where
+    by : (a b c : Bool) → eqb s.member t.member ≡ a → eqb s.start t.start ≡ b → eqb s.asked t.asked ≡ c → not (a && (b && c)) ≡ false → s ≡ t
+    by true true true m f n so =
+        let one : s ≡ record { member = t.member; start = s.start; asked = s.asked } = ap (λ x. record { member = x; start = s.start; asked = s.asked }) (eqb-true s.member t.member m) in
+        let two : record { member = t.member; start = s.start; asked = s.asked } ≡ t =
+        ap (λ x. record { member = t.member; start = x; asked = s.asked }) (eqb-true s.start t.start f)
+        ∙ ap (λ x. record { member = t.member; start = t.start; asked = x }) (eqb-true s.asked t.asked n) in
+        one ∙ two
+    by true true false m f n so = cc
+    by true false c m f n so = cc
+    by false b c m f n so = cc
+
+pub draws_it : (lot member : ℕ) (t : Ticket) (outcome : Outcome) (old new : World) → WouldReserve lot member (Ok t) old.clear.lots
+    → Occurs (event.Reserve lot member) outcome old new → Occurs (event.Reserve lot member) (outcomes.Drawn t) old new
+draws_it lot member t outcome old new would occurs =
+    let step = occurs.step in
+    let is = drawn_is lot member t step.3.0 old.clear.lots new.clear.lots (would_draws lot member t old.clear.lots would) step.3.2.0 in
+    subst (λ (o : Outcome). Occurs (event.Reserve lot member) o old new) (step.3.1 ∙ ap reserve_outcome is) occurs
+
+-- ---- tickets that are not entered
+
+pub stops : (lot : ℕ) (t : Ticket) (r : Refusal) (w : World) → WouldReserve lot t.member (Err r) w.clear.lots → IsInAccord w → IsAgreed w → IsNotEntered lot t r w w
+stops lot t r w would accord agreed =
+    inl
+    (occurs_refused (event.Reserve lot t.member) r w (refl, refl, refl, (Err r, refl, (would_not_reserve lot t.member r w.clear.lots would, refl))) (λ a b. tt) accord agreed)
+
+pub differs : (lot : ℕ) (t next : Ticket) (w : World) → WouldReserve lot t.member (Ok next) w.clear.lots → (next ≡ t → ⊥) → IsNotEntered lot t refusal.BadTickets w w
+differs lot t next w would other =
+    let after : World = record w { clear = record w.clear { lots = would.0 } } in
+    inr (refl, refl, (next, other, (after, (refl, refl, refl, (Ok next, refl, (would.1, refl))))))
+
+-- ---- tickets that are entered
+
+pub none_entered : (lot : ℕ) (tickets : List Ticket) (told : List Outcome) (w : World) → told ≡ [] → AreEntered lot (take 0 tickets) told w w
+none_entered lot tickets told w none = record { told_is = none; drawn = refl }
+
+pub one_entered : (lot : ℕ) (tickets : List Ticket) (i : ℕ) (t : Ticket) (told : List Outcome) (old between new : World) → i < length tickets → t ≡ get_or tickets i t
+    → AreEntered lot (take i tickets) told old between → Occurs (event.Reserve lot t.member) (outcomes.Drawn t) between new
+    → AreEntered lot (take (i + 1) tickets) (told ++ outcomes.Drawn t ∷ []) old new
+one_entered lot tickets i t told old between new below is entered occurs =
+    let first = take i tickets in
+    let more : take (i + 1) tickets ≡ first ++ t ∷ [] = take_more tickets i t below ∙ ap (λ (x : Ticket). first ++ x ∷ []) (sym is) in
+    let events : reserves lot (first ++ t ∷ []) ≡ reserves lot first ++ event.Reserve lot t.member ∷ [] = map-append (λ (x : Ticket). event.Reserve lot x.member) first (t ∷ []) in
+    let outs : draws (first ++ t ∷ []) ≡ draws first ++ outcomes.Drawn t ∷ [] = map-append (λ (x : Ticket). outcomes.Drawn x) first (t ∷ []) in
+    rw more
+    (record {
+      told_is = ap (λ (os : List Outcome). os ++ outcomes.Drawn t ∷ []) entered.told_is ∙ sym outs;
+      drawn = rw (events, outs) (one_more (reserves lot first) (draws first) (event.Reserve lot t.member) (outcomes.Drawn t) old between new entered.drawn occurs);
+    })
+
+pub cut_off : (lot : ℕ) (tickets : List Ticket) (i : ℕ) (t : Ticket) (r : Refusal) (told : List Outcome) (old between new : World) → i < length tickets → t ≡ get_or tickets i t
+    → AreEntered lot (take i tickets) told old between → IsNotEntered lot t r between new → AreCutOff lot tickets r told old new
+cut_off lot tickets i t r told old between new below is entered stopped = record {
+  first = take i tickets;
+  ticket = t;
+  rest = drop (i + 1) tickets;
+  all = sym (take-append-drop i tickets) ∙ ap (λ (ts : List Ticket). take i tickets ++ ts) (drop_more tickets i t below ∙ ap (λ (x : Ticket). x ∷ drop (i + 1) tickets) (sym is));
+  between = between;
+  entered = entered;
+  stopped = stopped;
+}
+
+-- ---- the end of the lot
+
+sealed_when : (outcome : Outcome) (result : Result (Unit {0}) Refusal) → outcome ≡ done_outcome result → (outcome ≡ outcomes.Done → ⊥) → IsRefusal outcome
+sealed_when outcome (Ok u) told not = absurd (not told)
+sealed_when outcome (Err r) told not = (r, told)
+
+pub seal_refused : (lot : ℕ) (outcome : Outcome) (old new : World) → Occurs (event.Seal lot) outcome old new → (outcome ≡ outcomes.Done → ⊥) → IsRefusal outcome
+seal_refused lot outcome old new occurs not = let step = occurs.step in sealed_when outcome step.3.0 step.3.1 not
+
+-- ---- what stays so over all of it
+
+pub record Goes (old new : World) : Type 0 where
+  pub strict : AreStrict old → AreStrict new
+  pub rises : NumbersRise old new
+
+goes_same : (old new : World) → new ≡ old → Goes old new
+goes_same old new same =
+    record { strict = λ s. subst AreStrict (sym same) s; rises = let len = ap (λ (w : World). length w.clear.lots) same in omega (arith, len) }
+
+goes_on : (old between new : World) → Goes old between → Goes between new → Goes old new
+goes_on old between new first then =
+    record { strict = λ s. then.strict (first.strict s); rises = let a = first.rises in let b = then.rises in omega (arith, a, b) }
+
+goes_step : (e : Event) (outcome : Outcome) (old new : World) → Occurs e outcome old new → Goes old new
+goes_step e outcome old new occurs = record { strict = occurs.strict; rises = (step_spares e outcome old new occurs.step).longer }
+
+goes_run : (events : List Event) (told : List Outcome) (old new : World) → Run events told old new → Goes old new
+goes_run [] [] old new run = goes_same old new run
+goes_run [] (o ∷ told) old new run = absurd run
+goes_run (e ∷ events) [] old new run = absurd run
+goes_run (e ∷ events) (o ∷ told) old new run = goes_on old run.0 new (goes_step e o old run.0 run.1) (goes_run events told run.0 new run.2)
+
+goes_stop : (lot : ℕ) (t : Ticket) (r : Refusal) (old new : World) → IsNotEntered lot t r old new → Goes old new
+goes_stop lot t r old new (inl occurs) = goes_step (event.Reserve lot t.member) (outcomes.Refused r) old new occurs
+goes_stop lot t r old new (inr h) = goes_same old new h.1
+
+goes_close : (lot : ℕ) (told : List Outcome) (old new : World) → IsClosed lot told old new → Goes old new
+goes_close lot told old new h = goes_step (event.LotClose lot) h.0 old new h.2
+
+goes_seal : (lot : ℕ) (told : List Outcome) (old new : World) → IsSealedFirst lot told old new → Goes old new
+goes_seal lot told old new (inl h) = goes_step (event.Seal lot) h.0 old new h.3
+goes_seal lot told old new (inr h) = goes_on old h.1 new (goes_step (event.Seal lot) outcomes.Done old h.1 h.3) (goes_close lot h.0 h.1 new h.4)
+
+goes_end : (lot : ℕ) (sealed : Bool) (told : List Outcome) (old new : World) → IsEnded lot sealed told old new → Goes old new
+goes_end lot true told old new h = goes_seal lot told old new h
+goes_end lot false told old new h = goes_close lot told old new h
+
+goes_all : (lot : ℕ) (tickets : List Ticket) (sealed : Bool) (told : List Outcome) (old new : World) → AreAllEntered lot tickets sealed told old new → Goes old new
+goes_all lot tickets sealed told old new (inl h) =
+    goes_on old h.2 new (goes_run (reserves lot tickets) (draws tickets) old h.2 h.4.drawn) (goes_end lot sealed h.1 h.2 new h.5)
+goes_all lot tickets sealed told old new (inr h) =
+    let cut = h.3 in
+    goes_on old cut.between new (goes_run (reserves lot cut.first) (draws cut.first) old cut.between cut.entered.drawn) (goes_stop lot cut.ticket h.1 cut.between new cut.stopped)
+
+pub goes_finished : (lot : ℕ) (handed : List Ticket) (sealed : Bool) (told : List Outcome) (old new : World) → IsFinished lot handed sealed told old new → Goes old new
+goes_finished lot handed sealed told old new is = goes_all lot is.sorted sealed told old new is.entered
+
+-- ---- the answers
+
+pub not_entered : (lot : ℕ) (tickets : List Ticket) (told : List Outcome) (old new : World) (result : Result (Unit {0}) Refusal) (r : Refusal) → IsErr result
+    → IsErrAnd result (λ (s : Refusal). s ≡ r) → AreCutOff lot tickets r told old new → IfErr result (λ (s : Refusal). AreCutOff lot tickets s told old new)
+not_entered lot tickets told old new result r is same cut =
+    passed_on (λ (o : Result (Unit {0}) Refusal). IfErr o (λ (s : Refusal). AreCutOff lot tickets s told old new)) result r is same cut
+
+-- a lot that was busy is released
+pub released_gone : (lot : ℕ) (sealed : Bool) (old mid : FloorState) → IsReleased lot (Some sealed) old mid → busy_at mid.busy lot ≡ None
+released_gone lot sealed old mid is = ap (λ (f : FloorState). busy_at f.busy lot) is.1 ∙ is_gone lot old.busy
+
+pub released_rest : (lot : ℕ) (sealed : Option Bool) (old mid : FloorState) → IsReleased lot sealed old mid → mid.busy ≡ without_busy lot old.busy
+released_rest lot (Some sealed) old mid is = ap (λ (f : FloorState). f.busy) is.1
+released_rest lot None old mid is = ap (λ (f : FloorState). f.busy) is.1 ∙ sym (none_gone lot old.busy is.0)
+
+released_system : (lot : ℕ) (sealed : Bool) (old mid : FloorState) → IsReleased lot (Some sealed) old mid → mid.system ≡ old.system
+released_system lot sealed old mid is = ap (λ (f : FloorState). f.system) is.1
+
+pub finish_gives : (lot : ℕ) (handed : List Ticket) (failed sealed either : Bool) (told : List Outcome) (old mid : FloorState) (new : World) → IsReleased lot (Some sealed) old mid
+    → either ≡ (failed || sealed) → IsFinished lot handed either told mid.system new → FinishGives lot handed failed told old new
+finish_gives lot handed failed sealed either told old mid new is both finished =
+    let seal : either ≡ (failed || is.0.0.sealed) = both ∙ ap (λ (t : Bool). failed || t) is.0.2 in
+    match_some _ _ _ is.0.0 is.0.1
+    (subst (λ (w : World). IsFinished lot handed (failed || is.0.0.sealed) told w new) (released_system lot sealed old mid is)
+    (subst (λ (t : Bool). IsFinished lot handed t told mid.system new) seal finished))
+
+pub finish_told : {V E : Type 0} (items : V → List Outcome) (lot : ℕ) (handed : List Ticket) (failed sealed either : Bool) (result : Result V E) (old mid : FloorState) (new : World)
+    → IsReleased lot (Some sealed) old mid → either ≡ (failed || sealed) → IfOk result (λ (v : V). IsFinished lot handed either (items v) mid.system new)
+    → IfOk result (λ (v : V). FinishGives lot handed failed (items v) old new)
+finish_told items lot handed failed sealed either (Ok v) old mid new is both ok = finish_gives lot handed failed sealed either (items v) old mid new is both ok
+finish_told items lot handed failed sealed either (Err e) old mid new is both ok = ok
+
+goes_by : {V E : Type 0} (items : V → List Outcome) (lot : ℕ) (handed : List Ticket) (sealed : Bool) (result : Result V E) (old new : World)
+    → IfOk result (λ (v : V). IsFinished lot handed sealed (items v) old new) → OnErr result (new ≡ old) → Goes old new
+goes_by items lot handed sealed (Ok v) old new ok err = goes_finished lot handed sealed (items v) old new ok
+goes_by items lot handed sealed (Err e) old new ok err = goes_same old new err
+
+pub finish_goes : {V E : Type 0} (items : V → List Outcome) (lot : ℕ) (handed : List Ticket) (sealed either : Bool) (result : Result V E) (old mid : FloorState) (new : World)
+    → IsReleased lot (Some sealed) old mid → IfOk result (λ (v : V). IsFinished lot handed either (items v) mid.system new) → OnErr result (new ≡ mid.system)
+    → Goes old.system new
+finish_goes items lot handed sealed either result old mid new is ok err =
+    subst (λ (w : World). Goes w new) (released_system lot sealed old mid is) (goes_by items lot handed either result mid.system new ok err)

@@ -1,0 +1,233 @@
+-- The tickets that are entered of a lot that was busy are of one plan.
+use Rattle.std.proofs.Common.{◌≡◌, ◌∙◌, ◌-◌, ◌≤◌, ℕ, Bool, true, false, List, [], ◌∷◌, ◌++◌, Some, Result, Ok, Err, ap, sym, subst, refl, arith, inl, inr}
+use Rattle.std.specs.Prelude.{◌⊎◌, ◌==◌, All, AllPairs, cond}
+use Rattle.std.specs.List.{list_any}
+use Rattle.std.proofs.lemmas.List.{append_assoc, append-nil}
+use Rattle.std.proofs.lemmas.List.Elements.{All-head, All-nil, All-tail}
+use Rattle.std.proofs.lemmas.List.Sorted.{IsPermutation-refl}
+use Rattle.std.proofs.lemmas.Option.{get_or_from_slice_get, same_Some, slice_get_within}
+use Rattle.cns_pool.specs.declared.ticket.Ticket.{Ticket}
+use Rattle.cns_allocate.specs.Group.{rank}
+use Rattle.cns_allocate.specs.Plan.{IsPlan}
+use Rattle.cns_allocate.specs.Served.{IsServed}
+use Rattle.cns_allocate.specs.declared.planned.Planned.{Planned}
+use Rattle.cns_clearing.specs.declared.answer.Closed.{Closed}
+use Rattle.cns_records.specs.declared.refusal.Refusal.{Refusal}
+use Rattle.cns_records.specs.declared.refusal.Refusal.TheVariants as refusal
+use Rattle.cns_system.specs.Finish.{AreCutOff, AreEntered, AreOfOnePlan, IsClosed, IsEnded, IsNotEntered, IsSealedFirst, IsUnserved, drawn_in, draws, is_close, is_done, reserves}
+use Rattle.cns_system.specs.Floor.{AreBusy, BusyLot, FloorState, IsBusy, busy_at}
+use Rattle.cns_system.specs.Lot.{IsLot, LotState, with_ticket}
+use Rattle.cns_system.specs.Lots.{AreLotsLawful, ReserveLeaves, lot_at, update_at}
+use Rattle.cns_system.specs.Numbered.{CloseLeaves, IsMet, NumberedNode}
+use Rattle.cns_system.specs.Outcomes.{close_outcome, reserve_outcome}
+use Rattle.cns_system.specs.Run.{Run}
+use Rattle.cns_system.specs.World.{World}
+use Rattle.cns_system.specs.declared.outcome.Outcome.{Outcome}
+use Rattle.cns_system.specs.declared.outcome.Outcome.TheVariants as outcomes
+use Rattle.cns_system.proofs.FloorLemmas.{busy_number}
+use Rattle.cns_system.proofs.LotsLemmas.{open-parts}
+use Rattle.cns_system.proofs.NumberedLemmas.{met_served}
+use Rattle.cns_system.proofs.TiedLemmas.{at_place, from_place, get_set_same}
+
+-- ---- the lot while tickets are entered
+
+-- the lot of a number has these tickets, and is not sealed
+record Has (n : ℕ) (lots : List LotState) (tickets : List Ticket) : Type 0 where
+  lot : LotState
+  found : lot_at lots n ≡ Some lot
+  tickets_are : lot.tickets ≡ tickets
+  unsealed : lot.sealed ≡ false
+
+found_updated : (lots : List LotState) (n : ℕ) (l x : LotState) → lot_at lots n ≡ Some l → lot_at (update_at lots n x) n ≡ Some x
+found_updated lots n l x found =
+    let at = at_place lots n l found in from_place (update_at lots n x) n x at.0 (get_set_same lots (n - 1) l x at.1)
+
+has_more : (n member : ℕ) (t : Ticket) (lots new : List LotState) (tickets : List Ticket) → Has n lots tickets → ReserveLeaves n member (Ok t) lots new
+    → Has n new (tickets ++ t ∷ [])
+has_more n member t lots new tickets has leaves =
+    let at = open-parts lots n _ leaves in
+    let one : at.lot ≡ has.lot = same_Some at.lot has.lot (sym at.found ∙ has.found) in
+    record {
+      lot = with_ticket t at.lot;
+      found = ap (λ (ls : List LotState). lot_at ls n) at.holds.3 ∙ found_updated lots n at.lot (with_ticket t at.lot) at.found;
+      tickets_are = ap (λ (l : LotState). l.tickets ++ t ∷ []) one ∙ ap (λ (ts : List Ticket). ts ++ t ∷ []) has.tickets_are;
+      unsealed = ap (λ (l : LotState). l.sealed) one ∙ has.unsealed;
+    }
+
+drawn_leaves : (n member : ℕ) (t : Ticket) (result : Result Ticket Refusal) (lots new : List LotState) → outcomes.Drawn t ≡ reserve_outcome result
+    → ReserveLeaves n member result lots new → ReserveLeaves n member (Ok t) lots new
+drawn_leaves n member t (Ok s) lots new told leaves = let same : s ≡ t = cc in subst (λ (u : Ticket). ReserveLeaves n member (Ok u) lots new) same leaves
+drawn_leaves n member t (Err r) lots new told leaves = cc
+
+has_all : (n : ℕ) (ts us : List Ticket) (old new : World) → Run (reserves n ts) (draws ts) old new → Has n old.clear.lots us → Has n new.clear.lots (us ++ ts)
+has_all n [] us old new run has =
+    subst (λ (l : List Ticket). Has n new.clear.lots l) (sym (append-nil us)) (subst (λ (w : World). Has n w.clear.lots us) (sym run) has)
+has_all n (t ∷ ts) us old new run has =
+    let step = run.1.step in
+    let more = has_more n t.member t old.clear.lots run.0.clear.lots us has (drawn_leaves n t.member t step.3.0 old.clear.lots run.0.clear.lots step.3.1 step.3.2.0) in
+    subst (λ (l : List Ticket). Has n new.clear.lots l) (append_assoc us (t ∷ []) ts) (has_all n ts (us ++ t ∷ []) run.0 new run.2 more)
+
+-- some tickets were drawn, which are now those of the lot; or none
+has_first : (n : ℕ) (ts : List Ticket) (old mid : World) → Run (reserves n ts) (draws ts) old mid → IsUnserved n old.clear.lots → (ts ≡ []) ⊎ Has n mid.clear.lots ts
+has_first n [] old mid run unserved = inl refl
+has_first n (t ∷ ts) old mid run unserved =
+    let step = run.1.step in
+    let leaves = drawn_leaves n t.member t step.3.0 old.clear.lots run.0.clear.lots step.3.1 step.3.2.0 in
+    let at = open-parts old.clear.lots n _ leaves in
+    let free = unserved at.lot at.found at.going in
+    let has : Has n old.clear.lots [] = record { lot = at.lot; found = at.found; tickets_are = free.0; unsealed = free.1 } in
+    inr (has_all n (t ∷ ts) [] old mid run has)
+
+lawful_at : (lots : List LotState) (n : ℕ) (l : LotState) → lot_at lots n ≡ Some l → AreLotsLawful lots → IsLot l
+lawful_at lots n l found lawful =
+    let at = at_place lots n l found in
+    subst IsLot (get_or_from_slice_get lots (n - 1) l l at.1) (lawful (n - 1) l (slice_get_within lots (n - 1) l at.1))
+
+has_served : (n : ℕ) (lots : List LotState) (ts : List Ticket) (has : Has n lots ts) → AreLotsLawful lots → IsServed has.lot.plan ts true
+has_served n lots ts has lawful =
+    subst (λ (us : List Ticket). IsServed has.lot.plan us true) has.tickets_are (lawful_at lots n has.lot has.found lawful).served
+
+-- ---- the tickets among the outcomes
+
+drawn_of_draws : (ts : List Ticket) (last : List Outcome) → drawn_in last ≡ [] → drawn_in (draws ts ++ last) ≡ ts
+drawn_of_draws [] last none = none
+drawn_of_draws (t ∷ ts) last none = ap (λ (us : List Ticket). t ∷ us) (drawn_of_draws ts last none)
+
+close_of_draws : (ts : List Ticket) (last : List Outcome) → list_any is_close (draws ts ++ last) ≡ list_any is_close last
+close_of_draws [] last = refl
+close_of_draws (t ∷ ts) last = close_of_draws ts last
+
+done_of_draws : (ts : List Ticket) (last : List Outcome) → list_any is_done (draws ts ++ last) ≡ list_any is_done last
+done_of_draws [] last = refl
+done_of_draws (t ∷ ts) last = done_of_draws ts last
+
+-- what comes after the tickets: no ticket; and a lot that was closed and not sealed had one for each member of its plan
+record Ends (n : ℕ) (lots : List LotState) (last : List Outcome) : Type 0 where
+  none : drawn_in last ≡ []
+  met : list_any is_close last ≡ true → list_any is_done last ≡ false → (l : LotState) → lot_at lots n ≡ Some l → IsMet l
+
+close_ends : (n : ℕ) (result : Result Closed Refusal) (old new : NumberedNode) (outcome : Outcome) → outcome ≡ close_outcome result → CloseLeaves n result old new
+    → Ends n old.lots (outcome ∷ [])
+close_ends n (Ok done) old new outcome told leaves =
+    let at = open-parts old.lots n _ leaves in
+    record {
+      none = ap (λ (o : Outcome). drawn_in (o ∷ [])) told;
+      met = λ closed unsealed l found. subst IsMet (same_Some at.lot l (sym at.found ∙ found)) at.holds.0;
+    }
+close_ends n (Err r) old new outcome told leaves = record {
+  none = ap (λ (o : Outcome). drawn_in (o ∷ [])) told;
+  met = λ closed unsealed l found. let no = sym (ap (λ (o : Outcome). list_any is_close (o ∷ [])) told) ∙ closed in cc;
+}
+
+closed_ends : (n : ℕ) (last : List Outcome) (old new : World) → IsClosed n last old new → Ends n old.clear.lots last
+closed_ends n last old new h =
+    let step = h.2.step in
+    subst (Ends n old.clear.lots) (sym h.1) (close_ends n step.3.0 old.clear new.clear h.0 step.3.1 step.3.2)
+
+refused_ends : (n : ℕ) (lots : List LotState) (r : Refusal) → Ends n lots (outcomes.Refused r ∷ [])
+refused_ends n lots r = record { none = refl; met = λ closed unsealed l found. cc }
+
+seal_ends : (n : ℕ) (last : List Outcome) (old new : World) → IsSealedFirst n last old new → Ends n old.clear.lots last
+seal_ends n last old new (inl h) =
+    subst (Ends n old.clear.lots) (sym (h.1 ∙ ap (λ (o : Outcome). o ∷ []) h.2.1)) (refused_ends n old.clear.lots h.2.0)
+seal_ends n last old new (inr h) =
+    let rest = closed_ends n h.0 h.1 new h.4 in
+    subst (Ends n old.clear.lots) (sym h.2) (record { none = rest.none; met = λ closed unsealed l found. cc })
+
+ended_ends : (n : ℕ) (sealed : Bool) (last : List Outcome) (old new : World) → IsEnded n sealed last old new → Ends n old.clear.lots last
+ended_ends n true last old new h = seal_ends n last old new h
+ended_ends n false last old new h = closed_ends n last old new h
+
+-- ---- all of it
+
+no_pairs : {X : Type 0} (R : X → X → Type 0) → AllPairs R []
+no_pairs R i j d less below = absurd (omega (arith, below))
+
+no_plan : IsPlan []
+no_plan = record { asked = All-nil _; once = λ m. omega arith; groups = no_pairs (λ (p q : Planned). rank p.group ≤ rank q.group) }
+
+none_served : (b : Bool) → IsServed [] [] b
+none_served b = record {
+  follows = record { order = []; permutation = IsPermutation-refl []; groups = no_pairs (λ (p q : Planned). rank p.group ≤ rank q.group); drawn = tt; whole = λ s. refl };
+  chained = tt;
+}
+
+of_none : (told : List Outcome) → drawn_in told ≡ [] → AreOfOnePlan told
+of_none told none = record {
+  plan = [];
+  is = no_plan;
+  served = subst (λ (ts : List Ticket). IsServed [] ts true) (sym none) (none_served true);
+  whole = λ closed unsealed. subst (λ (ts : List Ticket). IsServed [] ts false) (sym none) (none_served false);
+}
+
+of_plan : (n : ℕ) (lots : List LotState) (ts : List Ticket) (last : List Outcome) → (ts ≡ []) ⊎ Has n lots ts → AreLotsLawful lots → Ends n lots last
+    → AreOfOnePlan (draws ts ++ last)
+of_plan n lots ts last (inl none) lawful ends =
+    of_none (draws ts ++ last) (drawn_of_draws ts last ends.none ∙ none)
+of_plan n lots ts last (inr has) lawful ends =
+    let lot = lawful_at lots n has.lot has.found lawful in
+    let drawn = drawn_of_draws ts last ends.none in
+    record {
+      plan = has.lot.plan;
+      is = lot.plan;
+      served = subst (λ (us : List Ticket). IsServed has.lot.plan us true) (sym drawn) (has_served n lots ts has lawful);
+      whole = λ closed unsealed.
+          let met = ends.met (sym (close_of_draws ts last) ∙ closed) (sym (done_of_draws ts last) ∙ unsealed) has.lot has.found in
+          let served = subst (λ (b : Bool). IsServed has.lot.plan has.lot.tickets b) has.unsealed (met_served has.lot lot met) in
+          subst (λ (us : List Ticket). IsServed has.lot.plan us false) (has.tickets_are ∙ sym drawn) served;
+    }
+
+-- the tickets are entered, and the lot ends
+pub entered_of_plan : (n : ℕ) (ts : List Ticket) (sealed : Bool) (first last told : List Outcome) (old mid new : World) → told ≡ first ++ last → AreEntered n ts first old mid
+    → IsUnserved n old.clear.lots → AreLotsLawful mid.clear.lots → IsEnded n sealed last mid new → AreOfOnePlan told
+entered_of_plan n ts sealed first last told old mid new all entered unserved lawful ended =
+    let both : told ≡ draws ts ++ last = all ∙ ap (λ (os : List Outcome). os ++ last) entered.told_is in
+    subst AreOfOnePlan (sym both)
+    (of_plan n mid.clear.lots ts last (has_first n ts old mid entered.drawn unserved) lawful (ended_ends n sealed last mid new ended))
+
+-- a reserve that is refused leaves the lots as they are
+refused_leaves : (n member : ℕ) (r : Refusal) (lots new : List LotState) → ReserveLeaves n member (Err r) lots new → new ≡ lots
+refused_leaves n member refusal.NoLot lots new leaves = leaves.1
+refused_leaves n member refusal.StaleLot lots new leaves = leaves.1
+refused_leaves n member refusal.NotLong lots new leaves = leaves.1
+refused_leaves n member refusal.EarlierGroup lots new leaves = leaves.1
+refused_leaves n member refusal.Sealed lots new leaves = leaves.1
+refused_leaves n member _ lots new leaves = absurd leaves
+
+refused_lots : (n member : ℕ) (r : Refusal) (result : Result Ticket Refusal) (lots new : List LotState) → outcomes.Refused r ≡ reserve_outcome result
+    → ReserveLeaves n member result lots new → new ≡ lots
+refused_lots n member r (Ok t) lots new told leaves = cc
+refused_lots n member r (Err s) lots new told leaves = refused_leaves n member s lots new leaves
+
+-- or one of them is not entered
+stopped_lots : (n : ℕ) (t : Ticket) (r : Refusal) (old new : World) → IsNotEntered n t r old new → new.clear.lots ≡ old.clear.lots
+stopped_lots n t r old new (inl occurs) = let step = occurs.step in refused_lots n t.member r step.3.0 old.clear.lots new.clear.lots step.3.1 step.3.2.0
+stopped_lots n t r old new (inr h) = ap (λ (w : World). w.clear.lots) h.1
+
+pub cut_of_plan : (n : ℕ) (ts : List Ticket) (r : Refusal) (first told : List Outcome) (old new : World) → told ≡ first ++ outcomes.Refused r ∷ [] → AreCutOff n ts r first old new
+    → IsUnserved n old.clear.lots → AreLotsLawful new.clear.lots → AreOfOnePlan told
+cut_of_plan n ts r first told old new all cut unserved lawful =
+    let same = stopped_lots n cut.ticket r cut.between new cut.stopped in
+    let both : told ≡ draws cut.first ++ outcomes.Refused r ∷ [] = all ∙ ap (λ (os : List Outcome). os ++ outcomes.Refused r ∷ []) cut.entered.told_is in
+    subst AreOfOnePlan (sym both)
+    (of_plan n cut.between.clear.lots cut.first (outcomes.Refused r ∷ []) (has_first n cut.first old cut.between cut.entered.drawn unserved) (subst AreLotsLawful same lawful)
+    (refused_ends n cut.between.clear.lots r))
+
+busy_found : (busy : List BusyLot) (n : ℕ) (b : BusyLot) (P : BusyLot → Type 0) → All P busy → busy_at busy n ≡ Some b → P b
+busy_found [] n b P all found = cc
+busy_found (x ∷ busy) n b P all found = by (x.lot == n) found (busy_found busy n b P (All-tail P x busy all))
+  where
+    by : (t : Bool) → cond t (Some x) (busy_at busy n) ≡ Some b → (busy_at busy n ≡ Some b → P b) → P b
+    by true is rest = subst P (same_Some x b is) (All-head P x busy all)
+    by false is rest = rest is
+
+-- a lot that was busy is unserved
+pub busy_unserved : (n : ℕ) (f mid : FloorState) (b : BusyLot) → busy_at f.busy n ≡ Some b → AreBusy f.system.clear.lots f.busy → mid.system ≡ f.system
+    → IsUnserved n mid.system.clear.lots
+busy_unserved n f mid b found are same l here going =
+    let is = busy_found f.busy n b (IsBusy f.system.clear.lots) are.each found in
+    let fed = is.fed l (ap (λ (m : ℕ). lot_at f.system.clear.lots m) (busy_number f.busy n b found) ∙ ap (λ (w : World). lot_at w.clear.lots n) (sym same) ∙ here) going in
+    (fed.tickets, fed.unsealed)
+
+pub nothing_drawn : AreOfOnePlan []
+nothing_drawn = of_none [] refl

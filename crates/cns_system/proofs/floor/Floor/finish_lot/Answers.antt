@@ -1,0 +1,36 @@
+use Rattle.std.proofs.Common.{ap, subst, sym, ◌∙◌}
+use Rattle.std.specs.Prelude.{◌≡◌, ◌||◌, Bool}
+use Rattle.cns_system.specs.Finish.{AreOfOnePlan}
+use Rattle.cns_system.proofs.FinishLemmas.{finish_goes, finish_told, released_gone, released_rest}
+use Rattle.cns_system.proofs.OnePlanLemmas.{nothing_drawn}
+use Rattle.cns_system.proofs.floor.Floor.finish_lot.Goals as goal
+use Rattle.cns_system.proofs.floor.Floor.finish_lot.Goals.{then-failed, else-failed}
+
+pub enter-requires-clause-free : goal.enter-requires-clause-free
+enter-requires-clause-free g c = released_gone c.args.lot c.in-Some.sealed c.args.self.now c.release.new.self c.in-Some.ensures.released
+
+pub returns-after-failed-clause-ok : goal.returns-after-failed-clause-ok
+returns-after-failed-clause-ok g c =
+    let either : c.if-failed.enter ≡ (c.args.failed || c.in-Some.sealed) =
+    elim c.if-failed.branch [
+      | then-failed w ↦ w.enter-is ∙ w.if-failed.true ∙ ap (λ (t : Bool). t || c.in-Some.sealed) (sym w.if-failed.true)
+      | else-failed w ↦ w.enter-is ∙ ap (λ (t : Bool). t || c.in-Some.sealed) (sym w.if-failed.false)
+    ] in
+    finish_told (λ told. told.items) c.args.lot c.args.tickets.now c.args.failed c.in-Some.sealed c.if-failed.enter c.enter.result c.args.self.now c.release.new.self c.enter.new.self.system
+    c.in-Some.ensures.released either c.enter.ensures.ok
+
+pub returns-after-failed-clause-strict : goal.returns-after-failed-clause-strict
+returns-after-failed-clause-strict g c =
+    (finish_goes (λ told. told.items) c.args.lot c.args.tickets.now c.in-Some.sealed c.if-failed.enter c.enter.result c.args.self.now c.release.new.self c.enter.new.self.system
+    c.in-Some.ensures.released c.enter.ensures.ok c.enter.ensures.err).strict
+
+pub returns-after-failed-clause-numbers : goal.returns-after-failed-clause-numbers
+returns-after-failed-clause-numbers g c =
+    (finish_goes (λ told. told.items) c.args.lot c.args.tickets.now c.in-Some.sealed c.if-failed.enter c.enter.result c.args.self.now c.release.new.self c.enter.new.self.system
+    c.in-Some.ensures.released c.enter.ensures.ok c.enter.ensures.err).rises
+
+pub returns-in-None-clause-busy : goal.returns-in-None-clause-busy
+returns-in-None-clause-busy g c = released_rest c.args.lot c.release.result c.args.self.now c.release.new.self c.release.ensures.released
+
+pub returns-in-None-clause-tickets : goal.returns-in-None-clause-tickets
+returns-in-None-clause-tickets g c = subst AreOfOnePlan (sym c.new.ensures.items) nothing_drawn

@@ -1,0 +1,130 @@
+-- A lot whose workers have ended, what they drew entered (this project's own rules).
+use Rattle.std.specs.Prelude.{◌≡◌, ◌≢◌, ◌⊎◌, ◌==◌, ◌||◌, ℕ, Bool, true, false, not, List, [], ◌∷◌, ◌++◌, Option, Some, None, IsPermutation, MatchOption, filter, map}
+use Rattle.std.specs.List.{filter_map, list_any}
+use Rattle.std.specs.List.Sorted.{IsNonDecreasingBy}
+use Rattle.cns_pool.specs.declared.ticket.Ticket.{Ticket}
+use Rattle.cns_allocate.specs.Plan.{IsPlan}
+use Rattle.cns_allocate.specs.Served.{IsServed}
+use Rattle.cns_allocate.specs.declared.planned.Planned.{Planned}
+use Rattle.cns_records.specs.declared.refusal.Refusal.{Refusal}
+use Rattle.cns_records.specs.declared.refusal.Refusal.TheVariants as refusal
+use Rattle.cns_system.specs.Begin.{IsRefusal}
+use Rattle.cns_system.specs.Floor.{BusyLot, FloorState, busy_at}
+use Rattle.cns_system.specs.Lot.{LotState}
+use Rattle.cns_system.specs.Lots.{lot_at}
+use Rattle.cns_system.specs.Run.{Occurs, Run}
+use Rattle.cns_system.specs.Step.{Step}
+use Rattle.cns_system.specs.World.{World}
+use Rattle.cns_system.specs.declared.event.Event.{Event}
+use Rattle.cns_system.specs.declared.event.Event.TheVariants as event
+use Rattle.cns_system.specs.declared.outcome.Outcome.{Outcome}
+use Rattle.cns_system.specs.declared.outcome.Outcome.TheVariants as outcomes
+
+-- the busy lots without the one of a number
+abbrev pub without_busy : ℕ → List BusyLot → List BusyLot
+without_busy number busy = filter (λ (b : BusyLot). not (b.lot == number)) busy
+
+-- ---- the tickets
+
+-- the events that enter tickets, and what they come to where each member draws its ticket
+abbrev pub reserves : ℕ → List Ticket → List Event
+reserves lot tickets = map (λ (t : Ticket). event.Reserve lot t.member) tickets
+
+abbrev pub draws : List Ticket → List Outcome
+draws tickets = map (λ (t : Ticket). outcomes.Drawn t) tickets
+
+-- a reserve would draw another ticket than this one
+abbrev pub WouldDiffer : ℕ → Ticket → World → Type 0
+WouldDiffer lot t w = (other : Ticket) × (other ≢ t) × ((after : World) × Step (event.Reserve lot t.member) (outcomes.Drawn other) w after)
+
+-- a ticket is not entered: its reserve is refused; or it would draw another ticket, and does not happen
+abbrev pub IsNotEntered : ℕ → Ticket → Refusal → World → World → Type 0
+IsNotEntered lot t refused old new =
+    Occurs (event.Reserve lot t.member) (outcomes.Refused refused) old new ⊎ ((refused ≡ refusal.BadTickets) × (new ≡ old) × WouldDiffer lot t old)
+
+-- each ticket is entered
+pub record AreEntered (lot : ℕ) (tickets : List Ticket) (told : List Outcome) (old new : World) : Type 0 where
+  pub told_is : told ≡ draws tickets
+  pub drawn : Run (reserves lot tickets) (draws tickets) old new
+
+-- the tickets before one are entered, and that one is not
+pub record AreCutOff (lot : ℕ) (tickets : List Ticket) (refused : Refusal) (told : List Outcome) (old new : World) : Type 0 where
+  pub first : List Ticket
+  pub ticket : Ticket
+  pub rest : List Ticket
+  pub all : tickets ≡ first ++ ticket ∷ rest
+  pub between : World
+  pub entered : AreEntered lot first told old between
+  pub stopped : IsNotEntered lot ticket refused between new
+
+-- ---- the end of the lot
+
+-- the lot is closed, or is not: this comes of it
+abbrev pub IsClosed : ℕ → List Outcome → World → World → Type 0
+IsClosed lot told old new = (outcome : Outcome) × (told ≡ outcome ∷ []) × Occurs (event.LotClose lot) outcome old new
+
+-- before that it is sealed; where the seal is refused, the lot is not closed
+abbrev pub IsSealedFirst : ℕ → List Outcome → World → World → Type 0
+IsSealedFirst lot told old new =
+    ((outcome : Outcome) × (told ≡ outcome ∷ []) × IsRefusal outcome × Occurs (event.Seal lot) outcome old new)
+    ⊎ ((rest : List Outcome) × (between : World) × (told ≡ outcomes.Done ∷ rest) × Occurs (event.Seal lot) outcomes.Done old between × IsClosed lot rest between new)
+
+abbrev pub IsEnded : ℕ → Bool → List Outcome → World → World → Type 0
+IsEnded lot true told old new = IsSealedFirst lot told old new
+IsEnded lot false told old new = IsClosed lot told old new
+
+-- ---- all of it
+
+-- tickets are entered one after another, and then the lot ends; or one of them is not entered, and nothing comes after it
+abbrev pub AreAllEntered : ℕ → List Ticket → Bool → List Outcome → World → World → Type 0
+AreAllEntered lot tickets sealed told old new =
+    ((first : List Outcome) × (last : List Outcome) × (between : World) × (told ≡ first ++ last) × AreEntered lot tickets first old between × IsEnded lot sealed last between new)
+    ⊎ ((first : List Outcome) × (refused : Refusal) × (told ≡ first ++ outcomes.Refused refused ∷ []) × AreCutOff lot tickets refused first old new)
+
+-- the tickets that are handed in are entered in the order of their starts
+pub record IsFinished (lot : ℕ) (handed : List Ticket) (sealed : Bool) (told : List Outcome) (old new : World) : Type 0 where
+  pub sorted : List Ticket
+  pub same : IsPermutation handed sorted
+  pub by_start : IsNonDecreasingBy (λ (t : Ticket). t.start) sorted
+  pub entered : AreAllEntered lot sorted sealed told old new
+
+-- what comes of it: nothing of a lot that is not busy
+abbrev pub FinishGives : ℕ → List Ticket → Bool → List Outcome → FloorState → World → Type 0
+FinishGives lot handed failed told old new =
+    MatchOption (busy_at old.busy lot) ((told ≡ []) × (new ≡ old.system)) (λ (b : BusyLot). IsFinished lot handed (failed || b.sealed) told old.system new)
+
+-- a lot of a number is no longer busy: whether the floor's seat sealed its cell, where it was busy
+abbrev pub IsReleased : ℕ → Option Bool → FloorState → FloorState → Type 0
+IsReleased lot None old new = (busy_at old.busy lot ≡ None) × (new ≡ old)
+IsReleased lot (Some sealed) old new =
+    ((b : BusyLot) × (busy_at old.busy lot ≡ Some b) × (sealed ≡ b.sealed)) × (new ≡ record old { busy = without_busy lot old.busy })
+
+-- ---- the tickets among the outcomes
+
+-- the ticket that an outcome draws; whether a lot was sealed by an event, and whether one was closed
+abbrev pub drawn_by : Outcome → Option Ticket
+drawn_by (outcomes.Drawn t) = Some t
+drawn_by _ = None
+
+abbrev pub is_done : Outcome → Bool
+is_done outcomes.Done = true
+is_done _ = false
+
+abbrev pub is_close : Outcome → Bool
+is_close (outcomes.Closed _) = true
+is_close _ = false
+
+abbrev pub drawn_in : List Outcome → List Ticket
+drawn_in told = filter_map drawn_by told
+
+-- the tickets that were drawn are those of a lot that may close: they follow one plan, as far as they go, and stand end to end from 0;
+-- each member of the plan has one where the lot was closed and not sealed
+pub record AreOfOnePlan (told : List Outcome) : Type 0 where
+  pub plan : List Planned
+  pub is : IsPlan plan
+  pub served : IsServed plan (drawn_in told) true
+  pub whole : list_any is_close told ≡ true → list_any is_done told ≡ false → IsServed plan (drawn_in told) false
+
+-- nobody drew a ticket of the lot of a number, where it has not ended, and it is not sealed
+abbrev pub IsUnserved : ℕ → List LotState → Type 0
+IsUnserved n lots = (lot : LotState) → lot_at lots n ≡ Some lot → lot.ended ≡ false → (lot.tickets ≡ []) × (lot.sealed ≡ false)
