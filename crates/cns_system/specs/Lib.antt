@@ -18,3 +18,4 @@ pub mod Scene
 pub mod Floor
 pub mod Begin
 pub mod Finish
+pub mod Desk

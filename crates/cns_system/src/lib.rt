@@ -6,6 +6,7 @@
 #![tactic(auto)]
 
 mod agreement;
+mod desk;
 mod entry;
 mod event;
 mod fault;
@@ -17,6 +18,7 @@ mod outcome;
 mod pair;
 mod system;
 
+pub use desk::{Allocated, Cut, Desk, Drawn, serve_lot};
 pub use entry::Look;
 pub use event::{Event, NodeName};
 pub use fault::{StartFault, Unopened};

@@ -16,6 +16,7 @@ use std::process::Abort;
 use std::test::Fail;
 use story::assert_same;
 
+mod desk;
 mod finish;
 mod floor;
 mod numbered;

@@ -1,0 +1,19 @@
+-- What workers drew of a lot, as a desk has it (this project's own rules).
+use Rattle.std.specs.Prelude.{◌≡◌, Bool, true, false, Option, Some, None, MatchResult, Result}
+use Rattle.cns_allocate.specs.declared.serving.ServeFault.{ServeFault}
+use Rattle.cns_allocate.specs.declared.serving.Served.{Served}
+use Rattle.cns_system.specs.declared.desk.Cut.{Cut}
+use Rattle.cns_system.specs.declared.desk.Cut.TheVariants as cut
+use Rattle.cns_system.specs.declared.desk.Drawn.{Drawn}
+
+-- a seal that a worker met cuts the workers off
+abbrev pub cut_by : Bool → Option Cut
+cut_by true = Some cut.Sealed
+cut_by false = None
+
+-- the seat with the tickets, and what cut the workers off
+abbrev pub IsDrawn : Result Served ServeFault → Drawn → Type 0
+IsDrawn served drawn =
+    MatchResult served
+    (λ (s : Served). (drawn.seat ≡ s.seat) × (drawn.cut ≡ cut_by s.sealed))
+    (λ (f : ServeFault). (drawn.seat ≡ f.seat) × (drawn.cut ≡ Some (cut.Fault f.cause)))
