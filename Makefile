@@ -28,6 +28,7 @@ fuzz: build
 bench: build
 	bench/run.sh $(program)
 	bench/cell.sh
+	bench/workers.sh $(program)
 	bench/journal.sh $(program)
 
 # Wrong bodies beside those of the gate, each of which the proofs must refuse; of one crate by CRATE=NAME.

@@ -1,9 +1,12 @@
 -- The value that an argument of a subcommand was given.
-use Rattle.std.proofs.Common.{rules, ◌≡◌, ℕ, List, Option, Some, None, refl, option_map, true, false}
-use Rattle.std.specs.Str.{bytes_eq}
-use Rattle.std.proofs.lemmas.Option.{none-some, same_Some}
-use Rattle.std.proofs.lemmas.Slice.Eq.{bytes_eq-Decides}
+use Rattle.std.proofs.Common.{rules, ◌≡◌, ◌∙◌, ◌||◌, ap₂, Bool, List, Option, Some, None, refl, option_map, false}
+use Rattle.std.proofs.lemmas.Option.{none-some}
+use Rattle.clap.specs.Built.{AddsArg}
 use Rattle.clap.specs.Words.{Row, Text, first_of}
+use Rattle.clap.specs.declared.builder.arg.Arg.{Arg}
+use Rattle.clap.specs.declared.builder.command.Command.{Command}
+use Rattle.clap.specs.declared.builder.command.Command.TheOpen.{Command-F}
+use Rattle.clap.specs.declared.builder.command.Command.TheViews.{out-Command}
 use Rattle.cnsd.specs.CommandLine.{value_in}
 
 module _ {X : Type 0} (part : X → Text × List Row) (name id : Text) where
@@ -18,3 +21,11 @@ module _ {X : Type 0} (part : X → Text × List Row) (name id : Text) where
   pub value_of_other : (used : Option X) → (option_map (λ x. (part x).0) used ≡ Some name → ⊥) → value_in name id (option_map part used) ≡ None
   value_of_other None other = refl
   value_of_other (Some x) other = search rules
+
+-- whether a command has a global argument
+abbrev pub globals_of : Command-F Command → Bool
+globals_of c = c.has_globals
+
+-- it has none where one is added that is not
+pub none_global : (old : Command) (a : Arg) (new : Command) → AddsArg old a new → (out-Command old).has_globals ≡ false → a.global ≡ false → (out-Command new).has_globals ≡ false
+none_global old a new adds none own = adds.globals ∙ ap₂ (λ (x y : Bool). x || y) none own

@@ -1,6 +1,6 @@
 -- What a run of a script writes of an input's text.
 use Rattle.std.proofs.Common.{◌≡◌, ◌≤◌, ℕ, length, List, [], ◌++◌, take, Option, Some, None, Result, Ok, Err, refl, sym, ap, ◌∙◌, subst, inl, inr}
-use Rattle.std.specs.Prelude.{IfSome, OnOk}
+use Rattle.std.specs.Prelude.{IfErr, IfSome, OnOk}
 use Rattle.std.proofs.lemmas.List.{append-nil}
 use Rattle.std.specs.Io.KnownBytes.{Appends}
 use Rattle.cns_journal.specs.Replay.{KeeperState}
@@ -12,7 +12,7 @@ use Rattle.cnsd.specs.Reading.{batch_result}
 use Rattle.cnsd.specs.Run.{lines_run}
 use Rattle.cnsd.specs.Runs.{Continues, Place, RunState, Runs, Stops, course_at}
 use Rattle.cnsd.specs.Sections.{raw_lines}
-use Rattle.cnsd.specs.Text.{BatchLeaves, Input, KeptLeaves, RunsInput, Tells, WritesAll, WritesPart, WritesTextPart, input_of, new_keeper, text_by, text_from, text_in}
+use Rattle.cnsd.specs.Text.{BatchLeaves, Input, KeptLeaves, RunsInput, Tells, WritesAll, WritesNothing, WritesPart, WritesTextPart, input_of, new_keeper, text_by, text_from, text_in}
 use Rattle.cnsd.specs.declared.fault.BatchFault.{BatchFault}
 use Rattle.cnsd.specs.declared.fault.BatchFault.TheVariants as fault
 use Rattle.cnsd.specs.declared.fault.OutputFault.{OutputFault}
@@ -109,3 +109,9 @@ pub batch_leaves : (known : Option (List ℕ)) (result : Result (Unit {0}) Batch
 batch_leaves None result c d c' d' old new is_c is_d left = tt
 batch_leaves (Some b) result c d c' d' old new is_c is_d left =
     batch_by result b c' d' old new (subst (λ c. KeptLeaves result b c new_keeper c' d' old new) is_c (subst (λ d. KeptLeaves result b c d c' d' old new) is_d left))
+
+-- a run that ends in a fault may have written
+pub run_may_write : (P : Type 0) (ran : Result (Unit {0}) OutputFault) → IfErr (batch_result ran) (λ e. WritesNothing e → P)
+run_may_write P (Ok _) = tt
+run_may_write P (Err output.Memory) = λ none. absurd none
+run_may_write P (Err output.Write) = λ none. absurd none

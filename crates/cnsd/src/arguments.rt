@@ -1,11 +1,13 @@
-ghost use Rattle.std.specs.Prelude.{◌≡◌, false, IfOk, map, option_map};
+ghost use Rattle.std.specs.Prelude.{◌≡◌, false, IfOk, codes, map, option_map};
 ghost use Rattle.clap.specs.Words.{FailsBy, app_of, fault_of, rule_of, subcommand_of, subcommand_rows_of};
-ghost use Rattle.cnsd.specs.CommandLine.{AsksFor, cnsd_app, journal_rule, text_rule, value_in};
+ghost use Rattle.cnsd.specs.CommandLine.{AsksFor, IsCountIn, cnsd_app, journal_rule, text_rule, value_in, workers_rule};
 
 use crate::fault::BatchFault;
 use crate::help;
+use clap::builder::ValueParser;
 use clap::error::ErrorKind;
 use clap::{Arg, ArgAction, ArgMatches, Command, Error};
+use cns_allocate::MAX_WORKERS;
 use std::alloc::{AllocError, Global};
 use std::rt::Env;
 use std::{env, io};
@@ -14,8 +16,12 @@ use std::{env, io};
 #[derive(PartialEq, Eq, Debug, Drop)]
 pub(crate) enum Request {
     /// `cnsd run`: one batch from standard input to standard output, over the journals in this folder
-    /// where one is given, and else over keepers in memory.
-    Run { journal: Option<String> },
+    /// where one is given, and else over keepers in memory. So many workers serve its lots; where there
+    /// are none, its single events do.
+    Run {
+        journal: Option<String>,
+        workers: usize,
+    },
     /// `cnsd cusip TEXT`: whether this text is a CUSIP.
     Cusip(String),
     /// Help or the version, which was printed.
@@ -33,6 +39,19 @@ fn journal_option<'a>(alloc: Global) -> Arg<'a>
         .long("journal")
         .value_name("DIR")
         .help("Keep both nodes' journals in this folder, and begin with what they hold")
+        .action(ArgAction::Set)
+}
+
+// The option of `run` for the number of workers.
+fn workers_option<'a>(alloc: Global) -> Arg<'a>
+    ensures rule { rule_of result ≡ workers_rule }
+    ensures local { result.global ≡ false }
+{
+    Arg::new(alloc, "workers")
+        .long("workers")
+        .value_name("N")
+        .help("Let N workers draw the tickets of each lot, 0 to 2; none if left out")
+        .value_parser(ValueParser::Unsigned(0, MAX_WORKERS as u64))
         .action(ArgAction::Set)
 }
 
@@ -57,6 +76,7 @@ fn command<'a>(alloc: Global) -> Result<Command<'a>, AllocError>
             "Reads openings, trades and a script from standard input, and writes what they come to",
         )
         .after_help(help::RUN)
+        .arg(workers_option(alloc))?
         .arg(journal_option(alloc))?;
     let cusip = Command::new(alloc, "cusip")
         .about("Reads a text as a CUSIP, and writes `ok` or its first fault")
@@ -77,6 +97,16 @@ fn value_in<'a>(matches: &ArgMatches<'a>, subcommand: &str, id: &str) -> Option<
     matches.subcommand_matches(subcommand)?.get_str(id)
 }
 
+// How many workers the words ask for. The library lets no text through that is no number but `-0`.
+fn workers_in(matches: &ArgMatches) -> usize
+    ensures { IsCountIn (value_in (codes "run") (codes "workers") (subcommand_rows_of matches.now)) result }
+{
+    match value_in(matches, "run", "workers") {
+        Some(text) => text.parse::<usize>().unwrap_or(0),
+        None => 0,
+    }
+}
+
 // What the matches of a command line ask for; the library refuses a `cusip` with no text.
 fn request_of(alloc: Global, matches: &ArgMatches) -> Result<Request, AllocError>
     ensures { IfOk result (AsksFor (subcommand_rows_of matches.now)) }
@@ -84,11 +114,12 @@ fn request_of(alloc: Global, matches: &ArgMatches) -> Result<Request, AllocError
     if let Some(text) = value_in(matches, "cusip", "text") {
         return Ok(Request::Cusip(String::from_str(alloc, text)?));
     }
-    let Some(folder) = value_in(matches, "run", "journal") else {
-        return Ok(Request::Run { journal: None });
+    let workers = workers_in(matches);
+    let journal = match value_in(matches, "run", "journal") {
+        Some(folder) => Some(String::from_str(alloc, folder)?),
+        None => None,
     };
-    let journal = Some(String::from_str(alloc, folder)?);
-    Ok(Request::Run { journal })
+    Ok(Request::Run { journal, workers })
 }
 
 // Reads words as a command line; help, the version and faults come as the library's own errors.

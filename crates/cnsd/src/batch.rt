@@ -34,10 +34,10 @@ pub struct Kept<C, D> {
 
 // The rows of an input: the openings that stand, what the rows of openings tell, and the rows of trades.
 #[derive(Drop)]
-struct Rows {
-    openings: Openings,
-    told: String,
-    trades: Vec<Row>,
+pub(crate) struct Rows {
+    pub(crate) openings: Openings,
+    pub(crate) told: String,
+    pub(crate) trades: Vec<Row>,
 }
 
 // The fault of a batch whose rows cannot be read.
@@ -52,7 +52,7 @@ fn rows_fault(fault: CsvFault) -> BatchFault
 }
 
 // The fault of a batch whose nodes are not opened.
-fn start_fault(fault: StartFault) -> BatchFault
+pub(crate) fn start_fault(fault: StartFault) -> BatchFault
     ensures { result ≡ fault_of_start fault }
 {
     match fault {
@@ -63,7 +63,7 @@ fn start_fault(fault: StartFault) -> BatchFault
 }
 
 // What the rows of an input hold.
-fn read_rows(alloc: Global, openings: &[u8], trades: &[u8]) -> Result<Rows, BatchFault>
+pub(crate) fn read_rows(alloc: Global, openings: &[u8], trades: &[u8]) -> Result<Rows, BatchFault>
     ensures { MatchResult result
         (λ rows. (script : List ℕ) → input_under script (opening_rows openings.now) (trade_rows trades.now)
         ≡ Ok (record { openings = rows.openings; told = string_bytes rows.told; rows = rows.trades.items; script = script }))
@@ -87,7 +87,7 @@ fn read_rows(alloc: Global, openings: &[u8], trades: &[u8]) -> Result<Rows, Batc
 }
 
 // What a run comes to, as a batch.
-fn batch_result(ran: Result<(), OutputFault>) -> Result<(), BatchFault>
+pub(crate) fn batch_result(ran: Result<(), OutputFault>) -> Result<(), BatchFault>
     ensures { result ≡ batch_result ran }
 {
     match ran {

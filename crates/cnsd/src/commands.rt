@@ -41,7 +41,7 @@ fn is_refused(outcome: &Outcome) -> bool
 }
 
 // The packet of an order that was sent.
-fn sent_packet(outcome: &Outcome) -> Option<u64>
+pub(crate) fn sent_packet(outcome: &Outcome) -> Option<u64>
     ensures { result ≡ sent_packet outcome.now }
 {
     match outcome {
@@ -51,7 +51,7 @@ fn sent_packet(outcome: &Outcome) -> Option<u64>
 }
 
 // The packet of the reply to an order that came in.
-fn reply_packet(outcome: &Outcome) -> Option<u64>
+pub(crate) fn reply_packet(outcome: &Outcome) -> Option<u64>
     ensures { result ≡ reply_packet outcome.now }
 {
     match outcome {

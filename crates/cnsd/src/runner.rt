@@ -21,7 +21,7 @@ use std::io::Write;
 use std::marker::Model;
 
 // How many bytes of text are held at most before they are written, beside those of one outcome.
-const FULL: usize = 65_536;
+pub(crate) const FULL: usize = 65_536;
 
 /// The lot that a command opened beside the next lines, where it was opened, and how many of these
 /// lines are still to run before it is served.
@@ -196,17 +196,28 @@ impl<C: Keeper, D: Keeper> Runner<C, D> {
     pub(crate) fn write_report(&mut self) -> Result<(), AllocError>
         ensures { OnOk result (self.new ≡ record self.old { held = self.old.held ++ report_text (shown_of self.old.world) }) }
     {
-        let clearing = self.system.clearing();
-        let positions = clearing.book().rows()?;
-        let pools = clearing.pools(self.alloc)?;
-        write_cycle_report(
-            &mut self.text,
-            clearing.latest(),
-            positions.as_slice(),
-            pools.as_slice(),
-        )?;
-        let balances = self.system.depository().balances(self.alloc)?;
-        write_balance_report(&mut self.text, balances.as_slice())?;
-        write_report_end(&mut self.text)
+        add_report(&mut self.text, self.alloc, &self.system)
     }
+}
+
+/// Adds the report of both nodes to a text.
+pub(crate) fn add_report<C: Keeper, D: Keeper>(
+    text: &mut String,
+    alloc: Global,
+    system: &System<C, D>,
+) -> Result<(), AllocError>
+    ensures { OnOk result (string_bytes text.new ≡ string_bytes text.old ++ report_text (shown_of system.now)) }
+{
+    let clearing = system.clearing();
+    let positions = clearing.book().rows()?;
+    let pools = clearing.pools(alloc)?;
+    write_cycle_report(
+        text,
+        clearing.latest(),
+        positions.as_slice(),
+        pools.as_slice(),
+    )?;
+    let balances = system.depository().balances(alloc)?;
+    write_balance_report(text, balances.as_slice())?;
+    write_report_end(text)
 }

@@ -102,5 +102,10 @@ fn no_workers(rt: HostRuntime) -> Result<(), Fail> {
         entered: 2,
         ended: Some(Told::Closed(0, 0, 0)),
     };
-    run(&rt, rt.alloc(), &wanted, &[(Deed::LotOpen, Told::LotOpened(2, 40, 2))])
+    run(
+        &rt,
+        rt.alloc(),
+        &wanted,
+        &[(Deed::LotOpen, Told::LotOpened(2, 40, 2))],
+    )
 }

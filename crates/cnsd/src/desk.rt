@@ -1,0 +1,509 @@
+//! Runs over a desk, where workers draw the tickets of the lots that a script allocates.
+
+ghost use Rattle.std.specs.Prelude.{◌≡◌, ◌+◌, ◌<◌, ◌≤◌, IfErr, OnOk, length};
+ghost use Rattle.std.specs.Arc.{arc_value};
+ghost use Rattle.std.specs.Io.KnownBytes.{IsAtEnd};
+ghost use Rattle.std.specs.Thread.{IsSync};
+ghost use Rattle.cns_pool.specs.WorkerSeat.{new_worker};
+ghost use Rattle.cns_system.specs.Lot.{planned_sum};
+ghost use Rattle.cnsd.specs.Text.{WritesNothing};
+
+use crate::batch::{Kept, Rows, batch_result, read_rows, run_batch_kept, start_fault};
+use crate::command::Command;
+use crate::commands::{reply_packet, sent_packet};
+use crate::fault::{BatchFault, OutputFault};
+use crate::input::read_input;
+use crate::lines::Lines;
+use crate::output::write_text;
+use crate::runner::{FULL, add_report};
+use crate::sections::split_input;
+use crate::steps::Steps;
+use cns_allocate::Gate;
+use cns_ids::Cusip;
+use cns_journal::Keeper;
+use cns_records::Refusal;
+use cns_report::{
+    Subject, outcome_line, write_bad_command, write_close, write_fail, write_fail_refused,
+    write_lot, write_orders, write_refused, write_row_fault, write_ticket,
+};
+use cns_system::{Begun, Cut, Desk, Drawn, Event, NodeName, Outcome, System, serve_lot};
+use cns_trades::Row;
+use std::alloc::Global;
+use std::io::{Read, Write};
+use std::sync::Wait;
+use std::sync::ledger::{Blank, Ledger};
+use std::thread::{Threads, join};
+
+// A lot that workers serve beside the lines of a script, and whether one of these lines sealed it.
+#[derive(Clone, Copy)]
+struct Busy {
+    lot: u64,
+    sealed: bool,
+}
+
+// Runs the commands of a script at a desk: the rows of trades that are not taken, the lot that is busy,
+// what was told and is not yet written, and the workers, who draw past a gate.
+#[derive(Drop)]
+struct DeskRun<'a, C: Keeper, D: Keeper, G, R> {
+    desk: Desk<C, D>,
+    trades: Vec<Row>,
+    taken: usize,
+    busy: Option<Busy>,
+    text: String,
+    alloc: Global,
+    rt: &'a R,
+    workers: usize,
+    gate: &'a G,
+}
+
+// The refusal that tells what cut workers off.
+fn refusal_of(cut: Cut) -> Refusal {
+    match cut {
+        Cut::Sealed => Refusal::Sealed,
+        Cut::Fault(_) => Refusal::OutOfMemory,
+    }
+}
+
+impl<'a, C: Keeper, D: Keeper, G: Gate + Sync, R: Threads + Wait + Sync> DeskRun<'a, C, D, G, R> {
+    // Writes what was told.
+    fn flush<W: Write>(&mut self, writer: &mut W) -> Result<(), OutputFault> {
+        write_text(writer, self.text.as_bytes())?;
+        self.text.clear();
+        Ok(())
+    }
+
+    // Writes what was told where that is much.
+    fn flush_when_full<W: Write>(&mut self, writer: &mut W) -> Result<(), OutputFault> {
+        if self.text.len() < FULL {
+            return Ok(());
+        }
+        self.flush(writer)
+    }
+
+    // Lets an event happen, and tells and answers its outcome.
+    fn event<W: Write>(&mut self, event: Event, writer: &mut W) -> Result<Outcome, OutputFault> {
+        let outcome = self.desk.lock(self.rt).step(event);
+        outcome_line(&mut self.text, &event, &outcome)?;
+        self.flush_when_full(writer)?;
+        Ok(outcome)
+    }
+
+    // Lets an event happen, and tells its outcome.
+    fn single<W: Write>(&mut self, event: Event, writer: &mut W) -> Result<(), OutputFault> {
+        self.event(event, writer)?;
+        Ok(())
+    }
+
+    // Tells that what a command wants is refused.
+    fn refused<W: Write>(
+        &mut self,
+        command: Subject,
+        refusal: Refusal,
+        writer: &mut W,
+    ) -> Result<(), OutputFault> {
+        write_refused(&mut self.text, command, refusal)?;
+        self.flush_when_full(writer)
+    }
+
+    // Takes the next row, where one is left.
+    fn next_row(&mut self) -> Option<Row> {
+        let row = self.trades.get(self.taken).copied()?;
+        self.taken += 1;
+        Some(row)
+    }
+
+    // Takes so many of the rows that are left.
+    fn take<W: Write>(&mut self, rows: u64, writer: &mut W) -> Result<(), OutputFault> {
+        for _turn in 0..rows {
+            match self.next_row() {
+                None => return Ok(()),
+                Some(Row::Trade(trade)) => self.single(Event::Trade(trade), writer)?,
+                Some(Row::Fault { row, fault }) => {
+                    write_row_fault(&mut self.text, row, fault)?;
+                    self.flush_when_full(writer)?;
+                }
+            }
+        }
+        Ok(())
+    }
+
+    // Looks at what was poured into a lot and at what its tickets ask for, in one line.
+    fn look<W: Write>(&mut self, lot: u64, writer: &mut W) -> Result<(), OutputFault> {
+        match self.event(Event::LookPoured { lot }, writer)? {
+            Outcome::Refused(_) => Ok(()),
+            _ => self.single(Event::LookAsked { lot }, writer),
+        }
+    }
+
+    // Seals a lot.
+    fn seal<W: Write>(&mut self, lot: u64, writer: &mut W) -> Result<(), OutputFault> {
+        let outcome = self.event(Event::Seal { lot }, writer)?;
+        match (outcome, self.busy) {
+            (Outcome::Done, Some(busy)) if busy.lot == lot => {
+                self.busy = Some(Busy { lot, sealed: true });
+            }
+            _ => {}
+        }
+        Ok(())
+    }
+
+    // Sends an order, and lets its packet and that of the reply arrive; a refusal ends this.
+    fn pump_one<W: Write>(&mut self, number: u64, writer: &mut W) -> Result<(), OutputFault> {
+        let Some(packet) = sent_packet(&self.event(Event::Send { number }, writer)?) else {
+            return Ok(());
+        };
+        match reply_packet(&self.event(Event::OrderIn { packet }, writer)?) {
+            Some(packet) => self.single(Event::ReplyIn { packet }, writer),
+            None => Ok(()),
+        }
+    }
+
+    // Does so with each order that is unconfirmed at the start, by number.
+    fn pump<W: Write>(&mut self, writer: &mut W) -> Result<(), OutputFault> {
+        let numbers = self.desk.lock(self.rt).unconfirmed(self.alloc)?;
+        for number in numbers.as_slice() {
+            self.pump_one(number.number(), writer)?;
+        }
+        Ok(())
+    }
+
+    // Makes the next commit of a node fail, where its keeper plans failures.
+    fn fail<W: Write>(
+        &mut self,
+        node: NodeName,
+        stands: bool,
+        writer: &mut W,
+    ) -> Result<(), OutputFault> {
+        if self.desk.lock(self.rt).plan(node, stands).is_ok() {
+            write_fail(&mut self.text)?;
+        } else {
+            write_fail_refused(&mut self.text)?;
+        }
+        self.flush_when_full(writer)
+    }
+
+    // Tells the report.
+    fn report<W: Write>(&mut self, writer: &mut W) -> Result<(), OutputFault> {
+        let floor = self.desk.lock(self.rt);
+        add_report(&mut self.text, self.alloc, floor.system())?;
+        drop(floor);
+        self.flush_when_full(writer)
+    }
+
+    // Tells that the line of this number fits no form.
+    fn bad_command<W: Write>(&mut self, number: u64, writer: &mut W) -> Result<(), OutputFault> {
+        write_bad_command(&mut self.text, number)?;
+        self.flush_when_full(writer)
+    }
+
+    // Tells what entering a ticket, or ending a lot, came to. A seal is not told unless it is refused.
+    fn tell_entered<W: Write>(
+        &mut self,
+        command: Subject,
+        outcome: &Outcome,
+        writer: &mut W,
+    ) -> Result<(), OutputFault> {
+        match outcome {
+            Outcome::Drawn(ticket) => write_ticket(&mut self.text, ticket)?,
+            Outcome::Closed(closed) => {
+                write_close(&mut self.text, closed.granted)?;
+                write_orders(&mut self.text, closed.orders.as_slice())?;
+            }
+            Outcome::Refused(refusal) => write_refused(&mut self.text, command, *refusal)?,
+            _ => {}
+        }
+        self.flush_when_full(writer)
+    }
+
+    // Tells what the end of a lot came to: its tickets by start; where all of them were entered, what cut
+    // the workers off; and the close, after a seal where there was one.
+    fn tell_end<W: Write>(
+        &mut self,
+        drawn: &Drawn,
+        sealed: bool,
+        entered: &[Outcome],
+        writer: &mut W,
+    ) -> Result<(), OutputFault> {
+        let tickets = drawn.seat.tickets().len();
+        for outcome in entered.iter().take(tickets) {
+            self.tell_entered(Subject::Reserve, outcome, writer)?;
+        }
+        if entered.len() <= tickets {
+            return Ok(());
+        }
+        if let Some(cut) = drawn.cut {
+            self.refused(Subject::Reserve, refusal_of(cut), writer)?;
+        }
+        let mut command = if sealed {
+            Subject::Seal
+        } else {
+            Subject::Close
+        };
+        for outcome in &entered[tickets..] {
+            self.tell_entered(command, outcome, writer)?;
+            command = Subject::Close;
+        }
+        Ok(())
+    }
+
+    // Opens a lot of an issue, and lets workers serve it.
+    fn allocate<W: Write>(&mut self, issue: Cusip, writer: &mut W) -> Result<(), OutputFault> {
+        let all = self
+            .desk
+            .allocate(self.rt, self.alloc, issue, self.workers, self.gate)?;
+        outcome_line(&mut self.text, &Event::LotOpen { issue }, &all.opened)?;
+        match &all.drawn {
+            Some(drawn) => {
+                self.tell_end(drawn, drawn.cut.is_some(), all.entered.as_slice(), writer)
+            }
+            None => self.flush_when_full(writer),
+        }
+    }
+
+    // Opens a lot of an issue, and runs so many of the next lines while workers serve it.
+    fn beside<W: Write>(
+        &mut self,
+        issue: Cusip,
+        count: u64,
+        lines: &mut Lines<'_>,
+        writer: &mut W,
+    ) -> Result<(), OutputFault> {
+        let begun = self.desk.lock(self.rt).begin(self.alloc, issue);
+        match begun {
+            Ok(begun) => self.serve_beside(begun, count, lines, writer),
+            Err(refused) => {
+                outcome_line(&mut self.text, &Event::LotOpen { issue }, &refused)?;
+                self.run_lines(count, lines, writer)
+            }
+        }
+    }
+
+    // Lets workers serve an opened lot while so many of the next lines run, and ends it.
+    fn serve_beside<W: Write>(
+        &mut self,
+        begun: Begun,
+        count: u64,
+        lines: &mut Lines<'_>,
+        writer: &mut W,
+    ) -> Result<(), OutputFault>
+        requires { begun.seat ≡ new_worker (arc_value begun.cell) (planned_sum begun.plan) (length begun.plan) }
+    {
+        let Begun {
+            lot,
+            poured,
+            plan,
+            cell,
+            seat,
+        } = begun;
+        write_lot(&mut self.text, lot, poured, plan.len())?;
+        self.busy = Some(Busy { lot, sealed: false });
+        let (rt, alloc, workers, gate) = (self.rt, self.alloc, self.workers, self.gate);
+        let (cell, plan) = (&cell, &plan);
+        let (drawn, ran) = join(
+            rt,
+            move || -> Drawn
+                requires { IsSync R.row × IsSync G.row × (seat ≡ new_worker (arc_value cell.now) (planned_sum plan.now) (length plan.now)) }
+            { serve_lot(rt, alloc, cell, seat, plan, workers, gate) },
+            || -> Result<(), OutputFault>
+                requires { IsSync R.row × IsSync G.row }
+            { self.run_lines(count, lines, writer) },
+        );
+        ran?;
+        self.end(lot, &drawn, writer)
+    }
+
+    // Enters what workers drew of the busy lot, and ends it.
+    fn end<W: Write>(
+        &mut self,
+        lot: u64,
+        drawn: &Drawn,
+        writer: &mut W,
+    ) -> Result<(), OutputFault> {
+        let cut = drawn.cut.is_some();
+        let sealed = match self.busy.take() {
+            Some(busy) => cut || busy.sealed,
+            None => cut,
+        };
+        let entered = self
+            .desk
+            .lock(self.rt)
+            .finish(self.alloc, lot, drawn.seat.tickets(), cut)?;
+        self.tell_end(drawn, sealed, entered.as_slice(), writer)
+    }
+
+    // Runs a command, in the line of this number. None of them opens a lot beside lines.
+    fn run_command<W: Write>(
+        &mut self,
+        number: u64,
+        command: &Command,
+        writer: &mut W,
+    ) -> Result<(), OutputFault> {
+        let event = match *command {
+            Command::Skip => return Ok(()),
+            Command::TakeAll => return self.take(u64::MAX, writer),
+            Command::Take(rows) => return self.take(rows, writer),
+            Command::Look(lot) => return self.look(lot, writer),
+            Command::Seal(lot) => return self.seal(lot, writer),
+            Command::Allocate(issue) => return self.allocate(issue, writer),
+            Command::Pump => return self.pump(writer),
+            Command::Fail { node, stands } => return self.fail(node, stands, writer),
+            Command::Report => return self.report(writer),
+            Command::Beside { .. } | Command::Bad => return self.bad_command(number, writer),
+            Command::Reserve { lot, member } => Event::Reserve { lot, member },
+            Command::Close(lot) => Event::LotClose { lot },
+            Command::Cycle(cycle) => Event::Cycle(cycle),
+            Command::Exempt {
+                member,
+                issue,
+                shares,
+            } => Event::Exempt {
+                member,
+                issue,
+                shares,
+            },
+            Command::Priority { member, issue, on } => Event::Priority { member, issue, on },
+            Command::Send(number) => Event::Send { number },
+            Command::Order(packet) => Event::OrderIn { packet },
+            Command::Reply(packet) => Event::ReplyIn { packet },
+            Command::Lot(issue) => Event::LotOpen { issue },
+            Command::Pour(lot) => Event::LotPour { lot },
+            Command::Restart(node) => Event::Restart(node),
+        };
+        self.single(event, writer)
+    }
+
+    // Runs so many of the next lines; those that are skipped do not count.
+    fn run_lines<W: Write>(
+        &mut self,
+        count: u64,
+        lines: &mut Lines<'_>,
+        writer: &mut W,
+    ) -> Result<(), OutputFault> {
+        let mut left = count;
+        while left > 0 {
+            let Some((number, command)) = lines.take_next() else {
+                return Ok(());
+            };
+            if command != Command::Skip {
+                left -= 1;
+            }
+            self.run_command(number, &command, writer)?;
+        }
+        Ok(())
+    }
+
+    // Runs all lines, and writes all that is told.
+    fn run_script<W: Write>(&mut self, script: &[u8], writer: &mut W) -> Result<(), OutputFault> {
+        let mut lines = Lines::of(script);
+        // Each line has a byte at least.
+        for _line in 0..script.len() {
+            let Some((number, command)) = lines.take_next() else {
+                break;
+            };
+            match command {
+                Command::Beside {
+                    issue,
+                    lines: count,
+                } => self.beside(issue, count, &mut lines, writer)?,
+                command => self.run_command(number, &command, writer)?,
+            }
+        }
+        self.flush(writer)
+    }
+}
+
+/// Reads an input text to its end, opens both nodes over these keepers with its openings, and writes what
+/// its script tells of its trades, where so many workers serve the lots that `ALLOCATE` and `BESIDE` open,
+/// past a gate. The lines beside a lot run while the workers draw.
+///
+/// Without workers all is as `run_batch_kept` has it. With workers the order of the tickets inside a group
+/// may differ, and which of them come before a seal. With more than two workers, none of them serves, as
+/// where there is no memory for them.
+///
+/// With `Read`, `TooLong`, `Sections`, `Csv` and `Journal` nothing was written. At `Write` and `Memory` a
+/// first part of the text was written, or none. `steps` counts the read calls, at most 67,108,866.
+pub fn run_desk<
+    I: Read,
+    W: Write,
+    L: Ledger,
+    C: Keeper + Drop,
+    D: Keeper + Drop,
+    G: Gate + Sync,
+    R: Threads + Wait + Sync,
+>(
+    rt: &R,
+    alloc: Global,
+    reader: &mut I,
+    writer: &mut W,
+    steps: &mut Steps<L>,
+    workers: usize,
+    clear: C,
+    depot: D,
+    gate: &G,
+) -> Result<(), BatchFault>
+    ensures none { IfErr result (λ e. WritesNothing e → W.contents writer.new ≡ W.contents writer.old) }
+    ensures end { OnOk result (IsAtEnd (I.remaining reader.new)) }
+    ensures reads { steps.new ≤ steps.old + 67108866 }
+{
+    if workers == 0 {
+        let kept = run_batch_kept(alloc, reader, writer, steps, clear, depot);
+        return kept.result;
+    }
+    let bytes = read_input(alloc, reader, steps)?;
+    let Some(sections) = split_input(bytes.as_slice()) else {
+        return Err(BatchFault::Sections);
+    };
+    let Rows {
+        openings,
+        told,
+        trades,
+    } = read_rows(alloc, sections.openings, sections.trades)?;
+    let system = match System::open(alloc, clear, depot, openings) {
+        Ok(system) => system,
+        Err(refused) => return Err(start_fault(refused.fault)),
+    };
+    let mut run = DeskRun {
+        desk: Desk::new(alloc, system),
+        trades,
+        taken: 0,
+        busy: None,
+        text: told,
+        alloc,
+        rt,
+        workers,
+        gate,
+    };
+    batch_result(run.run_script(sections.script, writer))
+}
+
+/// `run_desk` for a caller that counts nothing.
+pub fn run_desk_uncounted<
+    I: Read,
+    W: Write,
+    L: Ledger,
+    C: Keeper + Drop,
+    D: Keeper + Drop,
+    G: Gate + Sync,
+    R: Threads + Wait + Sync,
+>(
+    rt: &R,
+    alloc: Global,
+    reader: &mut I,
+    writer: &mut W,
+    blank: Blank,
+    workers: usize,
+    clear: C,
+    depot: D,
+    gate: &G,
+) -> Result<(), BatchFault>
+    requires name { blank.name ≡ L.name }
+    requires parts { blank.parts ≡ L.parts }
+    requires some { 0 < L.parts }
+    ensures none { IfErr result (λ e. WritesNothing e → W.contents writer.new ≡ W.contents writer.old) }
+    ensures end { OnOk result (IsAtEnd (I.remaining reader.new)) }
+{
+    let mut steps = Steps::<L>::new(blank);
+    run_desk(
+        rt, alloc, reader, writer, &mut steps, workers, clear, depot, gate,
+    )
+}

@@ -1,0 +1,139 @@
+//! Tests over a desk: what workers draw is entered, with a gate that has one of them wait for the other.
+
+ghost use Rattle.std.specs.Prelude.{◌≡◌, ◌<◌};
+
+use crate::desk::run_desk_uncounted;
+use crate::fault::BatchFault;
+use cns_allocate::{Gate, OpenGate};
+use cns_journal::ListKeeper;
+use std::alloc::Global;
+use std::marker::Brand;
+use std::sync::Wait;
+use std::sync::atomic::{AtomicBool, Ordering};
+use std::sync::ledger::Blank;
+use std::test::Fail;
+use std::thread;
+use std::thread::Threads;
+
+// How often the gate turns at most while it waits.
+const MOST_TURNS: u64 = 10_000_000;
+
+// Members 2 and 3 are to receive 30 shares each of the 40 that member 1 has.
+const INPUT: &[u8] = b"\
+    [openings]\n\
+    account,cusip,shares\n\
+    1,037833100,40\n\
+    [trades]\n\
+    trade,settle,buyer,seller,cusip,quantity\n\
+    F1,2025-03-04,2,1,037833100,30\n\
+    F2,2025-03-04,3,1,037833100,30\n\
+    [script]\n\
+    TAKE ALL\n\
+    CYCLE NIGHT 2025-03-04\n\
+    PUMP\n\
+    ALLOCATE 037833100\n";
+
+const OUTPUT: &[u8] = b"\
+    trade F1 accepted\n\
+    trade F2 accepted\n\
+    cycle 2025-03-04 NIGHT due 2\n\
+    order 1 COVER 0001 037833100 60\n\
+    send 1 packet 1\n\
+    exec 1 moved 40 packet 1\n\
+    confirm 1 moved 40 done\n\
+    lot 1 poured 40 longs 2\n\
+    ticket 0003 start 0 asked 30\n\
+    ticket 0002 start 30 asked 30\n\
+    close granted 40\n\
+    order 2 DELIVERY 0003 037833100 30\n\
+    order 3 DELIVERY 0002 037833100 10\n";
+
+// Holds the first worker's first reserve until the second one's was answered.
+#[derive(Drop)]
+struct SecondFirst {
+    answered: AtomicBool,
+}
+
+impl Gate for SecondFirst {
+    fn before(&self, worker: usize, place: usize) {
+        if worker != 0 || place != 0 {
+            return;
+        }
+        for _turn in 0..MOST_TURNS {
+            if self.answered.load(Ordering::SeqCst) {
+                return;
+            }
+            thread::yield_now();
+        }
+    }
+
+    fn after(&self, worker: usize, place: usize) {
+        if worker == 1 && place == 1 {
+            self.answered.store(true, Ordering::SeqCst);
+        }
+    }
+}
+
+// What an input comes to over keepers in memory, by so many workers past a gate.
+fn desk<G: Gate + Sync, H: Threads + Wait + Sync>(
+    rt: &H,
+    alloc: Global,
+    input: &[u8],
+    workers: usize,
+    gate: &G,
+    out: &mut Vec<u8>,
+) -> Result<(), BatchFault> {
+    let mut reader = input;
+    let (clear, depot) = (ListKeeper::new(alloc), ListKeeper::new(alloc));
+    run_desk_uncounted::<_, _, Brand, _, _, _, _>(
+        rt,
+        alloc,
+        &mut reader,
+        out,
+        Blank::new(1),
+        workers,
+        clear,
+        depot,
+        gate,
+    )
+}
+
+#[test]
+fn the_second_worker_draws_first(rt: HostRuntime) -> Result<(), Fail> {
+    let gate = SecondFirst {
+        answered: AtomicBool::new(false),
+    };
+    let mut out = Vec::new(rt.alloc());
+    desk(&rt, rt.alloc(), INPUT, 2, &gate, &mut out)?;
+    assert!(rt; out.as_slice() == OUTPUT);
+    Ok(())
+}
+
+// Where too many workers are asked for, none serves, and the lot ends without tickets.
+const UNSERVED: &[u8] = b"\
+    trade F1 accepted\n\
+    trade F2 accepted\n\
+    cycle 2025-03-04 NIGHT due 2\n\
+    order 1 COVER 0001 037833100 60\n\
+    send 1 packet 1\n\
+    exec 1 moved 40 packet 1\n\
+    confirm 1 moved 40 done\n\
+    lot 1 poured 40 longs 2\n\
+    reserve refused OutOfMemory\n\
+    close granted 0\n";
+
+#[test]
+fn too_many_workers(rt: HostRuntime) -> Result<(), Fail> {
+    let mut out = Vec::new(rt.alloc());
+    desk(&rt, rt.alloc(), INPUT, 3, &OpenGate, &mut out)?;
+    assert!(rt; out.as_slice() == UNSERVED);
+    Ok(())
+}
+
+#[test]
+fn faults_of_the_input(rt: HostRuntime) -> Result<(), Fail> {
+    let mut out = Vec::new(rt.alloc());
+    let ended = desk(&rt, rt.alloc(), b"", 1, &OpenGate, &mut out);
+    assert!(rt; ended == Err(BatchFault::Sections) && out.is_empty());
+    Ok(())
+}
