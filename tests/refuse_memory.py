@@ -3,8 +3,8 @@
 
     refuse_memory.sh PROGRAM [FILE..]
 
-Each FILE is an input of `run`; without one they are those of EXAMPLES. `cusip 037833100` comes
-with them. A first run counts the requests, then for each of them there is a run in which it, and no
+Each FILE is an input of `run`, or of the words in the file NAME.args beside a NAME.in; without one they are
+those of EXAMPLES. `cusip 037833100` comes with them. A first run counts the requests, then for each of them there is a run in which it, and no
 other, gets no memory (refuse_memory.c, preloaded). Such a run must end within 20 seconds, in one of
 these ways:
 
@@ -26,10 +26,19 @@ from preload import SECONDS, Failure, is_program, library, run, say_end
 
 HERE = os.path.dirname(os.path.abspath(__file__))
 EXAMPLES = [os.path.join(HERE, '..', 'examples', name + '.in')
-            for name in ('plain-night', 'lot-poured-twice', 'restarts-keep', 'planned-failures')]
+            for name in ('plain-night', 'lot-poured-twice', 'restarts-keep', 'planned-failures', 'workers-serve-groups')]
 CUSIP = '037833100'
 MEMORY = b'cnsd: out of memory\n'
 REFUSED = b' refused OutOfMemory'
+
+
+def words_of(path):
+    """The words of the command line of an input."""
+    try:
+        with open(os.path.splitext(path)[0] + '.args', encoding='utf-8') as words:
+            return words.read().split()
+    except OSError:
+        return ['run']
 
 
 class Example:
@@ -100,7 +109,7 @@ def main(words):
     if not is_program(words):
         return say_end(0, 1, 'no program %s' % (words[0] if words else ''))
     program = os.path.abspath(words[0])
-    inputs = [(os.path.basename(path), ['run'], path) for path in words[1:] or EXAMPLES]
+    inputs = [(os.path.basename(path), words_of(path), path) for path in words[1:] or EXAMPLES]
     inputs.append(('cusip %s' % CUSIP, ['cusip', CUSIP], os.devnull))
     with tempfile.TemporaryDirectory() as folder, concurrent.futures.ThreadPoolExecutor(os.cpu_count() or 1) as pool:
         try:
