@@ -1,5 +1,7 @@
 -- What workers drew of a lot, as a desk has it (this project's own rules).
-use Rattle.std.specs.Prelude.{◌≡◌, Bool, true, false, Option, Some, None, MatchResult, Result}
+use Rattle.std.specs.Prelude.{◌≡◌, ◌<◌, Bool, true, false, List, length, Option, Some, None, MatchResult, Result}
+use Rattle.cns_allocate.specs.declared.planned.Planned.{Planned}
+use Rattle.cns_allocate.specs.declared.serving.ServeCause.TheVariants as cause
 use Rattle.cns_allocate.specs.declared.serving.ServeFault.{ServeFault}
 use Rattle.cns_allocate.specs.declared.serving.Served.{Served}
 use Rattle.cns_system.specs.declared.desk.Cut.{Cut}
@@ -17,3 +19,14 @@ IsDrawn served drawn =
     MatchResult served
     (λ (s : Served). (drawn.seat ≡ s.seat) × (drawn.cut ≡ cut_by s.sealed))
     (λ (f : ServeFault). (drawn.seat ≡ f.seat) × (drawn.cut ≡ Some (cut.Fault f.cause)))
+
+-- whether it was the seal that cut workers off
+abbrev pub is_seal : Option Cut → Bool
+is_seal None = false
+is_seal (Some cut.Sealed) = true
+is_seal (Some (cut.Fault c)) = false
+
+-- some members of a plan have no ticket where a worker met the seal, or memory was wanting
+pub record HasTooFew (plan : List Planned) (drawn : Drawn) : Type 0 where
+  pub sealed : drawn.cut ≡ Some cut.Sealed → length drawn.seat.tickets < length plan
+  pub unserved : drawn.cut ≡ Some (cut.Fault cause.OutOfMemory) → length drawn.seat.tickets < length plan

@@ -1,17 +1,20 @@
-ghost use Rattle.std.specs.Prelude.{◌≡◌, length, IfOk};
+ghost use Rattle.std.specs.Prelude.{◌≡◌, ◌↔◌, ◌⊎◌, ◌<◌, IfOk, Some, is_some, length};
 ghost use Rattle.std.specs.Arc.{arc_value};
 ghost use Rattle.std.specs.Sync.Mutex.{mutex_guard_value};
 ghost use Rattle.cns_pool.specs.WorkerSeat.{new_worker};
-ghost use Rattle.cns_system.specs.Desk.{IsDrawn};
+ghost use Rattle.cns_allocate.specs.Serving.{Serves};
+ghost use Rattle.cns_allocate.specs.declared.serving.ServeCause.TheVariants.{TooManyWorkers};
+ghost use Rattle.cns_system.specs.Desk.{HasTooFew, IsDrawn, is_seal};
 ghost use Rattle.cns_system.specs.Finish.{AreOfOnePlan};
 ghost use Rattle.cns_system.specs.Floor.{IsLawfulFloor};
 ghost use Rattle.cns_system.specs.Lot.{planned_sum};
+ghost use Rattle.cns_system.specs.declared.desk.Cut.TheVariants.{Fault};
 
 use crate::floor::{Begun, Floor};
 use crate::numbered::Opened;
 use crate::outcome::Outcome;
 use crate::system::System;
-use cns_allocate::{Gate, Plan, ServeCause, ServeFault, Served, serve};
+use cns_allocate::{Gate, MAX_WORKERS, Plan, ServeCause, ServeFault, Served, serve};
 use cns_ids::Cusip;
 use cns_journal::Keeper;
 use cns_pool::{PoolCell, WorkerSeat};
@@ -161,6 +164,11 @@ impl<C: Keeper, D: Keeper> Desk<C, D> {
 
 /// Draws the tickets of a lot's plan from its cell by workers, as `serve` does; what cuts them off is told
 /// beside the tickets. The seat is as `Floor::begin` hands it out.
+///
+/// By start, the tickets are those of the first members of an order of the whole plan in which no group comes
+/// after a later one. All members have one where nothing cut the workers off; some have none where a worker
+/// met the seal or memory was wanting. For no worker, and for more than `MAX_WORKERS`, the seat comes back as
+/// it was. (This project's own rule.)
 pub fn serve_lot<G: Gate + Sync, R: Threads + Sync>(
     rt: &R,
     alloc: Global,
@@ -171,6 +179,11 @@ pub fn serve_lot<G: Gate + Sync, R: Threads + Sync>(
     gate: &G,
 ) -> Drawn
     requires { seat ≡ new_worker cell.now (planned_sum plan.now) (length plan.now) }
+    ensures served { Serves plan.now seat result.seat (is_some result.cut) }
+    ensures sealed { result.seat.seen.sealed ≡ is_seal result.cut }
+    ensures part { HasTooFew plan.now result }
+    ensures many { result.cut ≡ Some (Fault TooManyWorkers) ↔ ((workers ≡ 0) ⊎ (MAX_WORKERS < workers)) }
+    ensures same { result.cut ≡ Some (Fault TooManyWorkers) → result.seat ≡ seat }
 {
     gather(serve(rt, alloc, cell, seat, plan.as_slice(), workers, gate))
 }

@@ -8,7 +8,7 @@ ghost use Rattle.cns_pool.specs.WorkerSeat.{new_worker};
 ghost use Rattle.cns_system.specs.Lot.{planned_sum};
 ghost use Rattle.cnsd.specs.Text.{WritesNothing};
 
-use crate::batch::{Kept, Rows, batch_result, read_rows, run_batch_kept, start_fault};
+use crate::batch::{Rows, batch_result, read_rows, run_batch_kept, start_fault};
 use crate::command::Command;
 use crate::commands::{reply_packet, sent_packet};
 use crate::fault::{BatchFault, OutputFault};
