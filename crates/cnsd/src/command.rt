@@ -7,7 +7,7 @@ use cns_ids::{Cusip, CycleId, CycleKind, Day, MemberNo, Shares, read_number};
 use cns_system::NodeName;
 
 /// A line of the script.
-#[derive(Clone, Copy, PartialEq, Eq, Debug)]
+#[derive(Clone, Copy)]
 pub enum Command {
     /// A blank line or a comment.
     Skip,

@@ -14,21 +14,15 @@ use crate::commands::{reply_packet, sent_packet};
 use crate::fault::{BatchFault, OutputFault};
 use crate::input::read_input;
 use crate::lines::Lines;
-use crate::output::write_text;
-use crate::runner::{FULL, add_report};
+use crate::page::Page;
 use crate::sections::split_input;
 use crate::steps::Steps;
 use cns_allocate::Gate;
 use cns_ids::Cusip;
 use cns_journal::Keeper;
-use cns_records::Refusal;
-use cns_report::{
-    Subject, outcome_line, write_bad_command, write_close, write_fail, write_fail_refused,
-    write_lot, write_orders, write_refused, write_row_fault, write_ticket,
-};
-use cns_system::{Begun, Cut, Desk, Drawn, Event, NodeName, Outcome, System, serve_lot};
+use cns_system::{Begun, Desk, Drawn, Event, NodeName, Outcome, System, serve_lot};
 use cns_trades::Row;
-use std::alloc::Global;
+use std::alloc::{AllocError, Global};
 use std::io::{Read, Write};
 use std::sync::Wait;
 use std::sync::ledger::{Blank, Ledger};
@@ -41,88 +35,72 @@ struct Busy {
     sealed: bool,
 }
 
+// The rows of trades, and how many of them were taken.
+#[derive(Drop)]
+struct Untaken {
+    rows: Vec<Row>,
+    taken: usize,
+}
+
+impl Untaken {
+    // Takes the next row, where one is left.
+    fn take_next(&mut self) -> Option<Row> {
+        let row = self.rows.get(self.taken).copied()?;
+        self.taken += 1;
+        Some(row)
+    }
+}
+
 // Runs the commands of a script at a desk: the rows of trades that are not taken, the lot that is busy,
 // what was told and is not yet written, and the workers, who draw past a gate.
 #[derive(Drop)]
 struct DeskRun<'a, C: Keeper, D: Keeper, G, R> {
     desk: Desk<C, D>,
-    trades: Vec<Row>,
-    taken: usize,
+    trades: Untaken,
     busy: Option<Busy>,
-    text: String,
+    page: Page,
     alloc: Global,
     rt: &'a R,
     workers: usize,
     gate: &'a G,
 }
 
-// The refusal that tells what cut workers off.
-fn refusal_of(cut: Cut) -> Refusal {
-    match cut {
-        Cut::Sealed => Refusal::Sealed,
-        Cut::Fault(_) => Refusal::OutOfMemory,
-    }
-}
-
 impl<'a, C: Keeper, D: Keeper, G: Gate + Sync, R: Threads + Wait + Sync> DeskRun<'a, C, D, G, R> {
-    // Writes what was told.
-    fn flush<W: Write>(&mut self, writer: &mut W) -> Result<(), OutputFault> {
-        write_text(writer, self.text.as_bytes())?;
-        self.text.clear();
-        Ok(())
-    }
-
-    // Writes what was told where that is much.
-    fn flush_when_full<W: Write>(&mut self, writer: &mut W) -> Result<(), OutputFault> {
-        if self.text.len() < FULL {
-            return Ok(());
-        }
-        self.flush(writer)
-    }
-
     // Lets an event happen, and tells and answers its outcome.
     fn event<W: Write>(&mut self, event: Event, writer: &mut W) -> Result<Outcome, OutputFault> {
         let outcome = self.desk.lock(self.rt).step(event);
-        outcome_line(&mut self.text, &event, &outcome)?;
-        self.flush_when_full(writer)?;
-        Ok(outcome)
+        match self.page.outcome(&event, &outcome, writer) {
+            Ok(()) => Ok(outcome),
+            Err(fault) => {
+                drop(outcome);
+                Err(fault)
+            }
+        }
     }
 
     // Lets an event happen, and tells its outcome.
     fn single<W: Write>(&mut self, event: Event, writer: &mut W) -> Result<(), OutputFault> {
-        self.event(event, writer)?;
-        Ok(())
+        let outcome = self.desk.lock(self.rt).step(event);
+        let told = self.page.outcome(&event, &outcome, writer);
+        drop(outcome);
+        told
     }
 
-    // Tells that what a command wants is refused.
-    fn refused<W: Write>(
-        &mut self,
-        command: Subject,
-        refusal: Refusal,
-        writer: &mut W,
-    ) -> Result<(), OutputFault> {
-        write_refused(&mut self.text, command, refusal)?;
-        self.flush_when_full(writer)
-    }
-
-    // Takes the next row, where one is left.
-    fn next_row(&mut self) -> Option<Row> {
-        let row = self.trades.get(self.taken).copied()?;
-        self.taken += 1;
-        Some(row)
+    // Takes a row.
+    fn take_row<W: Write>(&mut self, row: Row, writer: &mut W) -> Result<(), OutputFault> {
+        match row {
+            Row::Trade(trade) => self.single(Event::Trade(trade), writer),
+            Row::Fault { row, fault } => self.page.row_fault(row, fault, writer),
+        }
     }
 
     // Takes so many of the rows that are left.
     fn take<W: Write>(&mut self, rows: u64, writer: &mut W) -> Result<(), OutputFault> {
         for _turn in 0..rows {
-            match self.next_row() {
-                None => return Ok(()),
-                Some(Row::Trade(trade)) => self.single(Event::Trade(trade), writer)?,
-                Some(Row::Fault { row, fault }) => {
-                    write_row_fault(&mut self.text, row, fault)?;
-                    self.flush_when_full(writer)?;
-                }
-            }
+            let Some(row) = self.trades.take_next() else {
+                return Ok(());
+            };
+            self.take_row(row, writer)?;
         }
         Ok(())
     }
@@ -174,76 +152,17 @@ impl<'a, C: Keeper, D: Keeper, G: Gate + Sync, R: Threads + Wait + Sync> DeskRun
         stands: bool,
         writer: &mut W,
     ) -> Result<(), OutputFault> {
-        if self.desk.lock(self.rt).plan(node, stands).is_ok() {
-            write_fail(&mut self.text)?;
-        } else {
-            write_fail_refused(&mut self.text)?;
-        }
-        self.flush_when_full(writer)
+        let is_planned = self.desk.lock(self.rt).plan(node, stands).is_ok();
+        self.page.plan(is_planned, writer)
     }
 
     // Tells the report.
     fn report<W: Write>(&mut self, writer: &mut W) -> Result<(), OutputFault> {
         let floor = self.desk.lock(self.rt);
-        add_report(&mut self.text, self.alloc, floor.system())?;
+        let told = self.page.report(self.alloc, floor.system());
         drop(floor);
-        self.flush_when_full(writer)
-    }
-
-    // Tells that the line of this number fits no form.
-    fn bad_command<W: Write>(&mut self, number: u64, writer: &mut W) -> Result<(), OutputFault> {
-        write_bad_command(&mut self.text, number)?;
-        self.flush_when_full(writer)
-    }
-
-    // Tells what entering a ticket, or ending a lot, came to. A seal is not told unless it is refused.
-    fn tell_entered<W: Write>(
-        &mut self,
-        command: Subject,
-        outcome: &Outcome,
-        writer: &mut W,
-    ) -> Result<(), OutputFault> {
-        match outcome {
-            Outcome::Drawn(ticket) => write_ticket(&mut self.text, ticket)?,
-            Outcome::Closed(closed) => {
-                write_close(&mut self.text, closed.granted)?;
-                write_orders(&mut self.text, closed.orders.as_slice())?;
-            }
-            Outcome::Refused(refusal) => write_refused(&mut self.text, command, *refusal)?,
-            _ => {}
-        }
-        self.flush_when_full(writer)
-    }
-
-    // Tells what the end of a lot came to: its tickets by start; where all of them were entered, what cut
-    // the workers off; and the close, after a seal where there was one.
-    fn tell_end<W: Write>(
-        &mut self,
-        drawn: &Drawn,
-        sealed: bool,
-        entered: &[Outcome],
-        writer: &mut W,
-    ) -> Result<(), OutputFault> {
-        let tickets = drawn.seat.tickets().len();
-        for outcome in entered.iter().take(tickets) {
-            self.tell_entered(Subject::Reserve, outcome, writer)?;
-        }
-        if entered.len() <= tickets {
-            return Ok(());
-        }
-        if let Some(cut) = drawn.cut {
-            self.refused(Subject::Reserve, refusal_of(cut), writer)?;
-        }
-        let mut command = if sealed {
-            Subject::Seal
-        } else {
-            Subject::Close
-        };
-        for outcome in &entered[tickets..] {
-            self.tell_entered(command, outcome, writer)?;
-            command = Subject::Close;
-        }
-        Ok(())
+        told?;
+        self.page.flush_when_full(writer)
     }
 
     // Opens a lot of an issue, and lets workers serve it.
@@ -251,13 +170,9 @@ impl<'a, C: Keeper, D: Keeper, G: Gate + Sync, R: Threads + Wait + Sync> DeskRun
         let all = self
             .desk
             .allocate(self.rt, self.alloc, issue, self.workers, self.gate)?;
-        outcome_line(&mut self.text, &Event::LotOpen { issue }, &all.opened)?;
-        match &all.drawn {
-            Some(drawn) => {
-                self.tell_end(drawn, drawn.cut.is_some(), all.entered.as_slice(), writer)
-            }
-            None => self.flush_when_full(writer),
-        }
+        let told = self.page.allocated(issue, &all, writer);
+        drop(all);
+        told
     }
 
     // Opens a lot of an issue, and runs so many of the next lines while workers serve it.
@@ -272,7 +187,11 @@ impl<'a, C: Keeper, D: Keeper, G: Gate + Sync, R: Threads + Wait + Sync> DeskRun
         match begun {
             Ok(begun) => self.serve_beside(begun, count, lines, writer),
             Err(refused) => {
-                outcome_line(&mut self.text, &Event::LotOpen { issue }, &refused)?;
+                let told = self
+                    .page
+                    .outcome(&Event::LotOpen { issue }, &refused, writer);
+                drop(refused);
+                told?;
                 self.run_lines(count, lines, writer)
             }
         }
@@ -295,7 +214,12 @@ impl<'a, C: Keeper, D: Keeper, G: Gate + Sync, R: Threads + Wait + Sync> DeskRun
             cell,
             seat,
         } = begun;
-        write_lot(&mut self.text, lot, poured, plan.len())?;
+        if let Err(AllocError) = self.page.lot(lot, poured, plan.len()) {
+            drop(seat);
+            drop(cell);
+            drop(plan);
+            return Err(OutputFault::Memory);
+        }
         self.busy = Some(Busy { lot, sealed: false });
         let (rt, alloc, workers, gate) = (self.rt, self.alloc, self.workers, self.gate);
         let (cell, plan) = (&cell, &plan);
@@ -308,8 +232,12 @@ impl<'a, C: Keeper, D: Keeper, G: Gate + Sync, R: Threads + Wait + Sync> DeskRun
                 requires { IsSync R.row × IsSync G.row }
             { self.run_lines(count, lines, writer) },
         );
-        ran?;
-        self.end(lot, &drawn, writer)
+        let ended = match ran {
+            Ok(()) => self.end(lot, &drawn, writer),
+            Err(fault) => Err(fault),
+        };
+        drop(drawn);
+        ended
     }
 
     // Enters what workers drew of the busy lot, and ends it.
@@ -328,7 +256,9 @@ impl<'a, C: Keeper, D: Keeper, G: Gate + Sync, R: Threads + Wait + Sync> DeskRun
             .desk
             .lock(self.rt)
             .finish(self.alloc, lot, drawn.seat.tickets(), cut)?;
-        self.tell_end(drawn, sealed, entered.as_slice(), writer)
+        let told = self.page.end(drawn, sealed, entered.as_slice(), writer);
+        drop(entered);
+        told
     }
 
     // Runs a command, in the line of this number. None of them opens a lot beside lines.
@@ -348,7 +278,9 @@ impl<'a, C: Keeper, D: Keeper, G: Gate + Sync, R: Threads + Wait + Sync> DeskRun
             Command::Pump => return self.pump(writer),
             Command::Fail { node, stands } => return self.fail(node, stands, writer),
             Command::Report => return self.report(writer),
-            Command::Beside { .. } | Command::Bad => return self.bad_command(number, writer),
+            Command::Beside { .. } | Command::Bad => {
+                return self.page.bad_command(number, writer);
+            }
             Command::Reserve { lot, member } => Event::Reserve { lot, member },
             Command::Close(lot) => Event::LotClose { lot },
             Command::Cycle(cycle) => Event::Cycle(cycle),
@@ -384,9 +316,10 @@ impl<'a, C: Keeper, D: Keeper, G: Gate + Sync, R: Threads + Wait + Sync> DeskRun
             let Some((number, command)) = lines.take_next() else {
                 return Ok(());
             };
-            if command != Command::Skip {
-                left -= 1;
+            if let Command::Skip = command {
+                continue;
             }
+            left -= 1;
             self.run_command(number, &command, writer)?;
         }
         Ok(())
@@ -408,7 +341,7 @@ impl<'a, C: Keeper, D: Keeper, G: Gate + Sync, R: Threads + Wait + Sync> DeskRun
                 command => self.run_command(number, &command, writer)?,
             }
         }
-        self.flush(writer)
+        self.page.flush(writer)
     }
 }
 
@@ -464,10 +397,12 @@ pub fn run_desk<
     };
     let mut run = DeskRun {
         desk: Desk::new(alloc, system),
-        trades,
-        taken: 0,
+        trades: Untaken {
+            rows: trades,
+            taken: 0,
+        },
         busy: None,
-        text: told,
+        page: Page::new(told),
         alloc,
         rt,
         workers,

@@ -17,6 +17,7 @@ mod line;
 mod lines;
 mod opening;
 mod output;
+mod page;
 mod runner;
 mod script;
 mod sections;
