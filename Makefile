@@ -1,7 +1,7 @@
 # The proved program, where `make build` and `make test` leave it.
 program := crates/cnsd/out/cnsd
 
-.PHONY: demo run test build fuzz bench wrong crash limits stress format
+.PHONY: demo run test build fuzz bench works wrong crash limits stress format
 
 # Runs the worked example, by the built program where it is up to date, else unproved: a minute or two.
 demo:
@@ -30,6 +30,10 @@ bench: build
 	bench/cell.sh
 	bench/workers.sh $(program)
 	bench/journal.sh $(program)
+
+# Instructions on works that grow, and on hostile ones, beside those of plain Rust (needs valgrind); FULL=1 also runs them whole.
+works: build
+	bench/works.py $(program) $(if $(FULL),--full)
 
 # Wrong bodies beside those of the gate, each of which the proofs must refuse; of one crate by CRATE=NAME.
 wrong:

@@ -21,14 +21,19 @@ CHARACTERS = '0123456789ABCDEFGHIJKLMNOPQRSTUVWXYZ*@#'
 DATES = ['2025-03-%02d' % day for day in (3, 4, 5, 6, 7, 10, 11, 12, 13, 14)]
 
 
-def cusip(number):
-    """A CUSIP with a right check digit, another one for each number."""
-    eight = '%06d%s%s' % (100000 + number * 37 % 900000, CHARACTERS[10 + number % 26], CHARACTERS[number % 10])
+def check_digit(eight):
+    """The check digit of a CUSIP's first eight characters."""
     total = 0
     for place, character in enumerate(eight, 1):
         value = CHARACTERS.index(character) * (2 if place % 2 == 0 else 1)
         total += value // 10 + value % 10
-    return eight + str((10 - total % 10) % 10)
+    return str((10 - total % 10) % 10)
+
+
+def cusip(number):
+    """A CUSIP with a right check digit, another one for each number."""
+    eight = '%06d%s%s' % (100000 + number * 37 % 900000, CHARACTERS[10 + number % 26], CHARACTERS[number % 10])
+    return eight + check_digit(eight)
 
 
 def rounds(given, issues):
