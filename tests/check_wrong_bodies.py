@@ -3,12 +3,12 @@
 
 Reads texts alone and proves nothing: `rt ci` tries the first, `make wrong` the others. Faulty are also
 a folder of wrong-bodies/ that is no crate's, a file there that is no edit, two edits of a crate with
-one name or one text, and a crate with no edit in must-fail. The last line is `N passed, M failed`.
+one name or one text, and a crate of code with no edit in must-fail. The last line is `N passed, M failed`.
 """
 import os
 import sys
 
-from wrong_bodies import FOLDER, TOP, crates, edits, fault_of
+from wrong_bodies import FOLDER, TOP, crates, edits, fault_of, is_of_tests
 
 
 def main():
@@ -20,7 +20,7 @@ def main():
         gate = edits(os.path.join(TOP, "crates", crate, "must-fail"))
         beside = os.path.join(FOLDER, crate)
         others = edits(beside)
-        if not gate:
+        if not gate and not is_of_tests(crate):
             faults.append(f"crates/{crate}/must-fail has no edit")
         if os.path.isdir(beside):
             for name in sorted(os.listdir(beside)):

@@ -16,6 +16,11 @@ def crates():
     return [words[0] for words in named if words]
 
 
+def is_of_tests(crate):
+    """Whether a crate has the tests of others and no code of its own."""
+    return crate.endswith("_tests")
+
+
 def below():
     """For each crate the crates of this repository that it stands on by its line of crates.txt."""
     known, found = set(crates()), {}

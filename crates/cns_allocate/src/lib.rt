@@ -27,8 +27,3 @@ pub use served::are_served;
 pub use serving::{MAX_WORKERS, ServeCause, ServeFault, Served, serve};
 pub use ticket_order::by_start;
 pub use turns::{Turn, Turns};
-
-#[cfg(test)]
-mod serving_tests;
-#[cfg(test)]
-mod tests;

@@ -21,12 +21,3 @@ pub use answer::{Closed, Cycled, Orders, Taken};
 pub use clearing::Clearing;
 pub use lot::Lot;
 pub use pools::{PoolRow, PoolRows};
-
-#[cfg(test)]
-mod journal_tests;
-#[cfg(test)]
-mod lot_tests;
-#[cfg(test)]
-mod test_support;
-#[cfg(test)]
-mod tests;

@@ -12,6 +12,3 @@ mod priorities;
 pub use cover::{covers, covers_of_rows};
 pub use exemptions::{Exempted, Exemptions};
 pub use priorities::{Priorities, Prioritized};
-
-#[cfg(test)]
-mod tests;

@@ -21,12 +21,3 @@ pub use balances::{BalanceRow, BalanceRows};
 pub use depository::Depository;
 pub use fault::{Answer, DepFault};
 pub use openings::{OpeningFault, Openings};
-
-#[cfg(test)]
-mod journal_tests;
-#[cfg(test)]
-mod test_support;
-#[cfg(test)]
-mod tests;
-#[cfg(test)]
-mod text_tests;

@@ -19,6 +19,3 @@ pub use holding::Holding;
 pub use member::MemberNo;
 pub use number::{ReadFault, read_number};
 pub use shares::{Quantity, Shares, read_quantity};
-
-#[cfg(test)]
-mod tests;

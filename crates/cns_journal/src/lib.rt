@@ -20,10 +20,3 @@ pub use mem_disk::MemDisk;
 pub use record_log::{
     CommitFault, Ledger, Record, RecordFault, RecordLog, Refused, ReplayFault, Restarted,
 };
-
-#[cfg(test)]
-mod disk_tests;
-#[cfg(test)]
-mod log_tests;
-#[cfg(test)]
-mod tests;

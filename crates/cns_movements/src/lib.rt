@@ -15,6 +15,3 @@ pub use asked::Asked;
 pub use book::{Confirm, IssueFault, OrderBook};
 pub use number::MoveNo;
 pub use order::{Ask, MoveKind, Order, Reply};
-
-#[cfg(test)]
-mod tests;

@@ -12,6 +12,3 @@ mod undue;
 pub use book::NetBook;
 pub use entry::NetEntry;
 pub use position::PositionRow;
-
-#[cfg(test)]
-mod tests;

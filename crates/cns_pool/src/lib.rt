@@ -30,6 +30,3 @@ pub use pool_cell::PoolCell;
 pub use ticket::{Reserved, Ticket};
 pub use tickets::Tickets;
 pub use worker_seat::WorkerSeat;
-
-#[cfg(test)]
-mod tests;

@@ -31,6 +31,9 @@ pub const DELIVERY_ORDER: u8 = 2;
 // The characters of a CUSIP.
 const CUSIP_LEN: usize = 9;
 
+// As many bytes as a payload without tickets has at most: those of a trade with the longest id.
+const MOST_PLAIN: usize = 44;
+
 /// A date: the year in 2 bytes, the month and the day in 1 each.
 pub fn day_bytes(day: Day) -> [u8; 4]
     ensures bytes { result ≡ day_bytes_of day }
@@ -45,7 +48,7 @@ pub fn day_bytes(day: Day) -> [u8; 4]
 pub fn joined(alloc: Global, parts: &[&[u8]]) -> Result<Vec<u8>, AllocError>
     ensures { IfOk result (λ v. v.items ≡ flat_map (λ part. part.now) parts.now) }
 {
-    let mut payload = Vec::new(alloc);
+    let mut payload = Vec::with_capacity(alloc, MOST_PLAIN)?;
     for part in parts {
         payload.extend_from_slice(part)?;
     }

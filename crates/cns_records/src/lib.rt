@@ -21,6 +21,3 @@ pub use clear_record::ClearRecord;
 pub use dep_record::DepRecord;
 pub use drawn::{Drawn, DrawnList, MAX_DRAWN};
 pub use refusal::Refusal;
-
-#[cfg(test)]
-mod tests;

@@ -23,6 +23,3 @@ pub use line::{
 pub use outcome::outcome_line;
 pub use report::{write_balance_report, write_cycle_report, write_report_end};
 pub use subject::Subject;
-
-#[cfg(test)]
-mod tests;

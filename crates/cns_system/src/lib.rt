@@ -27,6 +27,3 @@ pub use lots::LotBook;
 pub use numbered::{NumberedClearing, Opened};
 pub use outcome::Outcome;
 pub use system::{Counts, System};
-
-#[cfg(test)]
-mod tests;

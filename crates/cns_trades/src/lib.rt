@@ -18,6 +18,3 @@ pub use list::{TradeList, Verdict};
 pub use opening::{Opening, OpeningRow, read_openings};
 pub use row::{Row, read_trades};
 pub use trade::Trade;
-
-#[cfg(test)]
-mod tests;

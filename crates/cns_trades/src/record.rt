@@ -77,19 +77,21 @@ fn take_record<R: FromRecord>(
 pub(crate) fn read_rows<R: FromRecord>(alloc: Global, text: &[u8]) -> Result<Vec<R>, CsvFault>
     ensures exact { MatchResult result (λ v. rows_of R.is_header R.row_at text.now ≡ Some v.items) (λ e. TellsRows e (rows_of R.is_header R.row_at text.now)) }
 {
-    let reader = ReaderBuilder::new()
+    let mut reader = ReaderBuilder::new()
         .has_headers(false)
         .flexible(true)
         .from_reader(alloc, text);
+    let mut fields = ByteRecord::new(alloc);
     let mut rows = Vec::new(alloc);
     let mut header_is_next = true;
-    for record in reader.into_byte_records() {
-        let fields = match record {
-            Ok(fields) => fields,
+    for _record in 0..u64::MAX {
+        match reader.read_byte_record(&mut fields) {
+            Ok(true) => take_record(&mut rows, header_is_next, &fields)?,
+            Ok(false) => return Ok(rows),
             Err(error) => return Err(stopped(&error)),
-        };
-        take_record(&mut rows, header_is_next, &fields)?;
+        }
         header_is_next = false;
     }
-    Ok(rows)
+    // No memory holds so many rows.
+    Err(CsvFault::OutOfMemory)
 }

@@ -13,6 +13,3 @@ pub use packet::MAX_PACKET_SIZE;
 pub use read::read_frame;
 pub use wire::Wire;
 pub use write::{write_order, write_reply};
-
-#[cfg(test)]
-mod tests;

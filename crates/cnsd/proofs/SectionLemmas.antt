@@ -1,7 +1,8 @@
 -- Lines of a text, one after another.
-use Rattle.std.proofs.Common.{◌≡◌, ◌<◌, ◌+◌, ℕ, List, [], ◌∷◌, ◌++◌, length, take, drop, Option, Some, None, Bool, true, false, refl, sym, ap, ◌∙◌, arith, append_assoc, take-add, add-one}
+use Rattle.std.proofs.Common.{◌≡◌, ◌<◌, ◌+◌, ℕ, zero, suc, List, [], ◌∷◌, ◌++◌, length, take, drop, Option, Some, None, Bool, true, false, refl, sym, ap, ◌∙◌, arith, append_assoc, take-add, add-one}
 use Rattle.std.specs.Prelude.{◌==◌, if◌then◌else◌}
 use Rattle.std.proofs.lemmas.List.{append-nil, drop-drop}
+use Rattle.memchr.specs.Find.{NoneBefore, Nowhere, Passes, is_byte}
 use Rattle.cnsd.specs.Sections.{find_head, is_head, joined, line_size, onto_first, raw_lines, split_at_head, with_front}
 
 pub joined_lines : (xs : List ℕ) → joined (raw_lines xs) ≡ xs
@@ -13,6 +14,31 @@ joined_lines (c ∷ cs) = by (c == 10) (raw_lines cs) (joined_lines cs)
     by true ls h = ap (λ l. c ∷ l) h
     by false [] h = ap (λ l. c ∷ l) h
     by false (l ∷ ls) h = ap (λ m. c ∷ m) h
+
+-- no LF stands before a place, nor then in what is behind the first byte
+later : (c : ℕ) (cs : List ℕ) (n : ℕ) → Nowhere (Passes (is_byte 10) (c ∷ cs)) 0 (suc n) → Nowhere (Passes (is_byte 10) cs) 0 n
+later c cs n none k low high passes = none (suc k) (omega arith) (omega (arith, high)) passes
+
+-- the first line of a text without an LF
+pub no_line_ends : (xs : List ℕ) → Nowhere (Passes (is_byte 10) xs) 0 (length xs) → line_size xs ≡ length xs
+unfolding line_size
+no_line_ends [] none = refl
+no_line_ends (c ∷ cs) none = by (c == 10) refl (no_line_ends cs (later c cs (length cs) none))
+  where
+    by : (b : Bool) → (c == 10) ≡ b → line_size cs ≡ length cs → (if c == 10 then 1 else line_size cs + 1) ≡ suc (length cs)
+    by true is more = absurd (none 0 (omega arith) (omega arith) is)
+    by false is more = rw (is, more) (omega arith)
+
+-- and of one whose first LF stands at a place
+pub line_ends : (xs : List ℕ) (k : ℕ) → NoneBefore (Passes (is_byte 10) xs) 0 (length xs) k × Passes (is_byte 10) xs k → line_size xs ≡ k + 1
+unfolding line_size
+line_ends [] k found = absurd (omega (arith, found.0.high))
+line_ends (c ∷ cs) zero found = rw found.1 refl
+line_ends (c ∷ cs) (suc k) found = by (c == 10) refl (line_ends cs k (record { low = omega arith; high = omega (arith, found.0.high); before = later c cs k found.0.before }, found.1))
+  where
+    by : (b : Bool) → (c == 10) ≡ b → line_size cs ≡ k + 1 → (if c == 10 then 1 else line_size cs + 1) ≡ suc k + 1
+    by true is more = absurd (found.0.before 0 (omega arith) (omega arith) is)
+    by false is more = rw (is, more) (omega arith)
 
 -- a text that is not empty is its first line and the others
 pub lines_step : (c : ℕ) (cs : List ℕ) → raw_lines (c ∷ cs) ≡ take (line_size (c ∷ cs)) (c ∷ cs) ∷ raw_lines (drop (line_size (c ∷ cs)) (c ∷ cs))

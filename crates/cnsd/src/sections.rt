@@ -1,6 +1,8 @@
 ghost use Rattle.std.specs.Prelude.{◌≡◌, ◌<◌, ◌≤◌, length, option_map};
 ghost use Rattle.cnsd.specs.Sections.{line_size as line_size_of, line_text as text_of_line, is_head as is_head_line, split_at_head as split_of, sections as sections_of};
 
+use memchr::memchr;
+
 /// The sections of an input text.
 #[derive(Clone, Copy)]
 pub struct Sections<'a> {
@@ -10,20 +12,15 @@ pub struct Sections<'a> {
 }
 
 // How many bytes the first line has, its LF with them.
-#[tactic(auto, unfolding(crate::specs::Sections::line_size))]
 pub(crate) fn line_size(text: &[u8]) -> usize
     ensures size { result ≡ line_size_of text.now }
     ensures within { result ≤ length text.now }
     ensures some { 0 < length text.now → 0 < result }
 {
-    let mut size = 0;
-    for byte in text {
-        size += 1;
-        if *byte == b'\n' {
-            return size;
-        }
+    match memchr(b'\n', text) {
+        Some(at) => at + 1,
+        None => text.len(),
     }
-    size
 }
 
 // A line without its LF, and without one CR before that.

@@ -1,4 +1,4 @@
-use Rattle.std.proofs.Common.{◌≡◌, ◌<◌, ℕ, List, Some, true}
+use Rattle.std.proofs.Common.{◌≡◌, ℕ, List, Some, true}
 use Rattle.csv.specs.Reading.{Reached, Ready, default_config, is_flexible, source_of, strip_bom}
 use Rattle.csv.specs.declared.parser.State.TheVariants as st
 use Rattle.csv.specs.declared.reader.Trim.TheVariants as trim
@@ -6,8 +6,8 @@ use Rattle.cns_trades.specs.Records.{Records, StandBefore, under_header}
 use Rattle.cns_trades.proofs.record.read_rows.Given as goal
 
 abbrev pub invariant-loop-record : goal.invariant-loop-record
-invariant-loop-record g l = (l.record-iterator.rdr.trim ≡ trim.None) × Ready l.record-iterator.rdr × (0 < l.record-iterator.left) × (l.record-iterator.rdr.config ≡ default_config)
-    × (y : List ℕ) × (source_of (λ s. Some s.now) l.record-iterator.rdr ≡ Some y)
-    × (recs : Records) × Reached default_config st.StartRecord (strip_bom l.fn.text) recs l.record-iterator.rdr.state y
+invariant-loop-record g l = (l.reader.trim ≡ trim.None) × Ready l.reader × (l.reader.config ≡ default_config)
+    × (y : List ℕ) × (source_of (λ s. Some s.now) l.reader ≡ Some y)
+    × (recs : Records) × Reached default_config st.StartRecord (strip_bom l.fn.text) recs l.reader.state y
     × StandBefore l.header_is_next recs × (under_header g.R.FromRecord.is_header g.R.FromRecord.row_at recs ≡ Some l.rows.items)
-    × (is_flexible l.record-iterator.rdr ≡ true)
+    × (is_flexible l.reader ≡ true)

@@ -1,0 +1,478 @@
+use crate::common::assert_same;
+use cns_ids::{Cusip, CycleId, CycleKind, Day, MemberNo, Quantity, Shares};
+use cns_journal::RecordFault;
+use cns_movements::{Asked, MoveKind, MoveNo, Order, Reply};
+use cns_records::{
+    Allocation, BadRecord, ClearRecord, DepRecord, Drawn, DrawnList, MAX_DRAWN, Refusal,
+};
+use cns_trades::{Trade, TradeId, Verdict};
+use std::alloc::Global;
+use std::fmt::Display;
+use std::process::Abort;
+
+const CONFIRM: [u8; 18] = [1, 6, 0, 0, 0, 0, 0, 0, 0, 1, 0, 0, 0, 0, 0, 0, 0, 20];
+
+// Order 7, a cover of member 1 in 037833100, asks 60; 20 are moved.
+static EXEC: [u8; 38] = [
+    1, 7, 1, 0, 0, 0, 0, 0, 0, 0, 7, 0, 1, 0x30, 0x33, 0x37, 0x38, 0x33, 0x33, 0x31, 0x30, 0x30, 0,
+    0, 0, 0, 0, 0, 0, 60, 0, 0, 0, 0, 0, 0, 0, 20,
+];
+
+// Trade A1 of 2025-03-04: member 2 buys 100 shares of 037833100 from member 1.
+const ACCEPT: [u8; 30] = [
+    1, 1, 2, 0x41, 0x31, 0x07, 0xe9, 3, 4, 0, 2, 0, 1, 0x30, 0x33, 0x37, 0x38, 0x33, 0x33, 0x31,
+    0x30, 0x30, 0, 0, 0, 0, 0, 0, 0, 100,
+];
+
+const EXEMPT: [u8; 21] = [
+    1, 2, 0, 1, 0x30, 0x33, 0x37, 0x38, 0x33, 0x33, 0x31, 0x30, 0x30, 0, 0, 0, 0, 0, 0, 0, 25,
+];
+
+const PRIORITY: [u8; 14] = [
+    1, 3, 0x27, 0x0f, 0x30, 0x33, 0x37, 0x38, 0x33, 0x33, 0x31, 0x30, 0x30, 1,
+];
+
+const CYCLE: [u8; 7] = [1, 4, 0x07, 0xe9, 3, 4, 1];
+
+// The lot of 037833100 that was opened after 3 records and poured into until 5 stood: 100 shares,
+// sealed. Member 1 drew 60 shares from 0 on, member 2 drew 40 from 60 on.
+static ALLOCATE: [u8; 76] = [
+    1, 5, 0x30, 0x33, 0x37, 0x38, 0x33, 0x33, 0x31, 0x30, 0x30, 0, 0, 0, 0, 0, 0, 0, 3, 0, 0, 0, 0,
+    0, 0, 0, 5, 0, 0, 0, 0, 0, 0, 0, 100, 1, 0, 0, 0, 2, 0, 1, 0, 0, 0, 0, 0, 0, 0, 0, 0, 0, 0, 0,
+    0, 0, 0, 60, 0, 2, 0, 0, 0, 0, 0, 0, 0, 60, 0, 0, 0, 0, 0, 0, 0, 40,
+];
+
+// Where its tickets begin, and the bytes of each.
+const TICKETS: usize = 40;
+
+const TICKET_LEN: usize = 18;
+
+fn assert_prints(rt: &impl Abort, alloc: Global, fault: &impl Display, wanted: &str) {
+    let text = fault.to_string(alloc).expect(rt, "memory");
+    assert_same(rt, &text.as_str(), &wanted);
+}
+
+// The payload is no record of the clearing node.
+fn assert_bad(rt: &impl Abort, alloc: Global, payload: &[u8]) {
+    let fault = ClearRecord::read(alloc, payload).err();
+    assert_same(rt, &fault, &Some(RecordFault::BadRecord));
+}
+
+// The payload is no record of the depository.
+fn assert_exec_bad(rt: &impl Abort, payload: &[u8]) {
+    assert_same(rt, &DepRecord::read(payload), &Err(BadRecord));
+}
+
+// The payload with another byte in this place.
+fn changed(rt: &impl Abort, alloc: Global, payload: &[u8], place: usize, byte: u8) -> Vec<u8> {
+    let mut bytes = Vec::from_slice(alloc, payload).expect(rt, "memory");
+    if let Some(slot) = bytes.get_mut(place) {
+        *slot = byte;
+    }
+    bytes
+}
+
+// The payload with one more byte.
+fn longer(rt: &impl Abort, alloc: Global, payload: &[u8]) -> Vec<u8> {
+    [payload, [0].as_slice()].concat(alloc).expect(rt, "memory")
+}
+
+// The payload is bad with this byte in this place.
+fn assert_change_bad(rt: &impl Abort, alloc: Global, payload: &[u8], place: usize, byte: u8) {
+    assert_bad(rt, alloc, &changed(rt, alloc, payload, place, byte));
+}
+
+fn assert_longer_bad(rt: &impl Abort, alloc: Global, payload: &[u8]) {
+    assert_bad(rt, alloc, &longer(rt, alloc, payload));
+}
+
+fn payload_of(rt: &impl Abort, alloc: Global, entry: &ClearRecord) -> Vec<u8> {
+    entry.write(alloc).expect(rt, "memory")
+}
+
+// The payload is read as this record.
+fn assert_reads(rt: &impl Abort, alloc: Global, payload: &[u8], wanted: &ClearRecord) {
+    let entry = ClearRecord::read(alloc, payload).expect(rt, "a record");
+    assert_same(rt, &entry, wanted);
+}
+
+// The record has this payload, and nothing shorter is a record.
+fn assert_both_ways(rt: &impl Abort, alloc: Global, entry: &ClearRecord, payload: &[u8]) {
+    let written = payload_of(rt, alloc, entry);
+    assert_same(rt, &written.as_slice(), &payload);
+    assert_reads(rt, alloc, payload, entry);
+    for len in 0..payload.len() {
+        assert_bad(rt, alloc, &payload[..len]);
+    }
+}
+
+// What is written of the record is not read.
+fn assert_not_read(rt: &impl Abort, alloc: Global, entry: &ClearRecord) {
+    assert_bad(rt, alloc, &payload_of(rt, alloc, entry));
+}
+
+fn issue(rt: &impl Abort) -> Cusip {
+    Cusip::read(b"037833100").expect(rt, "an issue")
+}
+
+fn member(rt: &impl Abort, number: u16) -> MemberNo {
+    MemberNo::new(number).expect(rt, "a member's number")
+}
+
+fn shares(rt: &impl Abort, count: u64) -> Shares {
+    Shares::new(count).expect(rt, "a count of shares")
+}
+
+fn asked(rt: &impl Abort, count: u64) -> Asked {
+    Asked::new(count).expect(rt, "shares that are asked for")
+}
+
+fn number(rt: &impl Abort, number: u64) -> MoveNo {
+    MoveNo::new(number).expect(rt, "a movement's number")
+}
+
+fn day(rt: &impl Abort) -> Day {
+    Day::read(b"2025-03-04").expect(rt, "a day")
+}
+
+fn trade(rt: &impl Abort) -> Trade {
+    Trade {
+        id: TradeId::read(b"A1").expect(rt, "a trade's name"),
+        settle: day(rt),
+        buyer: member(rt, 2),
+        seller: member(rt, 1),
+        issue: issue(rt),
+        quantity: Quantity::new(100).expect(rt, "a quantity"),
+    }
+}
+
+// A record of the clearing node.
+enum Entry {
+    Accept,
+    Exempt,
+    Priority,
+    Cycle,
+    Confirm,
+}
+
+fn record(rt: &impl Abort, of: &Entry) -> ClearRecord {
+    match of {
+        Entry::Accept => ClearRecord::Accept(trade(rt)),
+        Entry::Exempt => ClearRecord::Exempt {
+            member: member(rt, 1),
+            issue: issue(rt),
+            shares: shares(rt, 25),
+        },
+        Entry::Priority => ClearRecord::Priority {
+            member: member(rt, 9999),
+            issue: issue(rt),
+            on: true,
+        },
+        Entry::Cycle => ClearRecord::Cycle(CycleId {
+            day: day(rt),
+            kind: CycleKind::Day,
+        }),
+        Entry::Confirm => ClearRecord::Confirm(Reply {
+            number: number(rt, 1),
+            moved: shares(rt, 20),
+        }),
+    }
+}
+
+static SPELLINGS: [(Entry, &[u8]); 5] = [
+    (Entry::Accept, &ACCEPT),
+    (Entry::Exempt, &EXEMPT),
+    (Entry::Priority, &PRIORITY),
+    (Entry::Cycle, &CYCLE),
+    (Entry::Confirm, &CONFIRM),
+];
+
+#[test]
+fn clearing_records_both_ways(rt: HostRuntime) {
+    for (entry, payload) in &SPELLINGS {
+        assert_both_ways(&rt, rt.alloc(), &record(&rt, entry), payload);
+    }
+}
+
+// A ticket's member, start and shares.
+fn ticket(rt: &impl Abort, number: u16, start: u64, count: u64) -> Drawn {
+    Drawn {
+        member: member(rt, number),
+        start: shares(rt, start),
+        asked: asked(rt, count),
+    }
+}
+
+// The first tickets of the lot, so many of them.
+fn drawn(rt: &impl Abort, alloc: Global, count: usize) -> DrawnList {
+    let tickets = [ticket(rt, 1, 0, 60), ticket(rt, 2, 60, 40)];
+    let first = &tickets[..count.min(2)];
+    let first = Vec::from_slice(alloc, first).expect(rt, "memory");
+    DrawnList::from_vec(first).expect(rt, "a list of tickets")
+}
+
+// The lot with these tickets.
+fn allocation(rt: &impl Abort, drawn: DrawnList) -> Allocation {
+    Allocation {
+        issue: issue(rt),
+        opened: 3,
+        upto: 5,
+        poured: shares(rt, 100),
+        sealed: true,
+        drawn,
+    }
+}
+
+// The lot with so many of its tickets has this payload.
+fn assert_allocation(rt: &impl Abort, alloc: Global, count: usize, payload: &[u8]) {
+    let entry = ClearRecord::Allocate(allocation(rt, drawn(rt, alloc, count)));
+    assert_both_ways(rt, alloc, &entry, payload);
+}
+
+#[test]
+fn allocations_both_ways(rt: HostRuntime) {
+    for count in 0..3 {
+        let whole = &ALLOCATE[..TICKETS + count * TICKET_LEN];
+        let payload = changed(&rt, rt.alloc(), whole, TICKETS - 1, count as u8);
+        assert_allocation(&rt, rt.alloc(), count, &payload);
+    }
+}
+
+// A place in the payload, and a byte that is bad there.
+static BAD_IN_ALLOCATE: [(usize, u8); 14] = [
+    (2, 0x31),
+    (18, 6),
+    (26, 2),
+    (27, 14),
+    (35, 2),
+    (36, 0xff),
+    (39, 1),
+    (39, 3),
+    (41, 0),
+    (40, 0x28),
+    (49, 61),
+    (50, 14),
+    (57, 0),
+    (60, 14),
+];
+
+// The same in an allocation of 99 tickets: opened after its last pour, a ticket left over, one too
+// few, the last two out of order, and of the last one the member and the shares.
+static BAD_IN_99_TICKETS: [(usize, u8); 6] = [
+    (18, 6),
+    (39, 98),
+    (39, 100),
+    (1795, 1),
+    (1805, 0),
+    (1821, 0),
+];
+
+// The payload is bad with each of these bytes in its place, with one byte more, and with one less.
+fn assert_changes_bad(rt: &impl Abort, alloc: Global, payload: &[u8], changes: &[(usize, u8)]) {
+    for (place, byte) in changes {
+        assert_change_bad(rt, alloc, payload, *place, *byte);
+    }
+    assert_longer_bad(rt, alloc, payload);
+    assert_bad(rt, alloc, &payload[..payload.len().saturating_sub(1)]);
+}
+
+#[test]
+fn bad_allocations(rt: HostRuntime) {
+    assert_changes_bad(&rt, rt.alloc(), &ALLOCATE, &BAD_IN_ALLOCATE);
+    let payload = many(&rt, rt.alloc(), 99);
+    assert_changes_bad(&rt, rt.alloc(), &payload, &BAD_IN_99_TICKETS);
+}
+
+// An allocation with a ticket of one share so many times.
+fn many(rt: &impl Abort, alloc: Global, count: u16) -> Vec<u8> {
+    let ticket = [0, 1, 0, 0, 0, 0, 0, 0, 0, 0, 0, 0, 0, 0, 0, 0, 0, 1];
+    let tickets = ticket
+        .repeat(alloc, usize::from(count))
+        .expect(rt, "memory");
+    let head = &ALLOCATE[..TICKETS - 2];
+    [head, &count.to_be_bytes(), &tickets]
+        .concat(alloc)
+        .expect(rt, "memory")
+}
+
+// Its tickets.
+fn many_drawn(rt: &impl Abort, alloc: Global, count: usize) -> Option<DrawnList> {
+    let tickets = Vec::from_elem(alloc, ticket(rt, 1, 0, 1), count);
+    DrawnList::from_vec(tickets.expect(rt, "memory"))
+}
+
+#[test]
+fn most_tickets(rt: HostRuntime) {
+    let most = many_drawn(&rt, rt.alloc(), MAX_DRAWN).expect(&rt, "9,999 tickets");
+    assert_same(&rt, &most.len(), &9_999);
+    let entry = ClearRecord::Allocate(allocation(&rt, most));
+    let payload = many(&rt, rt.alloc(), 9_999);
+    assert_reads(&rt, rt.alloc(), &payload, &entry);
+}
+
+#[test]
+fn too_many_tickets(rt: HostRuntime) {
+    assert_bad(&rt, rt.alloc(), &many(&rt, rt.alloc(), 10_000));
+    assert_same(&rt, &many_drawn(&rt, rt.alloc(), 10_000), &None);
+}
+
+// The execution of the order, by the shares that it moved.
+fn execution(rt: &impl Abort, moved: u64) -> DepRecord {
+    let order = Order {
+        number: number(rt, 7),
+        kind: MoveKind::Cover,
+        member: member(rt, 1),
+        issue: issue(rt),
+        asked: asked(rt, 60),
+    };
+    let moved = shares(rt, moved);
+    DepRecord::Exec { order, moved }
+}
+
+fn assert_exec_change_bad(rt: &impl Abort, alloc: Global, place: usize, byte: u8) {
+    assert_exec_bad(rt, &changed(rt, alloc, &EXEC, place, byte));
+}
+
+fn exec_payload(rt: &impl Abort, alloc: Global, moved: u64) -> Vec<u8> {
+    let exec = execution(rt, moved);
+    exec.write(alloc).expect(rt, "memory")
+}
+
+#[test]
+fn depository_records_both_ways(rt: HostRuntime) {
+    let payload = exec_payload(&rt, rt.alloc(), 20);
+    assert_same(&rt, &payload.as_slice(), &EXEC.as_slice());
+    assert_same(&rt, &DepRecord::read(&EXEC), &Ok(execution(&rt, 20)));
+    for len in 0..EXEC.len() {
+        assert_exec_bad(&rt, &EXEC[..len]);
+    }
+}
+
+// A payload, a place in it, and a byte that is bad there.
+static BAD_IN_CLEARING: [(&[u8], usize, u8); 21] = [
+    (&CONFIRM, 0, 2),
+    (&CONFIRM, 1, 5),
+    (&CONFIRM, 1, 7),
+    (&CONFIRM, 1, 9),
+    (&CONFIRM, 9, 0),
+    (&CONFIRM, 6, 1),
+    (&CONFIRM, 10, 14),
+    (&ACCEPT, 2, 0),
+    (&ACCEPT, 2, 17),
+    (&ACCEPT, 3, 0x61),
+    (&ACCEPT, 6, 0x6b),
+    (&ACCEPT, 7, 13),
+    (&ACCEPT, 8, 32),
+    (&ACCEPT, 10, 1),
+    (&ACCEPT, 11, 0x28),
+    (&ACCEPT, 21, 0x31),
+    (&ACCEPT, 29, 0),
+    (&EXEMPT, 3, 0),
+    (&EXEMPT, 13, 14),
+    (&PRIORITY, 13, 2),
+    (&CYCLE, 6, 2),
+];
+
+#[test]
+fn bad_clearing_payloads(rt: HostRuntime) {
+    for (payload, place, byte) in &BAD_IN_CLEARING {
+        assert_change_bad(&rt, rt.alloc(), payload, *place, *byte);
+    }
+    assert_longer_bad(&rt, rt.alloc(), &CONFIRM);
+    assert_bad(&rt, rt.alloc(), &[1, 9]);
+    assert_bad(&rt, rt.alloc(), &EXEC);
+}
+
+static BAD_IN_EXEC: [(usize, u8); 7] = [(0, 2), (1, 6), (2, 0), (2, 3), (10, 0), (29, 0), (37, 61)];
+
+#[test]
+fn bad_depository_payloads(rt: HostRuntime) {
+    for (place, byte) in &BAD_IN_EXEC {
+        assert_exec_change_bad(&rt, rt.alloc(), *place, *byte);
+    }
+    assert_exec_bad(&rt, &longer(&rt, rt.alloc(), &EXEC));
+    assert_exec_bad(&rt, &CONFIRM);
+}
+
+#[test]
+fn what_is_written_and_not_read(rt: HostRuntime) {
+    let mut own = trade(&rt);
+    own.seller = own.buyer;
+    assert_not_read(&rt, rt.alloc(), &ClearRecord::Accept(own));
+    assert_exec_bad(&rt, &exec_payload(&rt, rt.alloc(), 61));
+}
+
+#[test]
+fn lot_opened_after_its_last_pour(rt: HostRuntime) {
+    let mut early = allocation(&rt, drawn(&rt, rt.alloc(), 0));
+    early.upto = 2;
+    early.sealed = false;
+    assert_not_read(&rt, rt.alloc(), &ClearRecord::Allocate(early));
+}
+
+#[test]
+fn what_faults_say(rt: HostRuntime) {
+    let (bad, no_memory) = (RecordFault::BadRecord, RecordFault::OutOfMemory);
+    assert_prints(&rt, rt.alloc(), &BadRecord, "not a journal record");
+    assert_prints(&rt, rt.alloc(), &bad, "not a journal record");
+    assert_prints(&rt, rt.alloc(), &no_memory, "out of memory");
+}
+
+static OF_NODES: [(Refusal, &str); 12] = [
+    (Refusal::Down, "the node is down"),
+    (Refusal::Trade(Verdict::Full), "the trade is not new"),
+    (
+        Refusal::CycleOrder,
+        "the cycle is not later than the latest one",
+    ),
+    (Refusal::NumbersSpent, "movement numbers are spent"),
+    (Refusal::UnknownMove, "no order has this number"),
+    (Refusal::NoPacket, "the link has no packet of this number"),
+    (
+        Refusal::Conflict,
+        "another order or confirmation has this number",
+    ),
+    (
+        Refusal::TooMuch,
+        "the shares are more than the order asked for",
+    ),
+    (
+        Refusal::BadJournal { place: 7 },
+        "record 7 of the journal is bad",
+    ),
+    (Refusal::OutOfMemory, "out of memory"),
+    (Refusal::Device, "the journal's device failed"),
+    (Refusal::LotsOpen, "a lot is open"),
+];
+
+static OF_LOTS: [(Refusal, &str); 10] = [
+    (Refusal::LotAlready, "a lot of the issue is open"),
+    (Refusal::LotsSpent, "the numbers of lots are spent"),
+    (Refusal::NoLot, "there is no such lot"),
+    (Refusal::StaleLot, "the lot has ended"),
+    (Refusal::LotBusy, "the lot is being served"),
+    (
+        Refusal::NotLong,
+        "the member is not to receive shares of the lot",
+    ),
+    (
+        Refusal::EarlierGroup,
+        "a member of an earlier group has no ticket yet",
+    ),
+    (Refusal::Sealed, "the lot is sealed"),
+    (Refusal::Unserved, "a member of the plan has no ticket yet"),
+    (
+        Refusal::BadTickets,
+        "the tickets do not serve the plan of the lot",
+    ),
+];
+
+#[test]
+fn what_refusals_say(rt: HostRuntime) {
+    for (refusal, words) in &OF_NODES {
+        assert_prints(&rt, rt.alloc(), refusal, words);
+    }
+    for (refusal, words) in &OF_LOTS {
+        assert_prints(&rt, rt.alloc(), refusal, words);
+    }
+}
