@@ -1,6 +1,6 @@
 -- Lines of a text, one after another.
 use Rattle.std.proofs.Common.{◌≡◌, ◌<◌, ◌+◌, ℕ, zero, suc, List, [], ◌∷◌, ◌++◌, length, take, drop, Option, Some, None, Bool, true, false, refl, sym, ap, ◌∙◌, arith, append_assoc, take-add, add-one}
-use Rattle.std.specs.Prelude.{◌==◌, if◌then◌else◌}
+use Rattle.std.specs.Prelude.{◌==◌, if◌then◌else◌, slice_index}
 use Rattle.std.proofs.lemmas.List.{append-nil, drop-drop}
 use Rattle.memchr.specs.Find.{NoneBefore, Nowhere, Passes, is_byte}
 use Rattle.cnsd.specs.Sections.{find_head, is_head, joined, line_size, onto_first, raw_lines, split_at_head, with_front}
@@ -18,6 +18,12 @@ joined_lines (c ∷ cs) = by (c == 10) (raw_lines cs) (joined_lines cs)
 -- no LF stands before a place, nor then in what is behind the first byte
 later : (c : ℕ) (cs : List ℕ) (n : ℕ) → Nowhere (Passes (is_byte 10) (c ∷ cs)) 0 (suc n) → Nowhere (Passes (is_byte 10) cs) 0 n
 later c cs n none k low high passes = none (suc k) (omega arith) (omega (arith, high)) passes
+
+-- the first line of a text that begins with an LF
+pub line_is_empty : (xs : List ℕ) → 0 < length xs → slice_index xs 0 ≡ 10 → line_size xs ≡ 1
+unfolding line_size
+line_is_empty [] some is = absurd (omega (arith, some))
+line_is_empty (c ∷ cs) some is = rw is refl
 
 -- the first line of a text without an LF
 pub no_line_ends : (xs : List ℕ) → Nowhere (Passes (is_byte 10) xs) 0 (length xs) → line_size xs ≡ length xs

@@ -17,6 +17,10 @@ pub(crate) fn line_size(text: &[u8]) -> usize
     ensures within { result ≤ length text.now }
     ensures some { 0 < length text.now → 0 < result }
 {
+    // Where a line is empty, a search costs more than a look.
+    if !text.is_empty() && text[0] == b'\n' {
+        return 1;
+    }
     match memchr(b'\n', text) {
         Some(at) => at + 1,
         None => text.len(),
