@@ -160,6 +160,13 @@ def room_for(name, tree, room):
     write_lines_of(room, [name, *all_below(name, below())])
 
 
+def function_told(lines, number):
+    """The function of a message that names this line: of one with an attribute before it, that is the attribute's first line."""
+    if lines[number].lstrip().startswith("#["):
+        number = next((at for at in range(number, len(lines)) if FUNCTION.match(lines[at])), number)
+    return function_at(lines, number)
+
+
 def refused_in(said, folder, functions):
     """Whether each of these functions has a goal that is not proved, by what a check said."""
     told = set()
@@ -172,7 +179,7 @@ def refused_in(said, folder, functions):
             told.add((f"src/{words[0]}.rt", words[-1]))
         elif in_source:
             with open(f"{folder}/{in_source[1]}", encoding="utf-8") as lines:
-                function = function_at(lines.read().split("\n"), int(in_source[2]) - 1)
+                function = function_told(lines.read().split("\n"), int(in_source[2]) - 1)
             if function:
                 told.add((in_source[1], function[0]))
     return functions <= told
