@@ -99,6 +99,7 @@ def split(found, lanes):
     return [found[at::parts] for at in range(parts)]
 
 
+IMPL = re.compile(r"impl(?:<.*?>)? (?:[\w:<>, ]+ for )?(\w+)")
 FUNCTION = re.compile(r"\s*(?:pub(?:\([a-z]+\))? )?(?:const )?fn (\w+)")
 # What a proof file says where an edit took a name away: that tells nothing of the contract.
 NAMES = re.compile(r"(note: )?(\./)?proofs/.*(has no field|is not in scope|has no `|was not admitted)")
@@ -167,9 +168,25 @@ def function_told(lines, number):
     return function_at(lines, number)
 
 
+def types_with(path, name):
+    """The types for which a source file has a method of this name."""
+    found, type_name = set(), None
+    with open(path, encoding="utf-8") as lines:
+        for line in lines:
+            impl, function = IMPL.match(line), FUNCTION.match(line)
+            if impl:
+                type_name = impl[1]
+            elif function and function[1] == name and line.startswith(" ") and type_name:
+                found.add(type_name)
+    return found
+
+
 def refused_in(said, folder, functions):
-    """Whether each of these functions has a goal that is not proved, by what a check said."""
-    told = set()
+    """Whether each of these functions has a goal that is not proved, by what a check said.
+
+    The proof of a method stands under the file of its type, which may be another one than its own.
+    """
+    told, methods = set(), set()
     for line in said.splitlines():
         if NAMES.match(line):
             continue
@@ -177,12 +194,14 @@ def refused_in(said, folder, functions):
         if in_proofs:
             words = in_proofs[1].split("/")
             told.add((f"src/{words[0]}.rt", words[-1]))
+            methods.add(tuple(words[-2:]))
         elif in_source:
             with open(f"{folder}/{in_source[1]}", encoding="utf-8") as lines:
                 function = function_told(lines.read().split("\n"), int(in_source[2]) - 1)
             if function:
                 told.add((in_source[1], function[0]))
-    return functions <= told
+    return all((path, name) in told or any((one, name) in methods for one in types_with(f"{folder}/{path}", name))
+               for path, name in functions)
 
 
 def try_batch(job):
