@@ -5,6 +5,8 @@
 # A part passes where its exit status is 0 and its last line is `N passed, 0 failed` with N above 0. Any
 # other part is a failure, which is named at the end with the lines that say what failed. What runs the
 # program is run only where `rt ci` has made the program in this run.
+# `rt ci` runs as many checks at once as RT_JOBS says; where that is not set, one more than there are processors, and no more
+# than there is memory for. (Of itself it reckons two to three times the memory that a check takes, and leaves processors idle.)
 # The last line of all is `N passed, M failed`: the sums of the parts, where each part that failed counts
 # 1 in M at least. The exit status is 0 where M is 0 and N is not.
 # tests/check_all.sh tests this file with stubs in place of the parts.
@@ -25,6 +27,17 @@ reasons=()
 logs=()
 work=$(mktemp -d) || exit 1
 trap 'rm -rf "$work"' EXIT
+
+# What a check of `rt ci` takes of the memory at most, in KiB.
+readonly memory_of_a_check=3500000
+
+# checks_at_once: how many checks there are processors and memory for.
+checks_at_once() {
+    local most=$(($(nproc) + 1)) room
+    room=$(awk -v each="$memory_of_a_check" '$1 == "MemAvailable:" {print int($2 / each)}' /proc/meminfo)
+    ((room >= 1)) || room=1
+    printf '%d\n' "$((room < most ? room : most))"
+}
 
 # add_failure NAME WHY LOG: one part that failed.
 add_failure() {
@@ -114,6 +127,8 @@ part 'self-test of all.sh' tests/check_all.sh
 part 'self-test of run_cases.sh' tests/check_run_cases.sh
 part 'texts of the wrong bodies' tests/check_wrong_bodies.py
 part 'names of the book' tests/check_book.py
+RT_JOBS=${RT_JOBS:-$(checks_at_once)}
+export RT_JOBS
 part 'rt ci' rt ci
 part_of_program 'examples' tests/run_cases.sh "$program" examples
 part_of_program 'tests/cases' tests/run_cases.sh "$program" tests/cases

@@ -418,6 +418,15 @@ impl<K: Keeper> Clearing<K> {
         self.lots().get(issue)
     }
 
+    /// The open lots, at most one of an issue, in the order in which they were opened. Each has the plan that
+    /// its issue had then, and all shares that were there when it was last poured into.
+    pub fn open_lots(&self) -> &[Lot]
+        ensures lots { result.now ≡ self.now.lots }
+        ensures lawful { AreLots self.now.log.records self.now.lots }
+    {
+        self.lots().as_slice()
+    }
+
     /// The latest cycle.
     pub fn latest(&self) -> Option<CycleId>
         ensures { result ≡ latest_of self.now.log.records }

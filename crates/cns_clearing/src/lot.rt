@@ -72,6 +72,13 @@ impl Lots {
         self.list.is_empty()
     }
 
+    // The open lots.
+    pub(crate) fn as_slice(&self) -> &[Lot]
+        ensures { result.now ≡ self.now.lots }
+    {
+        self.list.as_slice()
+    }
+
     // The open lot of an issue.
     pub(crate) fn get(&self, issue: Cusip) -> Option<&Lot>
         ensures { option_map (λ lot. lot.now) result ≡ lot_of self.now.lots issue }

@@ -1,17 +1,18 @@
 -- Busy lots by number, and what an event leaves of them.
-use Rattle.std.proofs.Common.{◌≡◌, ◌∙◌, ◌≤◌, ◌<◌, ◌-◌, ◌+◌, ℕ, zero, suc, Bool, true, false, cond, List, [], ◌∷◌, take, get_or, Option, Some, None, Result, Ok, Err, ap, sym, subst, refl, arith, inl, inr}
-use Rattle.std.specs.Prelude.{◌⊎◌, ◌==◌, All, MatchOption, slice_get, slice_set, if◌then◌else◌}
+use Rattle.std.proofs.Common.{◌≡◌, ◌∙◌, ◌≤◌, ◌<◌, ◌-◌, ◌+◌, ℕ, zero, suc, Bool, true, false, cond, List, [], ◌∷◌, take, get_or, length, Option, Some, None, Result, Ok, Err, ap, sym, subst, refl, arith, inl, inr}
+use Rattle.std.specs.Prelude.{◌⊎◌, ◌==◌, All, MatchOption, option_map, slice_get, slice_set, unwrap_or, if◌then◌else◌}
 use Rattle.std.proofs.lemmas.Bool.{eq-eqb, eqb-false, eqb-true, false_from_ne_true}
 use Rattle.std.proofs.lemmas.List.Elements.{All-cons, All-head, All-map, All-nil, All-tail, All-weaker}
 use Rattle.std.proofs.lemmas.List.{set-get_or}
 use Rattle.std.proofs.lemmas.Option.{get_or_from_slice_get, same_Some, slice_get_within}
+use Rattle.cns_clearing.specs.declared.lot.Lot.{Lot}
 use Rattle.cns_records.specs.declared.refusal.Refusal.{Refusal}
 use Rattle.cns_records.specs.declared.refusal.Refusal.TheVariants as refusal
-use Rattle.cns_system.specs.Floor.{AreBusy, AreInOrder, BusyLot, BySystem, FloorState, FloorStep, IsBusy, IsFed, IsPlaceOf, NamesLot, NumbersRise, PourFits, SparesBusy, busy_after_pour, busy_at, busy_with_pour, busy_with_seal, changed_at, is_open, lot_changed, served_at, with_busy}
+use Rattle.cns_system.specs.Floor.{AreBusy, AreInOrder, BusyLot, BySystem, FloorState, FloorStep, IsBusy, IsFed, IsLent, IsPlaceOf, LooksAsked, NamesLot, NumbersRise, PourFits, SparesBusy, busy_after_pour, busy_at, busy_with_look, busy_with_pour, busy_with_seal, changed_at, is_open, lot_changed, served_at, with_busy}
 use Rattle.cns_system.specs.Headline.{AreStrict}
 use Rattle.cns_system.specs.Lot.{IsLot, LotState, with_pour}
 use Rattle.cns_system.specs.Lots.{AreLotsLawful, lot_at, update_at}
-use Rattle.cns_system.specs.Numbered.{NumberedNode, PourLeaves}
+use Rattle.cns_system.specs.Numbered.{AreTied, NumberedNode, PourLeaves}
 use Rattle.cns_system.specs.Run.{Occurs}
 use Rattle.cns_system.specs.Step.{Step}
 use Rattle.cns_system.specs.Outcomes.{pour_outcome}
@@ -91,6 +92,15 @@ served_busy f n b found = by (is_open f.system.clear.lots n) found
 pub read_served : (f now : FloorState) (n place : ℕ) (x : BusyLot) → f ≡ now → IsPlaceOf (served_at now n) now.busy (Some place) → x ≡ get_or f.busy place x → IsAt f.busy n place x
 read_served f now n place x same is read =
     read_busy f.busy now.busy n place x (ap (λ (g : FloorState). g.busy) (sym same)) (is.0, served_busy now n is.0 is.1, is.2) read
+
+-- what was poured into its cell is lent, where each lot that has not ended is the node's
+pub all_lent : (node : NumberedNode) (busy : List BusyLot) → AreTied node.clear.lots node.lots → AreBusy node.lots busy → All (IsLent node) busy
+all_lent node busy tied are =
+    All-weaker (IsBusy node.lots) (IsLent node)
+    (λ b is lot found going.
+    let twin = tied.each b.lot lot found going in
+    let fed = is.fed lot found going in
+    fed.poured ∙ sym twin.poured ∙ sym (ap (λ (o : Option Lot). unwrap_or (option_map (λ (l : Lot). l.poured) o) 0) twin.found)) busy are.each
 
 -- ---- a change of the busy lot of a number
 
@@ -262,8 +272,7 @@ floor_goes (event.LotPour lot) o old new h = inl (event.LotPour lot, h.0)
 floor_goes (event.LookPoured lot) o old new h =
     goes_by (served_at old lot) (λ (b : BusyLot). (o ≡ outcomes.LookedPoured b.poured) × (new ≡ old)) (event.LookPoured lot) o old new (λ b a. ap (λ (f : FloorState). f.system) a.1) h
 floor_goes (event.LookAsked lot) o old new h =
-    goes_by (served_at old lot) (λ (b : BusyLot). ((asked : ℕ) × (o ≡ outcomes.LookedAsked asked b.sealed)) × (new ≡ old)) (event.LookAsked lot) o old new
-    (λ b a. ap (λ (f : FloorState). f.system) a.1) h
+    goes_by (served_at old lot) (λ (b : BusyLot). LooksAsked lot b o old new) (event.LookAsked lot) o old new (λ b a. ap (λ (f : FloorState). f.system) a.seen) h
 floor_goes (event.Seal lot) o old new h =
     goes_by (served_at old lot) (λ (b : BusyLot). (o ≡ outcomes.Done) × (new ≡ record old { busy = with_busy busy_with_seal lot old.busy })) (event.Seal lot) o old new
     (λ b a. ap (λ (f : FloorState). f.system) a.1) h
@@ -313,36 +322,54 @@ looks_at f now n place x new same is read stays =
       same = ap (λ (bs : List BusyLot). record f { busy = bs }) items ∙ same;
     }
 
--- a seal changes neither what was poured nor the number
-sealed_busy : (lots : List LotState) (n : ℕ) (b : BusyLot) → IsBusy lots b → IsBusy lots (changed_at busy_with_seal n b)
-sealed_busy lots n b is = by (b.lot == n)
+-- a change that leaves the number of a busy lot, and what was poured into its cell; a seal and a look are such
+pub record LeavesPours (change : BusyLot → BusyLot) : Type 0 where
+  pub lot : (b : BusyLot) → (change b).lot ≡ b.lot
+  pub poured : (b : BusyLot) → (change b).poured ≡ b.poured
+
+pub seal_leaves : LeavesPours busy_with_seal
+seal_leaves = record { lot = λ b. refl; poured = λ b. refl }
+
+pub look_leaves : (asked : ℕ) → LeavesPours (busy_with_look asked)
+look_leaves asked = record { lot = λ b. refl; poured = λ b. refl }
+
+changed_busy : (change : BusyLot → BusyLot) → LeavesPours change → (lots : List LotState) (n : ℕ) (b : BusyLot) → IsBusy lots b → IsBusy lots (changed_at change n b)
+changed_busy change leaves lots n b is = by (b.lot == n)
   where
-    by : (t : Bool) → IsBusy lots (if t then busy_with_seal b else b)
+    by : (t : Bool) → IsBusy lots (if t then change b else b)
     by true = record {
-      given = is.given;
-      fed = λ l found going. let fed = is.fed l found going in record { poured = fed.poured; tickets = fed.tickets; unsealed = fed.unsealed };
+      given = subst (λ (m : ℕ). m ≤ length lots) (sym (leaves.lot b)) is.given;
+      fed = λ l found going.
+          let fed = is.fed l (ap (lot_at lots) (sym (leaves.lot b)) ∙ found) going in
+          record { poured = leaves.poured b ∙ fed.poured; tickets = fed.tickets; unsealed = fed.unsealed };
     }
     by false = is
 
-seal_kept : (lots : List LotState) (n : ℕ) (busy : List BusyLot) → AreBusy lots busy → AreBusy lots (with_busy busy_with_seal n busy)
-seal_kept lots n busy are = record {
+all_changed : (change : BusyLot → BusyLot) → LeavesPours change → (lots : List LotState) (n : ℕ) (busy : List BusyLot) → AreBusy lots busy → AreBusy lots (with_busy change n busy)
+all_changed change leaves lots n busy are = record {
   each =
-      All-map (IsBusy lots) (changed_at busy_with_seal n) busy
-      (All-weaker (IsBusy lots) (λ (b : BusyLot). IsBusy lots (changed_at busy_with_seal n b)) (λ b is. sealed_busy lots n b is) busy are.each);
-  order = order_stays busy_with_seal n (λ b. refl) busy are.order;
+      All-map (IsBusy lots) (changed_at change n) busy
+      (All-weaker (IsBusy lots) (λ (b : BusyLot). IsBusy lots (changed_at change n b)) (λ b is. changed_busy change leaves lots n b is) busy are.each);
+  order = order_stays change n leaves.lot busy are.order;
 }
 
-pub sealed_kept : (f now : FloorState) (n place : ℕ) (x new : BusyLot) → f ≡ now → IsPlaceOf (served_at now n) now.busy (Some place) → x ≡ get_or f.busy place x → new ≡ busy_with_seal x
-    → AreBusy f.system.clear.lots f.busy → AreBusy f.system.clear.lots (slice_set f.busy place new)
-sealed_kept f now n place x new same is read sealed are =
-    subst (AreBusy f.system.clear.lots) (sym (changed_in_place busy_with_seal n place f.busy x new are.order (read_served f now n place x same is read) sealed))
-    (seal_kept f.system.clear.lots n f.busy are)
+-- such a change of the one that is served, in its place: it is found, and the floor is the one with that change
+pub record ChangesAt (change : BusyLot → BusyLot) (f now : FloorState) (n place : ℕ) (x new : BusyLot) : Type 0 where
+  pub found : served_at now n ≡ Some x
+  pub kept : AreBusy f.system.clear.lots (slice_set f.busy place new)
+  pub changed : record f { busy = slice_set f.busy place new } ≡ record now { busy = with_busy change n now.busy }
 
-pub seals_at : (f now : FloorState) (n place : ℕ) (x new : BusyLot) → f ≡ now → IsPlaceOf (served_at now n) now.busy (Some place) → x ≡ get_or f.busy place x → new ≡ busy_with_seal x
-    → AreBusy f.system.clear.lots f.busy → record f { busy = slice_set f.busy place new } ≡ record now { busy = with_busy busy_with_seal n now.busy }
-seals_at f now n place x new same is read sealed are =
-    ap (λ (bs : List BusyLot). record f { busy = bs }) (changed_in_place busy_with_seal n place f.busy x new are.order (read_served f now n place x same is read) sealed)
-    ∙ ap (λ (g : FloorState). record g { busy = with_busy busy_with_seal n g.busy }) same
+pub changes_at : (change : BusyLot → BusyLot) → LeavesPours change → (f now : FloorState) (n place : ℕ) (x new : BusyLot) → f ≡ now
+    → IsPlaceOf (served_at now n) now.busy (Some place) → x ≡ get_or f.busy place x → new ≡ change x → AreBusy f.system.clear.lots f.busy → ChangesAt change f now n place x new
+changes_at change leaves f now n place x new same is read changed are =
+    let at = read_served f now n place x same is read in
+    let one : is.0 ≡ x = same_Some is.0 x (sym is.2 ∙ ap (λ (g : FloorState). slice_get g.busy place) (sym same) ∙ at.found) in
+    let items : slice_set f.busy place new ≡ with_busy change n f.busy = changed_in_place change n place f.busy x new are.order at changed in
+    record {
+      found = is.1 ∙ ap Some one;
+      kept = subst (AreBusy f.system.clear.lots) (sym items) (all_changed change leaves f.system.clear.lots n f.busy are);
+      changed = ap (λ (bs : List BusyLot). record f { busy = bs }) items ∙ ap (λ (g : FloorState). record g { busy = with_busy change n g.busy }) same;
+    }
 
 -- ---- events that change no busy lot, but one that has ended
 

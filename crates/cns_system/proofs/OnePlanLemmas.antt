@@ -11,13 +11,15 @@ use Rattle.cns_allocate.specs.Group.{rank}
 use Rattle.cns_allocate.specs.Plan.{IsPlan}
 use Rattle.cns_allocate.specs.Served.{IsServed}
 use Rattle.cns_allocate.specs.declared.planned.Planned.{Planned}
+use Rattle.cns_netting.specs.Rows.{holdings_of}
+use Rattle.cns_clearing.specs.Books.{books_of}
 use Rattle.cns_clearing.specs.declared.answer.Closed.{Closed}
 use Rattle.cns_records.specs.declared.refusal.Refusal.{Refusal}
 use Rattle.cns_records.specs.declared.refusal.Refusal.TheVariants as refusal
 use Rattle.cns_system.specs.Finish.{AreCutOff, AreEntered, AreOfOnePlan, IsClosed, IsEnded, IsNotEntered, IsSealedFirst, IsUnserved, drawn_in, draws, is_close, is_done, reserves}
 use Rattle.cns_system.specs.Floor.{AreBusy, BusyLot, FloorState, IsBusy, busy_at}
-use Rattle.cns_system.specs.Lot.{IsLot, LotState, with_ticket}
-use Rattle.cns_system.specs.Lots.{AreLotsLawful, ReserveLeaves, lot_at, update_at}
+use Rattle.cns_system.specs.Lot.{IsLot, IsPlanOf, LotState, with_ticket}
+use Rattle.cns_system.specs.Lots.{AreLotsLawful, ArePlanned, ReserveLeaves, lot_at, update_at}
 use Rattle.cns_system.specs.Numbered.{CloseLeaves, IsMet, NumberedNode}
 use Rattle.cns_system.specs.Outcomes.{close_outcome, reserve_outcome}
 use Rattle.cns_system.specs.Run.{Run}
@@ -35,6 +37,7 @@ use Rattle.cns_system.proofs.TiedLemmas.{at_place, from_place, get_set_same}
 record Has (n : ℕ) (lots : List LotState) (tickets : List Ticket) : Type 0 where
   lot : LotState
   found : lot_at lots n ≡ Some lot
+  going : lot.ended ≡ false
   tickets_are : lot.tickets ≡ tickets
   unsealed : lot.sealed ≡ false
 
@@ -50,6 +53,7 @@ has_more n member t lots new tickets has leaves =
     record {
       lot = with_ticket t at.lot;
       found = ap (λ (ls : List LotState). lot_at ls n) at.holds.3 ∙ found_updated lots n at.lot (with_ticket t at.lot) at.found;
+      going = at.going;
       tickets_are = ap (λ (l : LotState). l.tickets ++ t ∷ []) one ∙ ap (λ (ts : List Ticket). ts ++ t ∷ []) has.tickets_are;
       unsealed = ap (λ (l : LotState). l.sealed) one ∙ has.unsealed;
     }
@@ -75,7 +79,7 @@ has_first n (t ∷ ts) old mid run unserved =
     let leaves = drawn_leaves n t.member t step.3.0 old.clear.lots run.0.clear.lots step.3.1 step.3.2.0 in
     let at = open-parts old.clear.lots n _ leaves in
     let free = unserved at.lot at.found at.going in
-    let has : Has n old.clear.lots [] = record { lot = at.lot; found = at.found; tickets_are = free.0; unsealed = free.1 } in
+    let has : Has n old.clear.lots [] = record { lot = at.lot; found = at.found; going = at.going; tickets_are = free.0; unsealed = free.1 } in
     inr (has_all n (t ∷ ts) [] old mid run has)
 
 lawful_at : (lots : List LotState) (n : ℕ) (l : LotState) → lot_at lots n ≡ Some l → AreLotsLawful lots → IsLot l
@@ -152,23 +156,32 @@ none_served b = record {
   chained = tt;
 }
 
+-- nobody is planned where there are no records
+no_plan_of : IsPlanOf 0 []
+unfolding holdings_of books_of
+no_plan_of = record { records = []; is = refl }
+
 of_none : (told : List Outcome) → drawn_in told ≡ [] → AreOfOnePlan told
 of_none told none = record {
+  issue = 0;
   plan = [];
+  of = no_plan_of;
   is = no_plan;
   served = subst (λ (ts : List Ticket). IsServed [] ts true) (sym none) (none_served true);
   whole = λ closed unsealed. subst (λ (ts : List Ticket). IsServed [] ts false) (sym none) (none_served false);
 }
 
-of_plan : (n : ℕ) (lots : List LotState) (ts : List Ticket) (last : List Outcome) → (ts ≡ []) ⊎ Has n lots ts → AreLotsLawful lots → Ends n lots last
+of_plan : (n : ℕ) (lots : List LotState) (ts : List Ticket) (last : List Outcome) → (ts ≡ []) ⊎ Has n lots ts → AreLotsLawful lots → ArePlanned lots → Ends n lots last
     → AreOfOnePlan (draws ts ++ last)
-of_plan n lots ts last (inl none) lawful ends =
+of_plan n lots ts last (inl none) lawful planned ends =
     of_none (draws ts ++ last) (drawn_of_draws ts last ends.none ∙ none)
-of_plan n lots ts last (inr has) lawful ends =
+of_plan n lots ts last (inr has) lawful planned ends =
     let lot = lawful_at lots n has.lot has.found lawful in
     let drawn = drawn_of_draws ts last ends.none in
     record {
+      issue = has.lot.issue;
       plan = has.lot.plan;
+      of = planned n has.lot has.found has.going;
       is = lot.plan;
       served = subst (λ (us : List Ticket). IsServed has.lot.plan us true) (sym drawn) (has_served n lots ts has lawful);
       whole = λ closed unsealed.
@@ -179,11 +192,11 @@ of_plan n lots ts last (inr has) lawful ends =
 
 -- the tickets are entered, and the lot ends
 pub entered_of_plan : (n : ℕ) (ts : List Ticket) (sealed : Bool) (first last told : List Outcome) (old mid new : World) → told ≡ first ++ last → AreEntered n ts first old mid
-    → IsUnserved n old.clear.lots → AreLotsLawful mid.clear.lots → IsEnded n sealed last mid new → AreOfOnePlan told
-entered_of_plan n ts sealed first last told old mid new all entered unserved lawful ended =
+    → IsUnserved n old.clear.lots → AreLotsLawful mid.clear.lots → ArePlanned mid.clear.lots → IsEnded n sealed last mid new → AreOfOnePlan told
+entered_of_plan n ts sealed first last told old mid new all entered unserved lawful planned ended =
     let both : told ≡ draws ts ++ last = all ∙ ap (λ (os : List Outcome). os ++ last) entered.told_is in
     subst AreOfOnePlan (sym both)
-    (of_plan n mid.clear.lots ts last (has_first n ts old mid entered.drawn unserved) lawful (ended_ends n sealed last mid new ended))
+    (of_plan n mid.clear.lots ts last (has_first n ts old mid entered.drawn unserved) lawful planned (ended_ends n sealed last mid new ended))
 
 -- a reserve that is refused leaves the lots as they are
 refused_leaves : (n member : ℕ) (r : Refusal) (lots new : List LotState) → ReserveLeaves n member (Err r) lots new → new ≡ lots
@@ -205,12 +218,12 @@ stopped_lots n t r old new (inl occurs) = let step = occurs.step in refused_lots
 stopped_lots n t r old new (inr h) = ap (λ (w : World). w.clear.lots) h.1
 
 pub cut_of_plan : (n : ℕ) (ts : List Ticket) (r : Refusal) (first told : List Outcome) (old new : World) → told ≡ first ++ outcomes.Refused r ∷ [] → AreCutOff n ts r first old new
-    → IsUnserved n old.clear.lots → AreLotsLawful new.clear.lots → AreOfOnePlan told
-cut_of_plan n ts r first told old new all cut unserved lawful =
+    → IsUnserved n old.clear.lots → AreLotsLawful new.clear.lots → ArePlanned new.clear.lots → AreOfOnePlan told
+cut_of_plan n ts r first told old new all cut unserved lawful planned =
     let same = stopped_lots n cut.ticket r cut.between new cut.stopped in
     let both : told ≡ draws cut.first ++ outcomes.Refused r ∷ [] = all ∙ ap (λ (os : List Outcome). os ++ outcomes.Refused r ∷ []) cut.entered.told_is in
     subst AreOfOnePlan (sym both)
-    (of_plan n cut.between.clear.lots cut.first (outcomes.Refused r ∷ []) (has_first n cut.first old cut.between cut.entered.drawn unserved) (subst AreLotsLawful same lawful)
+    (of_plan n cut.between.clear.lots cut.first (outcomes.Refused r ∷ []) (has_first n cut.first old cut.between cut.entered.drawn unserved) (subst AreLotsLawful same lawful) (subst ArePlanned same planned)
     (refused_ends n cut.between.clear.lots r))
 
 busy_found : (busy : List BusyLot) (n : ℕ) (b : BusyLot) (P : BusyLot → Type 0) → All P busy → busy_at busy n ≡ Some b → P b

@@ -5,12 +5,13 @@ use Rattle.std.specs.Option.{option_or}
 use Rattle.std.proofs.lemmas.Bool.{cases_eq, eq-eqb, eqb-false, eqb-true, false_from_ne_true}
 use Rattle.std.proofs.lemmas.List.Folds.{find-append}
 use Rattle.std.proofs.lemmas.Option.{same_Some, slice_get-map}
-use Rattle.cns_clearing.specs.Lots.{avail_in, lots_poured, poured_into, without_lot}
+use Rattle.cns_allocate.proofs.TurnLemmas.{find-All}
+use Rattle.cns_clearing.specs.Lots.{AreLots, IsLot, avail_in, lots_poured, plan_in, poured_into, without_lot}
 use Rattle.cns_clearing.specs.Pools.{lot_of}
 use Rattle.cns_clearing.specs.declared.lot.Lot.{Lot}
 use Rattle.cns_records.specs.declared.clear_record.ClearRecord.{ClearRecord}
 use Rattle.cns_system.specs.Lot.{LotState, with_end}
-use Rattle.cns_system.specs.Lots.{lot_at, update_at}
+use Rattle.cns_system.specs.Lots.{ArePlanned, lot_at, update_at}
 use Rattle.cns_system.specs.Numbered.{AreTied, IsTied}
 
 -- ---- the node's lot of an issue
@@ -220,3 +221,12 @@ tied_ended lots = record {
   each = λ n k at up. let no : true ≡ false = sym (ended_at lots n k at) ∙ up in cc;
   once = λ m n k l at_m at_n up_k up_l same. let no : true ≡ false = sym (ended_at lots m k at_m) ∙ up_k in cc;
 }
+
+-- ---- the plans of the lots by number
+
+-- the plan of each lot that has not ended is that of the node's lot, which is as the records have it
+pub planned_from : (c : List ClearRecord) (open_lots : List Lot) (lots : List LotState) → AreTied open_lots lots → AreLots c open_lots → ArePlanned lots
+planned_from c open_lots lots tied are n lot found going =
+    let twin = tied.each n lot found going in
+    let is : IsLot c twin.twin = find-All (IsLot c) (λ (l : Lot). l.issue == lot.issue) open_lots twin.twin are.each twin.found in
+    record { records = is.before; is = sym twin.plan ∙ is.plan ∙ ap (plan_in is.before) (found_of open_lots lot.issue twin.twin twin.found) }

@@ -15,9 +15,9 @@ use Rattle.cns_system.specs.declared.outcome.Outcome.{Outcome}
 use Rattle.cns_system.specs.declared.outcome.Outcome.TheVariants as outcomes
 use Rattle.cns_system.specs.declared.numbered.Opened.{Opened}
 
--- a busy lot with this cell, not sealed
+-- a busy lot with this cell, not sealed, of which nothing asked was seen
 abbrev pub new_busy : Begun → BusyLot
-new_busy begun = record { lot = begun.lot; cell = arc_value begun.cell; poured = begun.poured; sealed = false }
+new_busy begun = record { lot = begun.lot; cell = arc_value begun.cell; poured = begun.poured; sealed = false; asked = 0 }
 
 -- the lot is opened; its seat is one of its cell without tickets, with just the budget and the calls for the plan; and it is busy with this
 -- cell, into which was poured what was poured into the lot

@@ -1,12 +1,23 @@
 -- What workers drew of a lot, as a desk has it (this project's own rules).
-use Rattle.std.specs.Prelude.{◌≡◌, ◌<◌, Bool, true, false, List, length, Option, Some, None, MatchResult, Result}
+use Rattle.std.specs.Prelude.{◌≡◌, ◌<◌, Bool, true, false, List, [], length, Option, Some, None, MatchOption, MatchResult, Result}
 use Rattle.cns_allocate.specs.declared.planned.Planned.{Planned}
 use Rattle.cns_allocate.specs.declared.serving.ServeCause.TheVariants as cause
 use Rattle.cns_allocate.specs.declared.serving.ServeFault.{ServeFault}
 use Rattle.cns_allocate.specs.declared.serving.Served.{Served}
+use Rattle.cns_system.specs.Begin.{IsRefusal}
+use Rattle.cns_system.specs.declared.desk.Allocated.{Allocated}
 use Rattle.cns_system.specs.declared.desk.Cut.{Cut}
 use Rattle.cns_system.specs.declared.desk.Cut.TheVariants as cut
 use Rattle.cns_system.specs.declared.desk.Drawn.{Drawn}
+use Rattle.cns_system.specs.declared.numbered.Opened.{Opened}
+use Rattle.cns_system.specs.declared.outcome.Outcome.TheVariants as outcomes
+
+-- what an allocation answers: a lot that was opened, with what its workers drew; or the refusal of one that was not, and then nothing was
+-- entered
+abbrev pub IsAllocated : Allocated → Type 0
+IsAllocated all =
+    MatchOption all.drawn (IsRefusal all.opened × (all.entered.items ≡ []))
+    (λ (d : Drawn). (opened : Opened) × (all.opened ≡ outcomes.LotOpened opened))
 
 -- a seal that a worker met cuts the workers off
 abbrev pub cut_by : Bool → Option Cut

@@ -10,7 +10,7 @@ use Rattle.cns_records.specs.declared.refusal.Refusal.{Refusal}
 use Rattle.cns_records.specs.declared.refusal.Refusal.TheVariants as refusal
 use Rattle.cns_system.specs.Begin.{IsRefusal}
 use Rattle.cns_system.specs.Floor.{BusyLot, FloorState, busy_at}
-use Rattle.cns_system.specs.Lot.{LotState}
+use Rattle.cns_system.specs.Lot.{IsPlanOf, LotState}
 use Rattle.cns_system.specs.Lots.{lot_at}
 use Rattle.cns_system.specs.Run.{Occurs, Run}
 use Rattle.cns_system.specs.Step.{Step}
@@ -117,10 +117,12 @@ is_close _ = false
 abbrev pub drawn_in : List Outcome → List Ticket
 drawn_in told = filter_map drawn_by told
 
--- the tickets that were drawn are those of a lot that may close: they follow one plan, as far as they go, and stand end to end from 0;
--- each member of the plan has one where the lot was closed and not sealed
+-- the tickets that were drawn are those of a lot that may close: they follow one plan of an issue, as far as they go, and stand end to end
+-- from 0; each member of the plan has one where the lot was closed and not sealed
 pub record AreOfOnePlan (told : List Outcome) : Type 0 where
+  pub issue : ℕ
   pub plan : List Planned
+  pub of : IsPlanOf issue plan
   pub is : IsPlan plan
   pub served : IsServed plan (drawn_in told) true
   pub whole : list_any is_close told ≡ true → list_any is_done told ≡ false → IsServed plan (drawn_in told) false

@@ -3,10 +3,12 @@
 use Rattle.std.specs.Prelude.{◌≡◌, ℕ, ◌+◌, ◌<◌, ◌≤◌, ◌==◌, Bool, true, false, not, List, [], ◌∷◌, All, Option, Some, None, MatchOption, find, length, map, slice_get, if◌then◌else◌}
 use Rattle.cns_pool.specs.FeederSeat.{TableId}
 use Rattle.cns_records.specs.declared.refusal.Refusal.TheVariants as refusal
+use Rattle.cns_clearing.specs.Pools.{lent_of}
 use Rattle.cns_system.specs.Accord.{IsInAccord}
 use Rattle.cns_system.specs.Headline.{IsAgreed}
 use Rattle.cns_system.specs.Lot.{LotState}
 use Rattle.cns_system.specs.Lots.{lot_at}
+use Rattle.cns_system.specs.Numbered.{NumberedNode}
 use Rattle.cns_system.specs.Run.{Occurs}
 use Rattle.cns_system.specs.World.{World}
 use Rattle.cns_system.specs.declared.event.Event.{Event}
@@ -14,12 +16,14 @@ use Rattle.cns_system.specs.declared.event.Event.TheVariants as event
 use Rattle.cns_system.specs.declared.outcome.Outcome.{Outcome}
 use Rattle.cns_system.specs.declared.outcome.Outcome.TheVariants as outcomes
 
--- a busy lot, which workers serve: its number, its cell, and the shares poured into the cell and the seal of it, by the seat that feeds it
+-- a busy lot, which workers serve: its number, its cell, the shares poured into the cell and the seal of it, by the seat that feeds it, and the
+-- asked shares that this seat has seen
 pub record BusyLot : Type 0 where
   pub lot : ℕ
   pub cell : TableId
   pub poured : ℕ
   pub sealed : Bool
+  pub asked : ℕ
 
 -- both nodes and the link, and the busy lots
 pub record FloorState : Type 0 where
@@ -48,11 +52,17 @@ pub record AreBusy (lots : List LotState) (busy : List BusyLot) : Type 0 where
   pub each : All (IsBusy lots) busy
   pub order : AreInOrder busy
 
--- where both keepers are honest, both nodes and the link are in accord and the headline holds; and the busy lots are busy
+-- what was poured into the cell of a busy lot that has not ended is what the clearing node has lent to the lot of its issue
+abbrev pub IsLent : NumberedNode → BusyLot → Type 0
+IsLent node b = (lot : LotState) → lot_at node.lots b.lot ≡ Some lot → lot.ended ≡ false → b.poured ≡ lent_of node.clear.lots lot.issue
+
+-- where both keepers are honest, both nodes and the link are in accord and the headline holds; and the busy lots are busy, with what is
+-- lent to them in their cells
 pub record IsLawfulFloor (f : FloorState) : Type 0 where
   pub accord : IsInAccord f.system
   pub headline : IsAgreed f.system
   pub busy : AreBusy f.system.clear.lots f.busy
+  pub lent : All (IsLent f.system.clear) f.busy
 
 -- lot numbers that were given stay given
 abbrev pub NumbersRise : World → World → Type 0
@@ -83,12 +93,15 @@ changed_at change number b = if b.lot == number then change b else b
 abbrev pub with_busy : (BusyLot → BusyLot) → ℕ → List BusyLot → List BusyLot
 with_busy change number busy = map (changed_at change number) busy
 
--- a busy lot into whose cell more shares were poured, and one whose cell was sealed
+-- a busy lot into whose cell more shares were poured; one whose cell was sealed; and one whose feeder has seen so many asked shares
 abbrev pub busy_with_pour : ℕ → BusyLot → BusyLot
 busy_with_pour shares b = record b { poured = b.poured + shares }
 
 abbrev pub busy_with_seal : BusyLot → BusyLot
 busy_with_seal b = record b { sealed = true }
+
+abbrev pub busy_with_look : ℕ → BusyLot → BusyLot
+busy_with_look asked b = record b { asked = asked }
 
 -- the busy lots after a pour came to this: what was poured into the lot is poured into its cell, where it is busy
 abbrev pub busy_after_pour : Outcome → ℕ → List BusyLot → List BusyLot
@@ -108,6 +121,13 @@ abbrev pub UnlessBusy : ℕ → Event → Outcome → FloorState → FloorState 
 UnlessBusy number e outcome old new =
     MatchOption (busy_at old.busy number) (BySystem e outcome old new) (λ (b : BusyLot). (outcome ≡ outcomes.Refused refusal.LotBusy) × (new ≡ old))
 
+-- a look at the asked shares of a busy lot shows them and the seal; they are no less than an earlier look showed, and the feeder has seen them then
+pub record LooksAsked (number : ℕ) (b : BusyLot) (outcome : Outcome) (old new : FloorState) : Type 0 where
+  pub asked : ℕ
+  pub told : outcome ≡ outcomes.LookedAsked asked b.sealed
+  pub least : b.asked ≤ asked
+  pub seen : new ≡ record old { busy = with_busy (busy_with_look asked) number old.busy }
+
 -- an event comes to this, and leaves so much
 abbrev pub FloorStep : Event → Outcome → FloorState → FloorState → Type 0
 FloorStep (event.Reserve lot member) outcome old new = UnlessBusy lot (event.Reserve lot member) outcome old new
@@ -116,7 +136,7 @@ FloorStep (event.LotPour lot) outcome old new = Occurs (event.LotPour lot) outco
 FloorStep (event.LookPoured lot) outcome old new =
     ByCell lot (λ (b : BusyLot). (outcome ≡ outcomes.LookedPoured b.poured) × (new ≡ old)) (event.LookPoured lot) outcome old new
 FloorStep (event.LookAsked lot) outcome old new =
-    ByCell lot (λ (b : BusyLot). ((asked : ℕ) × (outcome ≡ outcomes.LookedAsked asked b.sealed)) × (new ≡ old)) (event.LookAsked lot) outcome old new
+    ByCell lot (λ (b : BusyLot). LooksAsked lot b outcome old new) (event.LookAsked lot) outcome old new
 FloorStep (event.Seal lot) outcome old new =
     ByCell lot (λ (b : BusyLot). (outcome ≡ outcomes.Done) × (new ≡ record old { busy = with_busy busy_with_seal lot old.busy })) (event.Seal lot) outcome old new
 FloorStep e outcome old new = BySystem e outcome old new

@@ -1,10 +1,12 @@
 -- A lot, which gives the shares of an issue that are poured into it to the members of a plan (this project's own rules).
-use Rattle.std.specs.Prelude.{ℕ, ◌+◌, ◌≤◌, Bool, true, false, List, [], ◌∷◌, ◌++◌, sum_by}
+use Rattle.std.specs.Prelude.{◌≡◌, ℕ, ◌+◌, ◌≤◌, Bool, true, false, List, [], ◌∷◌, ◌++◌, sum_by}
 use Rattle.cns_pool.specs.declared.ticket.Ticket.{Ticket}
 use Rattle.cns_pool.specs.Pool.{asked_sum}
 use Rattle.cns_allocate.specs.Plan.{IsPlan}
 use Rattle.cns_allocate.specs.Served.{IsServed, turn_of, waiting}
 use Rattle.cns_allocate.specs.declared.planned.Planned.{Planned}
+use Rattle.cns_records.specs.declared.clear_record.ClearRecord.{ClearRecord}
+use Rattle.cns_clearing.specs.Lots.{plan_in}
 use Rattle.cns_allocate.specs.declared.turns.Turn.{Turn}
 
 -- its issue, the plan of its opening, the tickets in the order in which they were drawn, the shares poured into it, whether it
@@ -20,6 +22,11 @@ pub record LotState : Type 0 where
 -- how many shares are planned
 abbrev pub planned_sum : List Planned → ℕ
 planned_sum plan = sum_by (λ (p : Planned). p.asked) plan
+
+-- a plan is that of an issue, as some records of a clearing node have it
+pub record IsPlanOf (issue : ℕ) (plan : List Planned) : Type 0 where
+  pub records : List ClearRecord
+  pub is : plan ≡ plan_in records issue
 
 -- a lot as it is opened
 abbrev pub new_lot : ℕ → List Planned → ℕ → LotState

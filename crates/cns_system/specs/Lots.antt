@@ -1,11 +1,11 @@
 -- The lots in the order of their numbers, which are counted from 1, and what each call answers and leaves (this project's own
 -- rules). A refusal leaves all as it was.
-use Rattle.std.specs.Prelude.{◌≡◌, ℕ, ◌-◌, ◌==◌, true, false, List, All, Option, None, Result, Ok, Err, IsSomeAnd, slice_get, slice_set, if◌then◌else◌}
+use Rattle.std.specs.Prelude.{◌≡◌, ℕ, ◌-◌, ◌==◌, true, false, List, All, Option, Some, None, Result, Ok, Err, IsSomeAnd, slice_get, slice_set, if◌then◌else◌}
 use Rattle.cns_pool.specs.declared.ticket.Ticket.{Ticket}
 use Rattle.cns_allocate.specs.declared.turns.Turn.TheVariants as turn
 use Rattle.cns_records.specs.declared.refusal.Refusal.{Refusal}
 use Rattle.cns_records.specs.declared.refusal.Refusal.TheVariants as refusal
-use Rattle.cns_system.specs.Lot.{LotState, IsLot, turn_in, ticket_in, with_ticket}
+use Rattle.cns_system.specs.Lot.{LotState, IsLot, IsPlanOf, turn_in, ticket_in, with_ticket}
 
 -- the lot of a number, where it was given
 abbrev pub lot_at : List LotState → ℕ → Option LotState
@@ -18,6 +18,10 @@ update_at lots number new = slice_set lots (number - 1) new
 -- what holds of each lot
 abbrev pub AreLotsLawful : List LotState → Type 0
 AreLotsLawful lots = All IsLot lots
+
+-- the plan of each lot that has not ended is that of its issue, as the clearing node's records had it when the lot was opened
+abbrev pub ArePlanned : List LotState → Type 0
+ArePlanned lots = (number : ℕ) (lot : LotState) → lot_at lots number ≡ Some lot → lot.ended ≡ false → IsPlanOf lot.issue lot.plan
 
 -- a lot was opened with the number and has not ended, and this holds of it
 abbrev pub HasOpenLot : List LotState → ℕ → (LotState → Type 0) → Type 0

@@ -1,10 +1,11 @@
-ghost use Rattle.std.specs.Prelude.{◌≡◌, ◌↔◌, ◌⊎◌, ◌<◌, IfOk, Some, is_some, length};
+ghost use Rattle.std.specs.Prelude.{◌≡◌, ◌↔◌, ◌⊎◌, ◌<◌, IfErr, IfOk, Some, is_some, length};
 ghost use Rattle.std.specs.Arc.{arc_value};
 ghost use Rattle.std.specs.Sync.Mutex.{mutex_guard_value};
 ghost use Rattle.cns_pool.specs.WorkerSeat.{new_worker};
 ghost use Rattle.cns_allocate.specs.Serving.{Serves};
 ghost use Rattle.cns_allocate.specs.declared.serving.ServeCause.TheVariants.{TooManyWorkers};
-ghost use Rattle.cns_system.specs.Desk.{HasTooFew, IsDrawn, is_seal};
+ghost use Rattle.cns_system.specs.Begin.{IsRefusal};
+ghost use Rattle.cns_system.specs.Desk.{HasTooFew, IsAllocated, IsDrawn, is_seal};
 ghost use Rattle.cns_system.specs.Finish.{AreOfOnePlan};
 ghost use Rattle.cns_system.specs.Floor.{IsLawfulFloor};
 ghost use Rattle.cns_system.specs.Lot.{planned_sum};
@@ -95,7 +96,8 @@ impl<C: Keeper, D: Keeper> Desk<C, D> {
         workers: usize,
         gate: &G,
     ) -> Result<Allocated, AllocError>
-        ensures { IfOk result (λ all. AreOfOnePlan all.entered.items) }
+        ensures tickets { IfOk result (λ all. AreOfOnePlan all.entered.items) }
+        ensures opened { IfOk result IsAllocated }
     {
         match self.begin(rt, alloc, issue) {
             Ok(begun) => self.serve_begun(rt, alloc, begun, workers, gate),
@@ -109,7 +111,8 @@ impl<C: Keeper, D: Keeper> Desk<C, D> {
 
     // Opens a lot for workers.
     fn begin<R: Wait>(&self, rt: &R, alloc: Global, issue: Cusip) -> Result<Begun, Outcome>
-        ensures { IfOk result (λ begun. begun.seat ≡ new_worker (arc_value begun.cell) (planned_sum begun.plan) (length begun.plan)) }
+        ensures ok { IfOk result (λ begun. begun.seat ≡ new_worker (arc_value begun.cell) (planned_sum begun.plan) (length begun.plan)) }
+        ensures err { IfErr result IsRefusal }
     {
         self.lock(rt).begin(alloc, issue)
     }
@@ -124,7 +127,8 @@ impl<C: Keeper, D: Keeper> Desk<C, D> {
         gate: &G,
     ) -> Result<Allocated, AllocError>
         requires { begun.seat ≡ new_worker (arc_value begun.cell) (planned_sum begun.plan) (length begun.plan) }
-        ensures { IfOk result (λ all. AreOfOnePlan all.entered.items) }
+        ensures tickets { IfOk result (λ all. AreOfOnePlan all.entered.items) }
+        ensures opened { IfOk result IsAllocated }
     {
         let Begun {
             lot,

@@ -25,8 +25,9 @@ impl<C: Keeper, D: Keeper> Floor<C, D> {
     /// `LotClose`. It ends at the first of them that is refused, and with `BadTickets`, where a reserve
     /// would draw another ticket than the one that was handed in: this reserve does not happen.
     ///
-    /// The tickets among the outcomes are those of one plan, as far as they go, and stand end to end from 0;
-    /// where the lot is closed and not sealed, each member of its plan has one.
+    /// The tickets among the outcomes are those of one plan, which an issue had when its lot was opened, as
+    /// far as they go, and stand end to end from 0; where the lot is closed and not sealed, each member of
+    /// its plan has one.
     ///
     /// The lot is no longer busy, also where there is no memory; then no event happens. Of a lot that is
     /// not busy there are no outcomes, and nothing changes. (This project's own rule.)
@@ -107,7 +108,7 @@ impl<C: Keeper, D: Keeper> Floor<C, D> {
         ensures busy { self.new.busy ≡ self.old.busy }
     {
         let drawn = self.draw_each(lot, tickets, told);
-        self.system().lots().lawful();
+        self.lots_lawful();
         match drawn {
             Ok(()) => self.end(lot, sealed, told),
             Err(refusal) => told.push_reserved(Outcome::Refused(refusal)),

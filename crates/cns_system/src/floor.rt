@@ -2,9 +2,10 @@ ghost use Rattle.std.specs.Prelude.{◌≡◌, ◌+◌, ◌^◌, ◌<◌, ◌≤
 ghost use Rattle.cns_clearing.specs.Lots.{plan_in};
 ghost use Rattle.cns_system.specs.Begin.{IsBegun, IsHandedOut, IsNewCell, IsNotBegun, IsRefusal};
 ghost use Rattle.cns_system.specs.Finish.{IsReleased, IsUnserved};
-ghost use Rattle.cns_system.specs.Floor.{AreInOrder, BySystem, FloorStep, IsLawfulFloor, IsPlaceOf, NamesLot, NumbersRise, PourFits, SparesBusy, UnlessBusy, busy_at, busy_with_pour, busy_with_seal, is_open, served_at, with_busy};
+ghost use Rattle.cns_system.specs.Floor.{AreInOrder, BySystem, FloorStep, IsLawfulFloor, IsPlaceOf, NamesLot, NumbersRise, PourFits, SparesBusy, UnlessBusy, busy_at, busy_with_look, busy_with_pour, busy_with_seal, is_open, served_at, with_busy};
 ghost use Rattle.cns_system.specs.Headline.{AreStrict};
 ghost use Rattle.cns_system.specs.Lot.{planned_sum};
+ghost use Rattle.cns_system.specs.Lots.{AreLotsLawful, ArePlanned};
 ghost use Rattle.cns_system.specs.Numbered.{OpenLeaves};
 ghost use Rattle.cns_system.specs.Readers.{PlanStep, counts_of, unconfirmed};
 ghost use Rattle.cns_system.specs.Run.{Occurs};
@@ -48,6 +49,7 @@ impl Model for Busy {
       cell = b.feeder.cell;
       poured = b.feeder.poured;
       sealed = b.feeder.sealed;
+      asked = b.feeder.seen.asked;
     } };
 
     ghost invariant = { λ b. (arc_value b.cell ≡ b.feeder.cell) × (b.feeder.poured + b.feeder.pour_room ≡ 1000000000000000000) };
@@ -87,7 +89,8 @@ impl Busy {
     // The shares that were asked of the cell, and its seal.
     fn look_asked(&mut self) -> Asked
         ensures sealed { result.sealed ≡ self.old.sealed }
-        ensures same { self.new ≡ self.old }
+        ensures least { self.old.asked ≤ result.sum }
+        ensures seen { self.new ≡ busy_with_look result.sum self.old }
     {
         self.cell.look_asked(&mut self.feeder)
     }
@@ -122,11 +125,11 @@ struct NewCell {
 /// A lot that workers serve is busy. Its own pool is not used: the workers draw its tickets from a cell
 /// that threads share, into which all is poured that is poured into the lot. Whatever events happened,
 /// the system is as `System` says; and for each busy lot that has not ended, the floor's seat feeds that
-/// lot's cell and has poured into it just what was poured into the lot, and the lot itself has no ticket
-/// and no seal. (This project's own rules.)
+/// lot's cell and has poured into it just what was poured into the lot, which is what the clearing node has
+/// lent, and the lot itself has no ticket and no seal. (This project's own rules.)
 ///
-/// Contracts see the system, and the busy lots by number: of each its cell, and what was poured into the
-/// cell and whether it was sealed by the floor's seat.
+/// Contracts see the system, and the busy lots by number: of each its cell, what was poured into the cell and
+/// whether it was sealed by the floor's seat, and the asked shares that this seat has seen.
 #[derive(Drop)]
 pub struct Floor<C: Keeper, D: Keeper> {
     system: System<C, D>,
@@ -160,7 +163,7 @@ impl<C: Keeper, D: Keeper> Floor<C, D> {
         ensures system { result.now ≡ self.now.system }
         ensures lawful { IsLawfulFloor self.now }
     {
-        self.system.agreed();
+        self.lawful();
         &self.system
     }
 
@@ -186,15 +189,18 @@ impl<C: Keeper, D: Keeper> Floor<C, D> {
         ensures lawful { IsLawfulFloor self.new }
         ensures strict { AreStrict self.old.system → AreStrict self.new.system }
     {
-        self.system.plan(node, stands)
+        let planned = self.system.plan(node, stands);
+        self.lawful();
+        planned
     }
 
     /// Lets an event happen, and answers what it came to.
     ///
     /// A busy lot refuses `Reserve` and `LotClose` as `LotBusy`, also once it has ended. While it has not
     /// ended, what a pour adds to it is poured into its cell too; and a seal and looks are the cell's, and
-    /// leave the system as it is. A look at the asked shares may count reserves that the sealed cell
-    /// refused. All else is as `System::step` has it. (This project's own rule.)
+    /// leave the system as it is. A look at the asked shares shows no less than an earlier one did, and may
+    /// count reserves that the sealed cell refused. All else is as `System::step` has it. (This project's own
+    /// rule.)
     ///
     /// Costs what `System::step` does, and a walk over the busy lots.
     pub fn step(&mut self, event: Event) -> Outcome
@@ -260,6 +266,15 @@ impl<C: Keeper, D: Keeper> Floor<C, D> {
     pub(crate) fn lawful(&self)
         ensures { IsLawfulFloor self.now }
     {
+        self.system.agreed();
+    }
+
+    // Does nothing, and tells what is so of the lots.
+    pub(crate) fn lots_lawful(&self)
+        ensures lots { AreLotsLawful self.now.system.clear.lots }
+        ensures planned { ArePlanned self.now.system.clear.lots }
+    {
+        self.system.lots().lawful();
         self.system.agreed();
     }
 

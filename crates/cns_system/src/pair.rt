@@ -6,6 +6,8 @@ ghost use Rattle.cns_wire.specs.Frame.{reply_frame};
 ghost use Rattle.cns_wire.specs.Packet.{packet_at};
 ghost use Rattle.cns_system.specs.Accord.{AreLawful};
 ghost use Rattle.cns_system.specs.Headline.{IsBalanced};
+ghost use Rattle.cns_system.specs.Lots.{ArePlanned};
+ghost use Rattle.cns_system.specs.Numbered.{AreTied};
 ghost use Rattle.cns_system.specs.Readers.{PlanStep, counts_of, unconfirmed};
 ghost use Rattle.cns_system.specs.Step.{order_at, AtClear, ByLots, ByNode, ClearRestarts, DepotRestartStep, Looks, OrderInStep, OrderRefused, OrderTaken, ReplyInStep, SendStep, Step};
 ghost use Rattle.cns_system.specs.Start.{IsGivenUp, IsNotOpened, IsStarted};
@@ -190,11 +192,16 @@ impl<C: Keeper, D: Keeper> Pair<C, D> {
     }
 
     /// Does nothing, and tells what each node knows of its own records: each of them may stand after those
-    /// before it; and in each issue the clearing node's longs, shorts and pool balance.
+    /// before it; in each issue the clearing node's longs, shorts and pool balance; and each lot that has not
+    /// ended is the node's open lot of its issue, with the plan of its opening.
     pub(crate) fn lawful(&self)
         ensures lawful { AreLawful self.now }
         ensures balanced { IsBalanced self.now }
+        ensures tied { AreTied self.now.clear.clear.lots self.now.clear.lots }
+        ensures planned { ArePlanned self.now.clear.lots }
     {
+        let _open = self.clear.node().open_lots();
+        let _lots = self.clear.book();
         let _book = self.clear.node().book();
         let _records = self.depot.records();
     }

@@ -3,6 +3,8 @@ ghost use Rattle.cns_records.specs.Clear.{spelling};
 ghost use Rattle.cns_records.specs.Dep.{dep_spelling};
 ghost use Rattle.cns_system.specs.Accord.{IsInAccord, StaysSound};
 ghost use Rattle.cns_system.specs.Headline.{AreStrict, IsAgreed};
+ghost use Rattle.cns_system.specs.Lots.{ArePlanned};
+ghost use Rattle.cns_system.specs.Numbered.{AreTied};
 ghost use Rattle.cns_system.specs.Run.{IsDecided, Run};
 ghost use Rattle.cns_system.specs.Readers.{PlanStep, counts_of, unconfirmed};
 ghost use Rattle.cns_system.specs.Scene.{Comes, Plans, scene_of};
@@ -205,6 +207,8 @@ impl<C: Keeper, D: Keeper> System<C, D> {
     pub(crate) fn agreed(&self)
         ensures accord { IsInAccord self.now }
         ensures headline { IsAgreed self.now }
+        ensures tied { AreTied self.now.clear.clear.lots self.now.clear.lots }
+        ensures planned { ArePlanned self.now.clear.lots }
     {
         self.pair.lawful();
     }

@@ -346,11 +346,13 @@ fn see_lot(
     };
     let answer = (lot.opened, lot.upto, lot.poured.count());
     assert_same(rt, &answer, &(opened, upto, poured));
+    assert_same(rt, &node.open_lots().len(), &1);
     Ok(())
 }
 
 fn see_no_lot(rt: &impl Abort, node: &Node, cast: &Cast) -> Result<(), Fail> {
     assert_same(rt, &node.lot(cast.issue).is_some(), &false);
+    assert_same(rt, &node.open_lots().len(), &0);
     Ok(())
 }
 

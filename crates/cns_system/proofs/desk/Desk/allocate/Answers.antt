@@ -3,5 +3,5 @@ use Rattle.cns_system.specs.Finish.{AreOfOnePlan}
 use Rattle.cns_system.proofs.OnePlanLemmas.{nothing_drawn}
 use Rattle.cns_system.proofs.desk.Desk.allocate.Goals as goal
 
-pub returns-in-Err : goal.returns-in-Err
-returns-in-Err g c = subst AreOfOnePlan (sym c.new.ensures.items) nothing_drawn
+pub returns-in-Err-clause-tickets : goal.returns-in-Err-clause-tickets
+returns-in-Err-clause-tickets g c = subst AreOfOnePlan (sym c.new.ensures.items) nothing_drawn

@@ -1,17 +1,12 @@
-use Rattle.std.proofs.Common.{ap, subst, ◌∙◌}
-use Rattle.cns_system.specs.Lots.{AreLotsLawful}
-use Rattle.cns_system.specs.World.{World}
 use Rattle.cns_system.proofs.OnePlanLemmas.{cut_of_plan, entered_of_plan}
 use Rattle.cns_system.proofs.floor.Floor.enter_sorted.Goals as goal
 
 pub returns-in-Ok-clause-tickets : goal.returns-in-Ok-clause-tickets
 returns-in-Ok-clause-tickets g c =
-    let lawful = subst AreLotsLawful (c.lots.ensures ∙ ap (λ (w : World). w.clear.lots) c.system.ensures.system) c.lawful.ensures in
     entered_of_plan c.args.lot c.args.tickets.now c.args.sealed c.draw_each-drawn.new.told.items c.end.ensures.told.0 c.end.new.told.items c.args.self.now.system
-    c.draw_each-drawn.new.self.system c.end.new.self.system c.end.ensures.told.1 c.in-Ok.ensures.ok c.requires.unserved lawful c.end.ensures.told.2
+    c.draw_each-drawn.new.self.system c.end.new.self.system c.end.ensures.told.1 c.in-Ok.ensures.ok c.requires.unserved c.lots_lawful.ensures.lots c.lots_lawful.ensures.planned c.end.ensures.told.2
 
 pub returns-in-Err-clause-tickets : goal.returns-in-Err-clause-tickets
 returns-in-Err-clause-tickets g c =
-    let lawful = subst AreLotsLawful (c.lots.ensures ∙ ap (λ (w : World). w.clear.lots) c.system.ensures.system) c.lawful.ensures in
     cut_of_plan c.args.lot c.args.tickets.now c.in-Err.refusal c.draw_each-drawn.new.told.items c.push_reserved.new.self.items c.args.self.now.system c.draw_each-drawn.new.self.system
-    c.push_reserved.ensures.items c.in-Err.ensures.err c.requires.unserved lawful
+    c.push_reserved.ensures.items c.in-Err.ensures.err c.requires.unserved c.lots_lawful.ensures.lots c.lots_lawful.ensures.planned
