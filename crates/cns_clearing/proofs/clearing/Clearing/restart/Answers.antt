@@ -1,4 +1,3 @@
-use Rattle.std.proofs.Common.{refl}
 use Rattle.cns_records.proofs.ClearLaws.{spelling_injective}
 use Rattle.cns_clearing.proofs.NodeLemmas.{node_restarted, node_unread, none_yet}
 use Rattle.cns_clearing.proofs.clearing.Clearing.restart.Goals as goal
