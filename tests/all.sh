@@ -29,7 +29,7 @@ work=$(mktemp -d) || exit 1
 trap 'rm -rf "$work"' EXIT
 
 # What a check of `rt ci` takes of the memory at most, in KiB.
-readonly memory_of_a_check=3500000
+readonly memory_of_a_check=4500000
 
 # checks_at_once: how many checks there are processors and memory for.
 checks_at_once() {
