@@ -44,7 +44,7 @@ stub_rt() {
 fresh() {
     rm -rf "$tree"
     mkdir -p "$tree/tests/cases" "$tree/oracle" "$tree/bin" "$tree/examples"
-    cp "$here/all.sh" "$here/run_cases.sh" "$tree/tests/"
+    cp "$here/all.sh" "$here/run_cases.sh" "$here/count.sh" "$tree/tests/"
     stub tests/check_all.sh "echo '2 passed, 0 failed'"
     stub tests/check_run_cases.sh "echo '2 passed, 0 failed'"
     stub tests/check_wrong_bodies.py "echo '1 passed, 0 failed'"

@@ -10,7 +10,7 @@ import re
 import sys
 
 import text_definitions
-from wrong_bodies import TOP, crates
+from wrong_bodies import TOP, crates, say_end
 
 DEFINITION = re.compile(r"(?m)^(?=[^\n]*\bpub\b)(?:(?:abbrev|unfoldable|opaque|pub|data|record)\s+)+([^\s:({]+)")
 
@@ -47,10 +47,7 @@ def main():
             passed += 1
         else:
             faults.append(f"docs/BOOK.md does not name {name} of crates/{crate}/specs/{path}.antt, on which the text rests")
-    for fault in faults:
-        print(f"FAIL {fault}")
-    print(f"{passed} passed, {len(faults)} failed")
-    return 1 if faults or not passed else 0
+    return say_end(passed, faults)
 
 
 if __name__ == "__main__":

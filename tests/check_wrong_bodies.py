@@ -8,7 +8,7 @@ one name or one text, and a crate of code with no edit in must-fail. The last li
 import os
 import sys
 
-from wrong_bodies import FOLDER, TOP, crates, edits, fault_of, is_of_tests
+from wrong_bodies import FOLDER, TOP, crates, edits, fault_of, is_of_tests, say_end
 
 
 def main():
@@ -38,10 +38,7 @@ def main():
                 faults.append(f"{os.path.relpath(edit, TOP)}: {fault}")
             else:
                 passed += 1
-    for fault in faults:
-        print(f"FAIL {fault}")
-    print(f"{passed} passed, {len(faults)} failed")
-    return 1 if faults or not passed else 0
+    return say_end(passed, faults)
 
 
 if __name__ == "__main__":

@@ -16,29 +16,13 @@ here=$(cd "$(dirname "$0")" && pwd)
 limit=${LIMIT_SECONDS:-600}
 program=''
 quick=()
-passed=0
-failed=0
 for word in "$@"; do
     case $word in
     --quick) quick=(--quick) ;;
     *) program=$word ;;
     esac
 done
-work=$(mktemp -d) || exit 1
-trap 'rm -rf "$work"' EXIT
-
-# say_end: the last line, and the exit status.
-say_end() {
-    printf '%d passed, %d failed\n' "$passed" "$failed"
-    ((failed == 0 && passed > 0)) && exit 0
-    exit 1
-}
-
-# fail NAME WHAT: one failure.
-fail() {
-    failed=$((failed + 1))
-    printf 'FAIL %s: %s\n' "$1" "$2"
-}
+source "$here/count.sh" || exit 1
 
 # line_of FILE NUMBER: a line of a file, cut off where it is long.
 line_of() {

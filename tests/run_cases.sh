@@ -41,22 +41,11 @@ set -u -f
 export LC_ALL=C
 
 limit=${CASE_SECONDS:-60}
-passed=0
-failed=0
-work=$(mktemp -d) || exit 1
-trap 'rm -rf "$work"' EXIT
+source "$(dirname "${BASH_SOURCE[0]}")/count.sh" || exit 1
 
-# say_end: the last line, and the exit status.
-say_end() {
-    printf '%d passed, %d failed\n' "$passed" "$failed"
-    ((failed == 0 && passed > 0)) && exit 0
-    exit 1
-}
-
-# fail NAME WHAT: one failure, with the lines of the file `why` behind it.
-fail() {
-    failed=$((failed + 1))
-    printf 'FAIL %s: %s\n' "$1" "$2"
+# fail_case NAME WHAT: one failure, with the lines of the file `why` behind it.
+fail_case() {
+    fail "$1" "$2"
     while IFS= read -r line; do printf '    %s\n' "$line"; done <"$work/why"
     : >"$work/why"
 }
@@ -333,7 +322,7 @@ for folder in "$@"; do
     folder=${folder%/}
     folder_number=$((folder_number + 1))
     if [[ ! -d $folder ]]; then
-        fail "$folder" 'no such folder'
+        fail_case "$folder" 'no such folder'
         continue
     fi
 
@@ -350,7 +339,7 @@ for folder in "$@"; do
         ?*.in | ?*.out | ?*.args | ?*.status | ?*.err | ?*.pad | ?*.rule) known[${file%.*}]=yes ;;
         ?*.out[2-9] | ?*.out[1-9][0-9]) known[${file%.*}]=yes ;;
         *.md) ;;
-        *) fail "$folder/$file" 'no part of a case' ;;
+        *) fail_case "$folder/$file" 'no part of a case' ;;
         esac
     done
     names=()
@@ -367,7 +356,7 @@ for folder in "$@"; do
         if run_case; then
             passed=$((passed + 1))
         else
-            fail "$base" "$what"
+            fail_case "$base" "$what"
         fi
     done
 done

@@ -19,23 +19,7 @@ here=$(cd "$(dirname "$0")" && pwd)
 cells=${STRESS_CELLS:-100}
 seed=${1:-}
 [[ -n $seed ]] || seed=${SRANDOM:-$RANDOM}
-passed=0
-failed=0
-work=$(mktemp -d) || exit 1
-trap 'rm -rf "$work"' EXIT
-
-# say_end: the last line, and the exit status.
-say_end() {
-    printf '%d passed, %d failed\n' "$passed" "$failed"
-    ((failed == 0 && passed > 0)) && exit 0
-    exit 1
-}
-
-# fail WHAT: one failure.
-fail() {
-    failed=$((failed + 1))
-    printf 'FAIL %s\n' "$1"
-}
+source "$here/count.sh" || exit 1
 
 # take_check NAME COMMAND..: adds up what the check in the file `said` passed and failed.
 take_check() {

@@ -24,7 +24,7 @@ import threading
 import time
 from concurrent.futures import ThreadPoolExecutor
 
-from wrong_bodies import FOLDER, TOP, below, crates, edits, texts_of
+from wrong_bodies import FOLDER, TOP, below, crates, edits, say_end, texts_of
 
 # What a check of a crate takes at most, and how many edits a lane tries one after another at least: the
 # first of them costs a check of the whole crate.
@@ -307,10 +307,7 @@ def main():
         if name in rows:
             good, bad, seconds, used = rows[name]
             print(f"{name:16} {good:8} {bad:6} {seconds / 60:8.1f} {used / 60:18.1f}")
-    for one in failed:
-        print(f"FAIL {one}: not refused by the prover")
-    print(f"{passed} passed, {len(failed)} failed")
-    return 1 if failed or not passed else 0
+    return say_end(passed, [f"{one}: not refused by the prover" for one in failed])
 
 
 if __name__ == "__main__":

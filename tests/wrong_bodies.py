@@ -86,3 +86,11 @@ def fault_of(edit, crate):
         elif line.strip():
             return f"a line that is no part of an edit: {line[:60]}"
     return None if pairs else "it has no pair of an old and a new text"
+
+
+def say_end(passed, faults):
+    """Prints the faults and the last line `N passed, M failed`; answers the exit status."""
+    for fault in faults:
+        print(f"FAIL {fault}")
+    print(f"{passed} passed, {len(faults)} failed")
+    return 1 if faults or not passed else 0
