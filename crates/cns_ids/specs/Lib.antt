@@ -3,6 +3,7 @@ pub mod Holding
 pub mod Member
 pub mod Shares
 pub mod Cusip
+pub mod CusipHead
 pub mod Day
 pub mod DayNumber
 pub mod ReadDay

@@ -1,7 +1,14 @@
-ghost use Rattle.std.specs.Prelude.{◌≡◌, ◌+◌, ◌/◌, ◌%◌, ◌^◌, ◌*◌, ◌<◌, ◌≤◌, length, IfSome, Some, None};
-ghost use Rattle.cns_ids.specs.Cusip.{value_of, share_at as share_of_place, check_digit, first_bad, is_listed_at, number_of, cusip_text};
+ghost use Rattle.std.specs.Prelude.{◌≡◌, ◌+◌, ◌/◌, ◌%◌, ◌^◌, ◌*◌, ◌<◌, ◌≤◌, ◌==◌, length, slice_index, take, IfSome, Some, None};
+ghost use Rattle.std.specs.Ordering.{nat_cmp, as_partial_cmp};
+ghost use Rattle.std.proofs.Common.{rules};
+ghost use Rattle.std.specs.Cmp.{partial_order_from_own_ties};
+ghost use Rattle.std.specs.Cmp.Rules.{comparing, hashing};
+ghost use Rattle.std.specs.Hash as fed;
+ghost use Rattle.cns_ids.specs.Cusip.{value_of, share_at as share_of_place, check_digit, first_bad, is_listed_at, number_of, cusip_text, with_check_digit};
 
+use std::cmp::Ordering;
 use std::fmt;
+use std::hash::{Hash, Hasher};
 use std::marker::Model;
 use thiserror::Error;
 
@@ -23,23 +30,27 @@ pub enum CusipFault {
 ///
 /// The rule of the check digit is ANSI X9.6's, modulus 10 with double add double. Contracts see the
 /// nine bytes as one number in base 256, so issues stand in the order of their bytes.
-#[derive(Clone, Copy, PartialEq, Eq, PartialOrd, Ord, Hash, Debug)]
+#[derive(Clone, Copy, Debug)]
 pub struct Cusip {
-    // The nine bytes as one number in base 256, the first one highest.
-    number: u128,
+    // The first eight bytes as one number in base 256, the first one highest. They tell the ninth.
+    head: u64,
 }
 
 impl Model for Cusip {
-    ghost use Rattle.std.specs.Prelude.{ℕ};
-    ghost use Rattle.cns_ids.specs.Cusip.{IsCusip};
+    ghost use Rattle.std.specs.Prelude.{ℕ, ◌/◌};
+    ghost use Rattle.std.proofs.Common.{refl};
+    ghost use Rattle.cns_ids.specs.Cusip.{IsCusip, with_check_digit};
+    ghost use Rattle.cns_ids.specs.CusipHead.{head_of};
 
     ghost Value = { ℕ };
 
-    ghost view = { λ c. c.number };
+    ghost view = { λ c. with_check_digit c.head };
 
-    ghost invariant = { λ c. IsCusip c.number };
+    ghost invariant = { λ c. IsCusip (with_check_digit c.head) };
 
-    ghost inverse = { λ n. record { number = n } };
+    ghost inverse = { λ n. record { head = n / 256 } };
+
+    ghost inverse_ok = { λ a h. Prim.rw (head_of a.head) refl };
 }
 
 // The value of a listed character.
@@ -96,28 +107,28 @@ fn bad_place(text: &[u8]) -> Option<u8>
 // The check digit of the first eight characters.
 #[tactic(auto, unfolding(crate::specs::Cusip::sum_from))]
 fn digit_for(text: &[u8]) -> u8
-    requires { length text.now ≡ 9 }
+    requires { length text.now ≡ 8 }
     ensures digit { result ≡ check_digit text.now }
     ensures small { result < 10 }
 {
     let mut sum: u16 = 0;
     let mut place: u8 = 1;
-    for character in &text[..8] {
+    for character in text {
         sum += u16::from(share_at(place, *character));
         place += 1;
     }
     ((10 - sum % 10) % 10) as u8
 }
 
-// The nine bytes as one number in base 256.
-fn number_in_base_256(text: &[u8]) -> u128
-    requires { length text.now ≡ 9 }
-    ensures { result ≡ number_of text.now }
+// The first eight of nine bytes as one number in base 256.
+fn head_of(text: &[u8]) -> u64
+    requires size { length text.now ≡ 9 }
+    requires digit { slice_index text.now 8 ≡ 48 + check_digit (take 8 text.now) }
+    ensures { with_check_digit result ≡ number_of text.now }
 {
-    let rest = u64::from_be_bytes([
-        text[1], text[2], text[3], text[4], text[5], text[6], text[7], text[8],
-    ]);
-    (u128::from(text[0]) << 64) + u128::from(rest)
+    u64::from_be_bytes([
+        text[0], text[1], text[2], text[3], text[4], text[5], text[6], text[7],
+    ])
 }
 
 impl Cusip {
@@ -136,12 +147,12 @@ impl Cusip {
         if let Some(place) = bad_place(text) {
             return Err(CusipFault::BadChar { place });
         }
-        let want = digit_for(text);
+        let want = digit_for(&text[..8]);
         if text[8] != b'0' + want {
             return Err(CusipFault::CheckDigit { want });
         }
-        let number = number_in_base_256(text);
-        Ok(Cusip { number })
+        let head = head_of(text);
+        Ok(Cusip { head })
     }
 
     /// The nine characters.
@@ -149,9 +160,58 @@ impl Cusip {
         ensures text { result ≡ cusip_text self }
         ensures cusip { IsCusip self }
     {
-        let [b1, b2, b3, b4, b5, b6, b7, b8] = ((self.number
-            & 0xffff_ffff_ffff_ffff) as u64).to_be_bytes();
-        [(self.number >> 64) as u8, b1, b2, b3, b4, b5, b6, b7, b8]
+        let head = self.head.to_be_bytes();
+        let digit = b'0' + digit_for(&head);
+        let [b0, b1, b2, b3, b4, b5, b6, b7] = head;
+        [b0, b1, b2, b3, b4, b5, b6, b7, digit]
+    }
+}
+
+impl PartialEq for Cusip {
+    ghost eq = { ◌==◌ };
+
+    ghost laws = { Prim.search (comparing, rules) };
+
+    fn eq(&self, other: &Cusip) -> bool {
+        self.head == other.head
+    }
+}
+
+impl Eq for Cusip {
+    ghost laws = { Prim.search (comparing, rules) };
+}
+
+impl Ord for Cusip {
+    ghost cmp = { nat_cmp };
+
+    ghost total = { Prim.search (comparing, rules) };
+
+    ghost matches_partial_cmp = { Prim.search (comparing, rules) };
+
+    ghost matches_eq = { Prim.search (comparing, rules) };
+
+    fn cmp(&self, other: &Cusip) -> Ordering {
+        self.head.cmp(&other.head)
+    }
+}
+
+impl PartialOrd for Cusip {
+    ghost partial_cmp = { as_partial_cmp nat_cmp };
+
+    ghost laws = { partial_order_from_own_ties (Prim.search (comparing, rules)) (Prim.search (comparing, rules)) };
+
+    fn partial_cmp(&self, other: &Cusip) -> Option<Ordering> {
+        Some(self.cmp(other))
+    }
+}
+
+impl Hash for Cusip {
+    ghost hash_input = { λ n. fed.u64 (n / 256) };
+
+    ghost respects_eq = { Prim.search (hashing, rules) };
+
+    fn hash<H: Hasher>(&self, state: &mut H) {
+        self.head.hash(state);
     }
 }
 
