@@ -338,7 +338,7 @@ pub released_rest : (lot : ℕ) (sealed : Option Bool) (old mid : FloorState) �
 released_rest lot (Some sealed) old mid is = ap (λ (f : FloorState). f.busy) is.1
 released_rest lot None old mid is = ap (λ (f : FloorState). f.busy) is.1 ∙ sym (none_gone lot old.busy is.0)
 
-released_system : (lot : ℕ) (sealed : Bool) (old mid : FloorState) → IsReleased lot (Some sealed) old mid → mid.system ≡ old.system
+pub released_system : (lot : ℕ) (sealed : Bool) (old mid : FloorState) → IsReleased lot (Some sealed) old mid → mid.system ≡ old.system
 released_system lot sealed old mid is = ap (λ (f : FloorState). f.system) is.1
 
 pub finish_gives : (lot : ℕ) (handed : List Ticket) (failed sealed either : Bool) (told : List Outcome) (old mid : FloorState) (new : World) → IsReleased lot (Some sealed) old mid

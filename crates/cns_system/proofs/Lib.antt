@@ -25,3 +25,4 @@ pub mod FloorLemmas
 pub mod BeginLemmas
 pub mod FinishLemmas
 pub mod OnePlanLemmas
+pub mod DeskLemmas

@@ -14,6 +14,8 @@ use Rattle.cns_allocate.specs.declared.planned.Planned.{Planned}
 use Rattle.cns_netting.specs.Rows.{holdings_of}
 use Rattle.cns_clearing.specs.Books.{books_of}
 use Rattle.cns_clearing.specs.declared.answer.Closed.{Closed}
+use Rattle.cns_clearing.specs.Node.{ClearNode}
+use Rattle.cns_records.specs.declared.clear_record.ClearRecord.{ClearRecord}
 use Rattle.cns_records.specs.declared.refusal.Refusal.{Refusal}
 use Rattle.cns_records.specs.declared.refusal.Refusal.TheVariants as refusal
 use Rattle.cns_system.specs.Finish.{AreCutOff, AreEntered, AreOfOnePlan, IsClosed, IsEnded, IsNotEntered, IsSealedFirst, IsUnserved, drawn_in, draws, is_close, is_done, reserves}
@@ -157,25 +159,25 @@ none_served b = record {
 }
 
 -- nobody is planned where there are no records
-no_plan_of : IsPlanOf 0 []
+no_plan_of : (c : List ClearRecord) → IsPlanOf c 0 []
 unfolding holdings_of books_of
-no_plan_of = record { records = []; is = refl }
+no_plan_of c = record { later = c; before = []; split = sym (append-nil c); is = refl }
 
-of_none : (told : List Outcome) → drawn_in told ≡ [] → AreOfOnePlan told
-of_none told none = record {
+of_none : (c : List ClearRecord) (told : List Outcome) → drawn_in told ≡ [] → AreOfOnePlan c told
+of_none c told none = record {
   issue = 0;
   plan = [];
-  of = no_plan_of;
+  of = no_plan_of c;
   is = no_plan;
   served = subst (λ (ts : List Ticket). IsServed [] ts true) (sym none) (none_served true);
   whole = λ closed unsealed. subst (λ (ts : List Ticket). IsServed [] ts false) (sym none) (none_served false);
 }
 
-of_plan : (n : ℕ) (lots : List LotState) (ts : List Ticket) (last : List Outcome) → (ts ≡ []) ⊎ Has n lots ts → AreLotsLawful lots → ArePlanned lots → Ends n lots last
-    → AreOfOnePlan (draws ts ++ last)
-of_plan n lots ts last (inl none) lawful planned ends =
-    of_none (draws ts ++ last) (drawn_of_draws ts last ends.none ∙ none)
-of_plan n lots ts last (inr has) lawful planned ends =
+of_plan : (c : List ClearRecord) (n : ℕ) (lots : List LotState) (ts : List Ticket) (last : List Outcome) → (ts ≡ []) ⊎ Has n lots ts → AreLotsLawful lots
+    → ArePlanned c lots → Ends n lots last → AreOfOnePlan c (draws ts ++ last)
+of_plan c n lots ts last (inl none) lawful planned ends =
+    of_none c (draws ts ++ last) (drawn_of_draws ts last ends.none ∙ none)
+of_plan c n lots ts last (inr has) lawful planned ends =
     let lot = lawful_at lots n has.lot has.found lawful in
     let drawn = drawn_of_draws ts last ends.none in
     record {
@@ -190,13 +192,24 @@ of_plan n lots ts last (inr has) lawful planned ends =
           subst (λ (us : List Ticket). IsServed has.lot.plan us false) (has.tickets_are ∙ sym drawn) served;
     }
 
+-- what the clearing node's records are, and entering tickets leaves as it is
+abbrev pub records_of : World → List ClearRecord
+records_of w = w.clear.clear.log.records
+
+drawn_keeps : (n : ℕ) (ts : List Ticket) (old mid : World) → Run (reserves n ts) (draws ts) old mid → records_of mid ≡ records_of old
+drawn_keeps n [] old mid run = ap records_of run
+drawn_keeps n (t ∷ ts) old mid run = drawn_keeps n ts run.0 mid run.2 ∙ ap (λ (node : ClearNode). node.log.records) run.1.step.3.2.1
+
 -- the tickets are entered, and the lot ends
 pub entered_of_plan : (n : ℕ) (ts : List Ticket) (sealed : Bool) (first last told : List Outcome) (old mid new : World) → told ≡ first ++ last → AreEntered n ts first old mid
-    → IsUnserved n old.clear.lots → AreLotsLawful mid.clear.lots → ArePlanned mid.clear.lots → IsEnded n sealed last mid new → AreOfOnePlan told
+    → IsUnserved n old.clear.lots → AreLotsLawful mid.clear.lots → ArePlanned (records_of mid) mid.clear.lots → IsEnded n sealed last mid new
+    → AreOfOnePlan (records_of old) told
 entered_of_plan n ts sealed first last told old mid new all entered unserved lawful planned ended =
     let both : told ≡ draws ts ++ last = all ∙ ap (λ (os : List Outcome). os ++ last) entered.told_is in
-    subst AreOfOnePlan (sym both)
-    (of_plan n mid.clear.lots ts last (has_first n ts old mid entered.drawn unserved) lawful planned (ended_ends n sealed last mid new ended))
+    let kept = drawn_keeps n ts old mid entered.drawn in
+    subst (λ (c : List ClearRecord). AreOfOnePlan c told) kept
+    (subst (AreOfOnePlan (records_of mid)) (sym both)
+    (of_plan (records_of mid) n mid.clear.lots ts last (has_first n ts old mid entered.drawn unserved) lawful planned (ended_ends n sealed last mid new ended)))
 
 -- a reserve that is refused leaves the lots as they are
 refused_leaves : (n member : ℕ) (r : Refusal) (lots new : List LotState) → ReserveLeaves n member (Err r) lots new → new ≡ lots
@@ -217,14 +230,20 @@ stopped_lots : (n : ℕ) (t : Ticket) (r : Refusal) (old new : World) → IsNotE
 stopped_lots n t r old new (inl occurs) = let step = occurs.step in refused_lots n t.member r step.3.0 old.clear.lots new.clear.lots step.3.1 step.3.2.0
 stopped_lots n t r old new (inr h) = ap (λ (w : World). w.clear.lots) h.1
 
+stopped_keeps : (n : ℕ) (t : Ticket) (r : Refusal) (old new : World) → IsNotEntered n t r old new → records_of new ≡ records_of old
+stopped_keeps n t r old new (inl occurs) = ap (λ (node : ClearNode). node.log.records) occurs.step.3.2.1
+stopped_keeps n t r old new (inr h) = ap records_of h.1
+
 pub cut_of_plan : (n : ℕ) (ts : List Ticket) (r : Refusal) (first told : List Outcome) (old new : World) → told ≡ first ++ outcomes.Refused r ∷ [] → AreCutOff n ts r first old new
-    → IsUnserved n old.clear.lots → AreLotsLawful new.clear.lots → ArePlanned new.clear.lots → AreOfOnePlan told
+    → IsUnserved n old.clear.lots → AreLotsLawful new.clear.lots → ArePlanned (records_of new) new.clear.lots → AreOfOnePlan (records_of old) told
 cut_of_plan n ts r first told old new all cut unserved lawful planned =
     let same = stopped_lots n cut.ticket r cut.between new cut.stopped in
     let both : told ≡ draws cut.first ++ outcomes.Refused r ∷ [] = all ∙ ap (λ (os : List Outcome). os ++ outcomes.Refused r ∷ []) cut.entered.told_is in
-    subst AreOfOnePlan (sym both)
-    (of_plan n cut.between.clear.lots cut.first (outcomes.Refused r ∷ []) (has_first n cut.first old cut.between cut.entered.drawn unserved) (subst AreLotsLawful same lawful) (subst ArePlanned same planned)
-    (refused_ends n cut.between.clear.lots r))
+    let kept = stopped_keeps n cut.ticket r cut.between new cut.stopped ∙ drawn_keeps n cut.first old cut.between cut.entered.drawn in
+    subst (λ (c : List ClearRecord). AreOfOnePlan c told) kept
+    (subst (AreOfOnePlan (records_of new)) (sym both)
+    (of_plan (records_of new) n cut.between.clear.lots cut.first (outcomes.Refused r ∷ []) (has_first n cut.first old cut.between cut.entered.drawn unserved) (subst AreLotsLawful same lawful)
+    (subst (ArePlanned (records_of new)) same planned) (refused_ends n cut.between.clear.lots r)))
 
 busy_found : (busy : List BusyLot) (n : ℕ) (b : BusyLot) (P : BusyLot → Type 0) → All P busy → busy_at busy n ≡ Some b → P b
 busy_found [] n b P all found = cc
@@ -242,5 +261,5 @@ busy_unserved n f mid b found are same l here going =
     let fed = is.fed l (ap (λ (m : ℕ). lot_at f.system.clear.lots m) (busy_number f.busy n b found) ∙ ap (λ (w : World). lot_at w.clear.lots n) (sym same) ∙ here) going in
     (fed.tickets, fed.unsealed)
 
-pub nothing_drawn : AreOfOnePlan []
-nothing_drawn = of_none [] refl
+pub nothing_drawn : (c : List ClearRecord) → AreOfOnePlan c []
+nothing_drawn c = of_none c [] refl

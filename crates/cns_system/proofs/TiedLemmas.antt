@@ -3,6 +3,7 @@ use Rattle.std.proofs.Common.{◌≡◌, ◌≤◌, ◌-◌, ◌+◌, ℕ, zero,
 use Rattle.std.specs.Prelude.{◌==◌, ◌⊎◌, find, slice_get, slice_set, option_map, if◌then◌else◌}
 use Rattle.std.specs.Option.{option_or}
 use Rattle.std.proofs.lemmas.Bool.{cases_eq, eq-eqb, eqb-false, eqb-true, false_from_ne_true}
+use Rattle.std.proofs.lemmas.List.{append_assoc}
 use Rattle.std.proofs.lemmas.List.Folds.{find-append}
 use Rattle.std.proofs.lemmas.Option.{same_Some, slice_get-map}
 use Rattle.cns_allocate.proofs.TurnLemmas.{find-All}
@@ -225,8 +226,13 @@ tied_ended lots = record {
 -- ---- the plans of the lots by number
 
 -- the plan of each lot that has not ended is that of the node's lot, which is as the records have it
-pub planned_from : (c : List ClearRecord) (open_lots : List Lot) (lots : List LotState) → AreTied open_lots lots → AreLots c open_lots → ArePlanned lots
+pub planned_from : (c : List ClearRecord) (open_lots : List Lot) (lots : List LotState) → AreTied open_lots lots → AreLots c open_lots → ArePlanned c lots
 planned_from c open_lots lots tied are n lot found going =
     let twin = tied.each n lot found going in
     let is : IsLot c twin.twin = find-All (IsLot c) (λ (l : Lot). l.issue == lot.issue) open_lots twin.twin are.each twin.found in
-    record { records = is.before; is = sym twin.plan ∙ is.plan ∙ ap (plan_in is.before) (found_of open_lots lot.issue twin.twin twin.found) }
+    record {
+      later = is.later ++ is.middle;
+      before = is.before;
+      split = is.split ∙ sym (append_assoc is.later is.middle is.before);
+      is = sym twin.plan ∙ is.plan ∙ ap (plan_in is.before) (found_of open_lots lot.issue twin.twin twin.found);
+    }

@@ -19,10 +19,14 @@ use Rattle.cns_system.specs.declared.numbered.Opened.{Opened}
 abbrev pub new_busy : Begun → BusyLot
 new_busy begun = record { lot = begun.lot; cell = arc_value begun.cell; poured = begun.poured; sealed = false; asked = 0 }
 
+-- what is told of a lot that was opened for workers
+abbrev pub opened_of : Begun → Opened
+opened_of begun = record { number = begun.lot; poured = begun.poured; plan = begun.plan }
+
 -- the lot is opened; its seat is one of its cell without tickets, with just the budget and the calls for the plan; and it is busy with this
 -- cell, into which was poured what was poured into the lot
 pub record IsBegun (issue : ℕ) (begun : Begun) (old new : FloorState) : Type 0 where
-  pub opened : Occurs (event.LotOpen issue) (outcomes.LotOpened (record { number = begun.lot; poured = begun.poured; plan = begun.plan })) old.system new.system
+  pub opened : Occurs (event.LotOpen issue) (outcomes.LotOpened (opened_of begun)) old.system new.system
   pub seat : begun.seat ≡ new_worker (arc_value begun.cell) (planned_sum begun.plan) (length begun.plan)
   pub busy : new.busy ≡ old.busy ++ new_busy begun ∷ []
 

@@ -1,23 +1,50 @@
 -- What workers drew of a lot, as a desk has it (this project's own rules).
-use Rattle.std.specs.Prelude.{◌≡◌, ◌<◌, Bool, true, false, List, [], length, Option, Some, None, MatchOption, MatchResult, Result}
+use Rattle.std.specs.Prelude.{◌≡◌, ℕ, ◌<◌, Bool, true, false, List, [], length, Option, Some, None, MatchOption, MatchResult, Result, is_some}
 use Rattle.cns_allocate.specs.declared.planned.Planned.{Planned}
 use Rattle.cns_allocate.specs.declared.serving.ServeCause.TheVariants as cause
 use Rattle.cns_allocate.specs.declared.serving.ServeFault.{ServeFault}
 use Rattle.cns_allocate.specs.declared.serving.Served.{Served}
+use Rattle.cns_allocate.specs.Serving.{FollowPlanByStart}
 use Rattle.cns_system.specs.Begin.{IsRefusal}
+use Rattle.cns_system.specs.Finish.{AreOfOnePlan, FinishGives}
+use Rattle.cns_system.specs.Floor.{FloorState, IsLawfulFloor}
+use Rattle.cns_system.specs.Run.{Occurs}
 use Rattle.cns_system.specs.declared.desk.Allocated.{Allocated}
 use Rattle.cns_system.specs.declared.desk.Cut.{Cut}
 use Rattle.cns_system.specs.declared.desk.Cut.TheVariants as cut
 use Rattle.cns_system.specs.declared.desk.Drawn.{Drawn}
+use Rattle.cns_system.specs.declared.event.Event.TheVariants as event
 use Rattle.cns_system.specs.declared.numbered.Opened.{Opened}
+use Rattle.cns_system.specs.declared.outcome.Outcome.{Outcome}
 use Rattle.cns_system.specs.declared.outcome.Outcome.TheVariants as outcomes
 
--- what an allocation answers: a lot that was opened, with what its workers drew; or the refusal of one that was not, and then nothing was
--- entered
-abbrev pub IsAllocated : Allocated → Type 0
-IsAllocated all =
-    MatchOption all.drawn (IsRefusal all.opened × (all.entered.items ≡ []))
-    (λ (d : Drawn). (opened : Opened) × (all.opened ≡ outcomes.LotOpened opened))
+-- a lot was opened in one hold of the lock
+pub record IsOpenedIn (issue : ℕ) (opened : Opened) : Type 0 where
+  pub old : FloorState
+  pub new : FloorState
+  pub before : IsLawfulFloor old
+  pub after : IsLawfulFloor new
+  pub occurs : Occurs (event.LotOpen issue) (outcomes.LotOpened opened) old.system new.system
+
+-- what workers drew of a lot was entered in one hold of the lock, and came to this; the tickets that were entered are of one plan
+pub record IsEnteredIn (lot : ℕ) (drawn : Drawn) (told : List Outcome) : Type 0 where
+  pub old : FloorState
+  pub new : FloorState
+  pub before : IsLawfulFloor old
+  pub after : IsLawfulFloor new
+  pub gives : FinishGives lot drawn.seat.tickets (is_some drawn.cut) told old new.system
+  pub tickets : AreOfOnePlan old.system.clear.clear.log.records told
+
+-- by start, what the workers of a lot drew follows the plan of its opening; and that was entered
+pub record IsServedAs (opened : Opened) (all : Allocated) (drawn : Drawn) : Type 0 where
+  pub told : all.opened ≡ outcomes.LotOpened opened
+  pub follow : FollowPlanByStart opened.plan drawn.seat.tickets (is_some drawn.cut)
+  pub entered : IsEnteredIn opened.number drawn all.entered.items
+
+-- what an allocation answers: a lot that was opened and served; or the refusal of one that was not opened, and then nothing was entered
+abbrev pub IsAllocated : ℕ → Allocated → Type 0
+IsAllocated issue all =
+    MatchOption all.drawn (IsRefusal all.opened × (all.entered.items ≡ [])) (λ (d : Drawn). (opened : Opened) × IsOpenedIn issue opened × IsServedAs opened all d)
 
 -- a seal that a worker met cuts the workers off
 abbrev pub cut_by : Bool → Option Cut

@@ -6,6 +6,7 @@ use Rattle.cns_pool.specs.declared.ticket.Ticket.{Ticket}
 use Rattle.cns_allocate.specs.Plan.{IsPlan}
 use Rattle.cns_allocate.specs.Served.{IsServed}
 use Rattle.cns_allocate.specs.declared.planned.Planned.{Planned}
+use Rattle.cns_records.specs.declared.clear_record.ClearRecord.{ClearRecord}
 use Rattle.cns_records.specs.declared.refusal.Refusal.{Refusal}
 use Rattle.cns_records.specs.declared.refusal.Refusal.TheVariants as refusal
 use Rattle.cns_system.specs.Begin.{IsRefusal}
@@ -117,12 +118,12 @@ is_close _ = false
 abbrev pub drawn_in : List Outcome → List Ticket
 drawn_in told = filter_map drawn_by told
 
--- the tickets that were drawn are those of a lot that may close: they follow one plan of an issue, as far as they go, and stand end to end
--- from 0; each member of the plan has one where the lot was closed and not sealed
-pub record AreOfOnePlan (told : List Outcome) : Type 0 where
+-- the tickets that were drawn are those of a lot that may close: they follow one plan, which a first part of the clearing node's records
+-- has of an issue, as far as they go, and stand end to end from 0; each member of the plan has one where the lot was closed and not sealed
+pub record AreOfOnePlan (c : List ClearRecord) (told : List Outcome) : Type 0 where
   pub issue : ℕ
   pub plan : List Planned
-  pub of : IsPlanOf issue plan
+  pub of : IsPlanOf c issue plan
   pub is : IsPlan plan
   pub served : IsServed plan (drawn_in told) true
   pub whole : list_any is_close told ≡ true → list_any is_done told ≡ false → IsServed plan (drawn_in told) false

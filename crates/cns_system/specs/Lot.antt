@@ -23,10 +23,12 @@ pub record LotState : Type 0 where
 abbrev pub planned_sum : List Planned → ℕ
 planned_sum plan = sum_by (λ (p : Planned). p.asked) plan
 
--- a plan is that of an issue, as some records of a clearing node have it
-pub record IsPlanOf (issue : ℕ) (plan : List Planned) : Type 0 where
-  pub records : List ClearRecord
-  pub is : plan ≡ plan_in records issue
+-- a plan is that of an issue, as a first part of a clearing node's records has it
+pub record IsPlanOf (c : List ClearRecord) (issue : ℕ) (plan : List Planned) : Type 0 where
+  pub later : List ClearRecord
+  pub before : List ClearRecord
+  pub split : c ≡ later ++ before
+  pub is : plan ≡ plan_in before issue
 
 -- a lot as it is opened
 abbrev pub new_lot : ℕ → List Planned → ℕ → LotState

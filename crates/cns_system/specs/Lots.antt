@@ -3,6 +3,7 @@
 use Rattle.std.specs.Prelude.{◌≡◌, ℕ, ◌-◌, ◌==◌, true, false, List, All, Option, Some, None, Result, Ok, Err, IsSomeAnd, slice_get, slice_set, if◌then◌else◌}
 use Rattle.cns_pool.specs.declared.ticket.Ticket.{Ticket}
 use Rattle.cns_allocate.specs.declared.turns.Turn.TheVariants as turn
+use Rattle.cns_records.specs.declared.clear_record.ClearRecord.{ClearRecord}
 use Rattle.cns_records.specs.declared.refusal.Refusal.{Refusal}
 use Rattle.cns_records.specs.declared.refusal.Refusal.TheVariants as refusal
 use Rattle.cns_system.specs.Lot.{LotState, IsLot, IsPlanOf, turn_in, ticket_in, with_ticket}
@@ -19,9 +20,9 @@ update_at lots number new = slice_set lots (number - 1) new
 abbrev pub AreLotsLawful : List LotState → Type 0
 AreLotsLawful lots = All IsLot lots
 
--- the plan of each lot that has not ended is that of its issue, as the clearing node's records had it when the lot was opened
-abbrev pub ArePlanned : List LotState → Type 0
-ArePlanned lots = (number : ℕ) (lot : LotState) → lot_at lots number ≡ Some lot → lot.ended ≡ false → IsPlanOf lot.issue lot.plan
+-- the plan of each lot that has not ended is that of its issue, as a first part of the clearing node's records has it
+abbrev pub ArePlanned : List ClearRecord → List LotState → Type 0
+ArePlanned c lots = (number : ℕ) (lot : LotState) → lot_at lots number ≡ Some lot → lot.ended ≡ false → IsPlanOf c lot.issue lot.plan
 
 -- a lot was opened with the number and has not ended, and this holds of it
 abbrev pub HasOpenLot : List LotState → ℕ → (LotState → Type 0) → Type 0

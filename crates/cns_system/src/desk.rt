@@ -1,12 +1,11 @@
-ghost use Rattle.std.specs.Prelude.{◌≡◌, ◌↔◌, ◌⊎◌, ◌<◌, IfErr, IfOk, Some, is_some, length};
+ghost use Rattle.std.specs.Prelude.{◌≡◌, ◌↔◌, ◌⊎◌, ◌<◌, IfErr, IfOk, IsSomeAnd, Some, is_some, length};
 ghost use Rattle.std.specs.Arc.{arc_value};
 ghost use Rattle.std.specs.Sync.Mutex.{mutex_guard_value};
 ghost use Rattle.cns_pool.specs.WorkerSeat.{new_worker};
 ghost use Rattle.cns_allocate.specs.Serving.{Serves};
 ghost use Rattle.cns_allocate.specs.declared.serving.ServeCause.TheVariants.{TooManyWorkers};
-ghost use Rattle.cns_system.specs.Begin.{IsRefusal};
-ghost use Rattle.cns_system.specs.Desk.{HasTooFew, IsAllocated, IsDrawn, is_seal};
-ghost use Rattle.cns_system.specs.Finish.{AreOfOnePlan};
+ghost use Rattle.cns_system.specs.Begin.{IsRefusal, opened_of};
+ghost use Rattle.cns_system.specs.Desk.{HasTooFew, IsAllocated, IsDrawn, IsEnteredIn, IsOpenedIn, IsServedAs, is_seal};
 ghost use Rattle.cns_system.specs.Floor.{IsLawfulFloor};
 ghost use Rattle.cns_system.specs.Lot.{planned_sum};
 ghost use Rattle.cns_system.specs.declared.desk.Cut.TheVariants.{Fault};
@@ -96,8 +95,7 @@ impl<C: Keeper, D: Keeper> Desk<C, D> {
         workers: usize,
         gate: &G,
     ) -> Result<Allocated, AllocError>
-        ensures tickets { IfOk result (λ all. AreOfOnePlan all.entered.items) }
-        ensures opened { IfOk result IsAllocated }
+        ensures { IfOk result (λ all. IsAllocated issue all) }
     {
         match self.begin(rt, alloc, issue) {
             Ok(begun) => self.serve_begun(rt, alloc, begun, workers, gate),
@@ -111,7 +109,8 @@ impl<C: Keeper, D: Keeper> Desk<C, D> {
 
     // Opens a lot for workers.
     fn begin<R: Wait>(&self, rt: &R, alloc: Global, issue: Cusip) -> Result<Begun, Outcome>
-        ensures ok { IfOk result (λ begun. begun.seat ≡ new_worker (arc_value begun.cell) (planned_sum begun.plan) (length begun.plan)) }
+        ensures seat { IfOk result (λ begun. begun.seat ≡ new_worker (arc_value begun.cell) (planned_sum begun.plan) (length begun.plan)) }
+        ensures opened { IfOk result (λ begun. IsOpenedIn issue (opened_of begun)) }
         ensures err { IfErr result IsRefusal }
     {
         self.lock(rt).begin(alloc, issue)
@@ -127,8 +126,7 @@ impl<C: Keeper, D: Keeper> Desk<C, D> {
         gate: &G,
     ) -> Result<Allocated, AllocError>
         requires { begun.seat ≡ new_worker (arc_value begun.cell) (planned_sum begun.plan) (length begun.plan) }
-        ensures tickets { IfOk result (λ all. AreOfOnePlan all.entered.items) }
-        ensures opened { IfOk result IsAllocated }
+        ensures { IfOk result (λ all. IsSomeAnd all.drawn (λ drawn. IsServedAs (opened_of begun) all drawn)) }
     {
         let Begun {
             lot,
@@ -159,7 +157,7 @@ impl<C: Keeper, D: Keeper> Desk<C, D> {
         lot: u64,
         drawn: &Drawn,
     ) -> Result<Vec<Outcome>, AllocError>
-        ensures { IfOk result (λ told. AreOfOnePlan told.items) }
+        ensures { IfOk result (λ told. IsEnteredIn lot drawn.now told.items) }
     {
         self.lock(rt)
             .finish(alloc, lot, drawn.seat.tickets(), drawn.cut.is_some())

@@ -25,9 +25,9 @@ impl<C: Keeper, D: Keeper> Floor<C, D> {
     /// `LotClose`. It ends at the first of them that is refused, and with `BadTickets`, where a reserve
     /// would draw another ticket than the one that was handed in: this reserve does not happen.
     ///
-    /// The tickets among the outcomes are those of one plan, which an issue had when its lot was opened, as
-    /// far as they go, and stand end to end from 0; where the lot is closed and not sealed, each member of
-    /// its plan has one.
+    /// The tickets among the outcomes are those of one plan, which the clearing node's records had of an
+    /// issue at some place, as far as they go, and stand end to end from 0; where the lot is closed and not
+    /// sealed, each member of the plan has one.
     ///
     /// The lot is no longer busy, also where there is no memory; then no event happens. Of a lot that is
     /// not busy there are no outcomes, and nothing changes. (This project's own rule.)
@@ -41,7 +41,7 @@ impl<C: Keeper, D: Keeper> Floor<C, D> {
         failed: bool,
     ) -> Result<Vec<Outcome>, AllocError>
         ensures ok { IfOk result (λ told. FinishGives lot tickets.now failed told.items self.old self.new.system) }
-        ensures tickets { IfOk result (λ told. AreOfOnePlan told.items) }
+        ensures tickets { IfOk result (λ told. AreOfOnePlan self.old.system.clear.clear.log.records told.items) }
         ensures err { OnErr result (self.new.system ≡ self.old.system) }
         ensures memory { OnErr result (busy_at self.old.busy lot ≢ None) }
         ensures busy { self.new.busy ≡ without_busy lot self.old.busy }
@@ -63,7 +63,7 @@ impl<C: Keeper, D: Keeper> Floor<C, D> {
         failed: bool,
     ) -> Result<Vec<Outcome>, AllocError>
         ensures ok { IfOk result (λ told. FinishGives lot tickets.now failed told.items self.old self.new.system) }
-        ensures tickets { IfOk result (λ told. AreOfOnePlan told.items) }
+        ensures tickets { IfOk result (λ told. AreOfOnePlan self.old.system.clear.clear.log.records told.items) }
         ensures err { OnErr result (self.new.system ≡ self.old.system) }
         ensures memory { OnErr result (busy_at self.old.busy lot ≢ None) }
         ensures busy { self.new.busy ≡ without_busy lot self.old.busy }
@@ -87,7 +87,7 @@ impl<C: Keeper, D: Keeper> Floor<C, D> {
         requires free { busy_at self.old.busy lot ≡ None }
         requires unserved { IsUnserved lot self.old.system.clear.lots }
         ensures ok { IfOk result (λ told. IsFinished lot tickets.now sealed told.items self.old.system self.new.system) }
-        ensures tickets { IfOk result (λ told. AreOfOnePlan told.items) }
+        ensures tickets { IfOk result (λ told. AreOfOnePlan self.old.system.clear.clear.log.records told.items) }
         ensures err { OnErr result (self.new.system ≡ self.old.system) }
         ensures busy { self.new.busy ≡ self.old.busy }
     {
@@ -104,7 +104,7 @@ impl<C: Keeper, D: Keeper> Floor<C, D> {
         requires none { told.old.items ≡ [] }
         requires room { length tickets.now + 2 ≤ vec_capacity told.old }
         ensures entered { AreAllEntered lot tickets.now sealed told.new.items self.old.system self.new.system }
-        ensures tickets { AreOfOnePlan told.new.items }
+        ensures tickets { AreOfOnePlan self.old.system.clear.clear.log.records told.new.items }
         ensures busy { self.new.busy ≡ self.old.busy }
     {
         let drawn = self.draw_each(lot, tickets, told);

@@ -272,7 +272,7 @@ impl<C: Keeper, D: Keeper> Floor<C, D> {
     // Does nothing, and tells what is so of the lots.
     pub(crate) fn lots_lawful(&self)
         ensures lots { AreLotsLawful self.now.system.clear.lots }
-        ensures planned { ArePlanned self.now.system.clear.lots }
+        ensures planned { ArePlanned self.now.system.clear.clear.log.records self.now.system.clear.lots }
     {
         self.system.lots().lawful();
         self.system.agreed();

@@ -198,7 +198,7 @@ impl<C: Keeper, D: Keeper> Pair<C, D> {
         ensures lawful { AreLawful self.now }
         ensures balanced { IsBalanced self.now }
         ensures tied { AreTied self.now.clear.clear.lots self.now.clear.lots }
-        ensures planned { ArePlanned self.now.clear.lots }
+        ensures planned { ArePlanned self.now.clear.clear.log.records self.now.clear.lots }
     {
         let _open = self.clear.node().open_lots();
         let _lots = self.clear.book();

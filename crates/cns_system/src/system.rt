@@ -208,7 +208,7 @@ impl<C: Keeper, D: Keeper> System<C, D> {
         ensures accord { IsInAccord self.now }
         ensures headline { IsAgreed self.now }
         ensures tied { AreTied self.now.clear.clear.lots self.now.clear.lots }
-        ensures planned { ArePlanned self.now.clear.lots }
+        ensures planned { ArePlanned self.now.clear.clear.log.records self.now.clear.lots }
     {
         self.pair.lawful();
     }

@@ -1,7 +1,8 @@
 use Rattle.std.proofs.Common.{ap, subst, sym, ◌∙◌}
-use Rattle.std.specs.Prelude.{◌≡◌, ◌||◌, Bool}
+use Rattle.std.specs.Prelude.{◌≡◌, ◌||◌, Bool, IfOk}
 use Rattle.cns_system.specs.Finish.{AreOfOnePlan}
-use Rattle.cns_system.proofs.FinishLemmas.{finish_goes, finish_told, released_gone, released_rest}
+use Rattle.cns_system.specs.World.{World}
+use Rattle.cns_system.proofs.FinishLemmas.{finish_goes, finish_told, released_gone, released_rest, released_system}
 use Rattle.cns_system.proofs.OnePlanLemmas.{nothing_drawn}
 use Rattle.cns_system.proofs.floor.Floor.finish_lot.Goals as goal
 use Rattle.cns_system.proofs.floor.Floor.finish_lot.Goals.{then-failed, else-failed}
@@ -19,6 +20,11 @@ returns-after-failed-clause-ok g c =
     finish_told (λ told. told.items) c.args.lot c.args.tickets.now c.args.failed c.in-Some.sealed c.if-failed.enter c.enter.result c.args.self.now c.release.new.self c.enter.new.self.system
     c.in-Some.ensures.released either c.enter.ensures.ok
 
+pub returns-after-failed-clause-tickets : goal.returns-after-failed-clause-tickets
+returns-after-failed-clause-tickets g c =
+    subst (λ (w : World). IfOk c.enter.result (λ told. AreOfOnePlan w.clear.clear.log.records told.items))
+    (released_system c.args.lot c.in-Some.sealed c.args.self.now c.release.new.self c.in-Some.ensures.released) c.enter.ensures.tickets
+
 pub returns-after-failed-clause-strict : goal.returns-after-failed-clause-strict
 returns-after-failed-clause-strict g c =
     (finish_goes (λ told. told.items) c.args.lot c.args.tickets.now c.in-Some.sealed c.if-failed.enter c.enter.result c.args.self.now c.release.new.self c.enter.new.self.system
@@ -33,4 +39,6 @@ pub returns-in-None-clause-busy : goal.returns-in-None-clause-busy
 returns-in-None-clause-busy g c = released_rest c.args.lot c.release.result c.args.self.now c.release.new.self c.release.ensures.released
 
 pub returns-in-None-clause-tickets : goal.returns-in-None-clause-tickets
-returns-in-None-clause-tickets g c = subst AreOfOnePlan (sym c.new.ensures.items) nothing_drawn
+returns-in-None-clause-tickets g c =
+    let records = c.args.self.now.system.clear.clear.log.records in
+    subst (AreOfOnePlan records) (sym c.new.ensures.items) (nothing_drawn records)
