@@ -18,24 +18,15 @@ abbrev pub command_run : ℕ → Command → Act (Unit {0})
 command_run n command.Skip = done
 command_run n command.TakeAll = all_taken
 command_run n (command.Take rows) = taken rows
-command_run n (command.Cycle cycle) = single (event.Cycle cycle)
-command_run n command.Report = reported
-command_run n (command.Exempt member issue shares) = single (event.Exempt member issue shares)
-command_run n (command.Priority member issue on) = single (event.Priority member issue on)
-command_run n (command.Send number) = single (event.Send number)
-command_run n (command.Order packet) = single (event.OrderIn packet)
-command_run n (command.Reply packet) = single (event.ReplyIn packet)
-command_run n (command.Lot issue) = single (event.LotOpen issue)
-command_run n (command.Pour lot) = single (event.LotPour lot)
+command_run n (command.Single e) = single e
 command_run n (command.Reserve lot member) = reserved_one lot member
 command_run n (command.Look lot) = looked lot
-command_run n (command.Seal lot) = single (event.Seal lot)
 command_run n (command.Close lot) = closed_one lot
 command_run n (command.Allocate issue) = allocated issue
 command_run n (command.Beside issue lines) = tells (bad_command_line n)
 command_run n (command.Fail name stands) = failed name stands
-command_run n (command.Restart name) = single (event.Restart name)
 command_run n command.Pump = pumped
+command_run n command.Report = reported
 command_run n command.Bad = tells (bad_command_line n)
 
 -- the lot that waits is served, where it was opened

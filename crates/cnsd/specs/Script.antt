@@ -7,6 +7,8 @@ use Rattle.cns_ids.specs.ReadDay.{read_day}
 use Rattle.cns_ids.specs.declared.cycle.CycleKind.{CycleKind}
 use Rattle.cns_ids.specs.declared.cycle.CycleKind.TheVariants.{Night, Day}
 use Rattle.cns_trades.specs.Fields.{same_text}
+use Rattle.cns_system.specs.declared.event.Event.{Event}
+use Rattle.cns_system.specs.declared.event.Event.TheVariants as event
 use Rattle.cns_system.specs.declared.event.NodeName.{NodeName}
 use Rattle.cns_system.specs.declared.event.NodeName.TheVariants as node
 use Rattle.cnsd.specs.Words.{words_of}
@@ -65,17 +67,38 @@ stands_in text = one_of (codes "KEEP") true (codes "DROP") false text
 abbrev pub take_in : List ℕ → Option Command
 take_in text = if same_text text (codes "ALL") then Some command.TakeAll else option_map command.Take (rows_in text)
 
-abbrev pub cycle_on : CycleKind → ℕ → Command
-cycle_on kind day = command.Cycle (record { day = day; kind = kind })
-
--- a command by two arguments, or by three
-abbrev pub of_two : {A B : Type 0} → (A → B → Command) → Option A → Option B → Option Command
+-- what is made of two arguments, or of three
+abbrev pub of_two : {A B R : Type 0} → (A → B → R) → Option A → Option B → Option R
 of_two make (Some a) (Some b) = Some (make a b)
 of_two make a b = None
 
-abbrev pub of_three : {A B C : Type 0} → (A → B → C → Command) → Option A → Option B → Option C → Option Command
+abbrev pub of_three : {A B C R : Type 0} → (A → B → C → R) → Option A → Option B → Option C → Option R
 of_three make (Some a) (Some b) (Some c) = Some (make a b c)
 of_three make a b c = None
+
+-- the events of two words, of three and of four
+abbrev pub pair_event : List ℕ → List ℕ → Option Event
+pair_event word first =
+    if same_text word (codes "SEND") then option_map event.Send (place_in first)
+    else if same_text word (codes "ORDER") then option_map event.OrderIn (place_in first)
+    else if same_text word (codes "REPLY") then option_map event.ReplyIn (place_in first)
+    else if same_text word (codes "RESTART") then option_map event.Restart (node_in first)
+    else if same_text word (codes "LOT") then option_map event.LotOpen (issue_in first)
+    else if same_text word (codes "POUR") then option_map event.LotPour (place_in first)
+    else if same_text word (codes "SEAL") then option_map event.Seal (place_in first)
+    else None
+
+abbrev pub cycle_on : CycleKind → ℕ → Event
+cycle_on kind day = event.Cycle (record { day = day; kind = kind })
+
+abbrev pub cycle_event : List ℕ → List ℕ → Option Event
+cycle_event kind day = of_two cycle_on (kind_in kind) (day_in day)
+
+abbrev pub quadruple_event : List ℕ → List ℕ → List ℕ → List ℕ → Option Event
+quadruple_event word first second third =
+    if same_text word (codes "EXEMPT") then of_three event.Exempt (member_in first) (issue_in second) (shares_in third)
+    else if same_text word (codes "PRIORITY") then of_three event.Priority (member_in first) (issue_in second) (switch_in third)
+    else None
 
 -- those of one word
 abbrev pub single : List ℕ → Option Command
@@ -88,39 +111,25 @@ single word =
 abbrev pub pair : List ℕ → List ℕ → Option Command
 pair word first =
     if same_text word (codes "TAKE") then take_in first
-    else if same_text word (codes "SEND") then option_map command.Send (place_in first)
-    else if same_text word (codes "ORDER") then option_map command.Order (place_in first)
-    else if same_text word (codes "REPLY") then option_map command.Reply (place_in first)
-    else if same_text word (codes "RESTART") then option_map command.Restart (node_in first)
-    else if same_text word (codes "LOT") then option_map command.Lot (issue_in first)
-    else if same_text word (codes "POUR") then option_map command.Pour (place_in first)
     else if same_text word (codes "LOOK") then option_map command.Look (place_in first)
-    else if same_text word (codes "SEAL") then option_map command.Seal (place_in first)
     else if same_text word (codes "CLOSE") then option_map command.Close (place_in first)
     else if same_text word (codes "ALLOCATE") then option_map command.Allocate (issue_in first)
-    else None
+    else option_map command.Single (pair_event word first)
 
 -- those of three
 abbrev pub triple : List ℕ → List ℕ → List ℕ → Option Command
 triple word first second =
-    if same_text word (codes "CYCLE") then of_two cycle_on (kind_in first) (day_in second)
+    if same_text word (codes "CYCLE") then option_map command.Single (cycle_event first second)
     else if same_text word (codes "FAIL") then of_two command.Fail (node_in first) (stands_in second)
     else if same_text word (codes "RESERVE") then of_two command.Reserve (place_in first) (member_in second)
     else if same_text word (codes "BESIDE") then of_two command.Beside (issue_in first) (lines_in second)
-    else None
-
--- those of four
-abbrev pub quadruple : List ℕ → List ℕ → List ℕ → List ℕ → Option Command
-quadruple word first second third =
-    if same_text word (codes "EXEMPT") then of_three command.Exempt (member_in first) (issue_in second) (shares_in third)
-    else if same_text word (codes "PRIORITY") then of_three command.Priority (member_in first) (issue_in second) (switch_in third)
     else None
 
 abbrev pub form_of : List (List ℕ) → Option Command
 form_of (word ∷ []) = single word
 form_of (word ∷ first ∷ []) = pair word first
 form_of (word ∷ first ∷ second ∷ []) = triple word first second
-form_of (word ∷ first ∷ second ∷ third ∷ []) = quadruple word first second third
+form_of (word ∷ first ∷ second ∷ third ∷ []) = option_map command.Single (quadruple_event word first second third)
 form_of words = None
 
 -- words that fit no form are a bad command

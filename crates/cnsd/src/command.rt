@@ -1,10 +1,10 @@
 ghost use Rattle.std.specs.Prelude.{◌≡◌, ◌==◌, ◌<◌, option_map, length, IfSome};
 ghost use Rattle.std.specs.List.{position_from};
 ghost use Rattle.cnsd.specs.Words.{split_at_space, words_of};
-ghost use Rattle.cnsd.specs.Script.{command_of as command_of_line, form_of, single as single_of, pair as pair_of, triple as triple_of, quadruple as quadruple_of, take_in, one_of, place_in, member_in, issue_in, switch_in, node_in, stands_in, kind_in};
+ghost use Rattle.cnsd.specs.Script.{command_of as command_of_line, form_of, single as single_of, pair as pair_of, pair_event as pair_event_of, cycle_event as cycle_event_of, triple as triple_of, quadruple_event as quadruple_event_of, take_in, one_of, place_in, member_in, issue_in, switch_in, node_in, stands_in, kind_in};
 
 use cns_ids::{Cusip, CycleId, CycleKind, Day, MemberNo, Shares, read_number};
-use cns_system::NodeName;
+use cns_system::{Event, NodeName};
 
 /// A line of the script.
 #[derive(Clone, Copy)]
@@ -15,56 +15,21 @@ pub enum Command {
     TakeAll,
     /// `TAKE n`: the next n rows of trades.
     Take(u64),
-    /// `CYCLE NIGHT date` or `CYCLE DAY date`.
-    Cycle(CycleId),
-    /// `EXEMPT member cusip shares`.
-    Exempt {
-        member: MemberNo,
-        issue: Cusip,
-        shares: Shares,
-    },
-    /// `PRIORITY member cusip ON` or `OFF`.
-    Priority {
-        member: MemberNo,
-        issue: Cusip,
-        on: bool,
-    },
-    /// `SEND n`: the order of this number is put on the link.
-    Send(u64),
-    /// `ORDER k`: this packet of the link of orders arrives at the depository.
-    Order(u64),
-    /// `REPLY k`: this packet of the link of replies arrives at the clearing corporation.
-    Reply(u64),
-    /// `LOT cusip`: a lot of the issue is opened.
-    Lot(Cusip),
-    /// `POUR lot`: the free shares of its issue are poured into the lot.
-    Pour(u64),
+    /// A command that is one event at a node, of the link or of a lot.
+    Single(Event),
     /// `RESERVE lot member`: a ticket of the lot for the member.
-    Reserve {
-        lot: u64,
-        member: MemberNo,
-    },
+    Reserve { lot: u64, member: MemberNo },
     /// `LOOK lot`: what stands of the lot is told.
     Look(u64),
-    /// `SEAL lot`: the lot gives no more tickets.
-    Seal(u64),
     /// `CLOSE lot`: the shares of the lot are allocated to its tickets.
     Close(u64),
     /// `ALLOCATE cusip`: a lot of the issue is opened, served and closed.
     Allocate(Cusip),
     /// `BESIDE cusip k`: the same, with this many of the next lines run once the lot is open.
-    Beside {
-        issue: Cusip,
-        lines: u64,
-    },
+    Beside { issue: Cusip, lines: u64 },
     /// `FAIL node KEEP` or `DROP`: the next commit of the node fails, and its record then stands at
     /// the restart or does not.
-    Fail {
-        node: NodeName,
-        stands: bool,
-    },
-    /// `RESTART node`.
-    Restart(NodeName),
+    Fail { node: NodeName, stands: bool },
     /// `PUMP`: each unconfirmed order is sent, executed and confirmed.
     Pump,
     /// `REPORT`.
@@ -176,35 +141,60 @@ fn single(word: &[u8]) -> Option<Command>
     }
 }
 
+// The event that two words are: `SEND n`, `ORDER k`, `REPLY k`, `RESTART node`, `LOT cusip`, `POUR lot`
+// or `SEAL lot`.
+fn pair_event(word: &[u8], first: &[u8]) -> Option<Event>
+    ensures { result ≡ pair_event_of word.now first.now }
+{
+    if word == b"SEND".as_slice() {
+        let number = read_place(first)?;
+        Some(Event::Send { number })
+    } else if word == b"ORDER".as_slice() {
+        let packet = read_place(first)?;
+        Some(Event::OrderIn { packet })
+    } else if word == b"REPLY".as_slice() {
+        let packet = read_place(first)?;
+        Some(Event::ReplyIn { packet })
+    } else if word == b"RESTART".as_slice() {
+        read_node(first).map(Event::Restart)
+    } else if word == b"LOT".as_slice() {
+        let issue = read_issue(first)?;
+        Some(Event::LotOpen { issue })
+    } else if word == b"POUR".as_slice() {
+        let lot = read_place(first)?;
+        Some(Event::LotPour { lot })
+    } else if word == b"SEAL".as_slice() {
+        let lot = read_place(first)?;
+        Some(Event::Seal { lot })
+    } else {
+        None
+    }
+}
+
 // The commands of two words.
 fn pair(word: &[u8], first: &[u8]) -> Option<Command>
     ensures { result ≡ pair_of word.now first.now }
 {
     if word == b"TAKE".as_slice() {
         read_take(first)
-    } else if word == b"SEND".as_slice() {
-        read_place(first).map(Command::Send)
-    } else if word == b"ORDER".as_slice() {
-        read_place(first).map(Command::Order)
-    } else if word == b"REPLY".as_slice() {
-        read_place(first).map(Command::Reply)
-    } else if word == b"RESTART".as_slice() {
-        read_node(first).map(Command::Restart)
-    } else if word == b"LOT".as_slice() {
-        read_issue(first).map(Command::Lot)
-    } else if word == b"POUR".as_slice() {
-        read_place(first).map(Command::Pour)
     } else if word == b"LOOK".as_slice() {
         read_place(first).map(Command::Look)
-    } else if word == b"SEAL".as_slice() {
-        read_place(first).map(Command::Seal)
     } else if word == b"CLOSE".as_slice() {
         read_place(first).map(Command::Close)
     } else if word == b"ALLOCATE".as_slice() {
         read_issue(first).map(Command::Allocate)
     } else {
-        None
+        pair_event(word, first).map(Command::Single)
     }
+}
+
+// The event of `CYCLE NIGHT date` and `CYCLE DAY date`.
+fn cycle_event(kind: &[u8], day: &[u8]) -> Option<Event>
+    ensures { result ≡ cycle_event_of kind.now day.now }
+{
+    let kind = read_kind(kind)?;
+    let day = Day::read(day).ok()?;
+    Some(Event::Cycle(CycleId { day, kind }))
 }
 
 // The commands of three words.
@@ -212,9 +202,7 @@ fn triple(word: &[u8], first: &[u8], second: &[u8]) -> Option<Command>
     ensures { result ≡ triple_of word.now first.now second.now }
 {
     if word == b"CYCLE".as_slice() {
-        let kind = read_kind(first)?;
-        let day = Day::read(second).ok()?;
-        Some(Command::Cycle(CycleId { day, kind }))
+        cycle_event(first, second).map(Command::Single)
     } else if word == b"FAIL".as_slice() {
         Some(Command::Fail {
             node: read_node(first)?,
@@ -235,18 +223,18 @@ fn triple(word: &[u8], first: &[u8], second: &[u8]) -> Option<Command>
     }
 }
 
-// The commands of four words.
-fn quadruple(word: &[u8], first: &[u8], second: &[u8], third: &[u8]) -> Option<Command>
-    ensures { result ≡ quadruple_of word.now first.now second.now third.now }
+// The event that four words are: `EXEMPT member cusip shares`, or `PRIORITY member cusip ON` or `OFF`.
+fn quadruple_event(word: &[u8], first: &[u8], second: &[u8], third: &[u8]) -> Option<Event>
+    ensures { result ≡ quadruple_event_of word.now first.now second.now third.now }
 {
     if word == b"EXEMPT".as_slice() {
-        Some(Command::Exempt {
+        Some(Event::Exempt {
             member: read_member(first)?,
             issue: read_issue(second)?,
             shares: Shares::read(third).ok()?,
         })
     } else if word == b"PRIORITY".as_slice() {
-        Some(Command::Priority {
+        Some(Event::Priority {
             member: read_member(first)?,
             issue: read_issue(second)?,
             on: read_switch(third)?,
@@ -274,7 +262,7 @@ fn read_command(line: &[u8]) -> Option<Command>
     };
     let (third, rest) = split_word(rest);
     match rest {
-        None => quadruple(word, first, second, third),
+        None => quadruple_event(word, first, second, third).map(Command::Single),
         Some(_) => None,
     }
 }

@@ -268,40 +268,21 @@ impl<'a, C: Keeper, D: Keeper, G: Gate + Sync, R: Threads + Wait + Sync> DeskRun
         command: &Command,
         writer: &mut W,
     ) -> Result<(), OutputFault> {
-        let event = match *command {
-            Command::Skip => return Ok(()),
-            Command::TakeAll => return self.take(u64::MAX, writer),
-            Command::Take(rows) => return self.take(rows, writer),
-            Command::Look(lot) => return self.look(lot, writer),
-            Command::Seal(lot) => return self.seal(lot, writer),
-            Command::Allocate(issue) => return self.allocate(issue, writer),
-            Command::Pump => return self.pump(writer),
-            Command::Fail { node, stands } => return self.fail(node, stands, writer),
-            Command::Report => return self.report(writer),
-            Command::Beside { .. } | Command::Bad => {
-                return self.page.bad_command(number, writer);
-            }
-            Command::Reserve { lot, member } => Event::Reserve { lot, member },
-            Command::Close(lot) => Event::LotClose { lot },
-            Command::Cycle(cycle) => Event::Cycle(cycle),
-            Command::Exempt {
-                member,
-                issue,
-                shares,
-            } => Event::Exempt {
-                member,
-                issue,
-                shares,
-            },
-            Command::Priority { member, issue, on } => Event::Priority { member, issue, on },
-            Command::Send(number) => Event::Send { number },
-            Command::Order(packet) => Event::OrderIn { packet },
-            Command::Reply(packet) => Event::ReplyIn { packet },
-            Command::Lot(issue) => Event::LotOpen { issue },
-            Command::Pour(lot) => Event::LotPour { lot },
-            Command::Restart(node) => Event::Restart(node),
-        };
-        self.single(event, writer)
+        match *command {
+            Command::Skip => Ok(()),
+            Command::TakeAll => self.take(u64::MAX, writer),
+            Command::Take(rows) => self.take(rows, writer),
+            Command::Single(Event::Seal { lot }) => self.seal(lot, writer),
+            Command::Single(event) => self.single(event, writer),
+            Command::Reserve { lot, member } => self.single(Event::Reserve { lot, member }, writer),
+            Command::Look(lot) => self.look(lot, writer),
+            Command::Close(lot) => self.single(Event::LotClose { lot }, writer),
+            Command::Allocate(issue) => self.allocate(issue, writer),
+            Command::Fail { node, stands } => self.fail(node, stands, writer),
+            Command::Pump => self.pump(writer),
+            Command::Report => self.report(writer),
+            Command::Beside { .. } | Command::Bad => self.page.bad_command(number, writer),
+        }
     }
 
     // Runs so many of the next lines; those that are skipped do not count.

@@ -7,7 +7,7 @@ use crate::fault::OutputFault;
 use crate::runner::{Beside, Runner};
 use cns_ids::Cusip;
 use cns_journal::Keeper;
-use cns_system::{Event, Opened};
+use cns_system::Opened;
 use std::io::Write;
 
 // One line fewer is to run beside the lot.
@@ -116,38 +116,20 @@ impl<C: Keeper, D: Keeper> Runner<C, D> {
     ) -> Result<(), OutputFault>
         ensures { Runs (command_run number command.now) result (record { run = self.old; sent = W.contents writer.old }) (record { run = self.new; sent = W.contents writer.new }) }
     {
-        let event = match *command {
-            Command::Skip => return Ok(()),
-            Command::TakeAll => return self.take_all(writer),
-            Command::Take(rows) => return self.take(rows, writer),
-            Command::Look(lot) => return self.look(lot, writer),
-            Command::Reserve { lot, member } => return self.reserve(lot, member, writer),
-            Command::Close(lot) => return self.close(lot, writer),
-            Command::Allocate(issue) => return self.allocate(issue, writer),
-            Command::Pump => return self.pump(writer),
-            Command::Fail { node, stands } => return self.fail(node, stands, writer),
-            Command::Report => return self.report(writer),
-            Command::Beside { .. } | Command::Bad => return self.bad_command(number, writer),
-            Command::Cycle(cycle) => Event::Cycle(cycle),
-            Command::Exempt {
-                member,
-                issue,
-                shares,
-            } => Event::Exempt {
-                member,
-                issue,
-                shares,
-            },
-            Command::Priority { member, issue, on } => Event::Priority { member, issue, on },
-            Command::Lot(issue) => Event::LotOpen { issue },
-            Command::Pour(lot) => Event::LotPour { lot },
-            Command::Seal(lot) => Event::Seal { lot },
-            Command::Send(number) => Event::Send { number },
-            Command::Order(packet) => Event::OrderIn { packet },
-            Command::Reply(packet) => Event::ReplyIn { packet },
-            Command::Restart(node) => Event::Restart(node),
-        };
-        self.single(event, writer)
+        match *command {
+            Command::Skip => Ok(()),
+            Command::TakeAll => self.take_all(writer),
+            Command::Take(rows) => self.take(rows, writer),
+            Command::Single(event) => self.single(event, writer),
+            Command::Reserve { lot, member } => self.reserve(lot, member, writer),
+            Command::Look(lot) => self.look(lot, writer),
+            Command::Close(lot) => self.close(lot, writer),
+            Command::Allocate(issue) => self.allocate(issue, writer),
+            Command::Fail { node, stands } => self.fail(node, stands, writer),
+            Command::Pump => self.pump(writer),
+            Command::Report => self.report(writer),
+            Command::Beside { .. } | Command::Bad => self.bad_command(number, writer),
+        }
     }
 
     /// Runs the line of this number.
