@@ -1,140 +1,312 @@
+use crate::common::{issue, member, night, shares};
 use cns_clearing::PoolRow;
 use cns_depository::{Account, BalanceRow, OpeningFault};
-use cns_ids::{Cusip, CusipFault, CycleId, CycleKind, Day, MemberNo, ReadFault};
-use cns_movements::{Asked, MoveKind, MoveNo, Order};
+use cns_ids::{CusipFault, CycleId, CycleKind, Day, ReadFault};
+use cns_movements::{Asked, MoveKind, MoveNo, Order, Reply};
 use cns_netting::PositionRow;
 use cns_pool::Ticket;
 use cns_records::Refusal;
 use cns_report::{
-    Subject, write_again, write_bad_command, write_balance_report, write_close,
-    write_confirm_again, write_confirm_done, write_cycle, write_cycle_report, write_exec,
-    write_exempt, write_fail, write_look, write_lot, write_opening_refused,
-    write_opening_row_fault, write_orders, write_pour, write_priority, write_refused,
-    write_report_end, write_restart, write_row_fault, write_seal, write_send, write_ticket,
-    write_trade, write_trade_refused,
+    Line, LotLine, OrderLine, Subject, write_balance_report, write_cycle_report, write_line,
+    write_orders, write_report_end,
 };
 use cns_system::NodeName;
 use cns_trades::{RowFault, TradeId, Verdict};
+use std::alloc::Global;
+use std::process::Abort;
 use std::test::Fail;
 
 mod outcome;
 
+// That this line has these bytes.
+fn see(rt: &impl Abort, alloc: Global, line: Line, want: &str) -> Result<(), Fail> {
+    let mut out = String::new(alloc);
+    write_line(&mut out, line)?;
+    assert_eq!(rt; out.as_str(), want);
+    Ok(())
+}
+
+// A line, and its bytes.
+type Told = (Line, &'static str);
+
+fn see_each(rt: &impl Abort, alloc: Global, lines: &[Told]) -> Result<(), Fail> {
+    for (line, want) in lines {
+        see(rt, alloc, *line, want)?;
+    }
+    Ok(())
+}
+
+// The faults of row 5.
+const ROW_FAULTS: [(RowFault, &str); 8] = [
+    (RowFault::Settle, "row 5 fault Settle BadDate\n"),
+    (RowFault::Fields, "row 5 fault Fields\n"),
+    (RowFault::Id, "row 5 fault Id\n"),
+    (
+        RowFault::Buyer(ReadFault::BadNumber),
+        "row 5 fault Buyer BadNumber\n",
+    ),
+    (
+        RowFault::Seller(ReadFault::OutOfRange),
+        "row 5 fault Seller OutOfRange\n",
+    ),
+    (
+        RowFault::Cusip(CusipFault::BadChar { place: 6 }),
+        "row 5 fault Cusip BadChar 6\n",
+    ),
+    (
+        RowFault::Cusip(CusipFault::CheckDigit { want: 0 }),
+        "row 5 fault Cusip CheckDigit 0\n",
+    ),
+    (
+        RowFault::Cusip(CusipFault::Length),
+        "row 5 fault Cusip Length\n",
+    ),
+];
+
+#[test]
+fn row_faults(rt: HostRuntime) -> Result<(), Fail> {
+    for (fault, want) in &ROW_FAULTS {
+        let (row, fault) = (5, *fault);
+        see(&rt, rt.alloc(), Line::RowFault { row, fault }, want)?;
+    }
+    Ok(())
+}
+
+// The faults of row 4 of openings.
+const OPENING_FAULTS: [(RowFault, &str); 3] = [
+    (
+        RowFault::Quantity(ReadFault::OutOfRange),
+        "opening row 4 fault Quantity OutOfRange\n",
+    ),
+    (
+        RowFault::Account(ReadFault::OutOfRange),
+        "opening row 4 fault Account OutOfRange\n",
+    ),
+    (
+        RowFault::Shares(ReadFault::BadNumber),
+        "opening row 4 fault Shares BadNumber\n",
+    ),
+];
+
+#[test]
+fn opening_faults(rt: HostRuntime) -> Result<(), Fail> {
+    for (fault, want) in &OPENING_FAULTS {
+        let (row, fault) = (4, *fault);
+        see(&rt, rt.alloc(), Line::OpeningRowFault { row, fault }, want)?;
+    }
+    let (row, fault) = (6, OpeningFault::Double);
+    see(
+        &rt,
+        rt.alloc(),
+        Line::OpeningRefused { row, fault },
+        "opening row 6 fault Double\n",
+    )?;
+    let (row, fault) = (7, OpeningFault::IssueSum);
+    see(
+        &rt,
+        rt.alloc(),
+        Line::OpeningRefused { row, fault },
+        "opening row 7 fault IssueSum\n",
+    )
+}
+
+const REFUSED: [(Subject, Refusal, &str); 20] = [
+    (
+        Subject::Cycle,
+        Refusal::CycleOrder,
+        "cycle refused CycleOrder\n",
+    ),
+    (
+        Subject::Cycle,
+        Refusal::NumbersSpent,
+        "cycle refused NumbersSpent\n",
+    ),
+    (
+        Subject::Cycle,
+        Refusal::LotsOpen,
+        "cycle refused LotsOpen\n",
+    ),
+    (
+        Subject::Send,
+        Refusal::UnknownMove,
+        "send refused UnknownMove\n",
+    ),
+    (
+        Subject::Order,
+        Refusal::NoPacket,
+        "order refused NoPacket\n",
+    ),
+    (
+        Subject::Order,
+        Refusal::Conflict,
+        "order refused Conflict\n",
+    ),
+    (Subject::Reply, Refusal::TooMuch, "reply refused TooMuch\n"),
+    (Subject::Exempt, Refusal::Device, "exempt refused Device\n"),
+    (Subject::Priority, Refusal::Down, "priority refused Down\n"),
+    (
+        Subject::Lot,
+        Refusal::LotAlready,
+        "lot refused LotAlready\n",
+    ),
+    (Subject::Lot, Refusal::LotsSpent, "lot refused LotsSpent\n"),
+    (Subject::Pour, Refusal::NoLot, "pour refused NoLot\n"),
+    (Subject::Look, Refusal::StaleLot, "look refused StaleLot\n"),
+    (
+        Subject::Reserve,
+        Refusal::NotLong,
+        "reserve refused NotLong\n",
+    ),
+    (
+        Subject::Reserve,
+        Refusal::EarlierGroup,
+        "reserve refused EarlierGroup\n",
+    ),
+    (
+        Subject::Reserve,
+        Refusal::Sealed,
+        "reserve refused Sealed\n",
+    ),
+    (Subject::Seal, Refusal::StaleLot, "seal refused StaleLot\n"),
+    (Subject::Close, Refusal::LotBusy, "close refused LotBusy\n"),
+    (
+        Subject::Close,
+        Refusal::Unserved,
+        "close refused Unserved\n",
+    ),
+    (
+        Subject::Restart,
+        Refusal::OutOfMemory,
+        "restart refused OutOfMemory\n",
+    ),
+];
+
+#[test]
+fn refusals(rt: HostRuntime) -> Result<(), Fail> {
+    for (subject, refusal, want) in &REFUSED {
+        let (subject, refusal) = (*subject, *refusal);
+        see(&rt, rt.alloc(), Line::Refused { subject, refusal }, want)?;
+    }
+    Ok(())
+}
+
+const TRADE_REFUSED: [(Refusal, &str); 5] = [
+    (Refusal::Trade(Verdict::Same), "trade A1 refused Same\n"),
+    (
+        Refusal::Trade(Verdict::Conflict),
+        "trade A1 refused Conflict\n",
+    ),
+    (
+        Refusal::Trade(Verdict::SameMember),
+        "trade A1 refused SameMember\n",
+    ),
+    (Refusal::Trade(Verdict::Full), "trade A1 refused Full\n"),
+    (Refusal::Down, "trade A1 refused Down\n"),
+];
+
+#[test]
+fn trade_lines(rt: HostRuntime) -> Result<(), Fail> {
+    let id = TradeId::read(b"A1")?;
+    see(
+        &rt,
+        rt.alloc(),
+        Line::TradeAccepted(id),
+        "trade A1 accepted\n",
+    )?;
+    for (refusal, want) in &TRADE_REFUSED {
+        let refusal = *refusal;
+        see(&rt, rt.alloc(), Line::TradeRefused { id, refusal }, want)?;
+    }
+    Ok(())
+}
+
+#[test]
+fn command_lines(rt: HostRuntime) -> Result<(), Fail> {
+    let (clear, depot) = (NodeName::Clear, NodeName::Depot);
+    let cycle = Line::Cycle {
+        id: night(b"2025-03-04")?,
+        due: 2,
+    };
+    let lines = [
+        (Line::BadCommand { line: 1 }, "line 1 bad command\n"),
+        (Line::ExemptionSet, "exempt ok\n"),
+        (Line::PrioritySet, "priority ok\n"),
+        (Line::FailurePlanned, "fail ok\n"),
+        (Line::FailureNotPlanned, "fail refused NotPlanned\n"),
+        (cycle, "cycle 2025-03-04 NIGHT due 2\n"),
+        (
+            Line::Restarted {
+                node: clear,
+                records: 6,
+                kept: false,
+            },
+            "restart CLEAR records 6 kept no\n",
+        ),
+        (
+            Line::Restarted {
+                node: depot,
+                records: 1,
+                kept: true,
+            },
+            "restart DEPOT records 1 kept yes\n",
+        ),
+    ];
+    see_each(&rt, rt.alloc(), &lines)
+}
+
 // A cover of member 1, and the largest delivery under the last number.
 fn two_orders() -> Result<[Order; 2], Fail> {
-    let issue = Cusip::read(b"037833100")?;
     let cover = Order {
         number: MoveNo::new(1).ok_or("number")?,
         kind: MoveKind::Cover,
-        member: MemberNo::read(b"1")?,
-        issue,
+        member: member(1)?,
+        issue: issue()?,
         asked: Asked::new(60).ok_or("asked")?,
     };
     let delivery = Order {
-        number: MoveNo::new(1_000_000).ok_or("number")?,
+        number: MoveNo::new(MoveNo::MAX).ok_or("number")?,
         kind: MoveKind::Delivery,
-        member: MemberNo::read(b"42")?,
-        issue,
-        asked: Asked::new(1_000_000_000_000_000_000).ok_or("asked")?,
+        member: member(42)?,
+        issue: issue()?,
+        asked: Asked::new(Asked::MAX).ok_or("asked")?,
     };
     Ok([cover, delivery])
 }
 
 #[test]
-fn lines(rt: HostRuntime) -> Result<(), Fail> {
-    let id = TradeId::read(b"A1")?;
-    let night = CycleId {
-        day: Day::read(b"2025-03-04")?,
-        kind: CycleKind::Night,
+fn order_lines(rt: HostRuntime) -> Result<(), Fail> {
+    let reply = Reply {
+        number: MoveNo::new(1).ok_or("number")?,
+        moved: shares(20)?,
     };
+    let lines = [
+        (
+            OrderLine::Sent {
+                number: 1,
+                packet: 2,
+            },
+            "send 1 packet 2\n",
+        ),
+        (
+            OrderLine::Executed { reply, packet: 3 },
+            "exec 1 moved 20 packet 3\n",
+        ),
+        (
+            OrderLine::ExecutedAgain { reply, packet: 4 },
+            "again 1 moved 20 packet 4\n",
+        ),
+        (OrderLine::Confirmed(reply), "confirm 1 moved 20 done\n"),
+        (
+            OrderLine::ConfirmedAgain(reply),
+            "confirm 1 moved 20 again\n",
+        ),
+    ];
+    for (line, want) in &lines {
+        see(&rt, rt.alloc(), Line::Order(*line), want)?;
+    }
     let mut out = String::new(rt.alloc());
-    write_trade(&mut out, id)?;
-    write_trade_refused(&mut out, id, Refusal::Trade(Verdict::Same))?;
-    write_trade_refused(&mut out, id, Refusal::Trade(Verdict::Conflict))?;
-    write_trade_refused(&mut out, id, Refusal::Trade(Verdict::SameMember))?;
-    write_trade_refused(&mut out, id, Refusal::Trade(Verdict::Full))?;
-    write_row_fault(&mut out, 5, RowFault::Settle)?;
-    write_row_fault(&mut out, 6, RowFault::Fields)?;
-    write_row_fault(&mut out, 7, RowFault::Id)?;
-    write_row_fault(&mut out, 8, RowFault::Buyer(ReadFault::BadNumber))?;
-    write_row_fault(&mut out, 9, RowFault::Seller(ReadFault::OutOfRange))?;
-    write_row_fault(
-        &mut out,
-        10,
-        RowFault::Cusip(CusipFault::BadChar { place: 6 }),
-    )?;
-    write_row_fault(
-        &mut out,
-        11,
-        RowFault::Cusip(CusipFault::CheckDigit { want: 0 }),
-    )?;
-    write_row_fault(&mut out, 12, RowFault::Cusip(CusipFault::Length))?;
-    write_row_fault(&mut out, 13, RowFault::Quantity(ReadFault::OutOfRange))?;
-    write_bad_command(&mut out, 1)?;
-    write_cycle(&mut out, night, 2)?;
-    write_refused(&mut out, Subject::Cycle, Refusal::CycleOrder)?;
-    write_refused(&mut out, Subject::Cycle, Refusal::NumbersSpent)?;
-    write_refused(&mut out, Subject::Send, Refusal::UnknownMove)?;
-    write_refused(&mut out, Subject::Order, Refusal::NoPacket)?;
-    write_refused(&mut out, Subject::Order, Refusal::Conflict)?;
-    write_refused(&mut out, Subject::Reply, Refusal::TooMuch)?;
-    write_send(&mut out, 1, 2)?;
-    write_exec(&mut out, 1, 20, 3)?;
-    write_again(&mut out, 1, 20, 4)?;
-    write_confirm_done(&mut out, 1, 20)?;
-    write_confirm_again(&mut out, 1, 20)?;
-    write_opening_row_fault(&mut out, 4, RowFault::Account(ReadFault::OutOfRange))?;
-    write_opening_row_fault(&mut out, 5, RowFault::Shares(ReadFault::BadNumber))?;
-    write_opening_refused(&mut out, 6, OpeningFault::Double)?;
-    write_opening_refused(&mut out, 7, OpeningFault::IssueSum)?;
-    write_exempt(&mut out)?;
-    write_priority(&mut out)?;
-    write_trade_refused(&mut out, id, Refusal::Down)?;
-    write_refused(&mut out, Subject::Exempt, Refusal::Device)?;
-    write_refused(&mut out, Subject::Priority, Refusal::Down)?;
-    write_fail(&mut out)?;
-    write_restart(&mut out, NodeName::Clear, 6, false)?;
-    write_restart(&mut out, NodeName::Depot, 1, true)?;
     write_orders(&mut out, &two_orders()?)?;
     let want = "\
-        trade A1 accepted\n\
-        trade A1 refused Same\n\
-        trade A1 refused Conflict\n\
-        trade A1 refused SameMember\n\
-        trade A1 refused Full\n\
-        row 5 fault Settle BadDate\n\
-        row 6 fault Fields\n\
-        row 7 fault Id\n\
-        row 8 fault Buyer BadNumber\n\
-        row 9 fault Seller OutOfRange\n\
-        row 10 fault Cusip BadChar 6\n\
-        row 11 fault Cusip CheckDigit 0\n\
-        row 12 fault Cusip Length\n\
-        row 13 fault Quantity OutOfRange\n\
-        line 1 bad command\n\
-        cycle 2025-03-04 NIGHT due 2\n\
-        cycle refused CycleOrder\n\
-        cycle refused NumbersSpent\n\
-        send refused UnknownMove\n\
-        order refused NoPacket\n\
-        order refused Conflict\n\
-        reply refused TooMuch\n\
-        send 1 packet 2\n\
-        exec 1 moved 20 packet 3\n\
-        again 1 moved 20 packet 4\n\
-        confirm 1 moved 20 done\n\
-        confirm 1 moved 20 again\n\
-        opening row 4 fault Account OutOfRange\n\
-        opening row 5 fault Shares BadNumber\n\
-        opening row 6 fault Double\n\
-        opening row 7 fault IssueSum\n\
-        exempt ok\n\
-        priority ok\n\
-        trade A1 refused Down\n\
-        exempt refused Device\n\
-        priority refused Down\n\
-        fail ok\n\
-        restart CLEAR records 6 kept no\n\
-        restart DEPOT records 1 kept yes\n\
         order 1 COVER 0001 037833100 60\n\
         order 1000000 DELIVERY 0042 037833100 1000000000000000000\n";
     assert_eq!(rt; out.as_str(), want);
@@ -142,17 +314,60 @@ fn lines(rt: HostRuntime) -> Result<(), Fail> {
 }
 
 #[test]
+fn lot_lines(rt: HostRuntime) -> Result<(), Fail> {
+    let (member, number) = (member(3)?, 1);
+    let ticket = Ticket {
+        member,
+        start: 30,
+        asked: 10,
+    };
+    let lines = [
+        (
+            LotLine::Opened {
+                number,
+                poured: 40,
+                longs: 2,
+            },
+            "lot 1 poured 40 longs 2\n",
+        ),
+        (LotLine::Poured { shares: 0 }, "pour 0\n"),
+        (LotLine::Drawn(ticket), "ticket 0003 start 30 asked 10\n"),
+        (LotLine::LookedPoured { poured: 40 }, "look poured 40"),
+        (
+            LotLine::LookedAsked {
+                asked: 0,
+                sealed: false,
+            },
+            " asked 0 sealed no\n",
+        ),
+        (
+            LotLine::LookedAsked {
+                asked: 30,
+                sealed: true,
+            },
+            " asked 30 sealed yes\n",
+        ),
+        (LotLine::Sealed, "seal ok\n"),
+        (LotLine::Closed { granted: 30 }, "close granted 30\n"),
+    ];
+    for (line, want) in &lines {
+        see(&rt, rt.alloc(), Line::Lot(*line), want)?;
+    }
+    Ok(())
+}
+
+#[test]
 fn a_report(rt: HostRuntime) -> Result<(), Fail> {
-    let issue = Cusip::read(b"037833100")?;
+    let issue = issue()?;
     let rows = [
         PositionRow {
             issue,
-            member: MemberNo::read(b"1")?,
+            member: member(1)?,
             position: -60,
         },
         PositionRow {
             issue,
-            member: MemberNo::read(b"2")?,
+            member: member(2)?,
             position: 1_000_000_000_000_000_000,
         },
     ];
@@ -174,7 +389,7 @@ fn a_report(rt: HostRuntime) -> Result<(), Fail> {
         },
         BalanceRow {
             issue,
-            account: Account::Member(MemberNo::read(b"42")?),
+            account: Account::Member(member(42)?),
             shares: 1_000_000_000_000_000_000,
         },
     ];
@@ -194,63 +409,6 @@ fn a_report(rt: HostRuntime) -> Result<(), Fail> {
         BAL 037833100 0000                   20\n\
         BAL 037833100 0042  1000000000000000000\n\
         END\n";
-    assert_eq!(rt; out.as_str(), want);
-    Ok(())
-}
-
-#[test]
-fn lot_lines(rt: HostRuntime) -> Result<(), Fail> {
-    let ticket = Ticket {
-        member: MemberNo::read(b"3")?,
-        start: 30,
-        asked: 10,
-    };
-    let mut out = String::new(rt.alloc());
-    write_lot(&mut out, 1, 40, 2)?;
-    write_pour(&mut out, 0)?;
-    write_ticket(&mut out, &ticket)?;
-    write_look(&mut out, 40, 0, false)?;
-    write_look(&mut out, 40, 30, true)?;
-    write_seal(&mut out)?;
-    write_close(&mut out, 30)?;
-    let want = "\
-        lot 1 poured 40 longs 2\n\
-        pour 0\n\
-        ticket 0003 start 30 asked 10\n\
-        look poured 40 asked 0 sealed no\n\
-        look poured 40 asked 30 sealed yes\n\
-        seal ok\n\
-        close granted 30\n";
-    assert_eq!(rt; out.as_str(), want);
-    Ok(())
-}
-
-#[test]
-fn lot_refusals(rt: HostRuntime) -> Result<(), Fail> {
-    let mut out = String::new(rt.alloc());
-    write_refused(&mut out, Subject::Cycle, Refusal::LotsOpen)?;
-    write_refused(&mut out, Subject::Lot, Refusal::LotAlready)?;
-    write_refused(&mut out, Subject::Lot, Refusal::LotsSpent)?;
-    write_refused(&mut out, Subject::Pour, Refusal::NoLot)?;
-    write_refused(&mut out, Subject::Look, Refusal::StaleLot)?;
-    write_refused(&mut out, Subject::Reserve, Refusal::NotLong)?;
-    write_refused(&mut out, Subject::Reserve, Refusal::EarlierGroup)?;
-    write_refused(&mut out, Subject::Reserve, Refusal::Sealed)?;
-    write_refused(&mut out, Subject::Seal, Refusal::StaleLot)?;
-    write_refused(&mut out, Subject::Close, Refusal::LotBusy)?;
-    write_refused(&mut out, Subject::Close, Refusal::Unserved)?;
-    let want = "\
-        cycle refused LotsOpen\n\
-        lot refused LotAlready\n\
-        lot refused LotsSpent\n\
-        pour refused NoLot\n\
-        look refused StaleLot\n\
-        reserve refused NotLong\n\
-        reserve refused EarlierGroup\n\
-        reserve refused Sealed\n\
-        seal refused StaleLot\n\
-        close refused LotBusy\n\
-        close refused Unserved\n";
     assert_eq!(rt; out.as_str(), want);
     Ok(())
 }

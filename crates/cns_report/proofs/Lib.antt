@@ -1,2 +1,3 @@
 pub mod RightLemmas
 pub mod LineLemmas
+pub mod OutcomeLemmas

@@ -51,30 +51,12 @@ impl fmt::Display for RowFaultName {
             RowFault::Fields => f.write_str("Fields"),
             RowFault::Id => f.write_str("Id"),
             RowFault::Settle => f.write_str("Settle BadDate"),
-            RowFault::Buyer(fault) => {
-                let name = ReadFaultName(fault);
-                write!(f, "Buyer {name}")
-            }
-            RowFault::Seller(fault) => {
-                let name = ReadFaultName(fault);
-                write!(f, "Seller {name}")
-            }
-            RowFault::Cusip(fault) => {
-                let name = CusipFaultName(fault);
-                write!(f, "Cusip {name}")
-            }
-            RowFault::Quantity(fault) => {
-                let name = ReadFaultName(fault);
-                write!(f, "Quantity {name}")
-            }
-            RowFault::Account(fault) => {
-                let name = ReadFaultName(fault);
-                write!(f, "Account {name}")
-            }
-            RowFault::Shares(fault) => {
-                let name = ReadFaultName(fault);
-                write!(f, "Shares {name}")
-            }
+            RowFault::Buyer(fault) => write!(f, "Buyer {}", ReadFaultName(fault)),
+            RowFault::Seller(fault) => write!(f, "Seller {}", ReadFaultName(fault)),
+            RowFault::Cusip(fault) => write!(f, "Cusip {}", CusipFaultName(fault)),
+            RowFault::Quantity(fault) => write!(f, "Quantity {}", ReadFaultName(fault)),
+            RowFault::Account(fault) => write!(f, "Account {}", ReadFaultName(fault)),
+            RowFault::Shares(fault) => write!(f, "Shares {}", ReadFaultName(fault)),
         }
     }
 }

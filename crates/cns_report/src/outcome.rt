@@ -1,14 +1,10 @@
 ghost use Rattle.std.specs.Prelude.{◌≡◌, ◌++◌, OnOk, OnErr, string_bytes};
-ghost use Rattle.cns_report.specs.Outcomes.{accepted_line, closed_lines, cycled_lines, done_line, outcome_line, refusal_line, restarted_line, sent_line};
+ghost use Rattle.cns_report.specs.Outcomes.{accepted_line, cycled_line, done_line, line_of, lot_line, order_line, orders_of, outcome_line, refused_line, restarted_line, sent_line};
 
-use crate::line::{
-    write_again, write_close, write_confirm_again, write_confirm_done, write_cycle, write_exec,
-    write_exempt, write_look_asked, write_look_poured, write_lot, write_orders, write_pour,
-    write_priority, write_refused, write_restart, write_seal, write_send, write_ticket,
-    write_trade, write_trade_refused,
-};
+use crate::line::{Line, LotLine, OrderLine};
 use crate::subject::Subject;
-use cns_clearing::{Closed, Cycled};
+use crate::write::{write_line, write_orders};
+use cns_movements::Order;
 use cns_records::Refusal;
 use cns_system::{Event, Outcome};
 use std::alloc::AllocError;
@@ -23,121 +19,162 @@ pub fn outcome_line(out: &mut String, event: &Event, outcome: &Outcome) -> Resul
     ensures line { OnOk result (string_bytes out.new ≡ string_bytes out.old ++ outcome_line event.now outcome.now) }
     ensures err { OnErr result (string_bytes out.new ≡ string_bytes out.old) }
 {
-    match outcome {
-        Outcome::Accepted => write_accepted(out, event),
-        Outcome::Done => write_done(out, event),
-        Outcome::Cycled(done) => write_cycled(out, event, done),
-        Outcome::LotOpened(lot) => write_lot(out, lot.number, lot.poured, lot.plan.len()),
-        Outcome::Poured { shares } => write_pour(out, *shares),
-        Outcome::Drawn(ticket) => write_ticket(out, ticket),
-        Outcome::LookedPoured { poured } => write_look_poured(out, *poured),
-        Outcome::LookedAsked { asked, sealed } => write_look_asked(out, *asked, *sealed),
-        Outcome::Closed(done) => write_closed(out, done),
-        Outcome::Sent { packet } => write_sent(out, event, *packet),
-        Outcome::Executed { reply, packet } => {
-            write_exec(out, reply.number.number(), reply.moved.count(), *packet)
-        }
-        Outcome::ExecutedAgain { reply, packet } => {
-            write_again(out, reply.number.number(), reply.moved.count(), *packet)
-        }
-        Outcome::Confirmed(reply) => {
-            write_confirm_done(out, reply.number.number(), reply.moved.count())
-        }
-        Outcome::ConfirmedAgain(reply) => {
-            write_confirm_again(out, reply.number.number(), reply.moved.count())
-        }
-        Outcome::Restarted { records, kept } => write_restarted(out, event, *records, *kept),
-        Outcome::Refused(refusal) => write_refusal(out, event, *refusal),
+    let Some(line) = line_of(event, outcome) else {
+        return Ok(());
+    };
+    let orders = orders_of(outcome);
+    if orders.is_empty() {
+        return write_line(out, line);
     }
-}
-
-// What is told of an event that was accepted.
-fn write_accepted(out: &mut String, event: &Event) -> Result<(), AllocError>
-    ensures ok { OnOk result (string_bytes out.new ≡ string_bytes out.old ++ accepted_line event.now) }
-    ensures err { OnErr result (string_bytes out.new ≡ string_bytes out.old) }
-{
-    match event {
-        Event::Trade(trade) => write_trade(out, trade.id),
-        _ => Ok(()),
-    }
-}
-
-// What is told of a setting that was recorded, and of a seal.
-fn write_done(out: &mut String, event: &Event) -> Result<(), AllocError>
-    ensures ok { OnOk result (string_bytes out.new ≡ string_bytes out.old ++ done_line event.now) }
-    ensures err { OnErr result (string_bytes out.new ≡ string_bytes out.old) }
-{
-    match event {
-        Event::Exempt { .. } => write_exempt(out),
-        Event::Priority { .. } => write_priority(out),
-        Event::Seal { .. } => write_seal(out),
-        _ => Ok(()),
-    }
-}
-
-// What is told of a cycle that was run: its line, then those of its orders, or nothing where memory
-// is wanting.
-fn write_cycled(out: &mut String, event: &Event, done: &Cycled) -> Result<(), AllocError>
-    ensures ok { OnOk result (string_bytes out.new ≡ string_bytes out.old ++ cycled_lines event.now done.now) }
-    ensures err { OnErr result (string_bytes out.new ≡ string_bytes out.old) }
-{
-    match event {
-        Event::Cycle(cycle) => {
-            let mut lines = String::new(*out.allocator());
-            write_cycle(&mut lines, *cycle, done.due)?;
-            write_orders(&mut lines, done.orders.as_slice())?;
-            out.push_str(&lines)
-        }
-        _ => Ok(()),
-    }
-}
-
-// What is told of a lot that was closed: its line, then those of its orders, or nothing where memory
-// is wanting.
-fn write_closed(out: &mut String, done: &Closed) -> Result<(), AllocError>
-    ensures ok { OnOk result (string_bytes out.new ≡ string_bytes out.old ++ closed_lines done.now) }
-    ensures err { OnErr result (string_bytes out.new ≡ string_bytes out.old) }
-{
     let mut lines = String::new(*out.allocator());
-    write_close(&mut lines, done.granted)?;
-    write_orders(&mut lines, done.orders.as_slice())?;
+    write_line(&mut lines, line)?;
+    write_orders(&mut lines, orders)?;
     out.push_str(&lines)
 }
 
-// What is told of an order that was sent.
-fn write_sent(out: &mut String, event: &Event, packet: u64) -> Result<(), AllocError>
-    ensures ok { OnOk result (string_bytes out.new ≡ string_bytes out.old ++ sent_line event.now packet) }
-    ensures err { OnErr result (string_bytes out.new ≡ string_bytes out.old) }
+// The orders that a cycle or a close made.
+fn orders_of(outcome: &Outcome) -> &[Order]
+    ensures { result.now ≡ orders_of outcome.now }
 {
-    match event {
-        Event::Send { number } => write_send(out, *number, packet),
-        _ => Ok(()),
+    match outcome {
+        Outcome::Cycled(done) => done.orders.as_slice(),
+        Outcome::Closed(done) => done.orders.as_slice(),
+        _ => &[],
     }
 }
 
-// What is told of a node that is up again.
-fn write_restarted(
-    out: &mut String,
-    event: &Event,
-    records: u64,
-    kept: bool,
-) -> Result<(), AllocError>
-    ensures ok { OnOk result (string_bytes out.new ≡ string_bytes out.old ++ restarted_line event.now records kept) }
-    ensures err { OnErr result (string_bytes out.new ≡ string_bytes out.old) }
+// The line of an event and what it came to, or the first one.
+fn line_of(event: &Event, outcome: &Outcome) -> Option<Line>
+    ensures { result ≡ line_of event.now outcome.now }
 {
-    match event {
-        Event::Restart(node) => write_restart(out, *node, records, kept),
-        _ => Ok(()),
+    match outcome {
+        Outcome::Accepted => accepted_line(event),
+        Outcome::Done => done_line(event),
+        Outcome::Cycled(done) => cycled_line(event, done.due),
+        Outcome::Restarted { records, kept } => restarted_line(event, *records, *kept),
+        Outcome::Refused(refusal) => Some(refused_line(event, *refusal)),
+        _ => match lot_line(outcome) {
+            Some(line) => Some(Line::Lot(line)),
+            None => order_line(event, outcome).map(Line::Order),
+        },
     }
 }
 
-// What is told of an event that was refused.
-fn write_refusal(out: &mut String, event: &Event, refusal: Refusal) -> Result<(), AllocError>
-    ensures ok { OnOk result (string_bytes out.new ≡ string_bytes out.old ++ refusal_line event.now refusal) }
-    ensures err { OnErr result (string_bytes out.new ≡ string_bytes out.old) }
+// Of a trade that was accepted.
+fn accepted_line(event: &Event) -> Option<Line>
+    ensures { result ≡ accepted_line event.now }
 {
     match event {
-        Event::Trade(trade) => write_trade_refused(out, trade.id, refusal),
-        _ => write_refused(out, Subject::of(event), refusal),
+        Event::Trade(trade) => Some(Line::TradeAccepted(trade.id)),
+        _ => None,
+    }
+}
+
+// Of a setting that was recorded, and of a seal.
+fn done_line(event: &Event) -> Option<Line>
+    ensures { result ≡ done_line event.now }
+{
+    match event {
+        Event::Exempt { .. } => Some(Line::ExemptionSet),
+        Event::Priority { .. } => Some(Line::PrioritySet),
+        Event::Seal { .. } => Some(Line::Lot(LotLine::Sealed)),
+        _ => None,
+    }
+}
+
+// Of a cycle that was run.
+fn cycled_line(event: &Event, due: u64) -> Option<Line>
+    ensures { result ≡ cycled_line event.now due }
+{
+    match event {
+        Event::Cycle(id) => Some(Line::Cycle { id: *id, due }),
+        _ => None,
+    }
+}
+
+// Of a node that is up again.
+fn restarted_line(event: &Event, records: u64, kept: bool) -> Option<Line>
+    ensures { result ≡ restarted_line event.now records kept }
+{
+    match event {
+        Event::Restart(node) => Some(Line::Restarted {
+            node: *node,
+            records,
+            kept,
+        }),
+        _ => None,
+    }
+}
+
+// Of an event that was refused.
+fn refused_line(event: &Event, refusal: Refusal) -> Line
+    ensures { result ≡ refused_line event.now refusal }
+{
+    match event {
+        Event::Trade(trade) => Line::TradeRefused {
+            id: trade.id,
+            refusal,
+        },
+        _ => Line::Refused {
+            subject: Subject::of(event),
+            refusal,
+        },
+    }
+}
+
+// Of a lot.
+fn lot_line(outcome: &Outcome) -> Option<LotLine>
+    ensures { result ≡ lot_line outcome.now }
+{
+    match outcome {
+        Outcome::LotOpened(lot) => Some(LotLine::Opened {
+            number: lot.number,
+            poured: lot.poured,
+            longs: lot.plan.len(),
+        }),
+        Outcome::Poured { shares } => Some(LotLine::Poured { shares: *shares }),
+        Outcome::Drawn(ticket) => Some(LotLine::Drawn(*ticket)),
+        Outcome::LookedPoured { poured } => Some(LotLine::LookedPoured { poured: *poured }),
+        Outcome::LookedAsked { asked, sealed } => Some(LotLine::LookedAsked {
+            asked: *asked,
+            sealed: *sealed,
+        }),
+        Outcome::Closed(done) => Some(LotLine::Closed {
+            granted: done.granted,
+        }),
+        _ => None,
+    }
+}
+
+// Of an order that was sent.
+fn sent_line(event: &Event, packet: u64) -> Option<OrderLine>
+    ensures { result ≡ sent_line event.now packet }
+{
+    match event {
+        Event::Send { number } => Some(OrderLine::Sent {
+            number: *number,
+            packet,
+        }),
+        _ => None,
+    }
+}
+
+// Of an order.
+fn order_line(event: &Event, outcome: &Outcome) -> Option<OrderLine>
+    ensures { result ≡ order_line event.now outcome.now }
+{
+    match outcome {
+        Outcome::Sent { packet } => sent_line(event, *packet),
+        Outcome::Executed { reply, packet } => Some(OrderLine::Executed {
+            reply: *reply,
+            packet: *packet,
+        }),
+        Outcome::ExecutedAgain { reply, packet } => Some(OrderLine::ExecutedAgain {
+            reply: *reply,
+            packet: *packet,
+        }),
+        Outcome::Confirmed(reply) => Some(OrderLine::Confirmed(*reply)),
+        Outcome::ConfirmedAgain(reply) => Some(OrderLine::ConfirmedAgain(*reply)),
+        _ => None,
     }
 }

@@ -6,7 +6,8 @@ use Rattle.std.specs.Io.KnownBytes.{Appends}
 use Rattle.cns_trades.specs.declared.row.Row.{Row}
 use Rattle.cns_system.specs.Scene.{Chance, Comes, comes_to, is_planner, planned, scene_of}
 use Rattle.cns_system.specs.declared.event.NodeName.{NodeName}
-use Rattle.cns_report.specs.Lines.{fail_line, fail_refused_line}
+use Rattle.cns_report.specs.Lines.{line_text}
+use Rattle.cns_report.specs.declared.line.Line.TheVariants as line
 use Rattle.cnsd.specs.declared.runner.Beside.{Beside}
 use Rattle.cns_system.specs.World.{World}
 use Rattle.cns_allocate.specs.declared.planned.Planned.{Planned}
@@ -322,15 +323,15 @@ row_next r rest p q rows is =
 
 -- a failure is planned, or is not
 pub fails_next : (name : NodeName) (stands : Bool) (p q : Place) → is_planner name (scene_of p.run.world) ≡ true → scene_of q.run.world ≡ planned name stands (scene_of p.run.world)
-    → q ≡ record p { run = record p.run { world = q.run.world } } → Continues (failed name stands) (tells fail_line) p q
+    → q ≡ record p { run = record p.run { world = q.run.world } } → Continues (failed name stands) (tells (line_text line.FailurePlanned)) p q
 fails_next name stands p q planner scene is =
     let rows : q.run.rows ≡ p.run.rows = ap (λ (x : Place). x.run.rows) is in
     let beside : q.run.beside ≡ p.run.beside = ap (λ (x : Place). x.run.beside) is in
-    moves (failed name stands) (tells fail_line) p q (λ more. rw (planner, rows, beside, scene) refl) (ap (λ (x : Place). x.sent) is) (ap (λ (x : Place). x.run.held) is)
+    moves (failed name stands) (tells (line_text line.FailurePlanned)) p q (λ more. rw (planner, rows, beside, scene) refl) (ap (λ (x : Place). x.sent) is) (ap (λ (x : Place). x.run.held) is)
 
 pub fails_not : (name : NodeName) (stands : Bool) (p q : Place) → is_planner name (scene_of p.run.world) ≡ false → scene_of q.run.world ≡ scene_of p.run.world
-    → q ≡ record p { run = record p.run { world = q.run.world } } → Continues (failed name stands) (tells fail_refused_line) p q
+    → q ≡ record p { run = record p.run { world = q.run.world } } → Continues (failed name stands) (tells (line_text line.FailureNotPlanned)) p q
 fails_not name stands p q planner scene is =
     let rows : q.run.rows ≡ p.run.rows = ap (λ (x : Place). x.run.rows) is in
     let beside : q.run.beside ≡ p.run.beside = ap (λ (x : Place). x.run.beside) is in
-    moves (failed name stands) (tells fail_refused_line) p q (λ more. rw (planner, rows, beside, scene) refl) (ap (λ (x : Place). x.sent) is) (ap (λ (x : Place). x.run.held) is)
+    moves (failed name stands) (tells (line_text line.FailureNotPlanned)) p q (λ more. rw (planner, rows, beside, scene) refl) (ap (λ (x : Place). x.sent) is) (ap (λ (x : Place). x.run.held) is)

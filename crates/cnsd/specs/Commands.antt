@@ -17,8 +17,9 @@ use Rattle.cns_system.specs.declared.event.NodeName.{NodeName}
 use Rattle.cns_system.specs.declared.numbered.Opened.{Opened}
 use Rattle.cns_system.specs.declared.outcome.Outcome.{Outcome}
 use Rattle.cns_system.specs.declared.outcome.Outcome.TheVariants as outcomes
-use Rattle.cns_report.specs.Lines.{fail_line, fail_refused_line, refused_line, row_fault_line}
+use Rattle.cns_report.specs.Lines.{line_text}
 use Rattle.cns_report.specs.Report.{balance_lines, cycle_report_text, report_end}
+use Rattle.cns_report.specs.declared.line.Line.TheVariants as line
 use Rattle.cns_report.specs.declared.subject.Subject.TheVariants as subject
 use Rattle.cnsd.specs.Acts.{Act, done, each, gives, happened, single, tells, followed, times}
 use Rattle.cnsd.specs.declared.runner.Beside.{Beside}
@@ -28,7 +29,7 @@ use Rattle.cnsd.specs.declared.runner.Beside.{Beside}
 -- a good row is a trade, and a faulty one is told
 abbrev pub row_taken : Row → Act (Unit {0})
 row_taken (row.Trade t) = single (event.Trade t)
-row_taken (row.Fault number fault) = tells (row_fault_line number fault)
+row_taken (row.Fault number fault) = tells (line_text (line.RowFault number fault))
 
 -- the next row, where one is left
 abbrev pub first_taken : List Row → Act (Unit {0})
@@ -143,12 +144,12 @@ is_busy (Some beside) number = is_number_of beside.lot number
 
 abbrev pub reserved_one : ℕ → ℕ → Act (Unit {0})
 reserved_one lot member c =
-    if is_busy c.beside lot then tells (refused_line subject.Reserve refusal.LotBusy) c
+    if is_busy c.beside lot then tells (line_text (line.Refused subject.Reserve refusal.LotBusy)) c
     else single (event.Reserve lot member) c
 
 abbrev pub closed_one : ℕ → Act (Unit {0})
 closed_one lot c =
-    if is_busy c.beside lot then tells (refused_line subject.Close refusal.LotBusy) c
+    if is_busy c.beside lot then tells (line_text (line.Refused subject.Close refusal.LotBusy)) c
     else single (event.LotClose lot) c
 
 -- ---- FAIL and REPORT
@@ -156,8 +157,8 @@ closed_one lot c =
 -- the next commit of a node is planned to fail, where its keeper plans failures
 abbrev pub failed : NodeName → Bool → Act (Unit {0})
 failed name stands c =
-    if is_planner name c.scene then tells fail_line (record c { scene = planned name stands c.scene })
-    else tells fail_refused_line c
+    if is_planner name c.scene then tells (line_text line.FailurePlanned) (record c { scene = planned name stands c.scene })
+    else tells (line_text line.FailureNotPlanned) c
 
 abbrev pub report_text : Shown → List ℕ
 report_text w =

@@ -6,18 +6,19 @@ use Rattle.cns_trades.specs.declared.opening.OpeningRow.TheVariants as row
 use Rattle.cns_depository.specs.Openings.{opening_fault}
 use Rattle.cns_depository.specs.declared.openings.OpeningFault.{OpeningFault}
 use Rattle.cns_depository.specs.declared.openings.OpeningFault.TheVariants as fault
-use Rattle.cns_report.specs.Lines.{opening_row_fault_line, opening_refused_line}
+use Rattle.cns_report.specs.Lines.{line_text}
+use Rattle.cns_report.specs.declared.line.Line.TheVariants as line
 
 -- an opening is held where nothing speaks against it, and else refused; want of memory is no fault of an opening
 abbrev pub told_by_fault : ℕ → List Opening → Opening → Option OpeningFault → List Opening × List ℕ
 told_by_fault n held o None = (held ++ o ∷ [], [])
 told_by_fault n held o (Some fault.OutOfMemory) = (held, [])
-told_by_fault n held o (Some f) = (held, opening_refused_line n f)
+told_by_fault n held o (Some f) = (held, line_text (line.OpeningRefused n f))
 
 -- a row by its number: the openings that are held after it, and its line where it is not held
 abbrev pub told_opening : ℕ → List Opening → OpeningRow → List Opening × List ℕ
 told_opening n held (row.Opening o) = told_by_fault n held o (opening_fault held o)
-told_opening n held (row.Fault number f) = (held, opening_row_fault_line number f)
+told_opening n held (row.Fault number f) = (held, line_text (line.OpeningRowFault number f))
 
 -- rows one after another, numbered from n on
 unfoldable pub told_openings : ℕ → List Opening → List OpeningRow → List Opening × List ℕ

@@ -1,10 +1,8 @@
 // The commands that are several events, or none.
 
 ghost use Rattle.std.specs.Prelude.{◌≡◌};
-ghost use Rattle.cns_records.specs.declared.refusal.Refusal.TheVariants as refusal;
-ghost use Rattle.cns_report.specs.Lines.{fail_line, fail_refused_line, refused_line, row_fault_line};
 ghost use Rattle.cns_system.specs.declared.event.Event.TheVariants as event;
-ghost use Rattle.cnsd.specs.Acts.{each, tells, times};
+ghost use Rattle.cnsd.specs.Acts.{each, times};
 ghost use Rattle.cnsd.specs.Commands.{all_taken, allocated, closed_one, ends_with, failed, is_busy as is_busy_of, is_refused, learned, looked, next_taken, opened_in, order_pumped, pumped, pumped_one, reply_packet, reply_pumped, reported, reserved, reserved_one, sent_packet, served, served_if_open, taken};
 ghost use Rattle.cnsd.specs.Runs.{Runs};
 
@@ -15,9 +13,9 @@ use cns_ids::{Cusip, MemberNo};
 use cns_journal::Keeper;
 use cns_movements::MoveNo;
 use cns_records::Refusal;
-use cns_report::{Subject, write_fail, write_fail_refused, write_refused, write_row_fault};
+use cns_report::{Line, Subject};
 use cns_system::{Event, NodeName, Opened, Outcome};
-use cns_trades::{Row, RowFault};
+use cns_trades::Row;
 use std::io::Write;
 
 // Whether this is the number of the lot that waits to be served.
@@ -82,19 +80,6 @@ fn ends_with(outcome: &Outcome) -> Option<bool>
 }
 
 impl<C: Keeper, D: Keeper> Runner<C, D> {
-    // Tells the fault of a row, by its number.
-    fn row_fault<W: Write>(
-        &mut self,
-        row: u64,
-        fault: RowFault,
-        writer: &mut W,
-    ) -> Result<(), OutputFault>
-        ensures { Runs (tells (row_fault_line row fault)) result (record { run = self.old; sent = W.contents writer.old }) (record { run = self.new; sent = W.contents writer.new }) }
-    {
-        write_row_fault(&mut self.text, row, fault)?;
-        self.flush_when_full(writer)
-    }
-
     // Takes the next row, where one is left.
     fn take_next<W: Write>(&mut self, writer: &mut W) -> Result<(), OutputFault>
         ensures { Runs next_taken result (record { run = self.old; sent = W.contents writer.old }) (record { run = self.new; sent = W.contents writer.new }) }
@@ -102,7 +87,7 @@ impl<C: Keeper, D: Keeper> Runner<C, D> {
         match self.next_row() {
             None => Ok(()),
             Some(Row::Trade(trade)) => self.single(Event::Trade(trade), writer),
-            Some(Row::Fault { row, fault }) => self.row_fault(row, fault, writer),
+            Some(Row::Fault { row, fault }) => self.tell(Line::RowFault { row, fault }, writer),
         }
     }
 
@@ -314,14 +299,6 @@ impl<C: Keeper, D: Keeper> Runner<C, D> {
         self.serve_if_open(lot, writer)
     }
 
-    // Tells that the lot which a command names waits to be served.
-    fn lot_busy<W: Write>(&mut self, command: Subject, writer: &mut W) -> Result<(), OutputFault>
-        ensures { Runs (tells (refused_line command refusal.LotBusy)) result (record { run = self.old; sent = W.contents writer.old }) (record { run = self.new; sent = W.contents writer.new }) }
-    {
-        write_refused(&mut self.text, command, Refusal::LotBusy)?;
-        self.flush_when_full(writer)
-    }
-
     /// Draws a member's ticket of a lot that does not wait to be served.
     pub(crate) fn reserve<W: Write>(
         &mut self,
@@ -332,7 +309,8 @@ impl<C: Keeper, D: Keeper> Runner<C, D> {
         ensures { Runs (reserved_one lot member) result (record { run = self.old; sent = W.contents writer.old }) (record { run = self.new; sent = W.contents writer.new }) }
     {
         if is_busy(&self.beside, lot) {
-            return self.lot_busy(Subject::Reserve, writer);
+            let (subject, refusal) = (Subject::Reserve, Refusal::LotBusy);
+            return self.tell(Line::Refused { subject, refusal }, writer);
         }
         self.single(Event::Reserve { lot, member }, writer)
     }
@@ -342,25 +320,10 @@ impl<C: Keeper, D: Keeper> Runner<C, D> {
         ensures { Runs (closed_one lot) result (record { run = self.old; sent = W.contents writer.old }) (record { run = self.new; sent = W.contents writer.new }) }
     {
         if is_busy(&self.beside, lot) {
-            return self.lot_busy(Subject::Close, writer);
+            let (subject, refusal) = (Subject::Close, Refusal::LotBusy);
+            return self.tell(Line::Refused { subject, refusal }, writer);
         }
         self.single(Event::LotClose { lot }, writer)
-    }
-
-    // Tells that a failure is planned.
-    fn fail_planned<W: Write>(&mut self, writer: &mut W) -> Result<(), OutputFault>
-        ensures { Runs (tells fail_line) result (record { run = self.old; sent = W.contents writer.old }) (record { run = self.new; sent = W.contents writer.new }) }
-    {
-        write_fail(&mut self.text)?;
-        self.flush_when_full(writer)
-    }
-
-    // Tells that the node's keeper plans no failures.
-    fn fail_refused<W: Write>(&mut self, writer: &mut W) -> Result<(), OutputFault>
-        ensures { Runs (tells fail_refused_line) result (record { run = self.old; sent = W.contents writer.old }) (record { run = self.new; sent = W.contents writer.new }) }
-    {
-        write_fail_refused(&mut self.text)?;
-        self.flush_when_full(writer)
     }
 
     /// Makes the next commit of a node fail, where its keeper plans failures.
@@ -373,9 +336,9 @@ impl<C: Keeper, D: Keeper> Runner<C, D> {
         ensures { Runs (failed node stands) result (record { run = self.old; sent = W.contents writer.old }) (record { run = self.new; sent = W.contents writer.new }) }
     {
         if self.plan(node, stands) {
-            return self.fail_planned(writer);
+            return self.tell(Line::FailurePlanned, writer);
         }
-        self.fail_refused(writer)
+        self.tell(Line::FailureNotPlanned, writer)
     }
 
     /// Tells the report.

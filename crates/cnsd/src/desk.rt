@@ -20,6 +20,7 @@ use crate::steps::Steps;
 use cns_allocate::Gate;
 use cns_ids::Cusip;
 use cns_journal::Keeper;
+use cns_report::Line;
 use cns_system::{Begun, Desk, Drawn, Event, NodeName, Outcome, System, serve_lot};
 use cns_trades::Row;
 use std::alloc::{AllocError, Global};
@@ -90,7 +91,7 @@ impl<'a, C: Keeper, D: Keeper, G: Gate + Sync, R: Threads + Wait + Sync> DeskRun
     fn take_row<W: Write>(&mut self, row: Row, writer: &mut W) -> Result<(), OutputFault> {
         match row {
             Row::Trade(trade) => self.single(Event::Trade(trade), writer),
-            Row::Fault { row, fault } => self.page.row_fault(row, fault, writer),
+            Row::Fault { row, fault } => self.page.tell(Line::RowFault { row, fault }, writer),
         }
     }
 
@@ -281,7 +282,9 @@ impl<'a, C: Keeper, D: Keeper, G: Gate + Sync, R: Threads + Wait + Sync> DeskRun
             Command::Fail { node, stands } => self.fail(node, stands, writer),
             Command::Pump => self.pump(writer),
             Command::Report => self.report(writer),
-            Command::Beside { .. } | Command::Bad => self.page.bad_command(number, writer),
+            Command::Beside { .. } | Command::Bad => {
+                self.page.tell(Line::BadCommand { line: number }, writer)
+            }
         }
     }
 

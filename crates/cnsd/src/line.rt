@@ -7,6 +7,7 @@ use crate::fault::OutputFault;
 use crate::runner::{Beside, Runner};
 use cns_ids::Cusip;
 use cns_journal::Keeper;
+use cns_report::Line;
 use cns_system::Opened;
 use std::io::Write;
 
@@ -100,7 +101,7 @@ impl<C: Keeper, D: Keeper> Runner<C, D> {
         ensures { Runs (beside_begun number issue lines) result (record { run = self.old; sent = W.contents writer.old }) (record { run = self.new; sent = W.contents writer.new }) }
     {
         if self.is_beside() {
-            self.bad_command(number, writer)?;
+            self.tell(Line::BadCommand { line: number }, writer)?;
             return self.count_line(writer);
         }
         let lot = self.open_lot(issue, writer)?;
@@ -128,7 +129,9 @@ impl<C: Keeper, D: Keeper> Runner<C, D> {
             Command::Fail { node, stands } => self.fail(node, stands, writer),
             Command::Pump => self.pump(writer),
             Command::Report => self.report(writer),
-            Command::Beside { .. } | Command::Bad => self.bad_command(number, writer),
+            Command::Beside { .. } | Command::Bad => {
+                self.tell(Line::BadCommand { line: number }, writer)
+            }
         }
     }
 

@@ -2,7 +2,7 @@ ghost use Rattle.std.specs.Prelude.{◌≡◌, ◌++◌, ℕ, [], length, IfOk, 
 ghost use Rattle.cnsd.specs.Opened.{told_opening, told_openings};
 
 use cns_depository::{OpeningFault, Openings};
-use cns_report::{write_opening_refused, write_opening_row_fault};
+use cns_report::{Line, write_line};
 use cns_trades::OpeningRow;
 use std::alloc::{AllocError, Global};
 
@@ -17,11 +17,14 @@ fn take_opening(
     ensures text { OnOk result (string_bytes out.new ≡ string_bytes out.old ++ (told_opening number openings.old row.now).1) }
 {
     match row {
-        OpeningRow::Fault { row, fault } => write_opening_row_fault(out, *row, *fault),
+        OpeningRow::Fault { row, fault } => {
+            let (row, fault) = (*row, *fault);
+            write_line(out, Line::OpeningRowFault { row, fault })
+        }
         OpeningRow::Opening(opening) => match openings.add(opening) {
             Ok(()) => Ok(()),
             Err(OpeningFault::OutOfMemory) => Err(AllocError),
-            Err(fault) => write_opening_refused(out, number, fault),
+            Err(fault) => write_line(out, Line::OpeningRefused { row: number, fault }),
         },
     }
 }

@@ -6,12 +6,8 @@ use crate::runner::{FULL, add_report};
 use cns_ids::Cusip;
 use cns_journal::Keeper;
 use cns_records::Refusal;
-use cns_report::{
-    Subject, outcome_line, write_bad_command, write_close, write_fail, write_fail_refused,
-    write_lot, write_orders, write_refused, write_row_fault, write_ticket,
-};
+use cns_report::{Line, LotLine, Subject, outcome_line, write_line, write_orders};
 use cns_system::{Allocated, Cut, Drawn, Event, Outcome, System};
-use cns_trades::RowFault;
 use std::alloc::{AllocError, Global};
 use std::io::Write;
 
@@ -26,12 +22,16 @@ fn refusal_of(cut: Cut) -> Refusal {
 // Adds what entering a ticket, or ending a lot, came to. A seal is not told unless it is refused.
 fn add_entered(text: &mut String, command: Subject, outcome: &Outcome) -> Result<(), AllocError> {
     match outcome {
-        Outcome::Drawn(ticket) => write_ticket(text, ticket),
+        Outcome::Drawn(ticket) => write_line(text, Line::Lot(LotLine::Drawn(*ticket))),
         Outcome::Closed(closed) => {
-            write_close(text, closed.granted)?;
+            let granted = closed.granted;
+            write_line(text, Line::Lot(LotLine::Closed { granted }))?;
             write_orders(text, closed.orders.as_slice())
         }
-        Outcome::Refused(refusal) => write_refused(text, command, *refusal),
+        Outcome::Refused(refusal) => {
+            let (subject, refusal) = (command, *refusal);
+            write_line(text, Line::Refused { subject, refusal })
+        }
         _ => Ok(()),
     }
 }
@@ -74,24 +74,9 @@ impl Page {
         self.flush_when_full(writer)
     }
 
-    /// Tells the fault of a row, by its number.
-    pub(crate) fn row_fault<W: Write>(
-        &mut self,
-        row: u64,
-        fault: RowFault,
-        writer: &mut W,
-    ) -> Result<(), OutputFault> {
-        write_row_fault(&mut self.text, row, fault)?;
-        self.flush_when_full(writer)
-    }
-
-    /// Tells that the line of this number fits no form.
-    pub(crate) fn bad_command<W: Write>(
-        &mut self,
-        number: u64,
-        writer: &mut W,
-    ) -> Result<(), OutputFault> {
-        write_bad_command(&mut self.text, number)?;
+    /// Tells a line.
+    pub(crate) fn tell<W: Write>(&mut self, line: Line, writer: &mut W) -> Result<(), OutputFault> {
+        write_line(&mut self.text, line)?;
         self.flush_when_full(writer)
     }
 
@@ -101,12 +86,12 @@ impl Page {
         is_planned: bool,
         writer: &mut W,
     ) -> Result<(), OutputFault> {
-        if is_planned {
-            write_fail(&mut self.text)?;
+        let line = if is_planned {
+            Line::FailurePlanned
         } else {
-            write_fail_refused(&mut self.text)?;
-        }
-        self.flush_when_full(writer)
+            Line::FailureNotPlanned
+        };
+        self.tell(line, writer)
     }
 
     /// Tells the report of both nodes; it is not yet written.
@@ -118,21 +103,15 @@ impl Page {
         add_report(&mut self.text, alloc, system)
     }
 
-    /// Tells that a lot was opened, by the shares that were poured into it and its longs; it is not yet
-    /// written.
-    pub(crate) fn lot(&mut self, lot: u64, poured: u64, longs: usize) -> Result<(), AllocError> {
-        write_lot(&mut self.text, lot, poured, longs)
-    }
-
-    // Tells that what a command wants is refused.
-    fn refused<W: Write>(
-        &mut self,
-        command: Subject,
-        refusal: Refusal,
-        writer: &mut W,
-    ) -> Result<(), OutputFault> {
-        write_refused(&mut self.text, command, refusal)?;
-        self.flush_when_full(writer)
+    /// Tells that a lot was opened, by its number, the shares that were poured into it and its longs; it is
+    /// not yet written.
+    pub(crate) fn lot(&mut self, number: u64, poured: u64, longs: usize) -> Result<(), AllocError> {
+        let opened = LotLine::Opened {
+            number,
+            poured,
+            longs,
+        };
+        write_line(&mut self.text, Line::Lot(opened))
     }
 
     // Tells what entering a ticket, or ending a lot, came to.
@@ -180,7 +159,10 @@ impl Page {
     // Tells what cut workers off, where something did.
     fn cut<W: Write>(&mut self, cut: Option<Cut>, writer: &mut W) -> Result<(), OutputFault> {
         match cut {
-            Some(cut) => self.refused(Subject::Reserve, refusal_of(cut), writer),
+            Some(cut) => {
+                let (subject, refusal) = (Subject::Reserve, refusal_of(cut));
+                self.tell(Line::Refused { subject, refusal }, writer)
+            }
             None => Ok(()),
         }
     }

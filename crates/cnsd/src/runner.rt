@@ -1,5 +1,5 @@
 ghost use Rattle.std.specs.Prelude.{◌≡◌, ◌++◌, [], None, OnOk, is_some, length, string_bytes};
-ghost use Rattle.cns_report.specs.Lines.{bad_command_line};
+ghost use Rattle.cns_report.specs.Lines.{line_text};
 ghost use Rattle.cns_records.specs.Clear.{spelling};
 ghost use Rattle.cns_records.specs.Dep.{dep_spelling};
 ghost use Rattle.cns_system.specs.Shown.{shown_of};
@@ -12,7 +12,7 @@ use crate::fault::OutputFault;
 use crate::output::write_text;
 use cns_journal::Keeper;
 use cns_report::{
-    outcome_line, write_bad_command, write_balance_report, write_cycle_report, write_report_end,
+    Line, outcome_line, write_balance_report, write_cycle_report, write_line, write_report_end,
 };
 use cns_system::{Event, NodeName, Opened, Outcome, System};
 use cns_trades::Row;
@@ -135,15 +135,11 @@ impl<C: Keeper, D: Keeper> Runner<C, D> {
         Ok(())
     }
 
-    /// Tells that the line of this number fits no form.
-    pub(crate) fn bad_command<W: Write>(
-        &mut self,
-        number: u64,
-        writer: &mut W,
-    ) -> Result<(), OutputFault>
-        ensures { Runs (tells (bad_command_line number)) result (record { run = self.old; sent = W.contents writer.old }) (record { run = self.new; sent = W.contents writer.new }) }
+    /// Tells a line.
+    pub(crate) fn tell<W: Write>(&mut self, line: Line, writer: &mut W) -> Result<(), OutputFault>
+        ensures { Runs (tells (line_text line)) result (record { run = self.old; sent = W.contents writer.old }) (record { run = self.new; sent = W.contents writer.new }) }
     {
-        write_bad_command(&mut self.text, number)?;
+        write_line(&mut self.text, line)?;
         self.flush_when_full(writer)
     }
 

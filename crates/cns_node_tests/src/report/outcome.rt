@@ -7,7 +7,7 @@ use cns_journal::ListKeeper;
 use cns_records::Refusal;
 use cns_report::outcome_line;
 use cns_system::{Event, NodeName, Outcome, System};
-use cns_trades::{Opening, Trade, TradeId, Verdict};
+use cns_trades::{Opening, Trade, TradeId};
 use std::alloc::Global;
 use std::process::Abort;
 use std::test::Fail;
@@ -89,55 +89,6 @@ fn see(
     Ok(())
 }
 
-fn take(
-    rt: &impl Abort,
-    alloc: Global,
-    both: &mut Both,
-    event: Event,
-    want: &str,
-) -> Result<(), Fail> {
-    let outcome = both.step(event);
-    see(rt, alloc, &event, &outcome, want)
-}
-
-// Two trades make member 1 short, and its cover is ordered.
-fn order(rt: &impl Abort, alloc: Global, both: &mut Both) -> Result<(), Fail> {
-    take(rt, alloc, both, sale(b"A1", 2)?, "trade A1 accepted\n")?;
-    take(rt, alloc, both, sale(b"A2", 3)?, "trade A2 accepted\n")?;
-    take(rt, alloc, both, sale(b"A1", 2)?, "trade A1 refused Same\n")?;
-    take(rt, alloc, both, exempt()?, "exempt ok\n")?;
-    take(rt, alloc, both, priority()?, "priority ok\n")?;
-    let ordered = "cycle 2025-03-04 NIGHT due 2\norder 1 COVER 0001 037833100 50\n";
-    take(rt, alloc, both, cycle()?, ordered)?;
-    take(rt, alloc, both, cycle()?, "cycle refused CycleOrder\n")
-}
-
-// Members 3 and 2 draw tickets from a lot.
-fn draw(rt: &impl Abort, alloc: Global, both: &mut Both) -> Result<(), Fail> {
-    take(rt, alloc, both, lot_open()?, "lot 1 poured 50 longs 2\n")?;
-    take(
-        rt,
-        alloc,
-        both,
-        reserve(2)?,
-        "reserve refused EarlierGroup\n",
-    )?;
-    take(
-        rt,
-        alloc,
-        both,
-        reserve(3)?,
-        "ticket 0003 start 0 asked 30\n",
-    )?;
-    take(
-        rt,
-        alloc,
-        both,
-        reserve(2)?,
-        "ticket 0002 start 30 asked 30\n",
-    )
-}
-
 // An event, and what is told of it once it has happened.
 type Told = (Event, &'static str);
 
@@ -173,18 +124,45 @@ const CLOSED: [Told; 9] = [
     ),
 ];
 
-fn take_list(rt: &impl Abort, alloc: Global, both: &mut Both, list: &[Told]) -> Result<(), Fail> {
+// Two trades make member 1 short, and its cover is ordered.
+fn ordered() -> Result<[Told; 7], Fail> {
+    Ok([
+        (sale(b"A1", 2)?, "trade A1 accepted\n"),
+        (sale(b"A2", 3)?, "trade A2 accepted\n"),
+        (sale(b"A1", 2)?, "trade A1 refused Same\n"),
+        (exempt()?, "exempt ok\n"),
+        (priority()?, "priority ok\n"),
+        (
+            cycle()?,
+            "cycle 2025-03-04 NIGHT due 2\norder 1 COVER 0001 037833100 50\n",
+        ),
+        (cycle()?, "cycle refused CycleOrder\n"),
+    ])
+}
+
+// Members 3 and 2 draw tickets from a lot.
+fn drawn() -> Result<[Told; 4], Fail> {
+    Ok([
+        (lot_open()?, "lot 1 poured 50 longs 2\n"),
+        (reserve(2)?, "reserve refused EarlierGroup\n"),
+        (reserve(3)?, "ticket 0003 start 0 asked 30\n"),
+        (reserve(2)?, "ticket 0002 start 30 asked 30\n"),
+    ])
+}
+
+fn take_each(rt: &impl Abort, alloc: Global, both: &mut Both, list: &[Told]) -> Result<(), Fail> {
     for (event, want) in list {
-        take(rt, alloc, both, *event, want)?;
+        let outcome = both.step(*event);
+        see(rt, alloc, event, &outcome, want)?;
     }
     Ok(())
 }
 
 fn take_all(rt: &impl Abort, alloc: Global, both: &mut Both) -> Result<(), Fail> {
-    order(rt, alloc, both)?;
-    take_list(rt, alloc, both, &COVERED)?;
-    draw(rt, alloc, both)?;
-    take_list(rt, alloc, both, &CLOSED)
+    take_each(rt, alloc, both, &ordered()?)?;
+    take_each(rt, alloc, both, &COVERED)?;
+    take_each(rt, alloc, both, &drawn()?)?;
+    take_each(rt, alloc, both, &CLOSED)
 }
 
 #[test]
@@ -196,134 +174,51 @@ fn a_day_is_told(rt: HostRuntime) -> Result<(), Fail> {
     told
 }
 
-// An event, why it was refused, and what is told of that.
-type Refused = (Event, Refusal, &'static str);
-
-const REFUSED: [Refused; 9] = [
-    (
-        Event::LotPour { lot: 9 },
-        Refusal::NoLot,
-        "pour refused NoLot\n",
-    ),
-    (
-        Event::LookPoured { lot: 9 },
-        Refusal::NoLot,
-        "look refused NoLot\n",
-    ),
-    (
-        Event::LookAsked { lot: 9 },
-        Refusal::NoLot,
-        "look refused NoLot\n",
-    ),
-    (
-        Event::Seal { lot: 1 },
-        Refusal::StaleLot,
-        "seal refused StaleLot\n",
-    ),
-    (
-        Event::LotClose { lot: 1 },
-        Refusal::Unserved,
-        "close refused Unserved\n",
-    ),
-    (
-        Event::Send { number: 1 },
-        Refusal::Down,
-        "send refused Down\n",
-    ),
-    (
-        Event::OrderIn { packet: 7 },
-        Refusal::NoPacket,
-        "order refused NoPacket\n",
-    ),
-    (
-        Event::ReplyIn { packet: 7 },
-        Refusal::TooMuch,
-        "reply refused TooMuch\n",
-    ),
-    (
-        Event::Restart(NodeName::Depot),
-        Refusal::OutOfMemory,
-        "restart refused OutOfMemory\n",
-    ),
+// Events, and what is told of each where it is refused.
+const DOWN: [Told; 9] = [
+    (Event::LotPour { lot: 9 }, "pour refused Down\n"),
+    (Event::LookPoured { lot: 9 }, "look refused Down\n"),
+    (Event::LookAsked { lot: 9 }, "look refused Down\n"),
+    (Event::Seal { lot: 1 }, "seal refused Down\n"),
+    (Event::LotClose { lot: 1 }, "close refused Down\n"),
+    (Event::Send { number: 1 }, "send refused Down\n"),
+    (Event::OrderIn { packet: 7 }, "order refused Down\n"),
+    (Event::ReplyIn { packet: 7 }, "reply refused Down\n"),
+    (Event::Restart(NodeName::Depot), "restart refused Down\n"),
 ];
 
-fn see_refused(
-    rt: &impl Abort,
-    alloc: Global,
-    event: &Event,
-    refusal: Refusal,
-    want: &str,
-) -> Result<(), Fail> {
-    see(rt, alloc, event, &Outcome::Refused(refusal), want)
+// Those of values that are read.
+fn down() -> Result<[Told; 6], Fail> {
+    Ok([
+        (sale(b"A1", 2)?, "trade A1 refused Down\n"),
+        (exempt()?, "exempt refused Down\n"),
+        (priority()?, "priority refused Down\n"),
+        (cycle()?, "cycle refused Down\n"),
+        (lot_open()?, "lot refused Down\n"),
+        (reserve(2)?, "reserve refused Down\n"),
+    ])
 }
 
-#[test]
-fn refusals_are_told(rt: HostRuntime) -> Result<(), Fail> {
-    let alloc = rt.alloc();
-    let conflict = Refusal::Trade(Verdict::Conflict);
-    see_refused(
-        &rt,
-        alloc,
-        &sale(b"A1", 2)?,
-        conflict,
-        "trade A1 refused Conflict\n",
-    )?;
-    see_refused(
-        &rt,
-        alloc,
-        &exempt()?,
-        Refusal::Device,
-        "exempt refused Device\n",
-    )?;
-    see_refused(
-        &rt,
-        alloc,
-        &priority()?,
-        Refusal::Down,
-        "priority refused Down\n",
-    )?;
-    see_refused(
-        &rt,
-        alloc,
-        &cycle()?,
-        Refusal::LotsOpen,
-        "cycle refused LotsOpen\n",
-    )?;
-    see_refused(
-        &rt,
-        alloc,
-        &lot_open()?,
-        Refusal::LotAlready,
-        "lot refused LotAlready\n",
-    )?;
-    see_refused(
-        &rt,
-        alloc,
-        &reserve(2)?,
-        Refusal::Sealed,
-        "reserve refused Sealed\n",
-    )?;
-    for (event, refusal, want) in &REFUSED {
-        see_refused(&rt, alloc, event, *refusal, want)?;
+fn see_down(rt: &impl Abort, alloc: Global, list: &[Told]) -> Result<(), Fail> {
+    for (event, want) in list {
+        see(rt, alloc, event, &Outcome::Refused(Refusal::Down), want)?;
     }
     Ok(())
 }
 
 #[test]
+fn refusals_are_told(rt: HostRuntime) -> Result<(), Fail> {
+    see_down(&rt, rt.alloc(), &DOWN)?;
+    see_down(&rt, rt.alloc(), &down()?)
+}
+
+#[test]
 fn an_outcome_that_the_event_never_has(rt: HostRuntime) -> Result<(), Fail> {
-    let send = Event::Send { number: 1 };
+    let (records, kept) = (1, true);
+    let up = Outcome::Restarted { records, kept };
+    let (send, restart) = (Event::Send { number: 1 }, Event::Restart(NodeName::Clear));
     see(&rt, rt.alloc(), &send, &Outcome::Accepted, "")?;
     see(&rt, rt.alloc(), &send, &Outcome::Done, "")?;
-    let up = Outcome::Restarted {
-        records: 1,
-        kept: true,
-    };
     see(&rt, rt.alloc(), &send, &up, "")?;
-    see(
-        &rt,
-        rt.alloc(),
-        &Event::Restart(NodeName::Clear),
-        &Outcome::Sent { packet: 1 },
-        "",
-    )
+    see(&rt, rt.alloc(), &restart, &Outcome::Sent { packet: 1 }, "")
 }

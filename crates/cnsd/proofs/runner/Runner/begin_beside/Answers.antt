@@ -1,5 +1,6 @@
 use Rattle.std.proofs.Common.{ap, sym, ◌∙◌}
-use Rattle.cns_report.specs.Lines.{bad_command_line}
+use Rattle.cns_report.specs.Lines.{line_text}
+use Rattle.cns_report.specs.declared.line.Line.TheVariants as line
 use Rattle.cns_system.specs.declared.event.Event.TheVariants as event
 use Rattle.cnsd.specs.Acts.{Act, followed, tells}
 use Rattle.cnsd.specs.Commands.{learned, opened_in}
@@ -9,23 +10,23 @@ use Rattle.cnsd.proofs.ActLemmas.{runs_as, runs_fault, runs_followed, stops_foll
 use Rattle.cnsd.proofs.RunLemmas.{begun_again, begun_first}
 use Rattle.cnsd.proofs.runner.Runner.begin_beside.Goals as goal
 
-pub returns-in_err-bad_command : goal.returns-in_err-bad_command
+pub returns-in_err-tell : goal.returns-in_err-tell
 unfolding beside_begun
-returns-in_err-bad_command g c =
+returns-in_err-tell g c =
     let again = begun_again c.args.self.now.beside c.args.number c.args.issue c.args.lines (sym c.is_beside.ensures ∙ c.if-is_beside.true) in
-    let bad = tells (bad_command_line c.args.number) in
+    let bad = tells (line_text (line.BadCommand c.args.number)) in
     runs_as (beside_begun c.args.number c.args.issue c.args.lines) (followed bad (λ _. line_counted)) c.from_residual.result _ _
     (λ more. ap (λ (a : Act (Unit {0})). a (course_at c.args.self.now more)) again)
-    (runs_fault (followed bad (λ _. line_counted)) c.from_residual.result _ _ c.from_residual.ensures.0 (stops_followed bad (λ _. line_counted) _ _ c.in_err-bad_command.ensures))
+    (runs_fault (followed bad (λ _. line_counted)) c.from_residual.result _ _ c.from_residual.ensures.0 (stops_followed bad (λ _. line_counted) _ _ c.in_err-tell.ensures))
 
 pub returns-then-is_beside : goal.returns-then-is_beside
 unfolding beside_begun
 returns-then-is_beside g c =
     let again = begun_again c.args.self.now.beside c.args.number c.args.issue c.args.lines (sym c.is_beside.ensures ∙ c.if-is_beside.true) in
-    let bad = tells (bad_command_line c.args.number) in
+    let bad = tells (line_text (line.BadCommand c.args.number)) in
     runs_as (beside_begun c.args.number c.args.issue c.args.lines) (followed bad (λ _. line_counted)) c.count_line.result _ _
     (λ more. ap (λ (a : Act (Unit {0})). a (course_at c.args.self.now more)) again)
-    (runs_followed bad tt (λ _. line_counted) _ _ _ _ c.in_ok-bad_command.ensures c.count_line.ensures)
+    (runs_followed bad tt (λ _. line_counted) _ _ _ _ c.in_ok-tell.ensures c.count_line.ensures)
 
 pub returns-in_err-lot : goal.returns-in_err-lot
 unfolding beside_begun

@@ -21,4 +21,4 @@ returns-in-Some-Fault g c =
     let row = c.in-Some-Fault in
     runs_after next_taken (row_taken row.field-0) _ _ _ _
     (row_next row.field-0 c.next_row.new.self.rows _ _ row.ensures.0 (ap (λ (r : RunState). record { run = r; sent = g.W.Write.contents c.args.writer.now }) row.ensures.1))
-    (rw row.field-0-is c.row_fault.ensures)
+    (rw row.field-0-is c.tell.ensures)
