@@ -4,14 +4,13 @@ ghost use Rattle.std.specs.Prelude.{◌≡◌, ◌<◌};
 
 use crate::desk::run_desk_uncounted;
 use crate::fault::BatchFault;
-use cns_allocate::{Gate, OpenGate};
+use cns_allocate::Gate;
 use cns_journal::ListKeeper;
 use std::alloc::Global;
 use std::marker::Brand;
 use std::sync::Wait;
 use std::sync::atomic::{AtomicBool, Ordering};
 use std::sync::ledger::Blank;
-use std::test::Fail;
 use std::thread;
 use std::thread::Threads;
 
@@ -33,20 +32,24 @@ const INPUT: &[u8] = b"\
     PUMP\n\
     ALLOCATE 037833100\n";
 
-const OUTPUT: &[u8] = b"\
+// Until the lot is served.
+const BEGUN: &[u8] = b"\
     trade F1 accepted\n\
     trade F2 accepted\n\
     cycle 2025-03-04 NIGHT due 2\n\
     order 1 COVER 0001 037833100 60\n\
-    send 1 packet 1\n\
-    exec 1 moved 40 packet 1\n\
-    confirm 1 moved 40 done\n\
-    lot 1 poured 40 longs 2\n\
-    ticket 0003 start 0 asked 30\n\
-    ticket 0002 start 30 asked 30\n\
-    close granted 40\n\
-    order 2 DELIVERY 0003 037833100 30\n\
-    order 3 DELIVERY 0002 037833100 10\n";
+    send 1 packet 1\nexec 1 moved 40 packet 1\nconfirm 1 moved 40 done\n\
+    lot 1 poured 40 longs 2\n";
+
+// How many workers serve it, and what is told then: two, of whom the second draws first, and too many, of whom
+// none serves.
+static SERVED: [(usize, &[u8]); 2] = [
+    (
+        2,
+        b"ticket 0003 start 0 asked 30\nticket 0002 start 30 asked 30\nclose granted 40\norder 2 DELIVERY 0003 037833100 30\norder 3 DELIVERY 0002 037833100 10\n",
+    ),
+    (3, b"reserve refused OutOfMemory\nclose granted 0\n"),
+];
 
 // Holds the first worker's first reserve until the second one's was answered.
 #[derive(Drop)]
@@ -74,23 +77,23 @@ impl Gate for SecondFirst {
     }
 }
 
-// What an input comes to over keepers in memory, by so many workers past a gate.
+// What the input comes to over keepers in memory, by so many workers past a gate.
 fn desk<G: Gate + Sync, H: Threads + Wait + Sync>(
     rt: &H,
     alloc: Global,
-    input: &[u8],
     workers: usize,
     gate: &G,
     out: &mut Vec<u8>,
 ) -> Result<(), BatchFault> {
-    let mut reader = input;
+    let mut reader = INPUT;
     let (clear, depot) = (ListKeeper::new(alloc), ListKeeper::new(alloc));
+    let blank = Blank::new(1);
     run_desk_uncounted::<_, _, Brand, _, _, _, _>(
         rt,
         alloc,
         &mut reader,
         out,
-        Blank::new(1),
+        blank,
         workers,
         clear,
         depot,
@@ -99,41 +102,13 @@ fn desk<G: Gate + Sync, H: Threads + Wait + Sync>(
 }
 
 #[test]
-fn the_second_worker_draws_first(rt: HostRuntime) -> Result<(), Fail> {
-    let gate = SecondFirst {
-        answered: AtomicBool::new(false),
-    };
-    let mut out = Vec::new(rt.alloc());
-    desk(&rt, rt.alloc(), INPUT, 2, &gate, &mut out)?;
-    assert!(rt; out.as_slice() == OUTPUT);
-    Ok(())
-}
-
-// Where too many workers are asked for, none serves, and the lot ends without tickets.
-const UNSERVED: &[u8] = b"\
-    trade F1 accepted\n\
-    trade F2 accepted\n\
-    cycle 2025-03-04 NIGHT due 2\n\
-    order 1 COVER 0001 037833100 60\n\
-    send 1 packet 1\n\
-    exec 1 moved 40 packet 1\n\
-    confirm 1 moved 40 done\n\
-    lot 1 poured 40 longs 2\n\
-    reserve refused OutOfMemory\n\
-    close granted 0\n";
-
-#[test]
-fn too_many_workers(rt: HostRuntime) -> Result<(), Fail> {
-    let mut out = Vec::new(rt.alloc());
-    desk(&rt, rt.alloc(), INPUT, 3, &OpenGate, &mut out)?;
-    assert!(rt; out.as_slice() == UNSERVED);
-    Ok(())
-}
-
-#[test]
-fn faults_of_the_input(rt: HostRuntime) -> Result<(), Fail> {
-    let mut out = Vec::new(rt.alloc());
-    let ended = desk(&rt, rt.alloc(), b"", 1, &OpenGate, &mut out);
-    assert!(rt; ended == Err(BatchFault::Sections) && out.is_empty());
-    Ok(())
+fn a_lot_is_served_past_a_gate(rt: HostRuntime) {
+    for (workers, served) in &SERVED {
+        let gate = SecondFirst {
+            answered: AtomicBool::new(false),
+        };
+        let mut out = Vec::new(rt.alloc());
+        let ended = desk(&rt, rt.alloc(), *workers, &gate, &mut out);
+        assert!(&rt; ended == Ok(()) && out.as_slice().strip_prefix(BEGUN) == Some(*served));
+    }
 }

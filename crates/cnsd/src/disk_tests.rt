@@ -1,83 +1,11 @@
 //! Runs over two disks in memory, of which one fails at a call or stops there.
 
-use crate::tests::kept;
+use crate::tests::{FIRST, FIRST_OUTPUT, kept};
 use cns_journal::{DiskJournal, Keeper, MemDisk};
 use std::alloc::Global;
 use std::process::Abort;
-use std::test::Fail;
 
 type Journal = DiskJournal<MemDisk>;
-
-// Of 60 shares that member 1 sells, 25 are exempt, and it has 20.
-const FIRST: &[u8] = b"\
-    [openings]\n\
-    account,cusip,shares\n\
-    1,037833100,20\n\
-    [trades]\n\
-    trade,settle,buyer,seller,cusip,quantity\n\
-    A3,2025-03-04,2,1,037833100,60\n\
-    [script]\n\
-    TAKE ALL\n\
-    EXEMPT 1 037833100 25\n\
-    CYCLE NIGHT 2025-03-04\n\
-    PUMP\n\
-    REPORT\n";
-
-const FIRST_OUTPUT: &[u8] = b"\
-    trade A3 accepted\n\
-    exempt ok\n\
-    cycle 2025-03-04 NIGHT due 1\n\
-    order 1 COVER 0001 037833100 35\n\
-    send 1 packet 1\n\
-    exec 1 moved 20 packet 1\n\
-    confirm 1 moved 20 done\n\
-    REPORT cycle 2025-03-04 NIGHT\n\
-    POS 037833100 0001                  -40\n\
-    POS 037833100 0002                   60\n\
-    POOL 037833100 free 20 lent 0 out 0\n\
-    BAL 037833100 0000                   20\n\
-    END\n";
-
-// The same openings again, and no trades.
-const SECOND: &[u8] = b"\
-    [openings]\n\
-    account,cusip,shares\n\
-    1,037833100,20\n\
-    [trades]\n\
-    [script]\n\
-    REPORT\n\
-    FAIL DEPOT KEEP\n\
-    ORDER 1\n\
-    SEND 1\n\
-    ORDER 1\n\
-    REPLY 1\n";
-
-const SECOND_OUTPUT: &[u8] = b"\
-    REPORT cycle 2025-03-04 NIGHT\n\
-    POS 037833100 0001                  -40\n\
-    POS 037833100 0002                   60\n\
-    POOL 037833100 free 20 lent 0 out 0\n\
-    BAL 037833100 0000                   20\n\
-    END\n\
-    fail refused NotPlanned\n\
-    order refused NoPacket\n\
-    send 1 packet 1\n\
-    again 1 moved 20 packet 1\n\
-    confirm 1 moved 20 again\n";
-
-// Both disks.
-#[derive(Drop)]
-struct Disks {
-    clear: MemDisk,
-    depot: MemDisk,
-}
-
-// One of them.
-#[derive(Clone, Copy)]
-enum Side {
-    Clear,
-    Depot,
-}
 
 // What befalls a disk: a call fails once, or the disk stops at it, and when the power is back there is this in
 // what was not synced.
@@ -87,141 +15,128 @@ enum Mishap {
     Stop(Option<u8>),
 }
 
-// A run over two disks: what it wrote, how many records of each were acknowledged, and the disks.
+// A disk after a run, and how many records its journal acknowledged.
 #[derive(Drop)]
-struct Ran {
-    output: Vec<u8>,
-    acknowledged: (u64, u64),
-    disks: Disks,
+struct Left {
+    disk: MemDisk,
+    acknowledged: u64,
 }
 
-fn new_disks(alloc: Global) -> Result<Disks, Fail> {
-    Ok(Disks {
-        clear: MemDisk::of(alloc, &[])?,
-        depot: MemDisk::of(alloc, &[])?,
-    })
-}
-
-fn run_over(alloc: Global, input: &[u8], disks: Disks) -> Ran {
-    let Disks { clear, depot } = disks;
-    let journals = (Journal::new(alloc, clear), Journal::new(alloc, depot));
-    let mut output = Vec::new(alloc);
-    let done = kept(alloc, input, journals, &mut output);
-    Ran {
-        output,
-        acknowledged: (done.clear.count(), done.depot.count()),
-        disks: Disks {
-            clear: done.clear.into_disk(),
-            depot: done.depot.into_disk(),
-        },
+fn taken_from(journal: Journal) -> Left {
+    let acknowledged = journal.count();
+    Left {
+        disk: journal.into_disk(),
+        acknowledged,
     }
 }
 
-// Lets something befall a disk at its call of this number.
-fn befall(disk: &mut MemDisk, mishap: Mishap, call: u64) {
+// Whether a run over these disks writes all, and both disks then.
+fn run_over(alloc: Global, clear: MemDisk, depot: MemDisk) -> (bool, Left, Left) {
+    let journals = (Journal::new(alloc, clear), Journal::new(alloc, depot));
+    let mut output = Vec::new(alloc);
+    let done = kept(alloc, FIRST, journals, &mut output);
+    let is_whole = output.as_slice() == FIRST_OUTPUT;
+    drop(output);
+    (is_whole, taken_from(done.clear), taken_from(done.depot))
+}
+
+fn new_disk(rt: &impl Abort, alloc: Global) -> MemDisk {
+    MemDisk::of(alloc, &[]).expect(rt, "memory")
+}
+
+// A disk that something befalls at its call of this number.
+fn befallen(rt: &impl Abort, alloc: Global, mishap: Mishap, call: u64) -> MemDisk {
+    let mut disk = new_disk(rt, alloc);
     match mishap {
         Mishap::Failure => disk.fail_at(call),
         Mishap::Stop(_) => disk.stop_at(call),
     }
+    disk
 }
 
-fn power(disks: &mut Disks, mishap: Mishap) -> Result<(), Fail> {
+// The records that a journal over a disk gives, once the power is back.
+fn records_on(rt: &impl Abort, alloc: Global, mut disk: MemDisk, mishap: Mishap) -> Vec<Vec<u8>> {
     if let Mishap::Stop(fill) = mishap {
-        disks.clear.power(fill)?;
-        disks.depot.power(fill)?;
+        disk.power(fill).expect(rt, "memory");
     }
-    Ok(())
+    Journal::new(alloc, disk).reopen().expect(rt, "records")
 }
 
-// The records that a journal over a disk gives.
-fn records_on(alloc: Global, disk: MemDisk) -> Result<Vec<Vec<u8>>, Fail> {
-    Ok(Journal::new(alloc, disk).reopen()?)
+// Of the records of a whole run there are those acknowledged, and at most one more.
+fn assert_left(rt: &impl Abort, alloc: Global, left: Left, mishap: Mishap, all: &[Vec<u8>]) {
+    let acknowledged = left.acknowledged;
+    let records = records_on(rt, alloc, left.disk, mishap);
+    let count = records.len() as u64;
+    assert!(rt; count == acknowledged || count == acknowledged.saturating_add(1));
+    assert!(rt; all.starts_with(records.as_slice()));
 }
 
-// These are the first of all records, those acknowledged and at most one more.
-fn assert_first(rt: &impl Abort, records: &[Vec<u8>], acknowledged: u64, all: &[Vec<u8>]) {
-    let acknowledged = acknowledged as usize;
-    assert!(rt; records.len() >= acknowledged);
-    assert!(rt; records.len() <= acknowledged.saturating_add(1));
-    assert!(rt; records.len() <= all.len());
-    for (record, wanted) in records.iter().zip(all) {
-        assert_eq!(rt; record.as_slice(), wanted.as_slice());
+// The records of both nodes after a run whose disks do not fail.
+#[derive(Drop)]
+struct Records {
+    clear: Vec<Vec<u8>>,
+    depot: Vec<Vec<u8>>,
+}
+
+fn whole(rt: &impl Abort, alloc: Global) -> Records {
+    let (is_whole, clear, depot) = run_over(alloc, new_disk(rt, alloc), new_disk(rt, alloc));
+    assert!(rt; is_whole);
+    Records {
+        clear: records_on(rt, alloc, clear.disk, Mishap::Failure),
+        depot: records_on(rt, alloc, depot.disk, Mishap::Failure),
     }
 }
 
-// Something befalls a disk at a call of the first run: whether the run was as if nothing had. Where it was not,
-// the records are then those acknowledged, and at most one more.
+// Whether a run over disks, of which something befalls one at a call, writes all; where it does not, what
+// was acknowledged stands.
 fn outlives(
     rt: &impl Abort,
     alloc: Global,
-    at: (Side, Mishap, u64),
-    all: &(Vec<Vec<u8>>, Vec<Vec<u8>>),
-) -> Result<bool, Fail> {
-    let (side, mishap, call) = at;
-    let mut disks = new_disks(alloc)?;
-    match side {
-        Side::Clear => befall(&mut disks.clear, mishap, call),
-        Side::Depot => befall(&mut disks.depot, mishap, call),
+    is_clear: bool,
+    (mishap, call): (Mishap, u64),
+    all: &Records,
+) -> bool {
+    let (disk, other) = (befallen(rt, alloc, mishap, call), new_disk(rt, alloc));
+    let (clear, depot) = if is_clear {
+        (disk, other)
+    } else {
+        (other, disk)
+    };
+    let (is_whole, clear, depot) = run_over(alloc, clear, depot);
+    if !is_whole {
+        assert_left(rt, alloc, clear, mishap, &all.clear);
+        assert_left(rt, alloc, depot, mishap, &all.depot);
     }
-    let Ran {
-        output,
-        acknowledged,
-        mut disks,
-    } = run_over(alloc, FIRST, disks);
-    if output.as_slice() == FIRST_OUTPUT {
-        return Ok(true);
-    }
-    power(&mut disks, mishap)?;
-    let Disks { clear, depot } = disks;
-    assert_first(rt, &records_on(alloc, clear)?, acknowledged.0, &all.0);
-    assert_first(rt, &records_on(alloc, depot)?, acknowledged.1, &all.1);
-    Ok(false)
-}
-
-// The records of a first run whose disks do not fail.
-fn all_records(alloc: Global) -> Result<(Vec<Vec<u8>>, Vec<Vec<u8>>), Fail> {
-    let Disks { clear, depot } = run_over(alloc, FIRST, new_disks(alloc)?).disks;
-    Ok((records_on(alloc, clear)?, records_on(alloc, depot)?))
+    is_whole
 }
 
 // More calls than a run makes of a disk.
 const MANY: u64 = 64;
 
-// Lets it befall a disk at the first call, then at the second, and so on, until nothing does.
-fn see_each_call(rt: &impl Abort, alloc: Global, side: Side, mishap: Mishap) -> Result<(), Fail> {
-    let all = all_records(alloc)?;
+// It befalls a disk at the first call, then at the second, and so on, until nothing does, which takes more
+// than eight calls.
+fn see_each_call(rt: &impl Abort, alloc: Global, is_clear: bool, mishap: Mishap, all: &Records) {
     for call in 1..MANY {
-        if outlives(rt, alloc, (side, mishap, call), &all)? {
+        if outlives(rt, alloc, is_clear, (mishap, call), all) {
             assert!(rt; call > 8);
-            return Ok(());
+            return;
         }
     }
-    Err(Fail::from("each run met a fault"))
+    panic!(rt; "each run met a fault");
 }
 
-#[test]
-fn a_second_run_goes_on_from_the_disks_of_the_first(rt: HostRuntime) -> Result<(), Fail> {
-    let first = run_over(rt.alloc(), FIRST, new_disks(rt.alloc())?);
-    assert_eq!(rt; first.output.as_slice(), FIRST_OUTPUT);
-    let second = run_over(rt.alloc(), SECOND, first.disks);
-    assert_eq!(rt; second.output.as_slice(), SECOND_OUTPUT);
-    Ok(())
-}
+static MISHAPS: [Mishap; 4] = [
+    Mishap::Failure,
+    Mishap::Stop(None),
+    Mishap::Stop(Some(0)),
+    Mishap::Stop(Some(0xa5)),
+];
 
 #[test]
-fn what_was_acknowledged_outlives_each_failure(rt: HostRuntime) -> Result<(), Fail> {
-    for side in [Side::Clear, Side::Depot] {
-        see_each_call(&rt, rt.alloc(), side, Mishap::Failure)?;
+fn what_was_acknowledged_outlives_each_mishap(rt: HostRuntime) {
+    let all = whole(&rt, rt.alloc());
+    for mishap in &MISHAPS {
+        see_each_call(&rt, rt.alloc(), true, *mishap, &all);
+        see_each_call(&rt, rt.alloc(), false, *mishap, &all);
     }
-    Ok(())
-}
-
-#[test]
-fn what_was_acknowledged_outlives_each_stop(rt: HostRuntime) -> Result<(), Fail> {
-    for fill in [None, Some(0), Some(0xa5)] {
-        for side in [Side::Clear, Side::Depot] {
-            see_each_call(&rt, rt.alloc(), side, Mishap::Stop(fill))?;
-        }
-    }
-    Ok(())
 }

@@ -168,6 +168,4 @@ mod disk_tests;
 #[cfg(test)]
 mod story_tests;
 #[cfg(test)]
-mod test_support;
-#[cfg(test)]
 mod tests;
