@@ -129,7 +129,7 @@ fn see_movement(rt: &impl Abort, both: &Both, number: u64, movement: &Movement) 
 fn see_movements(rt: &impl Abort, both: &Both, movements: &[Movement]) {
     let mut executed = 0usize;
     for (place, movement) in movements.iter().enumerate() {
-        see_movement(rt, both, place as u64 + 1, movement);
+        see_movement(rt, both, (place as u64).saturating_add(1), movement);
         executed = executed.saturating_add(movement.3.is_some() as usize);
     }
     assert!(rt; both.clearing().orders().len() == movements.len());

@@ -1,232 +1,165 @@
-use super::story::{
-    COVERED, Call, Draw, FIRST_REPLY, GROUPED, LENT, LOST, Look, LotCall, OPEN, SECOND_REPLY, Step,
-    tell,
-};
+use super::story::{Ordered, Step, Story, tell_all};
+use crate::common::{APPLE, Draw, Sale, Text};
 use cns_clearing::Taken;
 use cns_ids::CycleKind;
 use cns_movements::MoveKind;
 use cns_records::Refusal;
-use std::test::Fail;
 
-const ALL_FREE: Step = Step::See(Look::Shares(40, 0, 0));
+pub(super) const WEDNESDAY: Text = b"2026-03-04";
 
-const ALL_LENT: Step = Step::See(Look::Shares(0, 40, 0));
+pub(super) const THURSDAY: Text = b"2026-03-05";
 
-static OPENS: [Step; 7] = [
+// Trades of 30 shares, on two days.
+pub(super) const TO_SECOND: Sale = (b"T3", WEDNESDAY, 2, 30);
+
+pub(super) const TO_THIRD: Sale = (b"T4", THURSDAY, 3, 30);
+
+// Member 2 is long of 30 shares after the first cycle, and member 3 of as many after the second.
+const GROUPED: &[Step] = &[
+    Step::Trade(TO_SECOND, Ok(())),
+    Step::Trade(TO_THIRD, Ok(())),
+    Step::Cycle(WEDNESDAY, CycleKind::Night, Ok((1, 1, 1))),
+    Step::Cycle(THURSDAY, CycleKind::Night, Ok((1, 2, 1))),
+];
+
+// The covers bring 40 shares.
+const BROUGHT: &[Step] = &[
+    Step::Reply(1, 30, Ok(Taken::Done)),
+    Step::Reply(2, 10, Ok(Taken::Done)),
+];
+
+const LENT: &[Step] = &[Step::Open];
+
+const ALL_FREE: Step = Step::Shares(40, 0, 0);
+
+const ALL_LENT: Step = Step::Shares(0, 40, 0);
+
+const OPENS: &[Step] = &[
     ALL_FREE,
-    OPEN,
+    Step::Open,
     ALL_LENT,
-    Step::Lot(LotCall::NotOpened(Refusal::LotAlready)),
-    Step::Do(Call::Cycle(5, CycleKind::Day, Err(Refusal::LotsOpen))),
-    Step::Do(Call::Cycle(5, CycleKind::Night, Err(Refusal::CycleOrder))),
-    ALL_LENT,
+    Step::NotOpened(Refusal::LotAlready),
+    Step::Cycle(THURSDAY, CycleKind::Day, Err(Refusal::LotsOpen)),
+    Step::Cycle(THURSDAY, CycleKind::Night, Err(Refusal::CycleOrder)),
+    Step::Holds(6, 6, 40),
+    Step::Pools(&[(0, 40, 0)]),
 ];
 
-#[test]
-fn a_lot_that_opens(rt: HostRuntime) -> Result<(), Fail> {
-    tell(&rt, rt.alloc(), &COVERED, &OPENS)
-}
+pub(super) const SECOND: Draw = (2, 0, 30);
 
-static IS_OPEN: [Step; 2] = [
-    Step::Lot(LotCall::Holds(6, 6, 40)),
-    Step::See(Look::Pool(0, 40, 0)),
-];
-
-#[test]
-fn a_lot_that_is_open(rt: HostRuntime) -> Result<(), Fail> {
-    tell(&rt, rt.alloc(), &LENT, &IS_OPEN)
-}
-
-pub(super) const SECOND: Draw = Draw {
-    member: 2,
-    start: 0,
-    asked: 30,
-};
-
-pub(super) const THIRD: Draw = Draw {
-    member: 3,
-    start: 30,
-    asked: 30,
-};
+pub(super) const THIRD: Draw = (3, 30, 30);
 
 // It leaves a gap after that of member 2.
-pub(super) const LATE: Draw = Draw {
-    member: 3,
-    start: 31,
-    asked: 30,
-};
+pub(super) const LATE: Draw = (3, 31, 30);
 
-const THIRD_AT_FIRST: Draw = Draw {
-    member: 3,
-    start: 0,
-    asked: 30,
-};
+const BAD: Ordered = Err(Refusal::BadTickets);
 
-const SECOND_AT_LAST: Draw = Draw {
-    member: 2,
-    start: 30,
-    asked: 30,
-};
-
-const BAD: Result<(u64, u64, usize), Refusal> = Err(Refusal::BadTickets);
-
-static UNSERVED: [Step; 6] = [
-    Step::Lot(LotCall::Close(&[THIRD_AT_FIRST, SECOND_AT_LAST], false, BAD)),
+// A later group first, a member without a ticket, and a gap.
+const UNSERVED: &[Step] = &[
+    Step::Close(&[(3, 0, 30), (2, 30, 30)], false, BAD),
     ALL_LENT,
-    Step::Lot(LotCall::Close(&[SECOND], false, BAD)),
+    Step::Close(&[SECOND], false, BAD),
     ALL_LENT,
-    Step::Lot(LotCall::Close(&[SECOND, LATE], false, BAD)),
+    Step::Close(&[SECOND, LATE], false, BAD),
     ALL_LENT,
 ];
-
-#[test]
-fn tickets_that_do_not_serve(rt: HostRuntime) -> Result<(), Fail> {
-    tell(&rt, rt.alloc(), &LENT, &UNSERVED)
-}
-
-const FIRST_DELIVERY: Step = Step::See(Look::Order(3, MoveKind::Delivery, 2, 30));
-
-const SECOND_DELIVERY: Step = Step::See(Look::Order(4, MoveKind::Delivery, 3, 10));
-
-const NO_OTHER: Step = Step::See(Look::NoOrder(5, Refusal::UnknownMove));
-
-const ALL_OUT: Step = Step::See(Look::Shares(0, 0, 40));
 
 // The orders of a lot that served both members.
-pub(super) static DELIVERIES: [Step; 4] = [FIRST_DELIVERY, SECOND_DELIVERY, NO_OTHER, ALL_OUT];
-
-const CLOSED: Step = Step::Lot(LotCall::Close(&[SECOND, THIRD], false, Ok((40, 3, 2))));
-
-static SERVES: [Step; 6] = [
-    CLOSED,
-    Step::Lot(LotCall::NoLot),
-    FIRST_DELIVERY,
-    SECOND_DELIVERY,
-    NO_OTHER,
-    ALL_OUT,
+pub(super) const DELIVERIES: &[Step] = &[
+    Step::Order((3, MoveKind::Delivery, 2, APPLE, 30)),
+    Step::Order((4, MoveKind::Delivery, 3, APPLE, 10)),
+    Step::NoOrder(5, Refusal::UnknownMove),
+    Step::Shares(0, 0, 40),
 ];
 
-#[test]
-fn a_lot_that_serves_all(rt: HostRuntime) -> Result<(), Fail> {
-    tell(&rt, rt.alloc(), &LENT, &SERVES)
-}
+const CLOSED: &[Step] = &[
+    Step::Close(&[SECOND, THIRD], false, Ok((40, 3, 2))),
+    Step::NoLot,
+];
 
-static TAKES_ALL: [Step; 6] = [
-    CLOSED,
-    Step::See(Look::Pool(0, 0, 40)),
-    Step::Do(Call::Reply(3, 30, Ok(Taken::Done))),
-    Step::See(Look::Pool(0, 0, 10)),
-    Step::Do(Call::Reply(4, 10, Ok(Taken::Done))),
-    Step::See(Look::NoPool),
+const TAKES_ALL: &[Step] = &[
+    Step::Pools(&[(0, 0, 40)]),
+    Step::Reply(3, 30, Ok(Taken::Done)),
+    Step::Pools(&[(0, 0, 10)]),
+    Step::Reply(4, 10, Ok(Taken::Done)),
+    Step::Pools(&[]),
 ];
 
 // What a delivery asked for and did not move is free again.
-static LEAVES_ONE: [Step; 4] = [
-    CLOSED,
-    Step::Do(Call::Reply(3, 29, Ok(Taken::Done))),
-    Step::Do(Call::Reply(4, 10, Ok(Taken::Done))),
-    Step::See(Look::Pool(1, 0, 0)),
+const LEAVES_ONE: &[Step] = &[
+    Step::Reply(3, 29, Ok(Taken::Done)),
+    Step::Reply(4, 10, Ok(Taken::Done)),
+    Step::Pools(&[(1, 0, 0)]),
 ];
 
-#[test]
-fn pools_that_deliveries_take_from(rt: HostRuntime) -> Result<(), Fail> {
-    tell(&rt, rt.alloc(), &LENT, &TAKES_ALL)?;
-    tell(&rt, rt.alloc(), &LENT, &LEAVES_ONE)
-}
-
-static SEALS: [Step; 3] = [
-    Step::Lot(LotCall::Close(&[SECOND], true, Ok((30, 3, 1)))),
-    Step::Lot(LotCall::NoLot),
-    Step::See(Look::Shares(10, 0, 30)),
+const SEALS: &[Step] = &[
+    Step::Close(&[SECOND], true, Ok((30, 3, 1))),
+    Step::NoLot,
+    Step::Shares(10, 0, 30),
 ];
 
-#[test]
-fn a_lot_that_was_sealed(rt: HostRuntime) -> Result<(), Fail> {
-    tell(&rt, rt.alloc(), &LENT, &SEALS)
-}
+const OPENS_EMPTY: &[Step] = &[Step::Open, Step::Shares(0, 0, 0)];
 
-static POURS: [Step; 9] = [
-    OPEN,
-    Step::See(Look::Shares(0, 0, 0)),
-    FIRST_REPLY,
-    SECOND_REPLY,
+const POURS: &[Step] = &[
     ALL_FREE,
-    Step::Lot(LotCall::Pour(Ok(40))),
+    Step::Pour(Ok(40)),
     ALL_LENT,
-    Step::Lot(LotCall::Pour(Ok(0))),
+    Step::Pour(Ok(0)),
     ALL_LENT,
 ];
 
-#[test]
-fn a_lot_that_is_poured_into(rt: HostRuntime) -> Result<(), Fail> {
-    tell(&rt, rt.alloc(), &GROUPED, &POURS)
-}
-
-const NO_POUR: Step = Step::Lot(LotCall::Pour(Err(Refusal::NoLot)));
-
-const NO_CLOSE: Step = Step::Lot(LotCall::Close(&[SECOND], true, Err(Refusal::NoLot)));
-
-static NO_LOT: [Step; 3] = [NO_POUR, NO_CLOSE, ALL_FREE];
-
-#[test]
-fn a_node_without_a_lot(rt: HostRuntime) -> Result<(), Fail> {
-    tell(&rt, rt.alloc(), &COVERED, &NO_LOT)
-}
-
-static LOTS_DOWN: [Step; 3] = [
-    Step::Lot(LotCall::NotOpened(Refusal::Down)),
-    Step::Lot(LotCall::Pour(Err(Refusal::Down))),
-    Step::Lot(LotCall::Close(&[], true, Err(Refusal::Down))),
+const NO_LOT: &[Step] = &[
+    Step::Pour(Err(Refusal::NoLot)),
+    Step::Close(&[SECOND], true, Err(Refusal::NoLot)),
 ];
 
-#[test]
-fn lots_of_a_node_that_is_down(rt: HostRuntime) -> Result<(), Fail> {
-    tell(&rt, rt.alloc(), &LOST, &LOTS_DOWN)
-}
+const FREE: &[Step] = &[ALL_FREE];
 
 // A close that the device fails leaves the lot open, until a restart ends it.
-const CLOSE_FAILS: Step = Step::Lot(LotCall::Close(&[SECOND, THIRD], false, Err(Refusal::Device)));
-
-static CLOSE_STANDS: [Step; 10] = [
-    Step::Do(Call::Plan(true)),
-    CLOSE_FAILS,
+const CLOSE_FAILS: &[Step] = &[
+    Step::Close(&[SECOND, THIRD], false, Err(Refusal::Device)),
     ALL_LENT,
-    Step::Do(Call::Restart(7, true)),
-    FIRST_DELIVERY,
-    SECOND_DELIVERY,
-    NO_OTHER,
-    ALL_OUT,
-    NO_POUR,
-    NO_CLOSE,
+];
+
+const STANDS: &[Step] = &[Step::Restart(7, true)];
+
+const IS_LOST: &[Step] = &[
+    Step::Restart(6, false),
+    Step::NoOrder(3, Refusal::UnknownMove),
+];
+
+static STORIES: [Story; 11] = [
+    &[GROUPED, BROUGHT, OPENS],
+    &[GROUPED, BROUGHT, LENT, UNSERVED],
+    &[GROUPED, BROUGHT, LENT, CLOSED, DELIVERIES],
+    &[GROUPED, BROUGHT, LENT, CLOSED, TAKES_ALL],
+    &[GROUPED, BROUGHT, LENT, CLOSED, LEAVES_ONE],
+    &[GROUPED, BROUGHT, LENT, SEALS],
+    &[GROUPED, OPENS_EMPTY, BROUGHT, POURS],
+    &[GROUPED, BROUGHT, NO_LOT, FREE],
+    &[
+        GROUPED,
+        BROUGHT,
+        LENT,
+        &[Step::Plan(true)],
+        CLOSE_FAILS,
+        STANDS,
+        DELIVERIES,
+        NO_LOT,
+    ],
+    &[
+        GROUPED,
+        BROUGHT,
+        LENT,
+        &[Step::Plan(false)],
+        CLOSE_FAILS,
+        IS_LOST,
+        FREE,
+    ],
+    &[GROUPED, BROUGHT, LENT, IS_LOST, FREE, NO_LOT],
 ];
 
 #[test]
-fn a_failed_close_stands(rt: HostRuntime) -> Result<(), Fail> {
-    tell(&rt, rt.alloc(), &LENT, &CLOSE_STANDS)
-}
-
-static CLOSE_IS_LOST: [Step; 6] = [
-    Step::Do(Call::Plan(false)),
-    CLOSE_FAILS,
-    ALL_LENT,
-    Step::Do(Call::Restart(6, false)),
-    Step::See(Look::NoOrder(3, Refusal::UnknownMove)),
-    ALL_FREE,
-];
-
-#[test]
-fn a_failed_close_does_not_stand(rt: HostRuntime) -> Result<(), Fail> {
-    tell(&rt, rt.alloc(), &LENT, &CLOSE_IS_LOST)
-}
-
-static RESTART_ENDS: [Step; 4] = [
-    Step::Do(Call::Restart(6, false)),
-    ALL_FREE,
-    NO_POUR,
-    NO_CLOSE,
-];
-
-#[test]
-fn a_restart_ends_the_lot(rt: HostRuntime) -> Result<(), Fail> {
-    tell(&rt, rt.alloc(), &LENT, &RESTART_ENDS)
+fn stories_of_lots(rt: HostRuntime) {
+    tell_all(&rt, rt.alloc(), &STORIES);
 }

@@ -1,99 +1,63 @@
-use super::story::{
-    APPLE, Holder, Moved, Opened, Placed, Step, TWENTY, openings, order, shares, tell_of,
-};
-use crate::common::assert_same;
+use super::story::{Holder, Moved, Step, TWENTY, tell_of};
+use crate::common::{APPLE, DepotPast, Placed, depot_keeper_of, openings_of};
 use cns_depository::Depository;
-use cns_journal::{Keeper, ListKeeper, Record, ReplayFault};
+use cns_journal::{Keeper, ListKeeper, ReplayFault};
 use cns_movements::MoveKind;
-use cns_records::DepRecord;
 use std::alloc::Global;
 use std::process::Abort;
 
 const ORDER: Placed = (1, MoveKind::Cover, 1, APPLE, 60);
 
-// The execution of the one order, by the shares that it moved.
-fn execution(rt: &impl Abort, moved: u64) -> DepRecord {
-    DepRecord::Exec {
-        order: order(rt, &ORDER),
-        moved: shares(rt, moved),
-    }
-}
+const TWICE: &[DepotPast] = &[DepotPast::Moved(ORDER, 20), DepotPast::Moved(ORDER, 20)];
 
-fn add_execution(rt: &impl Abort, alloc: Global, keeper: &mut ListKeeper, moved: u64) {
-    let payload = execution(rt, moved).write(alloc).expect(rt, "memory");
-    keeper.commit(payload.as_slice()).expect(rt, "a record");
-}
+// Journals that are bad where member 1 has 20 shares, and the place of the bad record.
+static BAD_JOURNALS: [(&[DepotPast], u64); 4] = [
+    (&[DepotPast::Moved(ORDER, 19)], 1),
+    (TWICE, 2),
+    (&[DepotPast::Moved(ORDER, 60)], 1),
+    (&[DepotPast::Bytes(b"no record")], 1),
+];
 
-// A keeper with the payloads of these executions of one order, by the shares that each moved.
-fn keeper_of(rt: &impl Abort, alloc: Global, executed: &[u64]) -> ListKeeper {
-    let mut keeper = ListKeeper::new(alloc);
-    for moved in executed {
-        add_execution(rt, alloc, &mut keeper, *moved);
-    }
-    keeper
-}
-
-// Why a journal's opening is refused, and how many records the keeper has that it hands back.
-fn refusal(
-    rt: &impl Abort,
-    alloc: Global,
-    keeper: ListKeeper,
-    of: &[Opened],
-) -> (ReplayFault, u64) {
-    match Depository::open(alloc, keeper, openings(rt, alloc, of)) {
+// Whether an opening finds the record in this place to be bad, and hands the keeper back as it was.
+fn is_bad(rt: &impl Abort, alloc: Global, keeper: ListKeeper, place: u64) -> bool {
+    let records = keeper.count();
+    match Depository::open(alloc, keeper, openings_of(rt, alloc, TWENTY)) {
         Err(refused) => {
             let told = (refused.fault, refused.keeper.count());
             drop(refused);
-            told
+            told == (ReplayFault::BadJournal { place }, records)
         }
-        Ok(_) => panic!(rt; "a bad journal was opened"),
+        Ok(node) => {
+            drop(node);
+            false
+        }
     }
-}
-
-// Executions whose journal is bad, and the place of the bad record.
-type Bad = (&'static [u64], u64);
-
-static BAD_JOURNALS: [Bad; 3] = [(&[19], 1), (&[20, 20], 2), (&[60], 1)];
-
-fn assert_bad(rt: &impl Abort, alloc: Global, executed: &[u64], place: u64) {
-    let keeper = keeper_of(rt, alloc, executed);
-    let wanted = (ReplayFault::BadJournal { place }, executed.len() as u64);
-    assert_same(rt, &refusal(rt, alloc, keeper, &TWENTY), &wanted);
 }
 
 #[test]
 fn journals_that_are_bad(rt: HostRuntime) {
-    for (executed, place) in &BAD_JOURNALS {
-        assert_bad(&rt, rt.alloc(), executed, *place);
+    for (past, place) in &BAD_JOURNALS {
+        let keeper = depot_keeper_of(&rt, rt.alloc(), past);
+        assert!(&rt; is_bad(&rt, rt.alloc(), keeper, *place), "place {place}");
     }
 }
 
-#[test]
-fn a_payload_that_is_no_record(rt: HostRuntime) {
-    let mut keeper = ListKeeper::new(rt.alloc());
-    keeper.commit(b"no record").expect(&rt, "a record");
-    let wanted = (ReplayFault::BadJournal { place: 1 }, 1);
-    assert_same(&rt, &refusal(&rt, rt.alloc(), keeper, &[]), &wanted);
-}
-
-static OPENED: [Step; 3] = [
+const OPENED: &[Step] = &[
     Step::Balance((APPLE, Holder::Member(1), 0)),
     Step::Balance((APPLE, Holder::Cns, 20)),
     Step::Down(false),
 ];
 
-#[test]
-fn a_journal_that_opens(rt: HostRuntime) {
-    let keeper = keeper_of(&rt, rt.alloc(), &[20]);
-    drop(tell_of(&rt, rt.alloc(), keeper, &TWENTY, &OPENED));
-}
-
-static EXECUTED: [Step; 1] = [Step::Take(ORDER, Ok(Moved::Done(20)))];
+const EXECUTED: &[Step] = &[Step::Take(ORDER, Ok(Moved::Done(20)))];
 
 #[test]
-fn a_keeper_that_is_given_up(rt: HostRuntime) {
+fn journals_that_open(rt: HostRuntime) {
     let alloc = rt.alloc();
-    let keeper = tell_of(&rt, alloc, ListKeeper::new(alloc), &TWENTY, &EXECUTED);
-    assert_same(&rt, &keeper.count(), &1);
-    drop(tell_of(&rt, alloc, keeper, &TWENTY, &OPENED));
+    let keeper = depot_keeper_of(&rt, alloc, &[DepotPast::Moved(ORDER, 20)]);
+    drop(tell_of(&rt, alloc, keeper, 0, TWENTY, &[OPENED]));
+    // A keeper that is given up.
+    let new = ListKeeper::new(alloc);
+    let kept = tell_of(&rt, alloc, new, 1, TWENTY, &[EXECUTED]);
+    assert!(&rt; kept.count() == 1);
+    drop(tell_of(&rt, alloc, kept, 2, TWENTY, &[OPENED]));
 }

@@ -1,149 +1,121 @@
-use super::floor::{BEFORE, Happens, Served, begin, floor, take_all};
-use super::story::{Deed, Told, told_of};
-use super::ticket;
-use crate::common::assert_same;
+use super::floor::{BEFORE, Served, begin, new_floor, take_all};
+use super::story::{Deed, Happens, Told, is_told};
+use super::ticket_of;
+use crate::common::Draw;
 use cns_pool::Ticket;
 use cns_records::Refusal;
 use cns_system::NodeName;
 use std::alloc::Global;
 use std::process::Abort;
-use std::test::Fail;
-
-// What the workers of lot 1 bring back, and what it has to come to.
-#[derive(Clone, Copy)]
-struct Finishes<'t> {
-    // What happens while the lot is busy.
-    before: &'t [Happens],
-    tickets: &'t [Ticket],
-    failed: bool,
-    wanted: &'t [Told],
-    // What happens once it is no longer busy.
-    after: &'t [Happens],
-}
 
 // Member 1's shares come into the lot.
-const POURED: [Happens; 4] = [
+const POURED: &[Happens] = &[
     (Deed::Send(1), Told::Sent(1)),
     (Deed::OrderIn(1), Told::Executed(1, 40, 1)),
     (Deed::ReplyIn(1), Told::Confirmed(1, 40)),
     (Deed::LotPour(1), Told::Poured(40)),
 ];
 
-const RESTARTED: [Happens; 1] = [(Deed::Restart(NodeName::Clear), Told::Restarted(3, false))];
+const RESTARTED: &[Happens] = &[(Deed::Restart(NodeName::Clear), Told::Restarted(3, false))];
 
-const SEALED: [Happens; 1] = [(Deed::Seal(1), Told::Done)];
+const SEALED: &[Happens] = &[(Deed::Seal(1), Told::Done)];
 
-const ENDED: [Happens; 1] = [(Deed::LotClose(1), Told::Refused(Refusal::StaleLot))];
+const ENDED: &[Happens] = &[(Deed::LotClose(1), Told::Refused(Refusal::StaleLot))];
 
 // The lot is open, nobody has a ticket, and it is not sealed.
-const OPEN: [Happens; 4] = [
+const OPEN: &[Happens] = &[
     (Deed::LookAsked(1), Told::LookedAsked(0, false)),
-    (Deed::Reserve(1, 2), Told::Drawn(2, 0, 30)),
-    (Deed::Reserve(1, 3), Told::Drawn(3, 30, 30)),
+    (Deed::Reserve(1, 2), Told::Drawn((2, 0, 30))),
+    (Deed::Reserve(1, 3), Told::Drawn((3, 30, 30))),
     (Deed::LotClose(1), Told::Closed(40, 2, 2)),
 ];
+
+// What happens while lot 1 is busy, the tickets that its workers bring back, and whether one of them failed;
+// what that has to come to, and what happens once the lot is no longer busy.
+type Finishes = (
+    &'static [Happens],
+    &'static [Draw],
+    bool,
+    &'static [Told],
+    &'static [Happens],
+);
+
+const FIRST: Draw = (2, 0, 30);
+
+const SECOND: Draw = (3, 30, 30);
+
+const BAD: &[Told] = &[Told::Refused(Refusal::BadTickets)];
+
+const STALE: &[Told] = &[Told::Refused(Refusal::StaleLot)];
+
+const BOTH: &[Told] = &[
+    Told::Drawn(FIRST),
+    Told::Drawn(SECOND),
+    Told::Closed(40, 2, 2),
+];
+
+const ONE: &[Told] = &[Told::Drawn(FIRST), Told::Done, Told::Closed(30, 2, 1)];
+
+static FINISHES: [Finishes; 5] = [
+    // A ticket that starts elsewhere.
+    (POURED, &[(2, 5, 30)], false, BAD, OPEN),
+    // Tickets are taken in the order of their starts.
+    (POURED, &[SECOND, FIRST], false, BOTH, ENDED),
+    // A worker met the seal.
+    (POURED, &[FIRST], true, ONE, ENDED),
+    // The lot was sealed, and has ended.
+    (
+        SEALED,
+        &[],
+        false,
+        &[Told::Done, Told::Closed(0, 0, 0)],
+        ENDED,
+    ),
+    (RESTARTED, &[FIRST], false, STALE, ENDED),
+];
+
+fn tickets_of(rt: &impl Abort, alloc: Global, draws: &[Draw]) -> Vec<Ticket> {
+    let mut tickets = Vec::new(alloc);
+    for draw in draws {
+        tickets.push(ticket_of(rt, *draw)).expect(rt, "memory");
+    }
+    tickets
+}
 
 fn finish(
     rt: &impl Abort,
     alloc: Global,
     floor: &mut Served,
-    case: &Finishes<'_>,
+    tickets: &[Ticket],
+    failed: bool,
     wanted: &[Told],
-) -> Result<(), Fail> {
-    let told = floor.finish(alloc, 1, case.tickets, case.failed)?;
-    assert_same(rt, &told.len(), &wanted.len());
-    for (outcome, wanted) in told.iter().zip(wanted) {
-        assert_same(rt, &told_of(outcome), wanted);
+) {
+    let outcomes = floor.finish(alloc, 1, tickets, failed).expect(rt, "memory");
+    assert!(rt; outcomes.len() == wanted.len());
+    for (outcome, told) in outcomes.iter().zip(wanted) {
+        assert!(rt; is_told(outcome, told));
     }
-    Ok(())
+    drop(outcomes);
 }
 
-fn run(
-    rt: &impl Abort,
-    alloc: Global,
-    floor: &mut Served,
-    case: &Finishes<'_>,
-) -> Result<(), Fail> {
-    take_all(rt, floor, &BEFORE)?;
-    begin(rt, alloc, floor)?;
-    take_all(rt, floor, case.before)?;
-    finish(rt, alloc, floor, case, case.wanted)?;
+fn see(rt: &impl Abort, alloc: Global, floor: &mut Served, finishes: &Finishes) {
+    let (before, draws, failed, wanted, after) = *finishes;
+    take_all(rt, floor, &BEFORE);
+    begin(rt, alloc, floor);
+    take_all(rt, floor, before);
+    let tickets = tickets_of(rt, alloc, draws);
+    finish(rt, alloc, floor, tickets.as_slice(), failed, wanted);
     // It is no longer busy.
-    finish(rt, alloc, floor, case, &[])?;
-    take_all(rt, floor, case.after)
-}
-
-fn see(rt: &impl Abort, alloc: Global, case: &Finishes<'_>) -> Result<(), Fail> {
-    let mut floor = floor(alloc)?;
-    let told = run(rt, alloc, &mut floor, case);
-    drop(floor);
-    told
+    finish(rt, alloc, floor, tickets.as_slice(), failed, &[]);
+    drop(tickets);
+    take_all(rt, floor, after);
 }
 
 #[test]
-fn a_ticket_that_starts_elsewhere(rt: HostRuntime) -> Result<(), Fail> {
-    let tickets = [ticket(2, 5, 30)?];
-    let case = Finishes {
-        before: &POURED,
-        tickets: &tickets,
-        failed: false,
-        wanted: &[Told::Refused(Refusal::BadTickets)],
-        after: &OPEN,
-    };
-    see(&rt, rt.alloc(), &case)
-}
-
-#[test]
-fn tickets_in_the_order_of_their_starts(rt: HostRuntime) -> Result<(), Fail> {
-    let tickets = [ticket(3, 30, 30)?, ticket(2, 0, 30)?];
-    let case = Finishes {
-        before: &POURED,
-        tickets: &tickets,
-        failed: false,
-        wanted: &[
-            Told::Drawn(2, 0, 30),
-            Told::Drawn(3, 30, 30),
-            Told::Closed(40, 2, 2),
-        ],
-        after: &ENDED,
-    };
-    see(&rt, rt.alloc(), &case)
-}
-
-#[test]
-fn a_worker_met_the_seal(rt: HostRuntime) -> Result<(), Fail> {
-    let tickets = [ticket(2, 0, 30)?];
-    let case = Finishes {
-        before: &POURED,
-        tickets: &tickets,
-        failed: true,
-        wanted: &[Told::Drawn(2, 0, 30), Told::Done, Told::Closed(30, 2, 1)],
-        after: &ENDED,
-    };
-    see(&rt, rt.alloc(), &case)
-}
-
-#[test]
-fn a_lot_that_was_sealed(rt: HostRuntime) -> Result<(), Fail> {
-    let case = Finishes {
-        before: &SEALED,
-        tickets: &[],
-        failed: false,
-        wanted: &[Told::Done, Told::Closed(0, 0, 0)],
-        after: &ENDED,
-    };
-    see(&rt, rt.alloc(), &case)
-}
-
-#[test]
-fn a_lot_that_has_ended(rt: HostRuntime) -> Result<(), Fail> {
-    let tickets = [ticket(2, 0, 30)?];
-    let case = Finishes {
-        before: &RESTARTED,
-        tickets: &tickets,
-        failed: false,
-        wanted: &[Told::Refused(Refusal::StaleLot)],
-        after: &ENDED,
-    };
-    see(&rt, rt.alloc(), &case)
+fn lots_that_finish(rt: HostRuntime) {
+    for finishes in &FINISHES {
+        let mut floor = new_floor(&rt, rt.alloc());
+        see(&rt, rt.alloc(), &mut floor, finishes);
+        drop(floor);
+    }
 }
