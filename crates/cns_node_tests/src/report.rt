@@ -26,232 +26,176 @@ fn see(rt: &impl Abort, alloc: Global, line: Line, want: &str) -> Result<(), Fai
     Ok(())
 }
 
-// A line, and its bytes.
-type Told = (Line, &'static str);
-
-fn see_each(rt: &impl Abort, alloc: Global, lines: &[Told]) -> Result<(), Fail> {
-    for (line, want) in lines {
-        see(rt, alloc, *line, want)?;
-    }
-    Ok(())
+// That a line that ends with a name has these bytes.
+fn see_named(
+    rt: &impl Abort,
+    alloc: Global,
+    line: Line,
+    before: &str,
+    name: &str,
+) -> Result<(), Fail> {
+    let want = format!(in alloc; "{before} {name}\n")?;
+    see(rt, alloc, line, &want)
 }
 
-// The faults of row 5.
-const ROW_FAULTS: [(RowFault, &str); 8] = [
-    (RowFault::Settle, "row 5 fault Settle BadDate\n"),
-    (RowFault::Fields, "row 5 fault Fields\n"),
-    (RowFault::Id, "row 5 fault Id\n"),
+// The faults of a row, and their names.
+const ROW_FAULTS: [(RowFault, &str); 11] = [
+    (RowFault::Fields, "Fields"),
+    (RowFault::Id, "Id"),
+    (RowFault::Settle, "Settle BadDate"),
+    (RowFault::Buyer(ReadFault::BadNumber), "Buyer BadNumber"),
+    (RowFault::Seller(ReadFault::OutOfRange), "Seller OutOfRange"),
+    (RowFault::Cusip(CusipFault::Length), "Cusip Length"),
+    (RowFault::Cusip(BAD_CHARACTER), "Cusip BadChar 6"),
+    (RowFault::Cusip(BAD_DIGIT), "Cusip CheckDigit 0"),
     (
-        RowFault::Buyer(ReadFault::BadNumber),
-        "row 5 fault Buyer BadNumber\n",
-    ),
-    (
-        RowFault::Seller(ReadFault::OutOfRange),
-        "row 5 fault Seller OutOfRange\n",
-    ),
-    (
-        RowFault::Cusip(CusipFault::BadChar { place: 6 }),
-        "row 5 fault Cusip BadChar 6\n",
-    ),
-    (
-        RowFault::Cusip(CusipFault::CheckDigit { want: 0 }),
-        "row 5 fault Cusip CheckDigit 0\n",
-    ),
-    (
-        RowFault::Cusip(CusipFault::Length),
-        "row 5 fault Cusip Length\n",
-    ),
-];
-
-#[test]
-fn row_faults(rt: HostRuntime) -> Result<(), Fail> {
-    for (fault, want) in &ROW_FAULTS {
-        let (row, fault) = (5, *fault);
-        see(&rt, rt.alloc(), Line::RowFault { row, fault }, want)?;
-    }
-    Ok(())
-}
-
-// The faults of row 4 of openings.
-const OPENING_FAULTS: [(RowFault, &str); 3] = [
-    (
-        RowFault::Quantity(ReadFault::OutOfRange),
-        "opening row 4 fault Quantity OutOfRange\n",
+        RowFault::Quantity(ReadFault::BadNumber),
+        "Quantity BadNumber",
     ),
     (
         RowFault::Account(ReadFault::OutOfRange),
-        "opening row 4 fault Account OutOfRange\n",
+        "Account OutOfRange",
     ),
-    (
-        RowFault::Shares(ReadFault::BadNumber),
-        "opening row 4 fault Shares BadNumber\n",
-    ),
+    (RowFault::Shares(ReadFault::BadNumber), "Shares BadNumber"),
 ];
 
+const BAD_CHARACTER: CusipFault = CusipFault::BadChar { place: 6 };
+
+const BAD_DIGIT: CusipFault = CusipFault::CheckDigit { want: 0 };
+
 #[test]
-fn opening_faults(rt: HostRuntime) -> Result<(), Fail> {
-    for (fault, want) in &OPENING_FAULTS {
-        let (row, fault) = (4, *fault);
-        see(&rt, rt.alloc(), Line::OpeningRowFault { row, fault }, want)?;
+fn row_faults(rt: HostRuntime) -> Result<(), Fail> {
+    let row = 5;
+    for (fault, name) in &ROW_FAULTS {
+        let fault = *fault;
+        let (trade, opening) = (
+            Line::RowFault { row, fault },
+            Line::OpeningRowFault { row, fault },
+        );
+        see_named(&rt, rt.alloc(), trade, "row 5 fault", name)?;
+        see_named(&rt, rt.alloc(), opening, "opening row 5 fault", name)?;
     }
-    let (row, fault) = (6, OpeningFault::Double);
-    see(
-        &rt,
-        rt.alloc(),
-        Line::OpeningRefused { row, fault },
-        "opening row 6 fault Double\n",
-    )?;
-    let (row, fault) = (7, OpeningFault::IssueSum);
-    see(
-        &rt,
-        rt.alloc(),
-        Line::OpeningRefused { row, fault },
-        "opening row 7 fault IssueSum\n",
-    )
+    Ok(())
 }
 
-const REFUSED: [(Subject, Refusal, &str); 20] = [
-    (
-        Subject::Cycle,
-        Refusal::CycleOrder,
-        "cycle refused CycleOrder\n",
-    ),
-    (
-        Subject::Cycle,
-        Refusal::NumbersSpent,
-        "cycle refused NumbersSpent\n",
-    ),
-    (
-        Subject::Cycle,
-        Refusal::LotsOpen,
-        "cycle refused LotsOpen\n",
-    ),
-    (
-        Subject::Send,
-        Refusal::UnknownMove,
-        "send refused UnknownMove\n",
-    ),
-    (
-        Subject::Order,
-        Refusal::NoPacket,
-        "order refused NoPacket\n",
-    ),
-    (
-        Subject::Order,
-        Refusal::Conflict,
-        "order refused Conflict\n",
-    ),
-    (Subject::Reply, Refusal::TooMuch, "reply refused TooMuch\n"),
-    (Subject::Exempt, Refusal::Device, "exempt refused Device\n"),
-    (Subject::Priority, Refusal::Down, "priority refused Down\n"),
-    (
-        Subject::Lot,
-        Refusal::LotAlready,
-        "lot refused LotAlready\n",
-    ),
-    (Subject::Lot, Refusal::LotsSpent, "lot refused LotsSpent\n"),
-    (Subject::Pour, Refusal::NoLot, "pour refused NoLot\n"),
-    (Subject::Look, Refusal::StaleLot, "look refused StaleLot\n"),
-    (
-        Subject::Reserve,
-        Refusal::NotLong,
-        "reserve refused NotLong\n",
-    ),
-    (
-        Subject::Reserve,
-        Refusal::EarlierGroup,
-        "reserve refused EarlierGroup\n",
-    ),
-    (
-        Subject::Reserve,
-        Refusal::Sealed,
-        "reserve refused Sealed\n",
-    ),
-    (Subject::Seal, Refusal::StaleLot, "seal refused StaleLot\n"),
-    (Subject::Close, Refusal::LotBusy, "close refused LotBusy\n"),
-    (
-        Subject::Close,
-        Refusal::Unserved,
-        "close refused Unserved\n",
-    ),
-    (
-        Subject::Restart,
-        Refusal::OutOfMemory,
-        "restart refused OutOfMemory\n",
-    ),
+#[test]
+fn openings_that_are_refused(rt: HostRuntime) -> Result<(), Fail> {
+    let row = 6;
+    for (fault, name) in [
+        (OpeningFault::Double, "Double"),
+        (OpeningFault::IssueSum, "IssueSum"),
+    ] {
+        let line = Line::OpeningRefused { row, fault };
+        see_named(&rt, rt.alloc(), line, "opening row 6 fault", name)?;
+    }
+    Ok(())
+}
+
+// What may be refused, and its word.
+const SUBJECTS: [(Subject, &str); 13] = [
+    (Subject::Exempt, "exempt"),
+    (Subject::Priority, "priority"),
+    (Subject::Cycle, "cycle"),
+    (Subject::Lot, "lot"),
+    (Subject::Pour, "pour"),
+    (Subject::Reserve, "reserve"),
+    (Subject::Look, "look"),
+    (Subject::Seal, "seal"),
+    (Subject::Close, "close"),
+    (Subject::Send, "send"),
+    (Subject::Order, "order"),
+    (Subject::Reply, "reply"),
+    (Subject::Restart, "restart"),
+];
+
+// The refusals, and their names.
+const REFUSALS: [(Refusal, &str); 25] = [
+    (Refusal::Down, "Down"),
+    (Refusal::Trade(Verdict::Same), "Same"),
+    (Refusal::Trade(Verdict::Conflict), "Conflict"),
+    (Refusal::Trade(Verdict::SameMember), "SameMember"),
+    (Refusal::Trade(Verdict::Full), "Full"),
+    (Refusal::CycleOrder, "CycleOrder"),
+    (Refusal::LotsOpen, "LotsOpen"),
+    (Refusal::LotAlready, "LotAlready"),
+    (Refusal::LotsSpent, "LotsSpent"),
+    (Refusal::NoLot, "NoLot"),
+    (Refusal::StaleLot, "StaleLot"),
+    (Refusal::LotBusy, "LotBusy"),
+    (Refusal::NotLong, "NotLong"),
+    (Refusal::EarlierGroup, "EarlierGroup"),
+    (Refusal::Sealed, "Sealed"),
+    (Refusal::Unserved, "Unserved"),
+    (Refusal::BadTickets, "BadTickets"),
+    (Refusal::NumbersSpent, "NumbersSpent"),
+    (Refusal::UnknownMove, "UnknownMove"),
+    (Refusal::NoPacket, "NoPacket"),
+    (Refusal::Conflict, "Conflict"),
+    (Refusal::TooMuch, "TooMuch"),
+    (Refusal::BadJournal { place: 3 }, "BadJournal"),
+    (Refusal::OutOfMemory, "OutOfMemory"),
+    (Refusal::Device, "Device"),
 ];
 
 #[test]
 fn refusals(rt: HostRuntime) -> Result<(), Fail> {
-    for (subject, refusal, want) in &REFUSED {
-        let (subject, refusal) = (*subject, *refusal);
-        see(&rt, rt.alloc(), Line::Refused { subject, refusal }, want)?;
+    let refusal = Refusal::Down;
+    for (subject, word) in &SUBJECTS {
+        let subject = *subject;
+        see_named(
+            &rt,
+            rt.alloc(),
+            Line::Refused { subject, refusal },
+            word,
+            "refused Down",
+        )?;
     }
-    Ok(())
-}
-
-const TRADE_REFUSED: [(Refusal, &str); 5] = [
-    (Refusal::Trade(Verdict::Same), "trade A1 refused Same\n"),
-    (
-        Refusal::Trade(Verdict::Conflict),
-        "trade A1 refused Conflict\n",
-    ),
-    (
-        Refusal::Trade(Verdict::SameMember),
-        "trade A1 refused SameMember\n",
-    ),
-    (Refusal::Trade(Verdict::Full), "trade A1 refused Full\n"),
-    (Refusal::Down, "trade A1 refused Down\n"),
-];
-
-#[test]
-fn trade_lines(rt: HostRuntime) -> Result<(), Fail> {
-    let id = TradeId::read(b"A1")?;
-    see(
-        &rt,
-        rt.alloc(),
-        Line::TradeAccepted(id),
-        "trade A1 accepted\n",
-    )?;
-    for (refusal, want) in &TRADE_REFUSED {
+    let (subject, id) = (Subject::Cycle, TradeId::read(b"A1")?);
+    for (refusal, name) in &REFUSALS {
         let refusal = *refusal;
-        see(&rt, rt.alloc(), Line::TradeRefused { id, refusal }, want)?;
+        let (line, trade) = (
+            Line::Refused { subject, refusal },
+            Line::TradeRefused { id, refusal },
+        );
+        see_named(&rt, rt.alloc(), line, "cycle refused", name)?;
+        see_named(&rt, rt.alloc(), trade, "trade A1 refused", name)?;
     }
     Ok(())
 }
 
 #[test]
 fn command_lines(rt: HostRuntime) -> Result<(), Fail> {
-    let (clear, depot) = (NodeName::Clear, NodeName::Depot);
-    let cycle = Line::Cycle {
-        id: night(b"2025-03-04")?,
-        due: 2,
+    let (id, due, line) = (night(b"2025-03-04")?, 2, 1);
+    let (node, records, kept) = (NodeName::Clear, 6, false);
+    let came_back = Line::Restarted {
+        node,
+        records,
+        kept,
+    };
+    let (node, records, kept) = (NodeName::Depot, 1, true);
+    let came_back_with_one_more = Line::Restarted {
+        node,
+        records,
+        kept,
     };
     let lines = [
-        (Line::BadCommand { line: 1 }, "line 1 bad command\n"),
-        (Line::ExemptionSet, "exempt ok\n"),
-        (Line::PrioritySet, "priority ok\n"),
-        (Line::FailurePlanned, "fail ok\n"),
-        (Line::FailureNotPlanned, "fail refused NotPlanned\n"),
-        (cycle, "cycle 2025-03-04 NIGHT due 2\n"),
         (
-            Line::Restarted {
-                node: clear,
-                records: 6,
-                kept: false,
-            },
-            "restart CLEAR records 6 kept no\n",
+            Line::TradeAccepted(TradeId::read(b"A1")?),
+            "trade A1 accepted",
         ),
-        (
-            Line::Restarted {
-                node: depot,
-                records: 1,
-                kept: true,
-            },
-            "restart DEPOT records 1 kept yes\n",
-        ),
+        (Line::BadCommand { line }, "line 1 bad command"),
+        (Line::ExemptionSet, "exempt ok"),
+        (Line::PrioritySet, "priority ok"),
+        (Line::FailurePlanned, "fail ok"),
+        (Line::FailureNotPlanned, "fail refused NotPlanned"),
+        (Line::Cycle { id, due }, "cycle 2025-03-04 NIGHT due 2"),
+        (came_back, "restart CLEAR records 6 kept no"),
+        (came_back_with_one_more, "restart DEPOT records 1 kept yes"),
     ];
-    see_each(&rt, rt.alloc(), &lines)
+    for (line, want) in &lines {
+        see(&rt, rt.alloc(), *line, &format!(in rt.alloc(); "{want}\n")?)?;
+    }
+    Ok(())
 }
 
 // A cover of member 1, and the largest delivery under the last number.
@@ -275,25 +219,19 @@ fn two_orders() -> Result<[Order; 2], Fail> {
 
 #[test]
 fn order_lines(rt: HostRuntime) -> Result<(), Fail> {
-    let reply = Reply {
-        number: MoveNo::new(1).ok_or("number")?,
-        moved: shares(20)?,
-    };
+    let number = MoveNo::new(1).ok_or("number")?;
+    let moved = shares(20)?;
+    let (reply, packet) = (Reply { number, moved }, 2);
+    let number = 1;
     let lines = [
+        (OrderLine::Sent { number, packet }, "send 1 packet 2\n"),
         (
-            OrderLine::Sent {
-                number: 1,
-                packet: 2,
-            },
-            "send 1 packet 2\n",
+            OrderLine::Executed { reply, packet },
+            "exec 1 moved 20 packet 2\n",
         ),
         (
-            OrderLine::Executed { reply, packet: 3 },
-            "exec 1 moved 20 packet 3\n",
-        ),
-        (
-            OrderLine::ExecutedAgain { reply, packet: 4 },
-            "again 1 moved 20 packet 4\n",
+            OrderLine::ExecutedAgain { reply, packet },
+            "again 1 moved 20 packet 2\n",
         ),
         (OrderLine::Confirmed(reply), "confirm 1 moved 20 done\n"),
         (
@@ -315,24 +253,28 @@ fn order_lines(rt: HostRuntime) -> Result<(), Fail> {
 
 #[test]
 fn lot_lines(rt: HostRuntime) -> Result<(), Fail> {
-    let (member, number) = (member(3)?, 1);
+    let (member, start, asked) = (member(3)?, 30, 10);
     let ticket = Ticket {
         member,
-        start: 30,
-        asked: 10,
+        start,
+        asked,
     };
+    let (number, poured, longs) = (1, 40, 2);
+    let opened = LotLine::Opened {
+        number,
+        poured,
+        longs,
+    };
+    let (shares, granted, sealed) = (0, 30, true);
     let lines = [
-        (
-            LotLine::Opened {
-                number,
-                poured: 40,
-                longs: 2,
-            },
-            "lot 1 poured 40 longs 2\n",
-        ),
-        (LotLine::Poured { shares: 0 }, "pour 0\n"),
+        (opened, "lot 1 poured 40 longs 2\n"),
+        (LotLine::Poured { shares }, "pour 0\n"),
         (LotLine::Drawn(ticket), "ticket 0003 start 30 asked 10\n"),
-        (LotLine::LookedPoured { poured: 40 }, "look poured 40"),
+        (LotLine::LookedPoured { poured }, "look poured 40"),
+        (
+            LotLine::LookedAsked { asked, sealed },
+            " asked 10 sealed yes\n",
+        ),
         (
             LotLine::LookedAsked {
                 asked: 0,
@@ -340,15 +282,8 @@ fn lot_lines(rt: HostRuntime) -> Result<(), Fail> {
             },
             " asked 0 sealed no\n",
         ),
-        (
-            LotLine::LookedAsked {
-                asked: 30,
-                sealed: true,
-            },
-            " asked 30 sealed yes\n",
-        ),
         (LotLine::Sealed, "seal ok\n"),
-        (LotLine::Closed { granted: 30 }, "close granted 30\n"),
+        (LotLine::Closed { granted }, "close granted 30\n"),
     ];
     for (line, want) in &lines {
         see(&rt, rt.alloc(), Line::Lot(*line), want)?;
