@@ -1,45 +1,127 @@
 //! What several tests use.
 
-use cns_ids::{Cusip, MemberNo};
-use cns_movements::{Ask, Asked, MoveKind};
+ghost use Rattle.std.specs.Prelude.{◌≤◌};
+
+use cns_ids::{Cusip, CycleId, CycleKind, Day, MemberNo, Quantity, Shares};
+use cns_movements::{Ask, Asked, MoveKind, MoveNo, Order, Reply};
+use cns_trades::{Trade, TradeId};
 use std::alloc::Global;
 use std::fmt::{Debug, Display};
 use std::process::Abort;
-use std::test::Fail;
 
 pub(crate) fn assert_same<T: PartialEq + Debug>(rt: &impl Abort, got: &T, wanted: &T) {
     assert!(rt; got == wanted, "{got:?} and not {wanted:?}");
 }
 
-pub(crate) fn assert_prints(
-    rt: &impl Abort,
-    alloc: Global,
-    value: &impl Display,
-    wanted: &str,
-) -> Result<(), Fail> {
-    let text = value.to_string(alloc)?;
+pub(crate) fn assert_prints(rt: &impl Abort, alloc: Global, value: &impl Display, wanted: &str) {
+    let text = value.to_string(alloc).expect(rt, "memory");
     assert_same(rt, &text.as_str(), &wanted);
-    Ok(())
 }
 
-pub(crate) fn member(number: u16) -> Result<MemberNo, Fail> {
-    Ok(MemberNo::new(number).ok_or("a member's number")?)
+pub(crate) fn member_of(rt: &impl Abort, number: u16) -> MemberNo {
+    MemberNo::new(number).expect(rt, "a member's number")
+}
+
+pub(crate) fn issue_of(rt: &impl Abort, code: &[u8]) -> Cusip {
+    Cusip::read(code).expect(rt, "an issue")
 }
 
 // The issue that stands first.
-pub(crate) fn low_issue() -> Result<Cusip, Fail> {
-    Ok(Cusip::read(b"037833100")?)
+pub(crate) fn low_issue(rt: &impl Abort) -> Cusip {
+    issue_of(rt, b"037833100")
 }
 
-pub(crate) fn high_issue() -> Result<Cusip, Fail> {
-    Ok(Cusip::read(b"17275R102")?)
+pub(crate) fn high_issue(rt: &impl Abort) -> Cusip {
+    issue_of(rt, b"17275R102")
 }
 
-pub(crate) fn ask(kind: MoveKind, issue: Cusip, number: u16, count: u64) -> Result<Ask, Fail> {
-    Ok(Ask {
+pub(crate) fn shares_of(rt: &impl Abort, count: u64) -> Shares {
+    Shares::new(count).expect(rt, "a count of shares")
+}
+
+pub(crate) fn asked_of(rt: &impl Abort, count: u64) -> Asked {
+    Asked::new(count).expect(rt, "shares that are asked for")
+}
+
+pub(crate) fn number_of(rt: &impl Abort, number: u64) -> MoveNo {
+    MoveNo::new(number).expect(rt, "a movement's number")
+}
+
+pub(crate) fn day_of(rt: &impl Abort, text: &[u8]) -> Day {
+    Day::read(text).expect(rt, "a day")
+}
+
+pub(crate) fn cycle_of(rt: &impl Abort, day: &[u8], kind: CycleKind) -> CycleId {
+    let day = day_of(rt, day);
+    CycleId { day, kind }
+}
+
+pub(crate) fn reply_of(rt: &impl Abort, number: u64, moved: u64) -> Reply {
+    let (number, moved) = (number_of(rt, number), shares_of(rt, moved));
+    Reply { number, moved }
+}
+
+// What is asked for: its kind, its member and its shares.
+pub(crate) type Asking = (MoveKind, u16, u64);
+
+pub(crate) fn ask_of(rt: &impl Abort, issue: Cusip, (kind, member, count): Asking) -> Ask {
+    let (member, asked) = (member_of(rt, member), asked_of(rt, count));
+    Ask {
         kind,
-        member: member(number)?,
+        member,
         issue,
-        asked: Asked::new(count).ok_or("shares that are asked for")?,
-    })
+        asked,
+    }
+}
+
+// What is asked for, with whether it is of the low issue or of the high one.
+pub(crate) type AskedIn = (bool, Asking);
+
+pub(crate) fn issue_in(rt: &impl Abort, in_low: bool) -> Cusip {
+    if in_low {
+        low_issue(rt)
+    } else {
+        high_issue(rt)
+    }
+}
+
+pub(crate) fn asks_of(rt: &impl Abort, alloc: Global, asked: &[AskedIn]) -> Vec<Ask> {
+    let mut asks = Vec::new(alloc);
+    for (in_low, asking) in asked {
+        let ask = ask_of(rt, issue_in(rt, *in_low), *asking);
+        asks.push(ask).expect(rt, "memory");
+    }
+    asks
+}
+
+// The order of this number for what is asked for in the low issue.
+pub(crate) fn order_of(rt: &impl Abort, number: u64, asking: Asking) -> Order {
+    let ask = ask_of(rt, low_issue(rt), asking);
+    Order {
+        number: number_of(rt, number),
+        kind: ask.kind,
+        member: ask.member,
+        issue: ask.issue,
+        asked: ask.asked,
+    }
+}
+
+// A trade: its name, its buyer, its seller and its shares.
+pub(crate) type Deal = (&'static [u8], u16, u16, u64);
+
+// The trade of 4 March 2025.
+pub(crate) fn trade_of(rt: &impl Abort, issue: Cusip, deal: Deal) -> Trade
+    ensures { result.quantity ≤ 999999999999 }
+{
+    let (id, buyer, seller, count) = deal;
+    let quantity = Quantity::new(count).expect(rt, "a quantity");
+    let _ = quantity.shares();
+    Trade {
+        id: TradeId::read(id).expect(rt, "a trade's name"),
+        settle: day_of(rt, b"2025-03-04"),
+        buyer: member_of(rt, buyer),
+        seller: member_of(rt, seller),
+        issue,
+        quantity,
+    }
 }

@@ -3,54 +3,29 @@ ghost use Rattle.cns_netting.specs.Book.{QuantitiesFit};
 ghost use Rattle.cns_netting.specs.History.{accepted};
 ghost use Rattle.cns_covers.specs.Covers.{IsUnsettled};
 
-use crate::common::{ask, high_issue, low_issue, member};
-use cns_covers::{Exempted, Exemptions, Priorities, covers};
-use cns_ids::{Cusip, Day, Quantity, Shares};
+use crate::common::{
+    AskedIn, asks_of, assert_same, day_of, high_issue, issue_in, low_issue, member_of, shares_of,
+    trade_of,
+};
+use cns_covers::{Exemptions, Priorities, covers};
+use cns_ids::{Cusip, Day};
 use cns_movements::{Ask, MoveKind, OrderBook};
 use cns_netting::NetBook;
-use cns_trades::{Trade, TradeId};
-use std::alloc::Global;
-use std::test::Fail;
-
-fn shares(count: u64) -> Result<Shares, Fail> {
-    Ok(Shares::new(count).ok_or("shares")?)
-}
-
-fn exempt(issue: Cusip, number: u16, count: u64) -> Result<Exempted, Fail> {
-    Ok(Exempted {
-        member: member(number)?,
-        issue,
-        shares: shares(count)?,
-    })
-}
-
-fn trade(id: &[u8], buyer: u16, seller: u16, issue: Cusip, count: u64) -> Result<Trade, Fail>
-    ensures { IfOk result (λ trade. trade.quantity ≤ 999999999999) }
-{
-    let quantity = Quantity::new(count).ok_or("quantity")?;
-    let _ = quantity.shares();
-    Ok(Trade {
-        id: TradeId::read(id)?,
-        settle: Day::read(b"2025-03-04")?,
-        buyer: member(buyer)?,
-        seller: member(seller)?,
-        issue,
-        quantity,
-    })
-}
+use std::alloc::{AllocError, Global};
+use std::process::Abort;
 
 // Member 3 buys 50 from member 1 and member 1 buys 10 from member 2 in the high issue, and member 2
 // buys 60 from member 1 in the low one: member 1 is short of 60 and 40, member 2 of 10.
-fn three_trades(alloc: Global) -> Result<NetBook, Fail>
+fn three_trades(rt: &impl Abort, alloc: Global) -> Result<NetBook, AllocError>
     ensures few { IfOk result (λ book. length (accepted book.history) ≤ 1000000) }
     ensures quantities { IfOk result (λ book. QuantitiesFit book.history) }
     ensures unsettled { IfOk result (λ book. IsUnsettled book.history) }
 {
-    let first = trade(b"A1", 1, 2, high_issue()?, 10)?;
-    let second = trade(b"A2", 3, 1, high_issue()?, 50)?;
-    let third = trade(b"A3", 2, 1, low_issue()?, 60)?;
+    let first = trade_of(rt, high_issue(rt), (b"A1", 1, 2, 10));
+    let second = trade_of(rt, high_issue(rt), (b"A2", 3, 1, 50));
+    let third = trade_of(rt, low_issue(rt), (b"A3", 2, 1, 60));
     if second.id == first.id || third.id == first.id || third.id == second.id {
-        Err("two trades have one id")?;
+        panic!(rt; "two trades have one id");
     }
     let mut book = NetBook::new(alloc);
     book.accept(first)?;
@@ -59,101 +34,157 @@ fn three_trades(alloc: Global) -> Result<NetBook, Fail>
     Ok(book)
 }
 
+// An exemption: whether it is of the low issue or of the high one, its member and its shares.
+type Exempted = (bool, u16, u64);
+
+fn exemptions_of(rt: &impl Abort, alloc: Global, exempted: &[Exempted]) -> Exemptions {
+    let mut exemptions = Exemptions::new(alloc);
+    for (in_low, member, count) in exempted {
+        let (issue, member) = (issue_in(rt, *in_low), member_of(rt, *member));
+        let room = exemptions.set_room(member, issue, shares_of(rt, *count));
+        room.expect(rt, "memory");
+        let set = exemptions.set(member, issue, shares_of(rt, *count));
+        set.expect(rt, "memory");
+    }
+    exemptions
+}
+
 // What a cycle of this date would cover after these exemptions and orders.
 #[tactic(auto, using(cns_covers::proofs::CoverLemmas::shorts_fit_netted))]
 fn covers_after(
+    rt: &impl Abort,
     alloc: Global,
     day: Day,
-    exempted: &[Exempted],
+    exemptions: &Exemptions,
     issued: &[Ask],
-) -> Result<Vec<Ask>, Fail> {
-    let book = three_trades(alloc)?;
-    let mut exemptions = Exemptions::new(alloc);
-    for exemption in exempted {
-        let (member, issue) = (exemption.member, exemption.issue);
-        exemptions.set_room(member, issue, exemption.shares)?;
-        exemptions.set(member, issue, exemption.shares)?;
-    }
+) -> Result<Vec<Ask>, AllocError> {
+    let book = three_trades(rt, alloc)?;
     let mut orders = OrderBook::new(alloc);
-    orders.issue(issued)?;
-    Ok(covers(alloc, &book, day, &orders, &exemptions)?)
+    orders.issue(issued).expect(rt, "orders");
+    covers(alloc, &book, day, &orders, exemptions)
+}
+
+// The date of a cycle, the exemptions and orders before it, and the covers that it would ask for.
+type Case = (
+    &'static [u8],
+    &'static [Exempted],
+    &'static [AskedIn],
+    &'static [AskedIn],
+);
+
+static CASES: [Case; 4] = [
+    (b"2025-03-03", &[], &[], &[]),
+    // Covers are due shorts, by issue and then member.
+    (
+        b"2025-03-04",
+        &[],
+        &[],
+        &[
+            (true, (MoveKind::Cover, 1, 60)),
+            (false, (MoveKind::Cover, 1, 40)),
+            (false, (MoveKind::Cover, 2, 10)),
+        ],
+    ),
+    // Exemptions cover a part, all, or more.
+    (
+        b"2025-03-04",
+        &[(true, 1, 25), (false, 1, 40), (false, 2, 100)],
+        &[],
+        &[(true, (MoveKind::Cover, 1, 35))],
+    ),
+    // A delivery and the cover of a member that is long take nothing off.
+    (
+        b"2025-03-04",
+        &[(true, 1, 25)],
+        &[
+            (true, (MoveKind::Cover, 1, 35)),
+            (false, (MoveKind::Delivery, 1, 5)),
+            (false, (MoveKind::Cover, 3, 7)),
+            (false, (MoveKind::Cover, 2, 4)),
+        ],
+        &[
+            (false, (MoveKind::Cover, 1, 40)),
+            (false, (MoveKind::Cover, 2, 6)),
+        ],
+    ),
+];
+
+fn see(rt: &impl Abort, alloc: Global, case: &Case) {
+    let (day, exempted, issued, wanted) = *case;
+    let exemptions = exemptions_of(rt, alloc, exempted);
+    let (issued, wanted) = (asks_of(rt, alloc, issued), asks_of(rt, alloc, wanted));
+    let asks = covers_after(rt, alloc, day_of(rt, day), &exemptions, issued.as_slice());
+    let asks = asks.expect(rt, "memory");
+    assert_same(rt, &asks.as_slice(), &wanted.as_slice());
+    drop((exemptions, issued, wanted, asks));
 }
 
 #[test]
-fn covers_are_due_shorts_by_issue_then_member(rt: HostRuntime) -> Result<(), Fail> {
-    let before = covers_after(rt.alloc(), Day::read(b"2025-03-03")?, &[], &[])?;
-    assert_eq!(rt; before.len(), 0);
-    let asks = covers_after(rt.alloc(), Day::read(b"2025-03-04")?, &[], &[])?;
-    let low = ask(MoveKind::Cover, low_issue()?, 1, 60)?;
-    let high = ask(MoveKind::Cover, high_issue()?, 1, 40)?;
-    let last = ask(MoveKind::Cover, high_issue()?, 2, 10)?;
-    assert_eq!(rt; asks.as_slice(), [low, high, last].as_slice());
-    Ok(())
+fn covers_of_a_cycle(rt: HostRuntime) {
+    for case in &CASES {
+        see(&rt, rt.alloc(), case);
+    }
+}
+
+// Exemptions that are set, and what is exempt then.
+static SETTINGS: [(&[Exempted], &[Exempted]); 2] = [
+    (
+        &[(true, 1, 25), (true, 2, 7), (false, 1, 8)],
+        &[(true, 1, 25), (true, 2, 7), (false, 1, 8), (false, 2, 0)],
+    ),
+    // It stands until it is replaced.
+    (
+        &[(true, 1, 25), (true, 2, 7), (true, 1, 30), (true, 2, 0)],
+        &[(true, 1, 30), (true, 2, 0), (false, 1, 0)],
+    ),
+];
+
+fn see_exempted(rt: &impl Abort, exemptions: &Exemptions, wanted: &[Exempted]) {
+    for (in_low, member, count) in wanted {
+        let exempted = exemptions.get(member_of(rt, *member), issue_in(rt, *in_low));
+        assert_same(rt, &exempted.count(), count);
+    }
 }
 
 #[test]
-fn exemptions_cover_a_part_all_or_more(rt: HostRuntime) -> Result<(), Fail> {
-    let exempted = [
-        exempt(low_issue()?, 1, 25)?,
-        exempt(high_issue()?, 1, 40)?,
-        exempt(high_issue()?, 2, 100)?,
-    ];
-    let asks = covers_after(rt.alloc(), Day::read(b"2025-03-04")?, &exempted, &[])?;
-    let low = ask(MoveKind::Cover, low_issue()?, 1, 35)?;
-    assert_eq!(rt; asks.as_slice(), [low].as_slice());
-    Ok(())
+fn an_exemption_stands_until_it_is_replaced(rt: HostRuntime) {
+    for (exempted, wanted) in &SETTINGS {
+        let exemptions = exemptions_of(&rt, rt.alloc(), exempted);
+        see_exempted(&rt, &exemptions, wanted);
+        drop(exemptions);
+    }
 }
 
-// A delivery and the cover of a member that is long take nothing off.
-#[test]
-fn open_covers_are_not_ordered_again(rt: HostRuntime) -> Result<(), Fail> {
-    let exempted = [exempt(low_issue()?, 1, 25)?];
-    let issued = [
-        ask(MoveKind::Cover, low_issue()?, 1, 35)?,
-        ask(MoveKind::Delivery, high_issue()?, 1, 5)?,
-        ask(MoveKind::Cover, high_issue()?, 3, 7)?,
-        ask(MoveKind::Cover, high_issue()?, 2, 4)?,
-    ];
-    let asks = covers_after(rt.alloc(), Day::read(b"2025-03-04")?, &exempted, &issued)?;
-    let high = ask(MoveKind::Cover, high_issue()?, 1, 40)?;
-    let last = ask(MoveKind::Cover, high_issue()?, 2, 6)?;
-    assert_eq!(rt; asks.as_slice(), [high, last].as_slice());
-    Ok(())
-}
+// A priority that is set or taken back, and the members that then have one: 1 and 2 in the low issue, and
+// in the high one.
+static PRIORITIES: [((bool, u16, bool), [bool; 4]); 4] = [
+    ((true, 1, true), [true, false, false, false]),
+    ((false, 2, true), [true, false, false, true]),
+    ((false, 2, false), [true, false, false, false]),
+    ((true, 1, false), [false, false, false, false]),
+];
 
-#[test]
-fn an_exemption_stands_until_it_is_replaced(rt: HostRuntime) -> Result<(), Fail> {
-    let (low, high) = (low_issue()?, high_issue()?);
-    let mut exemptions = Exemptions::new(rt.alloc());
-    assert_eq!(rt; exemptions.get(member(1)?, low).count(), 0);
-    exemptions.set(member(1)?, low, shares(25)?)?;
-    exemptions.set(member(2)?, low, shares(7)?)?;
-    exemptions.set(member(1)?, high, shares(8)?)?;
-    assert_eq!(rt; exemptions.get(member(1)?, low).count(), 25);
-    exemptions.set(member(1)?, low, shares(30)?)?;
-    assert_eq!(rt; exemptions.get(member(1)?, low).count(), 30);
-    exemptions.set(member(1)?, low, shares(0)?)?;
-    assert_eq!(rt; exemptions.get(member(1)?, low).count(), 0);
-    assert_eq!(rt; exemptions.get(member(2)?, low).count(), 7);
-    assert_eq!(rt; exemptions.get(member(1)?, high).count(), 8);
-    assert_eq!(rt; exemptions.get(member(2)?, high).count(), 0);
-    Ok(())
+fn prioritized(rt: &impl Abort, priorities: &Priorities) -> [bool; 4] {
+    let (low, high) = (low_issue(rt), high_issue(rt));
+    let (one, two) = (member_of(rt, 1), member_of(rt, 2));
+    [
+        priorities.get(one, low),
+        priorities.get(two, low),
+        priorities.get(one, high),
+        priorities.get(two, high),
+    ]
 }
 
 #[test]
-fn a_priority_stands_until_it_is_set_again(rt: HostRuntime) -> Result<(), Fail> {
-    let (low, high) = (low_issue()?, high_issue()?);
+fn a_priority_stands_until_it_is_set_again(rt: HostRuntime) {
     let mut priorities = Priorities::new(rt.alloc());
-    assert!(rt; !priorities.get(member(1)?, low));
-    priorities.set_room(member(1)?, low, true)?;
-    priorities.set(member(1)?, low, true)?;
-    priorities.set(member(2)?, high, true)?;
-    priorities.set(member(2)?, high, false)?;
-    assert!(rt; priorities.get(member(1)?, low));
-    assert!(rt; !priorities.get(member(1)?, high));
-    assert!(rt; !priorities.get(member(2)?, low));
-    assert!(rt; !priorities.get(member(2)?, high));
-    priorities.set(member(1)?, low, false)?;
-    assert!(rt; !priorities.get(member(1)?, low));
-    Ok(())
+    for ((in_low, member, on), wanted) in &PRIORITIES {
+        let (issue, member) = (issue_in(&rt, *in_low), member_of(&rt, *member));
+        priorities
+            .set_room(member, issue, *on)
+            .expect(&rt, "memory");
+        priorities.set(member, issue, *on).expect(&rt, "memory");
+        assert_same(&rt, &prioritized(&rt, &priorities), wanted);
+    }
+    drop(priorities);
 }

@@ -1,144 +1,161 @@
+use crate::common::{assert_prints, assert_same, cycle_of, day_of, issue_of, member_of};
 use cns_ids::{
     BadDate, Cusip, CusipFault, CycleId, CycleKind, Day, MemberNo, Quantity, ReadFault, Shares,
     read_number, read_quantity,
 };
-use std::test::Fail;
+use std::process::Abort;
 
-#[test]
-fn cusips(rt: HostRuntime) {
-    for text in [b"037833100", b"17275R102", b"000000000"] {
-        assert_eq!(rt; Cusip::read(text).map(|cusip| cusip.to_bytes()), Ok(*text));
-    }
-    let faults: [(&[u8], CusipFault); 5] = [
-        (b"037833101", CusipFault::CheckDigit { want: 0 }),
-        (b"03783310", CusipFault::Length),
-        (b"03783a100", CusipFault::BadChar { place: 6 }),
-        (b"03783310A", CusipFault::BadChar { place: 9 }),
-        (b"", CusipFault::Length),
-    ];
-    for (text, fault) in faults {
-        assert_eq!(rt; Cusip::read(text), Err(fault));
+static CUSIPS: [(&[u8], Option<CusipFault>); 8] = [
+    (b"037833100", None),
+    (b"17275R102", None),
+    (b"000000000", None),
+    (b"037833101", Some(CusipFault::CheckDigit { want: 0 })),
+    (b"03783310", Some(CusipFault::Length)),
+    (b"03783a100", Some(CusipFault::BadChar { place: 6 })),
+    (b"03783310A", Some(CusipFault::BadChar { place: 9 })),
+    (b"", Some(CusipFault::Length)),
+];
+
+// Whether a text has this fault, or is read as it stands where there is none.
+fn is_read(text: &[u8], fault: Option<CusipFault>) -> bool {
+    match Cusip::read(text) {
+        Ok(cusip) => fault.is_none() && cusip.to_bytes().as_slice() == text,
+        Err(told) => fault == Some(told),
     }
 }
 
 #[test]
-fn cusips_stand_in_the_order_of_their_bytes(rt: HostRuntime) -> Result<(), Fail> {
-    let low = Cusip::read(b"037833100")?;
-    let high = Cusip::read(b"17275R102")?;
+fn cusips(rt: HostRuntime) {
+    for (text, fault) in &CUSIPS {
+        assert!(rt; is_read(text, *fault), "{fault:?}");
+    }
+    let (low, high) = (issue_of(&rt, b"037833100"), issue_of(&rt, b"17275R102"));
     assert!(rt; low < high);
-    assert_eq!(rt; low.to_string(rt.alloc())?.as_str(), "037833100");
-    Ok(())
+    assert_prints(&rt, rt.alloc(), &low, "037833100");
+}
+
+type Count = Result<u64, ReadFault>;
+
+const NO_NUMBER: Count = Err(ReadFault::BadNumber);
+
+const OUT_OF_RANGE: Count = Err(ReadFault::OutOfRange);
+
+// Texts of numbers from 1 to 100, and of those that have 64 bits.
+static NUMBERS: [(&[u8], Count); 9] = [
+    (b"", NO_NUMBER),
+    (b"12x", NO_NUMBER),
+    (b"+1", NO_NUMBER),
+    (b"0", OUT_OF_RANGE),
+    (b"1", Ok(1)),
+    (b"000000000000000000000000000000000000000000007", Ok(7)),
+    (b"100", Ok(100)),
+    (b"101", OUT_OF_RANGE),
+    (
+        b"99999999999999999999999999999999999999999999999999",
+        OUT_OF_RANGE,
+    ),
+];
+
+static LONG_NUMBERS: [(&[u8], Count); 2] = [
+    (b"18446744073709551615", Ok(u64::MAX)),
+    (b"18446744073709551616", OUT_OF_RANGE),
+];
+
+fn assert_numbers(rt: &impl Abort, cases: &[(&[u8], Count)], low: u64, high: u64) {
+    for (text, wanted) in cases {
+        assert_same(rt, &read_number(text, low, high), wanted);
+    }
 }
 
 #[test]
 fn numbers(rt: HostRuntime) {
-    let cases: [(&[u8], Result<u64, ReadFault>); 9] = [
-        (b"", Err(ReadFault::BadNumber)),
-        (b"12x", Err(ReadFault::BadNumber)),
-        (b"+1", Err(ReadFault::BadNumber)),
-        (b"0", Err(ReadFault::OutOfRange)),
-        (b"1", Ok(1)),
-        (b"000000000000000000000000000000000000000000007", Ok(7)),
-        (b"100", Ok(100)),
-        (b"101", Err(ReadFault::OutOfRange)),
-        (
-            b"99999999999999999999999999999999999999999999999999",
-            Err(ReadFault::OutOfRange),
-        ),
-    ];
-    for (text, want) in cases {
-        assert_eq!(rt; read_number(text, 1, 100), want);
-    }
-    assert_eq!(rt;
-        read_number(b"18446744073709551615", 0, u64::MAX),
-        Ok(u64::MAX)
-    );
-    assert_eq!(rt;
-        read_number(b"18446744073709551616", 0, u64::MAX),
-        Err(ReadFault::OutOfRange)
-    );
+    assert_numbers(&rt, &NUMBERS, 1, 100);
+    assert_numbers(&rt, &LONG_NUMBERS, 0, u64::MAX);
 }
+
+static QUANTITIES: [(&[u8], Count); 3] = [
+    (b"999999999999", Ok(999_999_999_999)),
+    (b"1000000000000", OUT_OF_RANGE),
+    (b"0", OUT_OF_RANGE),
+];
+
+static SHARES: [(&[u8], Count); 2] = [
+    (b"1000000000000000000", Ok(Shares::MAX)),
+    (b"1000000000000000001", OUT_OF_RANGE),
+];
 
 #[test]
 fn counts(rt: HostRuntime) {
-    assert_eq!(rt;
-        read_quantity(b"999999999999").map(|quantity| quantity.shares()),
-        Ok(999_999_999_999)
-    );
-    assert_eq!(rt; read_quantity(b"1000000000000"), Err(ReadFault::OutOfRange));
-    assert_eq!(rt; read_quantity(b"0"), Err(ReadFault::OutOfRange));
-    assert_eq!(rt;
-        Shares::read(b"1000000000000000000").map(|shares| shares.count()),
-        Ok(Shares::MAX)
-    );
-    assert_eq!(rt;
-        Shares::read(b"1000000000000000001"),
-        Err(ReadFault::OutOfRange)
-    );
-    assert_eq!(rt; Shares::new(Shares::MAX + 1), None);
-    assert_eq!(rt; Quantity::new(0), None);
-    assert_eq!(rt; Quantity::new(5).map(|quantity| quantity.shares()), Some(5));
-}
-
-#[test]
-fn members(rt: HostRuntime) -> Result<(), Fail> {
-    let member = MemberNo::read(b"0042")?;
-    assert_eq!(rt; member.number(), 42);
-    assert_eq!(rt; member.to_string(rt.alloc())?.as_str(), "0042");
-    assert_eq!(rt;
-        MemberNo::new(9999).map(|member| member.number()),
-        Some(9999)
-    );
-    assert_eq!(rt; MemberNo::new(0), None);
-    assert_eq!(rt; MemberNo::read(b"10000"), Err(ReadFault::OutOfRange));
-    Ok(())
-}
-
-#[test]
-fn days(rt: HostRuntime) -> Result<(), Fail> {
-    let day = Day::read(b"2024-02-29")?;
-    assert_eq!(rt; day.number(), 20_240_229);
-    assert_eq!(rt; day.to_string(rt.alloc())?.as_str(), "2024-02-29");
-    let bad: [&[u8]; 8] = [
-        b"2025-02-29",
-        b"2100-02-29",
-        b"1899-12-31",
-        b"2200-01-01",
-        b"2025-13-01",
-        b"2025-00-10",
-        b"2025-3-04",
-        b"20250304",
-    ];
-    for text in bad {
-        assert_eq!(rt; Day::read(text), Err(BadDate));
+    for (text, wanted) in &QUANTITIES {
+        let read = read_quantity(text).map(|quantity| quantity.shares());
+        assert_same(&rt, &read, wanted);
     }
-    assert_eq!(rt;
-        Day::new(1900, 1, 1).map(|day| day.number()),
-        Ok(19_000_101)
-    );
-    Ok(())
+    for (text, wanted) in &SHARES {
+        let read = Shares::read(text).map(|shares| shares.count());
+        assert_same(&rt, &read, wanted);
+    }
+    assert!(rt; Shares::new(Shares::MAX + 1).is_none() && Quantity::new(0).is_none());
+    let five = Quantity::new(5).map(|quantity| quantity.shares());
+    assert_same(&rt, &five, &Some(5));
+}
+
+static MEMBERS: [(&[u8], Result<u16, ReadFault>); 3] = [
+    (b"0042", Ok(42)),
+    (b"9999", Ok(9999)),
+    (b"10000", Err(ReadFault::OutOfRange)),
+];
+
+#[test]
+fn members(rt: HostRuntime) {
+    for (text, wanted) in &MEMBERS {
+        let read = MemberNo::read(text).map(|member| member.number());
+        assert_same(&rt, &read, wanted);
+    }
+    let last = MemberNo::new(9999).map(|member| member.number());
+    assert!(rt; last == Some(9999) && MemberNo::new(0).is_none());
+    assert_prints(&rt, rt.alloc(), &member_of(&rt, 42), "0042");
+}
+
+static NO_DAYS: [&[u8]; 8] = [
+    b"2025-02-29",
+    b"2100-02-29",
+    b"1899-12-31",
+    b"2200-01-01",
+    b"2025-13-01",
+    b"2025-00-10",
+    b"2025-3-04",
+    b"20250304",
+];
+
+#[test]
+fn days(rt: HostRuntime) {
+    let day = day_of(&rt, b"2024-02-29");
+    assert_same(&rt, &day.number(), &20_240_229);
+    assert_prints(&rt, rt.alloc(), &day, "2024-02-29");
+    for text in &NO_DAYS {
+        assert_same(&rt, &Day::read(text), &Err(BadDate));
+    }
+    let first = Day::new(1900, 1, 1).map(|day| day.number());
+    assert_same(&rt, &first, &Ok(19_000_101));
+}
+
+// Whether each of these cycles is after those before it, and after no other.
+fn are_in_order(cycles: &[CycleId]) -> bool {
+    for (place, cycle) in cycles.iter().enumerate() {
+        for (other_place, other) in cycles.iter().enumerate() {
+            if cycle.is_after(*other) != (other_place < place) {
+                return false;
+            }
+        }
+    }
+    true
 }
 
 #[test]
-fn cycles(rt: HostRuntime) -> Result<(), Fail> {
-    let monday = Day::read(b"2025-03-03")?;
-    let tuesday = Day::read(b"2025-03-04")?;
-    let night = CycleId {
-        day: monday,
-        kind: CycleKind::Night,
-    };
-    let day = CycleId {
-        day: monday,
-        kind: CycleKind::Day,
-    };
-    let next = CycleId {
-        day: tuesday,
-        kind: CycleKind::Night,
-    };
-    assert!(rt; day.is_after(night));
-    assert!(rt; next.is_after(day));
-    assert!(rt; !night.is_after(day));
-    assert!(rt; !day.is_after(day));
-    assert_eq!(rt; CycleKind::Night.to_string(rt.alloc())?.as_str(), "NIGHT");
-    Ok(())
+fn cycles(rt: HostRuntime) {
+    let night = cycle_of(&rt, b"2025-03-03", CycleKind::Night);
+    let day = cycle_of(&rt, b"2025-03-03", CycleKind::Day);
+    let next = cycle_of(&rt, b"2025-03-04", CycleKind::Night);
+    assert!(rt; are_in_order(&[night, day, next]));
+    assert_prints(&rt, rt.alloc(), &CycleKind::Night, "NIGHT");
 }

@@ -1,60 +1,46 @@
-use crate::common::assert_same;
-use cns_ids::{Cusip, Day, MemberNo, Quantity};
+use crate::common::{Deal, assert_same, day_of, issue_of, low_issue, trade_of};
+use cns_ids::{Cusip, Day};
 use cns_netting::{NetBook, PositionRow};
-use cns_trades::{Trade, TradeId};
+use cns_trades::Trade;
 use std::alloc::{AllocError, Global};
 use std::process::Abort;
-use std::test::Fail;
 
-fn assert_rows(
-    rt: &impl Abort,
-    rows: Result<Vec<PositionRow>, AllocError>,
-    wanted: &[PositionRow],
-) -> Result<(), Fail> {
-    let rows = rows?;
-    assert_same(rt, &rows.as_slice(), &wanted);
-    Ok(())
+// Member 2 buys 100 shares from member 1, and sells 40 to it.
+const FIRST: Deal = (b"A1", 2, 1, 100);
+
+const SECOND: Deal = (b"A2", 1, 2, 40);
+
+// A position: its member's number, and its shares.
+type Held = (u16, i128);
+
+// Whether the rows of an issue are these positions.
+fn are_held(rows: &[PositionRow], issue: Cusip, wanted: &[Held]) -> bool {
+    if rows.len() != wanted.len() {
+        return false;
+    }
+    for (row, held) in rows.iter().zip(wanted) {
+        if row.issue != issue || (row.member.number(), row.position) != *held {
+            return false;
+        }
+    }
+    true
+}
+
+type Rows = Result<Vec<PositionRow>, AllocError>;
+
+fn assert_rows(rt: &impl Abort, rows: Rows, issue: Cusip, wanted: &[Held]) {
+    let rows = rows.expect(rt, "memory");
+    assert!(rt; are_held(rows.as_slice(), issue, wanted));
+    drop(rows);
 }
 
 // Nets the trades that are due on a day, which are so many.
-fn assert_due(rt: &impl Abort, book: &mut NetBook, day: Day, wanted: u64) -> Result<(), Fail> {
-    book.net_room(day)?;
-    let count = book.net(day)?;
-    assert_same(rt, &(day, count), &(day, wanted));
-    Ok(())
+fn assert_due(rt: &impl Abort, book: &mut NetBook, day: Day, wanted: u64) {
+    book.net_room(day).expect(rt, "memory");
+    assert!(rt; book.net(day) == Ok(wanted), "{wanted} are due");
 }
 
-fn row(issue: Cusip, member: MemberNo, position: i128) -> PositionRow {
-    PositionRow {
-        issue,
-        member,
-        position,
-    }
-}
-
-// A trade of 100 shares that member 2 buys from member 1, and one of 40 the other way round.
-fn two_trades() -> Result<(Trade, Trade), Fail> {
-    let issue = Cusip::read(b"037833100")?;
-    let settle = Day::read(b"2025-03-04")?;
-    let first = Trade {
-        id: TradeId::read(b"A1")?,
-        settle,
-        buyer: MemberNo::read(b"2")?,
-        seller: MemberNo::read(b"1")?,
-        issue,
-        quantity: Quantity::new(100).ok_or("quantity")?,
-    };
-    let second = Trade {
-        id: TradeId::read(b"A2")?,
-        buyer: first.seller,
-        seller: first.buyer,
-        quantity: Quantity::new(40).ok_or("quantity")?,
-        ..first
-    };
-    Ok((first, second))
-}
-
-fn book_of(alloc: Global, first: &Trade, second: &Trade) -> Result<NetBook, Fail> {
+fn book_of(alloc: Global, first: &Trade, second: &Trade) -> Result<NetBook, AllocError> {
     let mut book = NetBook::new(alloc);
     book.accept_room(*first)?;
     book.accept(*first)?;
@@ -64,52 +50,65 @@ fn book_of(alloc: Global, first: &Trade, second: &Trade) -> Result<NetBook, Fail
     Ok(book)
 }
 
-#[test]
-fn trades_before_they_are_netted(rt: HostRuntime) -> Result<(), Fail> {
-    let (first, second) = two_trades()?;
-    let day_before = Day::read(b"2025-03-03")?;
-    let book = book_of(rt.alloc(), &first, &second)?;
-    let (issue, one, two) = (first.issue, first.seller, first.buyer);
-    let netted = [row(issue, one, -60), row(issue, two, 60)];
-    assert_rows(&rt, book.rows(), &[])?;
-    assert_rows(&rt, book.rows_at(day_before), &[])?;
-    assert_rows(&rt, book.rows_at(first.settle), &netted)?;
-    assert_same(&rt, &book.position(two, issue), &0);
-    Ok(())
+// A book of both trades, the second one in this issue.
+fn book_in(rt: &impl Abort, alloc: Global, issue: Cusip) -> NetBook {
+    let first = trade_of(rt, low_issue(rt), FIRST);
+    let second = trade_of(rt, issue, SECOND);
+    book_of(alloc, &first, &second).expect(rt, "memory")
 }
 
+static NETTED: [Held; 2] = [(1, -60), (2, 60)];
+
 #[test]
-fn due_trades_net_to_one_position(rt: HostRuntime) -> Result<(), Fail> {
-    let (first, second) = two_trades()?;
-    let day_before = Day::read(b"2025-03-03")?;
-    let mut book = book_of(rt.alloc(), &first, &second)?;
-    for (day, due) in [(day_before, 0), (first.settle, 2), (first.settle, 0)] {
-        assert_due(&rt, &mut book, day, due)?;
+fn due_trades_net_to_one_position(rt: HostRuntime) {
+    let issue = low_issue(&rt);
+    let (before, settle) = (day_of(&rt, b"2025-03-03"), day_of(&rt, b"2025-03-04"));
+    let mut book = book_in(&rt, rt.alloc(), issue);
+    assert_rows(&rt, book.rows(), issue, &[]);
+    assert_rows(&rt, book.rows_at(before), issue, &[]);
+    assert_rows(&rt, book.rows_at(settle), issue, &NETTED);
+    for (day, due) in [(before, 0), (settle, 2), (settle, 0)] {
+        assert_due(&rt, &mut book, day, due);
     }
-    let (issue, one, two) = (first.issue, first.seller, first.buyer);
-    let netted = [row(issue, one, -60), row(issue, two, 60)];
-    assert_rows(&rt, book.rows(), &netted)?;
-    assert_same(&rt, &book.position(one, issue), &-60);
-    assert_same(&rt, &book.longs(issue), &60);
-    assert_same(&rt, &book.shorts(issue), &60);
-    Ok(())
+    assert_rows(&rt, book.rows(), issue, &NETTED);
+    assert_same(&rt, &(book.longs(issue), book.shorts(issue)), &(60, 60));
+    drop(book);
 }
 
 #[test]
-fn rows_in_an_issue(rt: HostRuntime) -> Result<(), Fail> {
-    let (first, mut second) = two_trades()?;
-    second.issue = Cusip::read(b"594918104")?;
-    let other = Cusip::read(b"459200101")?;
-    let mut book = book_of(rt.alloc(), &first, &second)?;
-    book.net(first.settle)?;
-    let (low, high) = (first.issue, second.issue);
-    let (one, two) = (first.seller, first.buyer);
-    let in_low = [row(low, one, -100), row(low, two, 100)];
-    let in_high = [row(high, one, 40), row(high, two, -40)];
-    let all = [in_low[0], in_low[1], in_high[0], in_high[1]];
-    assert_rows(&rt, book.rows(), &all)?;
-    assert_rows(&rt, book.rows_in(low), &in_low)?;
-    assert_rows(&rt, book.rows_in(high), &in_high)?;
-    assert_rows(&rt, book.rows_in(other), &[])?;
-    Ok(())
+fn positions_of_members(rt: HostRuntime) {
+    let issue = low_issue(&rt);
+    let trade = trade_of(&rt, issue, FIRST);
+    let mut book = book_in(&rt, rt.alloc(), issue);
+    assert_same(&rt, &book.position(trade.buyer, issue), &0);
+    assert_due(&rt, &mut book, trade.settle, 2);
+    assert_same(&rt, &book.position(trade.seller, issue), &-60);
+    drop(book);
+}
+
+const IN_LOW: [Held; 2] = [(1, -100), (2, 100)];
+
+const IN_HIGH: [Held; 2] = [(1, 40), (2, -40)];
+
+// Whether the rows of both issues are these positions, those of the low one first.
+fn are_in_both(rows: &[PositionRow], low: Cusip, high: Cusip) -> bool {
+    match rows {
+        [first, second, third, last] => {
+            are_held(&[*first, *second], low, &IN_LOW) && are_held(&[*third, *last], high, &IN_HIGH)
+        }
+        _ => false,
+    }
+}
+
+#[test]
+fn rows_in_an_issue(rt: HostRuntime) {
+    let (low, high) = (low_issue(&rt), issue_of(&rt, b"594918104"));
+    let mut book = book_in(&rt, rt.alloc(), high);
+    assert_due(&rt, &mut book, day_of(&rt, b"2025-03-04"), 2);
+    assert_rows(&rt, book.rows_in(low), low, &IN_LOW);
+    assert_rows(&rt, book.rows_in(high), high, &IN_HIGH);
+    assert_rows(&rt, book.rows_in(issue_of(&rt, b"459200101")), low, &[]);
+    let rows = book.rows().expect(&rt, "memory");
+    assert!(rt; are_in_both(rows.as_slice(), low, high));
+    drop((rows, book));
 }

@@ -1,13 +1,15 @@
-use crate::common::assert_same;
-use cns_ids::{Cusip, CycleId, CycleKind, Day, MemberNo, Quantity, Shares};
+use crate::common::{
+    asked_of, assert_prints, assert_same, cycle_of, low_issue, member_of, order_of, reply_of,
+    shares_of, trade_of,
+};
+use cns_ids::CycleKind;
 use cns_journal::RecordFault;
-use cns_movements::{Asked, MoveKind, MoveNo, Order, Reply};
+use cns_movements::MoveKind;
 use cns_records::{
     Allocation, BadRecord, ClearRecord, DepRecord, Drawn, DrawnList, MAX_DRAWN, Refusal,
 };
-use cns_trades::{Trade, TradeId, Verdict};
+use cns_trades::{Trade, Verdict};
 use std::alloc::Global;
-use std::fmt::Display;
 use std::process::Abort;
 
 const CONFIRM: [u8; 18] = [1, 6, 0, 0, 0, 0, 0, 0, 0, 1, 0, 0, 0, 0, 0, 0, 0, 20];
@@ -46,11 +48,6 @@ static ALLOCATE: [u8; 76] = [
 const TICKETS: usize = 40;
 
 const TICKET_LEN: usize = 18;
-
-fn assert_prints(rt: &impl Abort, alloc: Global, fault: &impl Display, wanted: &str) {
-    let text = fault.to_string(alloc).expect(rt, "memory");
-    assert_same(rt, &text.as_str(), &wanted);
-}
 
 // The payload is no record of the clearing node.
 fn assert_bad(rt: &impl Abort, alloc: Global, payload: &[u8]) {
@@ -111,41 +108,6 @@ fn assert_not_read(rt: &impl Abort, alloc: Global, entry: &ClearRecord) {
     assert_bad(rt, alloc, &payload_of(rt, alloc, entry));
 }
 
-fn issue(rt: &impl Abort) -> Cusip {
-    Cusip::read(b"037833100").expect(rt, "an issue")
-}
-
-fn member(rt: &impl Abort, number: u16) -> MemberNo {
-    MemberNo::new(number).expect(rt, "a member's number")
-}
-
-fn shares(rt: &impl Abort, count: u64) -> Shares {
-    Shares::new(count).expect(rt, "a count of shares")
-}
-
-fn asked(rt: &impl Abort, count: u64) -> Asked {
-    Asked::new(count).expect(rt, "shares that are asked for")
-}
-
-fn number(rt: &impl Abort, number: u64) -> MoveNo {
-    MoveNo::new(number).expect(rt, "a movement's number")
-}
-
-fn day(rt: &impl Abort) -> Day {
-    Day::read(b"2025-03-04").expect(rt, "a day")
-}
-
-fn trade(rt: &impl Abort) -> Trade {
-    Trade {
-        id: TradeId::read(b"A1").expect(rt, "a trade's name"),
-        settle: day(rt),
-        buyer: member(rt, 2),
-        seller: member(rt, 1),
-        issue: issue(rt),
-        quantity: Quantity::new(100).expect(rt, "a quantity"),
-    }
-}
-
 // A record of the clearing node.
 enum Entry {
     Accept,
@@ -155,27 +117,31 @@ enum Entry {
     Confirm,
 }
 
+// The trade A1.
+fn trade(rt: &impl Abort) -> Trade {
+    trade_of(rt, low_issue(rt), (b"A1", 2, 1, 100))
+}
+
+fn exempt(rt: &impl Abort) -> ClearRecord {
+    let (member, issue, shares) = (member_of(rt, 1), low_issue(rt), shares_of(rt, 25));
+    ClearRecord::Exempt {
+        member,
+        issue,
+        shares,
+    }
+}
+
 fn record(rt: &impl Abort, of: &Entry) -> ClearRecord {
     match of {
         Entry::Accept => ClearRecord::Accept(trade(rt)),
-        Entry::Exempt => ClearRecord::Exempt {
-            member: member(rt, 1),
-            issue: issue(rt),
-            shares: shares(rt, 25),
-        },
-        Entry::Priority => ClearRecord::Priority {
-            member: member(rt, 9999),
-            issue: issue(rt),
-            on: true,
-        },
-        Entry::Cycle => ClearRecord::Cycle(CycleId {
-            day: day(rt),
-            kind: CycleKind::Day,
-        }),
-        Entry::Confirm => ClearRecord::Confirm(Reply {
-            number: number(rt, 1),
-            moved: shares(rt, 20),
-        }),
+        Entry::Exempt => exempt(rt),
+        Entry::Priority => {
+            let (member, issue) = (member_of(rt, 9999), low_issue(rt));
+            let on = true;
+            ClearRecord::Priority { member, issue, on }
+        }
+        Entry::Cycle => ClearRecord::Cycle(cycle_of(rt, b"2025-03-04", CycleKind::Day)),
+        Entry::Confirm => ClearRecord::Confirm(reply_of(rt, 1, 20)),
     }
 }
 
@@ -196,10 +162,12 @@ fn clearing_records_both_ways(rt: HostRuntime) {
 
 // A ticket's member, start and shares.
 fn ticket(rt: &impl Abort, number: u16, start: u64, count: u64) -> Drawn {
+    let (member, start) = (member_of(rt, number), shares_of(rt, start));
+    let asked = asked_of(rt, count);
     Drawn {
-        member: member(rt, number),
-        start: shares(rt, start),
-        asked: asked(rt, count),
+        member,
+        start,
+        asked,
     }
 }
 
@@ -214,10 +182,10 @@ fn drawn(rt: &impl Abort, alloc: Global, count: usize) -> DrawnList {
 // The lot with these tickets.
 fn allocation(rt: &impl Abort, drawn: DrawnList) -> Allocation {
     Allocation {
-        issue: issue(rt),
+        issue: low_issue(rt),
         opened: 3,
         upto: 5,
-        poured: shares(rt, 100),
+        poured: shares_of(rt, 100),
         sealed: true,
         drawn,
     }
@@ -318,14 +286,8 @@ fn too_many_tickets(rt: HostRuntime) {
 
 // The execution of the order, by the shares that it moved.
 fn execution(rt: &impl Abort, moved: u64) -> DepRecord {
-    let order = Order {
-        number: number(rt, 7),
-        kind: MoveKind::Cover,
-        member: member(rt, 1),
-        issue: issue(rt),
-        asked: asked(rt, 60),
-    };
-    let moved = shares(rt, moved);
+    let order = order_of(rt, 7, (MoveKind::Cover, 1, 60));
+    let moved = shares_of(rt, moved);
     DepRecord::Exec { order, moved }
 }
 
@@ -418,61 +380,60 @@ fn what_faults_say(rt: HostRuntime) {
     assert_prints(&rt, rt.alloc(), &no_memory, "out of memory");
 }
 
-static OF_NODES: [(Refusal, &str); 12] = [
-    (Refusal::Down, "the node is down"),
-    (Refusal::Trade(Verdict::Full), "the trade is not new"),
-    (
-        Refusal::CycleOrder,
-        "the cycle is not later than the latest one",
-    ),
-    (Refusal::NumbersSpent, "movement numbers are spent"),
-    (Refusal::UnknownMove, "no order has this number"),
-    (Refusal::NoPacket, "the link has no packet of this number"),
-    (
-        Refusal::Conflict,
-        "another order or confirmation has this number",
-    ),
-    (
-        Refusal::TooMuch,
-        "the shares are more than the order asked for",
-    ),
-    (
-        Refusal::BadJournal { place: 7 },
-        "record 7 of the journal is bad",
-    ),
-    (Refusal::OutOfMemory, "out of memory"),
-    (Refusal::Device, "the journal's device failed"),
-    (Refusal::LotsOpen, "a lot is open"),
+static REFUSALS: [Refusal; 22] = [
+    Refusal::Down,
+    Refusal::Trade(Verdict::Full),
+    Refusal::CycleOrder,
+    Refusal::NumbersSpent,
+    Refusal::UnknownMove,
+    Refusal::NoPacket,
+    Refusal::Conflict,
+    Refusal::TooMuch,
+    Refusal::BadJournal { place: 7 },
+    Refusal::OutOfMemory,
+    Refusal::Device,
+    Refusal::LotsOpen,
+    Refusal::LotAlready,
+    Refusal::LotsSpent,
+    Refusal::NoLot,
+    Refusal::StaleLot,
+    Refusal::LotBusy,
+    Refusal::NotLong,
+    Refusal::EarlierGroup,
+    Refusal::Sealed,
+    Refusal::Unserved,
+    Refusal::BadTickets,
 ];
 
-static OF_LOTS: [(Refusal, &str); 10] = [
-    (Refusal::LotAlready, "a lot of the issue is open"),
-    (Refusal::LotsSpent, "the numbers of lots are spent"),
-    (Refusal::NoLot, "there is no such lot"),
-    (Refusal::StaleLot, "the lot has ended"),
-    (Refusal::LotBusy, "the lot is being served"),
-    (
-        Refusal::NotLong,
-        "the member is not to receive shares of the lot",
-    ),
-    (
-        Refusal::EarlierGroup,
-        "a member of an earlier group has no ticket yet",
-    ),
-    (Refusal::Sealed, "the lot is sealed"),
-    (Refusal::Unserved, "a member of the plan has no ticket yet"),
-    (
-        Refusal::BadTickets,
-        "the tickets do not serve the plan of the lot",
-    ),
+// What they say, each in its place.
+static SAID: [&str; 22] = [
+    "the node is down",
+    "the trade is not new",
+    "the cycle is not later than the latest one",
+    "movement numbers are spent",
+    "no order has this number",
+    "the link has no packet of this number",
+    "another order or confirmation has this number",
+    "the shares are more than the order asked for",
+    "record 7 of the journal is bad",
+    "out of memory",
+    "the journal's device failed",
+    "a lot is open",
+    "a lot of the issue is open",
+    "the numbers of lots are spent",
+    "there is no such lot",
+    "the lot has ended",
+    "the lot is being served",
+    "the member is not to receive shares of the lot",
+    "a member of an earlier group has no ticket yet",
+    "the lot is sealed",
+    "a member of the plan has no ticket yet",
+    "the tickets do not serve the plan of the lot",
 ];
 
 #[test]
 fn what_refusals_say(rt: HostRuntime) {
-    for (refusal, words) in &OF_NODES {
-        assert_prints(&rt, rt.alloc(), refusal, words);
-    }
-    for (refusal, words) in &OF_LOTS {
+    for (refusal, words) in REFUSALS.iter().zip(&SAID) {
         assert_prints(&rt, rt.alloc(), refusal, words);
     }
 }

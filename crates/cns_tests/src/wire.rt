@@ -1,9 +1,10 @@
 ghost use Rattle.std.specs.Prelude.{◌+◌, ◌≤◌, length};
 
-use cns_ids::{Cusip, MemberNo, Shares};
-use cns_movements::{Asked, MoveKind, MoveNo, Order, Reply};
+use crate::common::{assert_prints, assert_same, order_of, reply_of};
+use cns_movements::{MoveKind, Order};
 use cns_wire::{Frame, FrameFault, Wire, read_frame, write_order, write_reply};
-use std::test::Fail;
+use std::alloc::AllocError;
+use std::process::Abort;
 
 // Cover 7 of member 1: 60 shares of 037833100.
 const ORDER: [u8; 31] =
@@ -13,37 +14,19 @@ const ORDER: [u8; 31] =
 const REPLY: [u8; 20] =
     *b"CD\x01\x03\x00\x00\x00\x00\x00\x00\x00\x07\x00\x00\x00\x00\x00\x00\x00\x14";
 
-fn order(kind: MoveKind) -> Result<Order, Fail> {
-    Ok(Order {
-        number: MoveNo::new(7).ok_or("number")?,
-        kind,
-        member: MemberNo::new(1).ok_or("member")?,
-        issue: Cusip::read(b"037833100")?,
-        asked: Asked::new(60).ok_or("asked")?,
-    })
-}
-
-fn reply() -> Result<Reply, Fail> {
-    Ok(Reply {
-        number: MoveNo::new(7).ok_or("number")?,
-        moved: Shares::new(20).ok_or("moved")?,
-    })
+fn assert_order(rt: &impl Abort, order: &Order, frame: &[u8]) {
+    assert_same(rt, &write_order(order).as_slice(), &frame);
+    assert_same(rt, &read_frame(frame), &Ok(Frame::Order(*order)));
 }
 
 #[test]
-fn orders_and_replies(rt: HostRuntime) -> Result<(), Fail> {
-    let cover = order(MoveKind::Cover)?;
-    assert_eq!(rt; write_order(&cover), ORDER);
-    assert_eq!(rt; read_frame(&ORDER), Ok(Frame::Order(cover)));
-    let delivery = order(MoveKind::Delivery)?;
-    let mut frame = ORDER;
-    frame[3] = 2;
-    assert_eq!(rt; write_order(&delivery), frame);
-    assert_eq!(rt; read_frame(&frame), Ok(Frame::Order(delivery)));
-    let reply = reply()?;
-    assert_eq!(rt; write_reply(&reply), REPLY);
-    assert_eq!(rt; read_frame(&REPLY), Ok(Frame::Reply(reply)));
-    Ok(())
+fn orders_and_replies(rt: HostRuntime) {
+    assert_order(&rt, &order_of(&rt, 7, (MoveKind::Cover, 1, 60)), &ORDER);
+    let delivery = order_of(&rt, 7, (MoveKind::Delivery, 1, 60));
+    assert_order(&rt, &delivery, &changed(3, b"\x02"));
+    let reply = reply_of(&rt, 7, 20);
+    assert_same(&rt, &write_reply(&reply), &REPLY);
+    assert_same(&rt, &read_frame(&REPLY), &Ok(Frame::Reply(reply)));
 }
 
 // The order's frame with other bytes from a place on.
@@ -55,46 +38,67 @@ fn changed(at: usize, bytes: &[u8]) -> [u8; 31]
     frame
 }
 
+// Bytes in another place of the order's frame, and the fault that they make.
+static CHANGES: [(usize, &[u8], FrameFault); 6] = [
+    (2, b"\x09", FrameFault::Version),
+    (3, b"\x04", FrameFault::Kind),
+    (11, b"\x00", FrameFault::Field),
+    (12, b"\x27\x10", FrameFault::Field),
+    (22, b"\x31", FrameFault::Field),
+    (30, b"\x00", FrameFault::Field),
+];
+
+// The frame of a reply with one share more than there may be, and one byte behind that of the order.
+const ABOVE: &[u8] = b"CD\x01\x03\x00\x00\x00\x00\x00\x00\x00\x07\x0d\xe0\xb6\xb3\xa7\x64\x00\x01";
+
+const LONGER: &[u8] =
+    b"CD\x01\x01\x00\x00\x00\x00\x00\x00\x00\x07\x00\x01037833100\x00\x00\x00\x00\x00\x00\x00\x3c\x00";
+
+static FAULTS: [(&[u8], FrameFault); 9] = [
+    (b"", FrameFault::Short),
+    (b"CD\x01", FrameFault::Short),
+    (b"XD\x01\x01", FrameFault::Magic),
+    (b"XD\x09\x04", FrameFault::Magic),
+    (b"CD\x09\x04", FrameFault::Version),
+    (b"CD\x01\x04", FrameFault::Kind),
+    (b"CD\x01\x01", FrameFault::Short),
+    (LONGER, FrameFault::Long),
+    (ABOVE, FrameFault::Field),
+];
+
+fn assert_fault(rt: &impl Abort, frame: &[u8], fault: FrameFault) {
+    assert_same(rt, &read_frame(frame), &Err(fault));
+}
+
 #[test]
-fn faults_of_frames(rt: HostRuntime) -> Result<(), Fail> {
-    let mut longer = [0; 32];
-    longer[..31].copy_from_slice(&ORDER);
-    let mut above = REPLY;
-    above[12..].copy_from_slice(b"\x0d\xe0\xb6\xb3\xa7\x64\x00\x01");
-    let cases: [(&[u8], FrameFault); 15] = [
-        (&[], FrameFault::Short),
-        (b"CD\x01", FrameFault::Short),
-        (b"XD\x01\x01", FrameFault::Magic),
-        (b"XD\x09\x04", FrameFault::Magic),
-        (b"CD\x09\x04", FrameFault::Version),
-        (b"CD\x01\x04", FrameFault::Kind),
-        (b"CD\x01\x01", FrameFault::Short),
-        (&ORDER[..30], FrameFault::Short),
-        (&longer, FrameFault::Long),
-        (&changed(2, b"\x09"), FrameFault::Version),
-        (&changed(3, b"\x04"), FrameFault::Kind),
-        (&changed(11, b"\x00"), FrameFault::Field),
-        (&changed(12, b"\x27\x10"), FrameFault::Field),
-        (&changed(22, b"\x31"), FrameFault::Field),
-        (&changed(30, b"\x00"), FrameFault::Field),
-    ];
-    for (frame, fault) in cases {
-        assert_eq!(rt; read_frame(frame), Err(fault));
+fn faults_of_frames(rt: HostRuntime) {
+    for (at, bytes, fault) in &CHANGES {
+        if *at <= 31 && bytes.len() <= 31 - *at {
+            assert_fault(&rt, &changed(*at, bytes), *fault);
+        }
     }
-    assert_eq!(rt; read_frame(&above), Err(FrameFault::Field));
-    let text = FrameFault::Long.to_string(rt.alloc())?;
-    assert_eq!(rt; text.as_str(), "bytes stand after the frame");
-    Ok(())
+    for (frame, fault) in &FAULTS {
+        assert_fault(&rt, frame, *fault);
+    }
+    assert_prints(
+        &rt,
+        rt.alloc(),
+        &FrameFault::Long,
+        "bytes stand after the frame",
+    );
+}
+
+// Each part of a frame from its first byte on is too short.
+fn assert_prefixes(rt: &impl Abort, frame: &[u8]) {
+    for size in 0..frame.len() {
+        assert_fault(rt, &frame[..size], FrameFault::Short);
+    }
 }
 
 #[test]
 fn each_prefix_is_short(rt: HostRuntime) {
-    for size in 0..31 {
-        assert_eq!(rt; read_frame(&ORDER[..size]), Err(FrameFault::Short));
-    }
-    for size in 0..20 {
-        assert_eq!(rt; read_frame(&REPLY[..size]), Err(FrameFault::Short));
-    }
+    assert_prefixes(&rt, &ORDER);
+    assert_prefixes(&rt, &REPLY);
 }
 
 // Whether these bytes are no frame, or are written again as they are.
@@ -122,24 +126,29 @@ fn each_changed_byte(rt: HostRuntime) {
     }
 }
 
-#[test]
-fn packets_in_order(rt: HostRuntime) -> Result<(), Fail> {
-    let mut wire = Wire::new(rt.alloc());
-    assert!(rt; wire.is_empty());
-    assert_eq!(rt; wire.packet(1), None);
+const PACKETS: [&[u8]; 4] = [&ORDER, &REPLY, &[9; 36], b""];
+
+fn put_all(wire: &mut Wire, packets: &[&[u8]]) -> Result<bool, AllocError> {
     wire.put_room()?;
-    assert_eq!(rt; wire.put(&ORDER)?, 1);
-    assert_eq!(rt; wire.put(&write_reply(&reply()?))?, 2);
-    assert_eq!(rt; wire.put(&[9; 36])?, 3);
-    assert_eq!(rt; wire.put(&[])?, 4);
-    assert_eq!(rt; wire.len(), 4);
-    assert!(rt; !wire.is_empty());
-    let packets: [&[u8]; 4] = [&ORDER, &REPLY, &[9; 36], &[]];
     for (place, packet) in packets.iter().enumerate() {
-        assert_eq!(rt; wire.packet(place as u64 + 1), Some(*packet));
+        if packet.len() > 36 || wire.put(packet)? != (place as u64).saturating_add(1) {
+            return Ok(false);
+        }
     }
-    assert_eq!(rt; wire.packet(0), None);
-    assert_eq!(rt; wire.packet(5), None);
-    assert_eq!(rt; wire.packet(u64::MAX), None);
-    Ok(())
+    Ok(true)
+}
+
+#[test]
+fn packets_in_order(rt: HostRuntime) {
+    let mut wire = Wire::new(rt.alloc());
+    assert!(rt; wire.is_empty() && wire.packet(1).is_none());
+    assert_same(&rt, &put_all(&mut wire, &PACKETS), &Ok(true));
+    assert!(rt; wire.len() == 4 && !wire.is_empty());
+    for (place, packet) in PACKETS.iter().enumerate() {
+        assert_same(&rt, &wire.packet(place as u64 + 1), &Some(*packet));
+    }
+    for number in [0, 5, u64::MAX] {
+        assert!(rt; wire.packet(number).is_none());
+    }
+    drop(wire);
 }

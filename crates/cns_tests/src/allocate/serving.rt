@@ -1,5 +1,5 @@
 use super::even_plan;
-use crate::common::{assert_same, member};
+use crate::common::{assert_same, member_of};
 use cns_allocate::{
     Gate, Grants, MAX_WORKERS, OpenGate, Plan, ServeCause, ServeFault, Served, serve,
 };
@@ -37,7 +37,7 @@ fn served_and_closed<G: Gate + Sync, R: Threads + Sync>(
 // One seat draws a ticket, and the other one meets the seal.
 #[test]
 fn the_ticket_of_a_sealed_cell_is_granted(rt: HostRuntime) -> Result<(), Fail> {
-    let (two, three) = (member(2)?, member(3)?);
+    let (two, three) = (member_of(&rt, 2), member_of(&rt, 3));
     let (cell, mut feeder, mut first) = PoolCell::open(rt.alloc(), 60, 100, 4)?;
     cell.pour(&mut feeder, 5);
     let mut second = cell.split(&mut first, 30, 2)?;
@@ -73,7 +73,7 @@ fn assert_both(rt: &impl Abort, closed: &Closed) {
 
 #[test]
 fn workers_serve_a_whole_plan(rt: HostRuntime) -> Result<(), Fail> {
-    let plan = even_plan(rt.alloc())?;
+    let plan = even_plan(&rt, rt.alloc());
     for workers in 1..=MAX_WORKERS {
         let closed = served_and_closed(&rt, rt.alloc(), &plan, workers, &OpenGate)?;
         assert_both(&rt, &closed);
@@ -93,7 +93,7 @@ fn empty_fault(fault: &ServeFault) -> Option<ServeCause> {
 
 #[test]
 fn no_workers_and_too_many_hand_the_seat_back(rt: HostRuntime) -> Result<(), Fail> {
-    let plan = even_plan(rt.alloc())?;
+    let plan = even_plan(&rt, rt.alloc());
     for workers in [0, MAX_WORKERS + 1] {
         let planned = plan.as_slice();
         let [first, second] = planned else {
@@ -143,7 +143,7 @@ impl Gate for SecondFirst {
 
 #[test]
 fn the_second_worker_draws_first(rt: HostRuntime) -> Result<(), Fail> {
-    let plan = even_plan(rt.alloc())?;
+    let plan = even_plan(&rt, rt.alloc());
     let gate = SecondFirst {
         answered: AtomicBool::new(false),
         turns: AtomicU64::new(0),
@@ -179,7 +179,7 @@ impl Gate for BothWait {
 
 #[test]
 fn both_workers_draw_side_by_side(rt: HostRuntime) -> Result<(), Fail> {
-    let plan = even_plan(rt.alloc())?;
+    let plan = even_plan(&rt, rt.alloc());
     let gate = BothWait {
         came: [AtomicBool::new(false), AtomicBool::new(false)],
         most: AtomicU64::new(0),
