@@ -82,7 +82,7 @@ order_line e (outcome.Confirmed r) = Some (order.Confirmed r)
 order_line e (outcome.ConfirmedAgain r) = Some (order.ConfirmedAgain r)
 order_line e _ = None
 
--- the line, or the first one: that of a lot or of an order where nothing else is told
+-- the line, before those of orders: where it is none of the first five, that of a lot or of an order
 abbrev pub line_of : Event → Outcome → Option Line
 line_of e outcome.Accepted = accepted_line e
 line_of e outcome.Done = done_line e

@@ -43,7 +43,7 @@ fn orders_of(outcome: &Outcome) -> &[Order]
     }
 }
 
-// The line of an event and what it came to, or the first one.
+// The line of an event and what it came to, before those of orders.
 fn line_of(event: &Event, outcome: &Outcome) -> Option<Line>
     ensures { result ≡ line_of event.now outcome.now }
 {
@@ -60,7 +60,7 @@ fn line_of(event: &Event, outcome: &Outcome) -> Option<Line>
     }
 }
 
-// Of a trade that was accepted.
+// The line of a trade that was accepted.
 fn accepted_line(event: &Event) -> Option<Line>
     ensures { result ≡ accepted_line event.now }
 {
@@ -70,7 +70,7 @@ fn accepted_line(event: &Event) -> Option<Line>
     }
 }
 
-// Of a setting that was recorded, and of a seal.
+// The line of a setting that was recorded, or of a seal.
 fn done_line(event: &Event) -> Option<Line>
     ensures { result ≡ done_line event.now }
 {
@@ -82,7 +82,7 @@ fn done_line(event: &Event) -> Option<Line>
     }
 }
 
-// Of a cycle that was run.
+// The line of a cycle that was run, before those of its orders.
 fn cycled_line(event: &Event, due: u64) -> Option<Line>
     ensures { result ≡ cycled_line event.now due }
 {
@@ -92,7 +92,7 @@ fn cycled_line(event: &Event, due: u64) -> Option<Line>
     }
 }
 
-// Of a node that is up again.
+// The line of a node that is up again.
 fn restarted_line(event: &Event, records: u64, kept: bool) -> Option<Line>
     ensures { result ≡ restarted_line event.now records kept }
 {
@@ -106,7 +106,7 @@ fn restarted_line(event: &Event, records: u64, kept: bool) -> Option<Line>
     }
 }
 
-// Of an event that was refused.
+// The line of an event that was refused: that of a trade names the trade too.
 fn refused_line(event: &Event, refusal: Refusal) -> Line
     ensures { result ≡ refused_line event.now refusal }
 {
@@ -122,7 +122,7 @@ fn refused_line(event: &Event, refusal: Refusal) -> Line
     }
 }
 
-// Of a lot.
+// The line of a lot, where the outcome is one of a lot.
 fn lot_line(outcome: &Outcome) -> Option<LotLine>
     ensures { result ≡ lot_line outcome.now }
 {
@@ -146,7 +146,7 @@ fn lot_line(outcome: &Outcome) -> Option<LotLine>
     }
 }
 
-// Of an order that was sent.
+// The line of an order that was sent.
 fn sent_line(event: &Event, packet: u64) -> Option<OrderLine>
     ensures { result ≡ sent_line event.now packet }
 {
@@ -159,7 +159,7 @@ fn sent_line(event: &Event, packet: u64) -> Option<OrderLine>
     }
 }
 
-// Of an order.
+// The line of an order, where the outcome is one of an order.
 fn order_line(event: &Event, outcome: &Outcome) -> Option<OrderLine>
     ensures { result ≡ order_line event.now outcome.now }
 {

@@ -2,7 +2,7 @@
 use Rattle.std.proofs.Common.{◌≡◌, ◌≤◌, ◌<◌, ◌+◌, ℕ, true, false, List, [], ◌∷◌, length, take, drop, Option, Some, None, refl, sym, ap, ◌∙◌, subst, arith}
 use Rattle.std.specs.Prelude.{is_some}
 use Rattle.std.proofs.lemmas.List.{drop-drop, drop_all}
-use Rattle.cns_report.specs.Lines.{line_text}
+use Rattle.cns_report.specs.Lines.{line_text as line_bytes}
 use Rattle.cns_report.specs.declared.line.Line.TheVariants as line
 use Rattle.cns_system.specs.declared.event.Event.TheVariants as event
 use Rattle.cnsd.specs.Acts.{Act, done, followed, tells}
@@ -44,7 +44,7 @@ line_plain n command.Report skip beside = refl
 line_plain n command.Bad skip beside = refl
 
 -- BESIDE where a lot waits, and where none does
-pub begun_again : (waits : Option Beside) (n issue lines : ℕ) → is_some waits ≡ true → begun waits n issue lines ≡ followed (tells (line_text (line.BadCommand n))) (λ _. line_counted)
+pub begun_again : (waits : Option Beside) (n issue lines : ℕ) → is_some waits ≡ true → begun waits n issue lines ≡ followed (tells (line_bytes (line.BadCommand n))) (λ _. line_counted)
 begun_again None n issue lines some = absurd (cc some)
 begun_again (Some beside) n issue lines some = refl
 

@@ -1,7 +1,7 @@
 -- What a script tells, line by line.
 use Rattle.std.specs.Prelude.{ℕ, ◌+◌, ◌-◌, ◌==◌, Bool, false, List, [], ◌∷◌, Option, Some, None, if◌then◌else◌}
 use Rattle.cns_trades.specs.declared.row.Row.{Row}
-use Rattle.cns_report.specs.Lines.{line_text}
+use Rattle.cns_report.specs.Lines.{line_text as line_bytes}
 use Rattle.cns_report.specs.declared.line.Line.TheVariants as line
 use Rattle.cns_system.specs.Scene.{Chance, Scene}
 use Rattle.cns_system.specs.declared.event.Event.TheVariants as event
@@ -24,11 +24,11 @@ command_run n (command.Reserve lot member) = reserved_one lot member
 command_run n (command.Look lot) = looked lot
 command_run n (command.Close lot) = closed_one lot
 command_run n (command.Allocate issue) = allocated issue
-command_run n (command.Beside issue lines) = tells (line_text (line.BadCommand n))
+command_run n (command.Beside issue lines) = tells (line_bytes (line.BadCommand n))
 command_run n (command.Fail name stands) = failed name stands
 command_run n command.Pump = pumped
 command_run n command.Report = reported
-command_run n command.Bad = tells (line_text (line.BadCommand n))
+command_run n command.Bad = tells (line_bytes (line.BadCommand n))
 
 -- the lot that waits is served, where it was opened
 abbrev pub beside_served : Option Beside → Act (Unit {0})
@@ -61,7 +61,7 @@ waited lines lot c = ended_when_due (record c { beside = Some (record { lot = lo
 -- BESIDE opens a lot; one of the lines beside a lot can't do so again
 abbrev pub begun : Option Beside → ℕ → ℕ → ℕ → Act (Unit {0})
 begun None n issue lines = followed (learned (event.LotOpen issue) opened_in) (waited lines)
-begun (Some beside) n issue lines = followed (tells (line_text (line.BadCommand n))) (λ _. line_counted)
+begun (Some beside) n issue lines = followed (tells (line_bytes (line.BadCommand n))) (λ _. line_counted)
 
 unfoldable pub beside_begun : ℕ → ℕ → ℕ → Act (Unit {0})
 beside_begun n issue lines c = begun c.beside n issue lines c
