@@ -113,17 +113,26 @@ const DOES_NOT_STAND: &[Step] = &[
     NO_OTHER,
 ];
 
+const REPLY_FAILS: Step = Step::Reply(1, 20, Err(Refusal::Device));
+
 // A reply whose commit fails, and whose record stands, or is lost.
-const REPLY_FAILS: &[Step] = &[
-    Step::Reply(1, 20, Err(Refusal::Device)),
+const REPLY_STANDS: &[Step] = &[
+    Step::Plan(true),
+    REPLY_FAILS,
     Step::Shows(-60, 0),
+    Step::Restart(4, true),
+    Step::Reply(1, 20, Ok(Taken::Again)),
+    Step::Shows(-40, 20),
 ];
 
-const REPLY_STANDS: &[Step] = &[Step::Restart(4, true), Step::Reply(1, 20, Ok(Taken::Again))];
-
-const REPLY_IS_LOST: &[Step] = &[Step::Restart(3, false), Step::Reply(1, 20, Ok(Taken::Done))];
-
-const CONFIRMED: &[Step] = &[Step::Shows(-40, 20)];
+const REPLY_IS_LOST: &[Step] = &[
+    Step::Plan(false),
+    REPLY_FAILS,
+    Step::Restart(3, false),
+    Step::Shows(-60, 0),
+    Step::Reply(1, 20, Ok(Taken::Done)),
+    Step::Shows(-40, 20),
+];
 
 static STORIES: [Story; 9] = [
     &[FILLED, CYCLES],
@@ -133,22 +142,8 @@ static STORIES: [Story; 9] = [
     &[FILLED, FAILED, ALL_DOWN],
     &[FILLED, FAILED, STANDS],
     &[FILLED, LOST, DOES_NOT_STAND],
-    &[
-        FILLED,
-        CYCLED,
-        &[Step::Plan(true)],
-        REPLY_FAILS,
-        REPLY_STANDS,
-        CONFIRMED,
-    ],
-    &[
-        FILLED,
-        CYCLED,
-        &[Step::Plan(false)],
-        REPLY_FAILS,
-        REPLY_IS_LOST,
-        CONFIRMED,
-    ],
+    &[FILLED, CYCLED, REPLY_STANDS],
+    &[FILLED, CYCLED, REPLY_IS_LOST],
 ];
 
 #[test]

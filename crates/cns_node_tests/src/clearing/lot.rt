@@ -115,18 +115,21 @@ const NO_LOT: &[Step] = &[
 
 const FREE: &[Step] = &[ALL_FREE];
 
+const CLOSE_FAILS: Step = Step::Close(&[SECOND, THIRD], false, Err(Refusal::Device));
+
+const NO_DELIVERY: Step = Step::NoOrder(3, Refusal::UnknownMove);
+
 // A close that the device fails leaves the lot open, until a restart ends it.
-const CLOSE_FAILS: &[Step] = &[
-    Step::Close(&[SECOND, THIRD], false, Err(Refusal::Device)),
+const STANDS: &[Step] = &[
+    Step::Plan(true),
+    CLOSE_FAILS,
     ALL_LENT,
+    Step::Restart(7, true),
 ];
 
-const STANDS: &[Step] = &[Step::Restart(7, true)];
+const IS_LOST: &[Step] = &[Step::Plan(false), CLOSE_FAILS, ALL_LENT];
 
-const IS_LOST: &[Step] = &[
-    Step::Restart(6, false),
-    Step::NoOrder(3, Refusal::UnknownMove),
-];
+const ENDS: &[Step] = &[Step::Restart(6, false), NO_DELIVERY, ALL_FREE];
 
 static STORIES: [Story; 11] = [
     &[GROUPED, BROUGHT, OPENS],
@@ -137,26 +140,9 @@ static STORIES: [Story; 11] = [
     &[GROUPED, BROUGHT, LENT, SEALS],
     &[GROUPED, OPENS_EMPTY, BROUGHT, POURS],
     &[GROUPED, BROUGHT, NO_LOT, FREE],
-    &[
-        GROUPED,
-        BROUGHT,
-        LENT,
-        &[Step::Plan(true)],
-        CLOSE_FAILS,
-        STANDS,
-        DELIVERIES,
-        NO_LOT,
-    ],
-    &[
-        GROUPED,
-        BROUGHT,
-        LENT,
-        &[Step::Plan(false)],
-        CLOSE_FAILS,
-        IS_LOST,
-        FREE,
-    ],
-    &[GROUPED, BROUGHT, LENT, IS_LOST, FREE, NO_LOT],
+    &[GROUPED, BROUGHT, LENT, STANDS, DELIVERIES, NO_LOT],
+    &[GROUPED, BROUGHT, LENT, IS_LOST, ENDS],
+    &[GROUPED, BROUGHT, LENT, ENDS, NO_LOT],
 ];
 
 #[test]
