@@ -1,7 +1,7 @@
 use crate::common::{ask_of, assert_prints, assert_same, low_issue, number_of, reply_of};
 use cns_ids::Shares;
-use cns_movements::{Ask, Asked, Confirm, IssueFault, MoveKind, MoveNo, OrderBook};
-use std::alloc::Global;
+use cns_movements::{Ask, Asked, Confirm, IssueFault, MoveKind, MoveNo, OrderBook, Reply};
+use std::alloc::{AllocError, Global};
 use std::process::Abort;
 
 // An order that member 1 is asked.
@@ -55,11 +55,16 @@ static ANSWERS: [(u64, u64, Confirm); 6] = [
     (1, 36, Confirm::Conflict),
 ];
 
+// Confirms an order, with room for the reply taken before.
+fn confirm(book: &mut OrderBook, given: &Reply) -> Result<Confirm, AllocError> {
+    book.confirm_room(*given)?;
+    book.confirm(*given)
+}
+
 fn confirm_all(rt: &impl Abort, book: &mut OrderBook) {
     for (number, moved, wanted) in &ANSWERS {
-        let reply = reply_of(rt, *number, *moved);
-        book.confirm_room(reply).expect(rt, "memory");
-        assert_same(rt, &book.confirm(reply), &Ok(*wanted));
+        let answer = confirm(book, &reply_of(rt, *number, *moved));
+        assert_same(rt, &answer, &Ok(*wanted));
     }
 }
 
