@@ -3,7 +3,9 @@ pub mod NodeLemmas
 pub mod PositionLemmas
 pub mod ListLemmas
 pub mod ClosingLemmas
+pub mod ApartLemmas
 pub mod LotLemmas
+pub mod OpenLotLemmas
 pub mod PoolLemmas
 pub mod PoolSumLemmas
 pub mod WantLemmas

@@ -1,5 +1,5 @@
 -- The open lots are as the records have them: as records are added, a lot is opened, and a lot gets more shares.
-use Rattle.std.proofs.Common.{◌≡◌, ℕ, ◌+◌, ◌≤◌, Bool, true, false, cond, not, List, [], ◌∷◌, ◌++◌, length, Some, None, refl, sym, ap, ◌∙◌, subst, arith, append_assoc}
+use Rattle.std.proofs.Common.{◌≡◌, ℕ, ◌+◌, ◌≤◌, Bool, true, false, cond, not, List, [], ◌∷◌, ◌++◌, length, map, Some, None, refl, sym, ap, ◌∙◌, subst, arith, append_assoc}
 use Rattle.std.specs.Prelude.{◌==◌, All, count_by}
 use Rattle.std.proofs.lemmas.Bool.{cond-false, cond-true, eqb-true}
 use Rattle.std.proofs.lemmas.List.Elements.{All-append, All-cons, All-head, All-map, All-nil, All-tail, All-weaker}
@@ -8,6 +8,7 @@ use Rattle.cns_allocate.proofs.TurnLemmas.{count_by-filter, find-All, find-none,
 use Rattle.cns_records.specs.declared.clear_record.ClearRecord.{ClearRecord}
 use Rattle.cns_records.specs.declared.clear_record.ClearRecord.TheVariants.{Accept, Exempt, Priority, Cycle, Allocate, Confirm}
 use Rattle.cns_clearing.specs.Lots.{AreLots, DoesNotDisturb, IsLot, IsQuiet, avail_in, lots_after, lots_poured, new_lot, poured_into, without_lot}
+use Rattle.cns_clearing.specs.OpenLots.{refilled}
 use Rattle.cns_clearing.specs.Pools.{lot_of}
 use Rattle.cns_clearing.specs.declared.lot.Lot.{Lot}
 
@@ -28,7 +29,7 @@ lot_more c r lot is quiet = record {
 }
 
 -- whether a lot is of an issue
-abbrev is_lot_of : ℕ → Lot → Bool
+abbrev pub is_lot_of : ℕ → Lot → Bool
 is_lot_of issue lot = lot.issue == issue
 
 -- no lot is open where there is none
@@ -79,29 +80,33 @@ new_is_lot c issue = record {
   plan = refl;
 }
 
+-- one more lot, of an issue that had none
+pub count_opened : (lots : List Lot) (new : Lot) → ((issue : ℕ) → count_by (is_lot_of issue) lots ≤ 1) → lot_of lots new.issue ≡ None
+    → (issue : ℕ) → count_by (is_lot_of issue) (lots ++ new ∷ []) ≤ 1
+count_opened lots new once none other =
+    let both = sum_by-append (λ (l : Lot). cond (l.issue == other) 1 0) lots (new ∷ []) in
+    let last = sum_by-cons (λ (l : Lot). cond (l.issue == other) 1 0) new [] in
+    by (new.issue == other) refl (omega (arith, both, last))
+  where
+    by : (b : Bool) → (new.issue == other) ≡ b → count_by (is_lot_of other) (lots ++ new ∷ []) ≡ count_by (is_lot_of other) lots + cond (new.issue == other) 1 0
+        → count_by (is_lot_of other) (lots ++ new ∷ []) ≤ 1
+    by true e all =
+        let same : new.issue ≡ other = eqb-true new.issue other e in
+        let before : count_by (is_lot_of other) lots ≡ 0 = subst (λ (i : ℕ). count_by (is_lot_of i) lots ≡ 0) same (find-none (is_lot_of new.issue) lots none) in
+        let here : ◌≡◌ {A = ℕ} (cond (new.issue == other) 1 0) 1 = cond-true _ 1 0 e in
+        omega (arith, all, before, here)
+    by false e all =
+        let here : ◌≡◌ {A = ℕ} (cond (new.issue == other) 1 0) 0 = cond-false _ 1 0 e in
+        omega (arith, all, once other, here)
+
 -- the lots with one that is opened
 pub lots_opened : (c : List ClearRecord) (lots : List Lot) (issue : ℕ) → AreLots c lots → lot_of lots issue ≡ None → AreLots c (lots ++ new_lot c issue ∷ [])
 lots_opened c lots issue are none =
     let new : Lot = new_lot c issue in
     record {
       each = All-append (IsLot c) lots (new ∷ []) are.each (All-cons (IsLot c) new [] (new_is_lot c issue) (All-nil (IsLot c)));
-      once = λ other.
-          let both = sum_by-append (λ (l : Lot). cond (l.issue == other) 1 0) lots (new ∷ []) in
-          let last = sum_by-cons (λ (l : Lot). cond (l.issue == other) 1 0) new [] in
-          by other (issue == other) refl (omega (arith, both, last));
+      once = count_opened lots new are.once none;
     }
-  where
-    by : (other : ℕ) (b : Bool) → (issue == other) ≡ b
-        → count_by (is_lot_of other) (lots ++ new_lot c issue ∷ []) ≡ count_by (is_lot_of other) lots + cond (issue == other) 1 0
-        → count_by (is_lot_of other) (lots ++ new_lot c issue ∷ []) ≤ 1
-    by other true e all =
-        let same : issue ≡ other = eqb-true issue other e in
-        let before : count_by (is_lot_of other) lots ≡ 0 = subst (λ (i : ℕ). count_by (is_lot_of i) lots ≡ 0) same (find-none (is_lot_of issue) lots none) in
-        let here : ◌≡◌ {A = ℕ} (cond (issue == other) 1 0) 1 = cond-true _ 1 0 e in
-        omega (arith, all, before, here)
-    by other false e all =
-        let here : ◌≡◌ {A = ℕ} (cond (issue == other) 1 0) 0 = cond-false _ 1 0 e in
-        omega (arith, all, are.once other, here)
 
 -- a lot that has got all shares that are there
 lot_refilled : (c : List ClearRecord) (lot : Lot) → IsLot c lot → IsLot c (record lot { upto = length c; poured = avail_in c lot.issue })
@@ -126,25 +131,25 @@ lot_poured c issue lot is = by (lot.issue == issue) refl
     by true e = subst (λ (i : ℕ). IsLot c (record lot { upto = length c; poured = avail_in c i })) (eqb-true lot.issue issue e) (lot_refilled c lot is)
     by false e = is
 
--- a pour leaves a lot its issue
-poured_issue : (c : List ClearRecord) (issue : ℕ) (lot : Lot) → (poured_into c issue lot).issue ≡ lot.issue
-poured_issue c issue lot = by (lot.issue == issue)
+-- a lot that has other shares is of the same issue
+pub refilled_issue : (issue upto poured : ℕ) (lot : Lot) → (refilled issue upto poured lot).issue ≡ lot.issue
+refilled_issue issue upto poured lot = by (lot.issue == issue)
   where
-    by : (b : Bool) → (let l : Lot = cond b (record lot { upto = length c; poured = avail_in c issue }) lot in l.issue) ≡ lot.issue
+    by : (b : Bool) → (let l : Lot = cond b (record lot { upto = upto; poured = poured }) lot in l.issue) ≡ lot.issue
     by true = refl
     by false = refl
 
-count_poured : (c : List ClearRecord) (issue other : ℕ) (lots : List Lot) → count_by (is_lot_of other) (lots_poured c issue lots) ≡ count_by (is_lot_of other) lots
-count_poured c issue other [] = refl
-count_poured c issue other (lot ∷ lots) =
-    let here : ◌≡◌ {A = ℕ} (cond ((poured_into c issue lot).issue == other) 1 0) (cond (lot.issue == other) 1 0) =
-    ap (λ (i : ℕ). cond (i == other) 1 0) (poured_issue c issue lot) in
+pub count_refilled : (issue upto poured other : ℕ) (lots : List Lot) → count_by (is_lot_of other) (map (refilled issue upto poured) lots) ≡ count_by (is_lot_of other) lots
+count_refilled issue upto poured other [] = refl
+count_refilled issue upto poured other (lot ∷ lots) =
+    let here : ◌≡◌ {A = ℕ} (cond ((refilled issue upto poured lot).issue == other) 1 0) (cond (lot.issue == other) 1 0) =
+    ap (λ (i : ℕ). cond (i == other) 1 0) (refilled_issue issue upto poured lot) in
     omega (
       arith,
-      sum_by-cons (λ (l : Lot). cond (l.issue == other) 1 0) (poured_into c issue lot) (lots_poured c issue lots),
+      sum_by-cons (λ (l : Lot). cond (l.issue == other) 1 0) (refilled issue upto poured lot) (map (refilled issue upto poured) lots),
       sum_by-cons (λ (l : Lot). cond (l.issue == other) 1 0) lot lots,
       here,
-      count_poured c issue other lots,
+      count_refilled issue upto poured other lots,
     )
 
 -- the lots once that of an issue has got all shares that are there
@@ -153,7 +158,7 @@ lots_refilled c lots issue are = record {
   each =
       All-map (IsLot c) (poured_into c issue) lots
       (All-weaker (IsLot c) (λ (lot : Lot). IsLot c (poured_into c issue lot)) (λ lot is. lot_poured c issue lot is) lots are.each);
-  once = λ other. omega (arith, count_poured c issue other lots, are.once other);
+  once = λ other. omega (arith, count_refilled issue (length c) (avail_in c issue) other lots, are.once other);
 }
 
 -- ---- the lot of an issue

@@ -1,6 +1,5 @@
 ghost use Rattle.std.specs.Prelude.{◌≡◌, ◌↔◌, ◌≤◌, ℕ, All, IfOk, IsTrue};
 ghost use Rattle.cns_covers.specs.Bounds.{want_in};
-ghost use Rattle.cns_allocate.specs.Served.{has_ticket as has_ticket_in};
 ghost use Rattle.cns_pool.specs.declared.ticket.Ticket.{Ticket};
 ghost use Rattle.cns_clearing.specs.Books.{AllocatedBy, AreSound, ticket_of, tickets_of};
 ghost use Rattle.cns_clearing.specs.Closing.{MayFollow, is_apart, is_chained};
@@ -8,10 +7,13 @@ ghost use Rattle.cns_clearing.specs.Closing.{MayFollow, is_apart, is_chained};
 use crate::books::Books;
 use crate::effects::Effects;
 use cns_allocate::deliveries;
-use cns_ids::{Cusip, MemberNo};
+use cns_ids::Cusip;
 use cns_pool::Ticket;
 use cns_records::{Allocation, Drawn};
 use std::alloc::{AllocError, Global};
+
+// The numbers of members are below this.
+const MEMBERS: usize = 10_000;
 
 // What an allocation makes besides itself, where it may follow the records of the books.
 pub(crate) fn may_allocate(
@@ -83,21 +85,15 @@ fn are_chained(tickets: &[Ticket]) -> bool
 fn are_apart(tickets: &[Ticket]) -> bool
     ensures { result ≡ is_apart tickets.now }
 {
-    let mut left = tickets;
-    while let [first, rest @ ..] = left {
-        if has_ticket(rest, first.member) {
+    let mut seen = [false; MEMBERS];
+    for ticket in tickets {
+        let member = usize::from(ticket.member.number());
+        if seen[member] {
             return false;
         }
-        left = rest;
+        seen[member] = true;
     }
     true
-}
-
-// Whether a member has one of the tickets.
-fn has_ticket(tickets: &[Ticket], member: MemberNo) -> bool
-    ensures { result ≡ has_ticket_in tickets.now member }
-{
-    tickets.iter().any(|ticket| ticket.member == member)
 }
 
 // Whether no ticket asks for more than its member is long of, less its open deliveries.

@@ -61,8 +61,8 @@ impl<K: Keeper> Clearing<K> {
     /// Refuses `BadJournal` where a payload is no record, or of a record that may not stand after
     /// those before it. (This project's own rule.)
     ///
-    /// Costs each record that the journal gives what the call that made it cost, and an allocation the
-    /// square of its tickets.
+    /// Costs each record that the journal gives what the call that made it cost, and an allocation one
+    /// pass over its tickets, with look-ups for each.
     pub fn open(alloc: Global, keeper: K) -> Result<Clearing<K>, Refused<K>>
         ensures ok { IfOk result (IsOpened
             (record { honest = K.honest keeper; run = K.run keeper; journal = K.journal keeper; foresight = K.foresight keeper })) }
@@ -177,7 +177,7 @@ impl<K: Keeper> Clearing<K> {
     /// Refuses `Down`, then `LotAlready`. It adds no record. (This project's own rule.)
     ///
     /// Costs one pass over all holdings and over the positions after the cycle before the latest, and
-    /// look-ups for each member that is long in the issue.
+    /// look-ups: of the issue's lot, and for each member that is long in the issue.
     pub fn lot_open(&mut self, issue: Cusip) -> Result<Plan, Refusal>
         ensures { LotOpenLeaves issue result self.old self.new }
     {
@@ -205,7 +205,7 @@ impl<K: Keeper> Clearing<K> {
     ///
     /// Refuses `Down`, then `NoLot`. It adds no record and takes no memory. (This project's own rule.)
     ///
-    /// Costs a look-up, and a walk over the open lots.
+    /// Costs look-ups.
     pub fn lot_pour(&mut self, issue: Cusip) -> Result<u64, Refusal>
         ensures { LotPourLeaves issue result self.old self.new }
     {
@@ -297,8 +297,8 @@ impl<K: Keeper> Clearing<K> {
     /// Refuses `BadJournal` where a payload is no record, or of a record that may not stand after
     /// those before it. (This project's own rule.)
     ///
-    /// Costs each record that the journal gives what the call that made it cost, and an allocation the
-    /// square of its tickets.
+    /// Costs each record that the journal gives what the call that made it cost, and an allocation one
+    /// pass over its tickets, with look-ups for each.
     pub fn restart(&mut self) -> Result<Restarted, ReplayFault>
         ensures { RestartLeaves result self.old self.new }
     {
@@ -356,7 +356,7 @@ impl<K: Keeper> Clearing<K> {
 
     /// The shares of an issue in account 0 that are free.
     ///
-    /// Costs a look-up, and a walk over the open lots.
+    /// Costs two look-ups.
     pub fn free(&self, issue: Cusip) -> u128
         ensures value { result ≡ free_in (orders_of self.now.log.records) self.now.lots issue }
 
@@ -368,7 +368,7 @@ impl<K: Keeper> Clearing<K> {
 
     /// The shares of an issue that are lent: those that were poured into its open lot.
     ///
-    /// Costs a walk over the open lots.
+    /// Costs a look-up.
     pub fn lent(&self, issue: Cusip) -> u128
         ensures { result ≡ lent_in self.now.lots issue }
     {
@@ -392,7 +392,7 @@ impl<K: Keeper> Clearing<K> {
 
     /// The pools that have shares, by issue.
     ///
-    /// Costs one pass over all orders, and a look-up for each issue that they name.
+    /// Costs one pass over all orders, and two look-ups for each issue that they name.
     pub fn pools(&self, alloc: Global) -> Result<PoolRows, AllocError>
         ensures { IfOk result (λ rows. rows ≡ rows_of (orders_of self.now.log.records) self.now.lots) }
     {
@@ -411,7 +411,7 @@ impl<K: Keeper> Clearing<K> {
 
     /// The open lot of an issue.
     ///
-    /// Costs a walk over the open lots.
+    /// Costs a look-up.
     pub fn lot(&self, issue: Cusip) -> Option<&Lot>
         ensures { option_map (λ lot. lot.now) result ≡ lot_of self.now.lots issue }
     {

@@ -1,12 +1,16 @@
-ghost use Rattle.std.specs.Prelude.{◌≡◌, ◌<◌, ◌++◌, ◌∷◌, [], IsTrue, ◌↔◌, map, option_map, OnOk};
+ghost use Rattle.std.specs.Prelude.{◌≡◌, ℕ, ◌<◌, ◌==◌, ◌++◌, ◌∷◌, [], nat_eq, IsTrue, ◌↔◌, map, option_map, None, Some, OnOk, if◌then◌else◌};
+ghost use Rattle.std.specs.HashMap.{get, spare};
+ghost use Rattle.std.specs.List.{position};
 ghost use Rattle.cns_clearing.specs.Pools.{lot_of};
 ghost use Rattle.cns_clearing.specs.Lots.{lots_after, without_lot};
-ghost use Rattle.cns_clearing.specs.OpenLots.{refilled};
+ghost use Rattle.cns_clearing.specs.OpenLots.{place_without, refilled};
+ghost use Rattle.cns_clearing.specs.declared.lot.Lot.{Lot};
 
 use cns_allocate::Plan;
 use cns_ids::{Cusip, Shares};
 use cns_records::ClearRecord;
 use std::alloc::{AllocError, Global};
+use std::collections::HashMap;
 use std::marker::Model;
 
 /// An open lot: shares of an issue that are being given to the members that are long in it.
@@ -25,18 +29,6 @@ pub struct Lot {
     pub plan: Plan,
 }
 
-impl Lot {
-    // Sets what the lot has, and after how many records, where it is of the issue.
-    fn refill(&mut self, issue: Cusip, upto: u64, poured: Shares)
-        ensures { self.new ≡ refilled issue upto poured self.old }
-    {
-        if self.issue == issue {
-            self.upto = upto;
-            self.poured = poured;
-        }
-    }
-}
-
 // The open lots, at most one of an issue.
 //
 // Contracts see the lots, in the order in which they were opened, and beside them for how many more
@@ -44,15 +36,23 @@ impl Lot {
 #[derive(Drop)]
 pub(crate) struct Lots {
     list: Vec<Lot>,
+    // The place of each issue's lot in the list.
+    places: HashMap<Cusip, usize>,
 }
 
 impl Model for Lots {
-    ghost use Rattle.std.specs.Prelude.{◌-◌, length, vec_capacity};
-    ghost use Rattle.cns_clearing.specs.OpenLots.{LotRoom};
+    ghost use Rattle.std.specs.Prelude.{◌-◌, length, min, nat_eq, vec_capacity};
+    ghost use Rattle.std.specs.HashMap.{get, spare};
+    ghost use Rattle.cns_clearing.specs.OpenLots.{ArePlaces, LotRoom};
 
     ghost Value = { LotRoom };
 
-    ghost view = { λ l. record { lots = l.list.items; room = vec_capacity l.list - length l.list.items } };
+    ghost view = { λ l. record {
+      lots = l.list.items;
+      room = min (vec_capacity l.list - length l.list.items) (spare l.places);
+    } };
+
+    ghost invariant = { λ l. ArePlaces l.list.items (λ issue. get nat_eq l.places issue) };
 }
 
 impl Lots {
@@ -62,6 +62,7 @@ impl Lots {
     {
         Lots {
             list: Vec::new(alloc),
+            places: HashMap::new(alloc),
         }
     }
 
@@ -83,7 +84,17 @@ impl Lots {
     pub(crate) fn get(&self, issue: Cusip) -> Option<&Lot>
         ensures { option_map (λ lot. lot.now) result ≡ lot_of self.now.lots issue }
     {
-        self.list.iter().find(|lot| lot.issue == issue)
+        match self.place(issue) {
+            Some(place) => Some(&self.list[place]),
+            None => None,
+        }
+    }
+
+    // The place of the lot of an issue.
+    fn place(&self, issue: Cusip) -> Option<usize>
+        ensures { result ≡ position (λ (lot : Lot). lot.issue == issue) self.now.lots }
+    {
+        self.places.get(&issue).copied()
     }
 
     // Takes the memory that one more lot needs.
@@ -91,14 +102,17 @@ impl Lots {
         ensures same { self.new.lots ≡ self.old.lots }
         ensures room { OnOk result (0 < self.new.room) }
     {
-        self.list.reserve(1)
+        self.list.reserve(1)?;
+        self.places.reserve(1)
     }
 
-    // Opens a lot. It takes no memory.
+    // Opens a lot of an issue that has none. It takes no memory.
     pub(crate) fn open(&mut self, lot: Lot)
-        requires { 0 < self.old.room }
+        requires room { 0 < self.old.room }
+        requires first { lot_of self.old.lots lot.issue ≡ None }
         ensures { self.new.lots ≡ self.old.lots ++ lot ∷ [] }
     {
+        put(&mut self.places, lot.issue, self.list.len());
         self.list.push_reserved(lot);
     }
 
@@ -106,8 +120,10 @@ impl Lots {
     pub(crate) fn refill(&mut self, issue: Cusip, upto: u64, poured: Shares)
         ensures { self.new.lots ≡ map (refilled issue upto poured) self.old.lots }
     {
-        for lot in self.list.iter_mut() {
-            lot.refill(issue, upto, poured);
+        if let Some(place) = self.place(issue) {
+            let lot = &mut self.list[place];
+            lot.upto = upto;
+            lot.poured = poured;
         }
     }
 
@@ -129,7 +145,10 @@ impl Lots {
     fn close(&mut self, issue: Cusip)
         ensures { self.new.lots ≡ without_lot issue self.old.lots }
     {
-        self.list.retain(|lot| lot.issue != issue);
+        if let Some(place) = self.places.remove(&issue) {
+            drop(self.list.remove(place));
+            take_out(&mut self.places, place);
+        }
     }
 
     // Ends all lots.
@@ -137,5 +156,33 @@ impl Lots {
         ensures { self.new.lots ≡ [] }
     {
         self.list.clear();
+        self.places.clear();
     }
+}
+
+// Sets the place of an issue's lot, for which there is room.
+fn put(places: &mut HashMap<Cusip, usize>, issue: Cusip, place: usize)
+    requires { 0 < spare places.old }
+    ensures { (i : ℕ) → get nat_eq places.new i ≡ (if issue == i then Some place else get nat_eq places.old i) }
+{
+    let Ok(_) = places.insert(issue, place) else {
+        unreachable!()
+    };
+}
+
+// Renews the places of the other lots once the one at a place is closed.
+fn take_out(places: &mut HashMap<Cusip, usize>, closed: usize)
+    ensures { (i : ℕ) → get nat_eq places.new i ≡ option_map (place_without closed) (get nat_eq places.old i) }
+{
+    places.retain(|_, place| {
+        *place = moved(*place, closed);
+        true
+    });
+}
+
+// The place of a lot once the one at another place is closed.
+fn moved(place: usize, closed: usize) -> usize
+    ensures { result ≡ place_without closed place }
+{
+    if place > closed { place - 1 } else { place }
 }

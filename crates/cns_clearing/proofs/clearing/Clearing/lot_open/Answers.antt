@@ -1,8 +1,14 @@
-use Rattle.std.proofs.Common.{◌≡◌, None, rules}
+use Rattle.std.proofs.Common.{◌≡◌, ◌∙◌, None, ap, rules}
 use Rattle.cns_clearing.specs.Pools.{lot_of}
 use Rattle.cns_clearing.proofs.LeavesLemmas.{open_leaves, opened_lots, plan_is}
 use Rattle.cns_clearing.proofs.NodeLemmas.{node_lots}
 use Rattle.cns_clearing.proofs.clearing.Clearing.lot_open.Goals as goal
+
+pub open-requires-clause-first : goal.open-requires-clause-first
+open-requires-clause-first g c =
+    let none : lot_of c.args.self.now.lots c.args.issue ≡ None = search rules in
+    let none' = rw (← c.self.view_is) at none in
+    ap (λ l. lot_of l c.args.issue) c.in_ok-room.ensures.same ∙ none'
 
 pub invariant_of-self-2 : goal.invariant_of-self-2
 invariant_of-self-2 g c =

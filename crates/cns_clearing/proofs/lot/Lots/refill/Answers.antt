@@ -1,11 +1,20 @@
-use Rattle.std.proofs.Common.{◌<◌, ◌+◌, length, refl, sym, ap, ◌∙◌, rules}
-use Rattle.cns_clearing.specs.OpenLots.{refilled}
-use Rattle.cns_clearing.proofs.ListLemmas.{set_mapped}
+use Rattle.std.proofs.Common.{◌∙◌, sym}
+use Rattle.cns_clearing.proofs.OpenLotLemmas.{places_refilled, refilled_at, refilled_none}
 use Rattle.cns_clearing.proofs.lot.Lots.refill.Goals as goal
 
-pub loop-lot-preserved : goal.loop-lot-preserved
-loop-lot-preserved c =
-    let f = refilled c.args.issue c.args.upto c.args.poured in
-    let same = c.loop-lot.invariant in
-    let within : c.loop-lot.lot-index < length c.args.self.now.lots = search rules in
-    rw same (set_mapped f c.args.self.now.lots c.loop-lot.lot-index (c.loop-lot.lot-index + 1) c.lot-item.result c.refill.new.self refl within (rw same at c.lot-item.is) (c.refill.ensures ∙ ap f (sym c.lot-item.is)))
+pub invariant_of-self : goal.invariant_of-self
+invariant_of-self c =
+    let is = rw (← c.self.view_is) at c.in-Some.ensures in
+    places_refilled _ _ c.args.issue c.args.upto c.args.poured _ c.self.invariant
+    (refilled_at _ c.args.issue c.args.upto c.args.poured c.in-Some.place c.index_mut-lot.result.now _ c.self.invariant is c.index_mut-lot.ensures.value)
+
+pub returns-in-Some : goal.returns-in-Some
+returns-in-Some c =
+    let is = rw (← c.self.view_is) at c.in-Some.ensures in
+    rw (← c.self.view_is)
+    (refilled_at _ c.args.issue c.args.upto c.args.poured c.in-Some.place c.index_mut-lot.result.now _ c.self.invariant is c.index_mut-lot.ensures.value)
+
+pub returns-in_default : goal.returns-in_default
+returns-in_default c =
+    let is = rw (← c.self.view_is) at c.place.ensures in
+    rw (← c.self.view_is) (refilled_none _ c.args.issue c.args.upto c.args.poured _ c.self.invariant (sym is ∙ c.in_default.is))

@@ -1,0 +1,18 @@
+use Rattle.std.proofs.Common.{◌<◌, ◌∙◌, length, length-set, refl, true, arith, rules}
+use Rattle.cns_clearing.proofs.ApartLemmas.{apart_from_none, apart_step, table_none}
+use Rattle.cns_clearing.proofs.admission.are_apart.Goals as goal
+
+pub loop-ticket-init : goal.loop-ticket-init
+loop-ticket-init c = record { left = apart_from_none _ (table_none 10000) c.args.tickets.now; size = refl }
+
+pub loop-ticket-preserved : goal.loop-ticket-preserved
+loop-ticket-preserved c =
+    let table = c.loop-ticket.seen in
+    let member = c.from-member.result in
+    let within : member < length table = first_of (omega (arith, c.from-member.ensures, c.number.ensures.value, c.number.ensures.range, c.loop-ticket.invariant.size), search rules) in
+    record {
+      left =
+          apart_step c.args.tickets.now c.loop-ticket.ticket-index c.ticket-item.result table member c.loop-ticket-test.true c.ticket-item.is (c.from-member.ensures ∙ c.number.ensures.value) within
+          c.if-seen-member.false c.loop-ticket.invariant.left;
+      size = length-set table member true ∙ c.loop-ticket.invariant.size;
+    }
