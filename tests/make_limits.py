@@ -148,6 +148,18 @@ def lots():
             'restart CLEAR records %d kept no' % MOST, 'lot refused LotsSpent']
     return [], [], lines, out
 
+def open_lots():
+    """As many lots as there may be, all open at once, each of an issue of its own."""
+    lines = ['LOT ' + cusip(number) for number in range(1, MOST + 1)]
+    out = ['lot %d poured 0 longs 0' % number for number in range(1, MOST + 1)]
+    lines += ['LOT ' + cusip(0), 'LOT ' + cusip(MOST), 'POUR 1', 'POUR %d' % MOST, 'CYCLE NIGHT 2025-03-04', 'CLOSE 1',
+              'LOOK 1', 'LOOK 2', 'RESTART CLEAR', 'LOOK 2', 'LOT ' + cusip(0)]
+    out += ['lot refused LotsSpent', 'lot refused LotAlready', 'pour 0', 'pour 0', 'cycle refused LotsOpen', 'close granted 0',
+            'look refused StaleLot', 'look poured 0 asked 0 sealed no', 'restart CLEAR records 1 kept no',
+            'look refused StaleLot', 'lot refused LotsSpent']
+    return [], [], lines, out
+
+
 def cycles():
     """100,000 trades of one seller over 50 days with a cycle on each, and one lot: what is left is a plain sum."""
     count, days, issues, seller = 100000, 50, 701, 9999
@@ -199,7 +211,7 @@ def cycles():
 
 
 QUICK = [openings, longs]
-LIMITS = QUICK + [cycles, trades, shares, orders, lots]
+LIMITS = QUICK + [cycles, trades, shares, orders, lots, open_lots]
 
 
 def main(words):
