@@ -18,6 +18,13 @@ pub(crate) fn assert_prints(rt: &impl Abort, alloc: Global, value: &impl Display
     assert_same(rt, &text.as_str(), &wanted);
 }
 
+// Faults, each with its text.
+pub(crate) fn assert_texts<T: Display>(rt: &impl Abort, alloc: Global, cases: &[(T, &str)]) {
+    for (fault, words) in cases {
+        assert_prints(rt, alloc, fault, words);
+    }
+}
+
 pub(crate) fn member_of(rt: &impl Abort, number: u16) -> MemberNo {
     MemberNo::new(number).expect(rt, "a member's number")
 }

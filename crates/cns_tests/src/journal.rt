@@ -1,5 +1,5 @@
+use crate::common::assert_texts;
 use cns_journal::{KeepFault, Keeper, ListKeeper, MAX_PAYLOAD, NotPlanned};
-use log::assert_texts;
 use std::process::Abort;
 use std::test::Fail;
 

@@ -191,6 +191,26 @@ const ROOM: Left = Left {
     calls: 4,
 };
 
+const NO_ROOM: Left = Left {
+    budget: 0,
+    pours: 0,
+    calls: 0,
+};
+
+const ROOM_FOR_THREE: Left = Left {
+    budget: 70,
+    pours: 40,
+    calls: 3,
+};
+
+const MOST: u64 = 1 << 62;
+
+const ROOM_FOR_MOST: Left = Left {
+    budget: MOST,
+    pours: MOST,
+    calls: 2,
+};
+
 static END_TO_END: [Step; 6] = [
     Step::Look(0, 0, false),
     Step::Pour(40),
@@ -210,7 +230,8 @@ fn tickets_stand_end_to_end(rt: HostRuntime) -> Result<(), Fail> {
     Ok(())
 }
 
-static SEALED: [Step; 7] = [
+// A sealed pool draws no ticket.
+const SEALED: &[Step] = &[
     Step::Pour(40),
     Step::Draw((2, 0, 30)),
     Step::Seal,
@@ -220,30 +241,8 @@ static SEALED: [Step; 7] = [
     Step::Pour(60),
 ];
 
-#[test]
-fn a_sealed_pool_draws_no_ticket(rt: HostRuntime) {
-    assert!(rt; plain_comes_to(rt.alloc(), ROOM, &SEALED, &(&[(2, 0, 30)], 100, true)));
-}
-
-const NO_ROOM: Left = Left {
-    budget: 0,
-    pours: 0,
-    calls: 0,
-};
-
-#[test]
-fn a_pool_of_no_reserves(rt: HostRuntime) {
-    assert!(rt; plain_comes_to(rt.alloc(), NO_ROOM, &[], &(&[], 0, false)));
-}
-
-const ROOM_FOR_THREE: Left = Left {
-    budget: 70,
-    pours: 40,
-    calls: 3,
-};
-
 // Two tickets, and a reserve that a seal refuses.
-static THREE: [Step; 5] = [
+const THREE: &[Step] = &[
     Step::Draw((2, 0, 30)),
     Step::Draw((3, 30, 30)),
     Step::Seal,
@@ -251,19 +250,20 @@ static THREE: [Step; 5] = [
     Step::Pour(40),
 ];
 
-static AFTER_THREE: Come = (&[(2, 0, 30), (3, 30, 30)], 40, true);
+const AFTER_THREE: Come = (&[(2, 0, 30), (3, 30, 30)], 40, true);
 
-#[test]
-fn a_pool_of_any_kind(rt: HostRuntime) {
-    assert!(rt; plain_comes_to(rt.alloc(), ROOM_FOR_THREE, &THREE, &AFTER_THREE));
-}
+// The most shares are poured and drawn.
+const ALL: &[Step] = &[
+    Step::Pour(MOST),
+    Step::Draw((1, 0, MOST - 1)),
+    Step::Draw((2, MOST - 1, 1)),
+    Step::Look(MOST, MOST, false),
+];
 
-#[test]
-fn a_held_cell_as_a_pool(rt: HostRuntime) {
-    assert!(rt; held_comes_to(rt.alloc(), ROOM_FOR_THREE, &THREE, &AFTER_THREE));
-}
+const AFTER_ALL: Come = (&[(1, 0, MOST - 1), (2, MOST - 1, 1)], MOST, false);
 
-static HELD: [Step; 6] = [
+// A held cell counts refused shares.
+const HELD: &[Step] = &[
     Step::Pour(40),
     Step::Draw((2, 0, 30)),
     Step::Look(40, 30, false),
@@ -272,9 +272,35 @@ static HELD: [Step; 6] = [
     Step::Look(40, 60, true),
 ];
 
+// What a pool may be asked, what is done, and what it comes to.
+type Story = (Left, &'static [Step], Come);
+
+static OF_PLAIN_POOLS: [Story; 4] = [
+    (ROOM, SEALED, (&[(2, 0, 30)], 100, true)),
+    (NO_ROOM, &[], (&[], 0, false)),
+    (ROOM_FOR_THREE, THREE, AFTER_THREE),
+    (ROOM_FOR_MOST, ALL, AFTER_ALL),
+];
+
+static OF_HELD_CELLS: [Story; 2] = [
+    (ROOM_FOR_THREE, THREE, AFTER_THREE),
+    (ROOM, HELD, (&[(2, 0, 30)], 40, true)),
+];
+
 #[test]
-fn a_held_cell_counts_refused_shares(rt: HostRuntime) {
-    assert!(rt; held_comes_to(rt.alloc(), ROOM, &HELD, &(&[(2, 0, 30)], 40, true)));
+fn stories_of_pools(rt: HostRuntime) {
+    for (place, (left, steps, come)) in OF_PLAIN_POOLS.iter().enumerate() {
+        assert!(rt;
+            plain_comes_to(rt.alloc(), *left, steps, come),
+            "story {place}"
+        );
+    }
+    for (place, (left, steps, come)) in OF_HELD_CELLS.iter().enumerate() {
+        assert!(rt;
+            held_comes_to(rt.alloc(), *left, steps, come),
+            "story {place}"
+        );
+    }
 }
 
 // Whether a reserve at a seat draws this ticket.
@@ -482,26 +508,4 @@ fn a_list_of_tickets(rt: HostRuntime) -> Result<(), Fail> {
     drop(other);
     assert!(rt; ends_in(tickets, &(3, 30, 5)));
     Ok(())
-}
-
-const MOST: u64 = 1 << 62;
-
-const ROOM_FOR_MOST: Left = Left {
-    budget: MOST,
-    pours: MOST,
-    calls: 2,
-};
-
-static ALL: [Step; 4] = [
-    Step::Pour(MOST),
-    Step::Draw((1, 0, MOST - 1)),
-    Step::Draw((2, MOST - 1, 1)),
-    Step::Look(MOST, MOST, false),
-];
-
-static AFTER_ALL: Come = (&[(1, 0, MOST - 1), (2, MOST - 1, 1)], MOST, false);
-
-#[test]
-fn the_most_shares_are_poured_and_drawn(rt: HostRuntime) {
-    assert!(rt; plain_comes_to(rt.alloc(), ROOM_FOR_MOST, &ALL, &AFTER_ALL));
 }

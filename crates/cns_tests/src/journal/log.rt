@@ -1,12 +1,11 @@
 ghost use Rattle.std.specs.Prelude.{◌≡◌, ◌≤◌, false, IfOk};
 ghost use Rattle.cns_journal.specs.RecordLog.{IsLawfulLog};
 
+use crate::common::assert_texts;
 use cns_journal::{
     CommitFault, Keeper, Ledger, ListKeeper, Record, RecordFault, RecordLog, ReplayFault, Restarted,
 };
 use std::alloc::{AllocError, Global};
-use std::fmt::Display;
-use std::process::Abort;
 use std::test::Fail;
 
 // A record of one number, which is its payload.
@@ -209,23 +208,6 @@ fn a_restart_gives_what_was_acknowledged(rt: HostRuntime) -> Result<(), Fail> {
         assert!(rt; comes_back(rt.alloc(), keeper, restart));
     }
     Ok(())
-}
-
-// Whether a fault has this text.
-fn prints<T: Display>(alloc: Global, fault: &T, words: &str) -> bool {
-    let Ok(text) = fault.to_string(alloc) else {
-        return false;
-    };
-    let same = text.as_str() == words;
-    drop(text);
-    same
-}
-
-// Faults, each with its text.
-pub(super) fn assert_texts<T: Display>(rt: &impl Abort, alloc: Global, cases: &[(T, &str)]) {
-    for (fault, words) in cases {
-        assert!(rt; prints(alloc, fault, words), "{words}");
-    }
 }
 
 const MEMORY: &str = "out of memory";
