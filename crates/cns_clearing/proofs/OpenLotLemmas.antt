@@ -1,6 +1,6 @@
 -- The place of each issue's lot, as lots are opened, refilled and closed.
 use Rattle.std.proofs.Common.{◌≡◌, ℕ, Bool, true, false, cond, not, List, [], ◌∷◌, ◌++◌, length, map, slice_set, get_or, Some, None, refl, sym, ap, ◌∙◌, subst, arith}
-use Rattle.std.specs.Prelude.{Option, ◌==◌, count_by, filter, find, MatchOption, option_map}
+use Rattle.std.specs.Prelude.{Option, ◌==◌, MatchOption, option_map}
 use Rattle.std.specs.List.{position, remove}
 use Rattle.std.proofs.lemmas.Bool.{cond-false, cond-true, eqb-true}
 use Rattle.cns_allocate.proofs.TurnLemmas.{count_by-filter, find-passes}

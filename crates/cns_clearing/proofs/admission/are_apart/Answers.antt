@@ -1,4 +1,4 @@
-use Rattle.std.proofs.Common.{◌<◌, ◌∙◌, length, length-set, refl, true, arith, rules}
+use Rattle.std.proofs.Common.{◌<◌, ◌∙◌, length, length-set, refl, true, arith}
 use Rattle.cns_clearing.proofs.ApartLemmas.{apart_from_none, apart_step, table_none}
 use Rattle.cns_clearing.proofs.admission.are_apart.Goals as goal
 
@@ -9,7 +9,7 @@ pub loop-ticket-preserved : goal.loop-ticket-preserved
 loop-ticket-preserved c =
     let table = c.loop-ticket.seen in
     let member = c.from-member.result in
-    let within : member < length table = first_of (omega (arith, c.from-member.ensures, c.number.ensures.value, c.number.ensures.range, c.loop-ticket.invariant.size), search rules) in
+    let within : member < length table = omega (arith, c.from-member.ensures, c.number.ensures.value, c.number.ensures.range, c.loop-ticket.invariant.size) in
     record {
       left =
           apart_step c.args.tickets.now c.loop-ticket.ticket-index c.ticket-item.result table member c.loop-ticket-test.true c.ticket-item.is (c.from-member.ensures ∙ c.number.ensures.value) within
