@@ -125,11 +125,15 @@ triple word first second =
     else if same_text word (codes "BESIDE") then of_two command.Beside (issue_in first) (lines_in second)
     else None
 
+-- those of four
+abbrev pub quadruple : List ℕ → List ℕ → List ℕ → List ℕ → Option Command
+quadruple word first second third = option_map command.Single (quadruple_event word first second third)
+
 abbrev pub form_of : List (List ℕ) → Option Command
 form_of (word ∷ []) = single word
 form_of (word ∷ first ∷ []) = pair word first
 form_of (word ∷ first ∷ second ∷ []) = triple word first second
-form_of (word ∷ first ∷ second ∷ third ∷ []) = option_map command.Single (quadruple_event word first second third)
+form_of (word ∷ first ∷ second ∷ third ∷ []) = quadruple word first second third
 form_of words = None
 
 -- words that fit no form are a bad command

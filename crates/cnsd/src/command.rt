@@ -1,7 +1,7 @@
 ghost use Rattle.std.specs.Prelude.{◌≡◌, ◌==◌, ◌<◌, option_map, length, IfSome};
 ghost use Rattle.std.specs.List.{position_from};
 ghost use Rattle.cnsd.specs.Words.{split_at_space, words_of};
-ghost use Rattle.cnsd.specs.Script.{command_of as command_of_line, form_of, single as single_of, pair as pair_of, pair_event as pair_event_of, cycle_event as cycle_event_of, triple as triple_of, quadruple_event as quadruple_event_of, take_in, one_of, place_in, member_in, issue_in, switch_in, node_in, stands_in, kind_in};
+ghost use Rattle.cnsd.specs.Script.{command_of as command_of_line, form_of, single as single_of, pair as pair_of, pair_event as pair_event_of, cycle_event as cycle_event_of, triple as triple_of, quadruple as quadruple_of, quadruple_event as quadruple_event_of, take_in, one_of, place_in, member_in, issue_in, switch_in, node_in, stands_in, kind_in};
 
 use cns_ids::{Cusip, CycleId, CycleKind, Day, MemberNo, Shares, read_number};
 use cns_system::{Event, NodeName};
@@ -244,6 +244,13 @@ fn quadruple_event(word: &[u8], first: &[u8], second: &[u8], third: &[u8]) -> Op
     }
 }
 
+// The commands of four words.
+fn quadruple(word: &[u8], first: &[u8], second: &[u8], third: &[u8]) -> Option<Command>
+    ensures { result ≡ quadruple_of word.now first.now second.now third.now }
+{
+    quadruple_event(word, first, second, third).map(Command::Single)
+}
+
 // The command that the words of a line are, where they fit a form.
 fn read_command(line: &[u8]) -> Option<Command>
     ensures { result ≡ form_of (words_of line.now) }
@@ -262,7 +269,7 @@ fn read_command(line: &[u8]) -> Option<Command>
     };
     let (third, rest) = split_word(rest);
     match rest {
-        None => quadruple_event(word, first, second, third).map(Command::Single),
+        None => quadruple(word, first, second, third),
         Some(_) => None,
     }
 }
