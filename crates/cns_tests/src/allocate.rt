@@ -67,7 +67,9 @@ fn two_longs(rt: &impl Abort, alloc: Global) -> Result<NetBook, AllocError>
     let first = trade_of(rt, low_issue(rt), FIRST);
     let second = trade_of(rt, low_issue(rt), SECOND);
     let third = trade_of(rt, high_issue(rt), THIRD);
-    assert!(rt; second.id != first.id && third.id != first.id && third.id != second.id);
+    if second.id == first.id || third.id == first.id || third.id == second.id {
+        panic!(rt; "two trades have one id");
+    }
     let mut book = NetBook::new(alloc);
     book.accept(first)?;
     book.accept(second)?;
