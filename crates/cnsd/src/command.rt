@@ -282,5 +282,8 @@ pub(crate) fn command_of(line: &[u8]) -> Command
     if line.is_empty() || line[0] == b'#' {
         return Command::Skip;
     }
-    read_command(line).unwrap_or(Command::Bad)
+    match read_command(line) {
+        Some(command) => command,
+        None => Command::Bad,
+    }
 }
