@@ -193,7 +193,8 @@ fn command_lines(rt: HostRuntime) -> Result<(), Fail> {
         (came_back_with_one_more, "restart DEPOT records 1 kept yes"),
     ];
     for (line, want) in &lines {
-        see(&rt, rt.alloc(), *line, &format!(in rt.alloc(); "{want}\n")?)?;
+        let want = format!(in rt.alloc(); "{want}\n")?;
+        see(&rt, rt.alloc(), *line, &want)?;
     }
     Ok(())
 }

@@ -159,9 +159,10 @@ fn take_each(rt: &impl Abort, alloc: Global, both: &mut Both, list: &[Told]) -> 
 }
 
 fn take_all(rt: &impl Abort, alloc: Global, both: &mut Both) -> Result<(), Fail> {
-    take_each(rt, alloc, both, &ordered()?)?;
+    let (ordered, drawn) = (ordered()?, drawn()?);
+    take_each(rt, alloc, both, &ordered)?;
     take_each(rt, alloc, both, &COVERED)?;
-    take_each(rt, alloc, both, &drawn()?)?;
+    take_each(rt, alloc, both, &drawn)?;
     take_each(rt, alloc, both, &CLOSED)
 }
 
@@ -208,8 +209,9 @@ fn see_down(rt: &impl Abort, alloc: Global, list: &[Told]) -> Result<(), Fail> {
 
 #[test]
 fn refusals_are_told(rt: HostRuntime) -> Result<(), Fail> {
+    let down = down()?;
     see_down(&rt, rt.alloc(), &DOWN)?;
-    see_down(&rt, rt.alloc(), &down()?)
+    see_down(&rt, rt.alloc(), &down)
 }
 
 #[test]
