@@ -125,44 +125,77 @@ const CLOSED: [Told; 9] = [
 ];
 
 // Two trades make member 1 short, and its cover is ordered.
-fn ordered() -> Result<[Told; 7], Fail> {
+fn orders() -> Result<[Event; 7], Fail> {
     Ok([
-        (sale(b"A1", 2)?, "trade A1 accepted\n"),
-        (sale(b"A2", 3)?, "trade A2 accepted\n"),
-        (sale(b"A1", 2)?, "trade A1 refused Same\n"),
-        (exempt()?, "exempt ok\n"),
-        (priority()?, "priority ok\n"),
-        (
-            cycle()?,
-            "cycle 2025-03-04 NIGHT due 2\norder 1 COVER 0001 037833100 50\n",
-        ),
-        (cycle()?, "cycle refused CycleOrder\n"),
+        sale(b"A1", 2)?,
+        sale(b"A2", 3)?,
+        sale(b"A1", 2)?,
+        exempt()?,
+        priority()?,
+        cycle()?,
+        cycle()?,
     ])
 }
 
+const ORDERED: [&str; 7] = [
+    "trade A1 accepted\n",
+    "trade A2 accepted\n",
+    "trade A1 refused Same\n",
+    "exempt ok\n",
+    "priority ok\n",
+    "cycle 2025-03-04 NIGHT due 2\norder 1 COVER 0001 037833100 50\n",
+    "cycle refused CycleOrder\n",
+];
+
 // Members 3 and 2 draw tickets from a lot.
-fn drawn() -> Result<[Told; 4], Fail> {
-    Ok([
-        (lot_open()?, "lot 1 poured 50 longs 2\n"),
-        (reserve(2)?, "reserve refused EarlierGroup\n"),
-        (reserve(3)?, "ticket 0003 start 0 asked 30\n"),
-        (reserve(2)?, "ticket 0002 start 30 asked 30\n"),
-    ])
+fn draws() -> Result<[Event; 4], Fail> {
+    Ok([lot_open()?, reserve(2)?, reserve(3)?, reserve(2)?])
+}
+
+const DRAWN: [&str; 4] = [
+    "lot 1 poured 50 longs 2\n",
+    "reserve refused EarlierGroup\n",
+    "ticket 0003 start 0 asked 30\n",
+    "ticket 0002 start 30 asked 30\n",
+];
+
+fn take(
+    rt: &impl Abort,
+    alloc: Global,
+    both: &mut Both,
+    event: &Event,
+    want: &str,
+) -> Result<(), Fail> {
+    let outcome = both.step(*event);
+    see(rt, alloc, event, &outcome, want)
+}
+
+// Takes events that are read, each with what is to be told of it.
+fn take_read(
+    rt: &impl Abort,
+    alloc: Global,
+    both: &mut Both,
+    events: &[Event],
+    wanted: &[&str],
+) -> Result<(), Fail> {
+    for (event, want) in events.iter().zip(wanted) {
+        take(rt, alloc, both, event, want)?;
+    }
+    Ok(())
 }
 
 fn take_each(rt: &impl Abort, alloc: Global, both: &mut Both, list: &[Told]) -> Result<(), Fail> {
     for (event, want) in list {
-        let outcome = both.step(*event);
-        see(rt, alloc, event, &outcome, want)?;
+        take(rt, alloc, both, event, want)?;
     }
     Ok(())
 }
 
 fn take_all(rt: &impl Abort, alloc: Global, both: &mut Both) -> Result<(), Fail> {
-    let (ordered, drawn) = (ordered()?, drawn()?);
-    take_each(rt, alloc, both, &ordered)?;
+    let (orders, draws) = (orders()?, draws()?);
+    take_read(rt, alloc, both, &orders, &ORDERED)?;
     take_each(rt, alloc, both, &COVERED)?;
-    take_each(rt, alloc, both, &drawn)?;
+    take_read(rt, alloc, both, &draws, &DRAWN)?;
     take_each(rt, alloc, both, &CLOSED)
 }
 
@@ -189,29 +222,37 @@ const DOWN: [Told; 9] = [
 ];
 
 // Those of values that are read.
-fn down() -> Result<[Told; 6], Fail> {
+fn read_events() -> Result<[Event; 6], Fail> {
     Ok([
-        (sale(b"A1", 2)?, "trade A1 refused Down\n"),
-        (exempt()?, "exempt refused Down\n"),
-        (priority()?, "priority refused Down\n"),
-        (cycle()?, "cycle refused Down\n"),
-        (lot_open()?, "lot refused Down\n"),
-        (reserve(2)?, "reserve refused Down\n"),
+        sale(b"A1", 2)?,
+        exempt()?,
+        priority()?,
+        cycle()?,
+        lot_open()?,
+        reserve(2)?,
     ])
 }
 
-fn see_down(rt: &impl Abort, alloc: Global, list: &[Told]) -> Result<(), Fail> {
-    for (event, want) in list {
-        see(rt, alloc, event, &Outcome::Refused(Refusal::Down), want)?;
-    }
-    Ok(())
-}
+const READ_DOWN: [&str; 6] = [
+    "trade A1 refused Down\n",
+    "exempt refused Down\n",
+    "priority refused Down\n",
+    "cycle refused Down\n",
+    "lot refused Down\n",
+    "reserve refused Down\n",
+];
 
 #[test]
 fn refusals_are_told(rt: HostRuntime) -> Result<(), Fail> {
-    let down = down()?;
-    see_down(&rt, rt.alloc(), &DOWN)?;
-    see_down(&rt, rt.alloc(), &down)
+    let down = Outcome::Refused(Refusal::Down);
+    for (event, want) in &DOWN {
+        see(&rt, rt.alloc(), event, &down, want)?;
+    }
+    let events = read_events()?;
+    for (event, want) in events.iter().zip(&READ_DOWN) {
+        see(&rt, rt.alloc(), event, &down, want)?;
+    }
+    Ok(())
 }
 
 #[test]
