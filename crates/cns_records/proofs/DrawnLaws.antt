@@ -1,40 +1,27 @@
 -- The tickets of an allocation: what is read is what was written, and the other way round; and their order.
-use Rattle.std.proofs.Common.{◌≡◌, ℕ, zero, suc, ◌*◌, ◌^◌, ◌<◌, ◌≤◌, Bool, true, false, List, [], ◌∷◌, ◌++◌, length, add-one, Result, Ok, Err, refl, sym, ap, ap₂, subst, ◌∙◌, arith}
+use Rattle.std.proofs.Common.{◌≡◌, ℕ, zero, suc, ◌*◌, ◌<◌, ◌≤◌, Bool, true, false, List, [], ◌∷◌, ◌++◌, length, add-one, Result, Ok, Err, refl, sym, ap, ap₂, subst, ◌∙◌, arith}
 use Rattle.std.specs.Prelude.{nat_le, ◌==◌, ◌&&◌, IsOk, is_ok}
-use Rattle.std.specs.Int.{Width, w16, w32, w64, to_be_bytes}
+use Rattle.std.specs.Int.{w32, to_be_bytes}
 use Rattle.std.specs.List.{All, AllAdjacentBelow, flat_map}
 use Rattle.std.proofs.lemmas.Bool.{leb-true, le-leb, lt-leb}
 use Rattle.std.proofs.lemmas.List.{append_assoc, append-nil}
 use Rattle.std.proofs.lemmas.List.Sorted.{IsNonDecreasingBy-from_all_adjacent, all_adjacent_from_non_decreasing}
 use Rattle.cns_records.specs.declared.bad_record.BadRecord.{BadRecord}
 use Rattle.cns_records.specs.declared.drawn.Drawn.{Drawn}
-use Rattle.cns_records.specs.Fields.{bad, ◌>>=◌, number_at, tested, tested_at, member_at, shares_at, asked_at, whole}
+use Rattle.cns_records.specs.Fields.{bad, ◌>>=◌, number_at, tested, tested_at, whole}
 use Rattle.cns_records.specs.Drawn.{IsDrawn, AreDrawn, IsByStart, starts_from, by_start, ticket_bytes, ticket_at, tickets_at, is_few, drawn_bytes, tickets_of, drawn_of}
 use Rattle.cns_movements.proofs.BytesLemmas.{IsBytes}
-use Rattle.cns_records.proofs.FieldLemmas.{bind_ok, ok_value, tested_ok, whole_ok, ok_is, Takes, IsField, step, chain, last, tested_field, wide32}
-use Rattle.cns_records.proofs.FieldLaws.{is_member-sound, is_shares-sound, is_asked-sound, member_field, shares_field, asked_field}
+use Rattle.cns_records.proofs.FieldLemmas.{bind_ok, ok_value, tested_ok, whole_ok, ok_is, Takes, IsField, step, chain, last, both_field, made_field, tested_field, number_field, wide32}
+use Rattle.cns_records.proofs.FieldLaws.{member_field, shares_field, asked_field}
 
 -- ---- a ticket
 
 pub ticket_field : IsField ticket_at ticket_bytes IsDrawn
 unfolding ticket_at
-ticket_field = record { takes = takes; again = again } where
-  takes : (bytes : List ℕ) (x : Drawn × List ℕ) → IsBytes bytes → ticket_at bytes ≡ Ok x → Takes bytes (ticket_bytes x.0) x.1 × IsDrawn x.0
-  takes bytes x fits e =
-      let member = step member_field bytes _ x fits e in
-      let start = step shares_field member.rest _ x member.rest_fits member.then in
-      let asked = step asked_field start.rest _ x start.rest_fits start.then in
-      let t : Drawn = record { member = member.value; start = start.value; asked = asked.value } in
-      let parts : bytes ≡ ticket_bytes t ++ asked.rest =
-      chain (to_be_bytes w16 member.value) member.parts (chain (to_be_bytes w64 start.value) start.parts asked.parts) in
-      subst (λ (p : Drawn × List ℕ). Takes bytes (ticket_bytes p.0) p.1 × IsDrawn p.0) (ok_is (t, asked.rest) x asked.then)
-      (record { parts = parts; rest_fits = asked.rest_fits }, record { member = member.fits; start = start.fits; asked = asked.fits })
-
-  again : (t : Drawn) (rest : List ℕ) → IsDrawn t → ticket_at (ticket_bytes t ++ rest) ≡ Ok (t, rest)
-  again t rest fits =
-      let asked = to_be_bytes w64 t.asked ++ rest in
-      let start = to_be_bytes w64 t.start ++ asked in
-      rw (member_field.again t.member start fits.member, shares_field.again t.start asked fits.start, asked_field.again t.asked rest fits.asked) refl
+ticket_field =
+    let fields = both_field member_field (both_field shares_field asked_field) in
+    made_field fields _ (λ t. (t.member, (t.start, t.asked))) IsDrawn
+    (λ t fits. (refl, record { member = fits.0; start = fits.1.0; asked = fits.1.1 })) (λ t is. (refl, (is.member, (is.start, is.asked))))
 
 -- ---- tickets
 
@@ -72,14 +59,8 @@ pub tickets_length : (ts : List Drawn) → length (flat_map ticket_bytes ts) ≡
 tickets_length [] = refl
 tickets_length (t ∷ ts) = omega (arith, tickets_length ts)
 
-few-sound : (n : ℕ) → is_few n ≡ true → n ≤ 9999
-few-sound n h = leb-true n 9999 h
-
-few-complete : (n : ℕ) → n ≤ 9999 → (n < 2 ^ 32) × (is_few n ≡ true)
-few-complete n le = (omega arith, le-leb n 9999 le)
-
-count_field : IsField (tested_at w32 is_few) (to_be_bytes w32) (λ n. n ≤ 9999)
-count_field = tested_field w32 (2 ^ 32) wide32 is_few (λ n. n ≤ 9999) few-sound few-complete
+count_field : IsField (tested_at (number_at w32) is_few) (to_be_bytes w32) (λ n. n ≤ 9999)
+count_field = tested_field (number_field wide32) is_few (λ n. n ≤ 9999) (λ n fits few. leb-true n 9999 few) (λ n few. (omega arith, le-leb n 9999 few))
 
 -- ---- tickets that are read one by one
 
@@ -165,45 +146,6 @@ pub by_start-complete : (ts : List Drawn) → IsByStart ts → by_start ts ≡ t
 by_start-complete ts h = starts 0 ts (starts_at_0 ts) (all_adjacent_from_non_decreasing (λ (t : Drawn). t.start) ts h)
 
 -- ---- the tickets that bytes are
-
--- as many tickets are read as there are to be
-pub tickets_count : (n : ℕ) (bytes : List ℕ) (x : List Drawn × List ℕ) → tickets_at n bytes ≡ Ok x → length x.0 ≡ n
-unfolding tickets_at
-tickets_count zero bytes x e = ap (λ (p : List Drawn × List ℕ). length p.0) (sym (ok_is ([], bytes) x e))
-tickets_count (suc n) bytes x e =
-    let first = bind_ok (ticket_at bytes) _ x e in
-    let others = bind_ok (tickets_at n first.0.1) _ x first.2 in
-    ap (λ (p : List Drawn × List ℕ). length p.0) (sym (ok_is (first.0.0 ∷ others.0.0, others.0.1) x others.2)) ∙ ap suc (tickets_count n first.0.1 others.0 others.1)
-
-number_passes : (w : Width) (test : ℕ → Bool) (bytes : List ℕ) (x : ℕ × List ℕ) → tested_at w test bytes ≡ Ok x → test x.0 ≡ true
-number_passes w test bytes x e =
-    let number = bind_ok (number_at w bytes) _ x e in
-    let t = tested_ok (test number.0.0) number.0 x number.2 in
-    subst (λ (p : ℕ × List ℕ). test p.0 ≡ true) t.1 t.0
-
-ticket_ranges : (bytes : List ℕ) (x : Drawn × List ℕ) → ticket_at bytes ≡ Ok x → IsDrawn x.0
-unfolding ticket_at member_at shares_at asked_at
-ticket_ranges bytes x e =
-    let member = bind_ok (member_at bytes) _ x e in
-    let start = bind_ok (shares_at member.0.1) _ x member.2 in
-    let asked = bind_ok (asked_at start.0.1) _ x start.2 in
-    let is = ok_is _ x asked.2 in
-    subst (λ (p : Drawn × List ℕ). IsDrawn p.0) is
-    (record {
-      member = is_member-sound member.0.0 (number_passes w16 _ bytes member.0 member.1);
-      start = is_shares-sound start.0.0 (number_passes w64 _ member.0.1 start.0 start.1);
-      asked = is_asked-sound asked.0.0 (number_passes w64 _ start.0.1 asked.0 asked.1);
-    })
-
--- tickets that are read are in their ranges
-pub tickets_ranges : (n : ℕ) (bytes : List ℕ) (x : List Drawn × List ℕ) → tickets_at n bytes ≡ Ok x → All IsDrawn x.0
-unfolding tickets_at
-tickets_ranges zero bytes x e = subst (λ (p : List Drawn × List ℕ). All IsDrawn p.0) (ok_is ([], bytes) x e) (λ k d lt. absurd (omega arith))
-tickets_ranges (suc n) bytes x e =
-    let first = bind_ok (ticket_at bytes) _ x e in
-    let others = bind_ok (tickets_at n first.0.1) _ x first.2 in
-    subst (λ (p : List Drawn × List ℕ). All IsDrawn p.0) (ok_is (first.0.0 ∷ others.0.0, others.0.1) x others.2)
-    (all_cons first.0.0 others.0.0 (ticket_ranges bytes first.0 first.1) (tickets_ranges n first.0.1 others.0 others.1))
 
 -- what was read in front of the tickets that bytes are
 tickets_front : (n : ℕ) (bytes : List ℕ) (ts : List Drawn) → tickets_of n bytes ≡ Ok ts → (tickets_at n bytes ≡ Ok (ts, [])) × (by_start ts ≡ true)

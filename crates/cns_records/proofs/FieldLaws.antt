@@ -1,102 +1,66 @@
 -- Each field of a payload: what is read is what was written, and the other way round.
-use Rattle.std.proofs.Common.{◌≡◌, ℕ, ◌+◌, ◌/◌, ◌%◌, ◌^◌, ◌<◌, Bool, true, false, List, [], ◌∷◌, ◌++◌, length, Result, Ok, Err, refl, sym, ap, subst, ◌∙◌, inl, inr, arith}
-use Rattle.std.specs.Prelude.{◌==◌, Option, None, Some, slice_index}
-use Rattle.std.specs.Int.{w16, w64, to_be_bytes}
+use Rattle.std.proofs.Common.{◌≡◌, ℕ, ◌+◌, ◌/◌, ◌%◌, ◌<◌, ◌≤◌, true, false, List, [], ◌∷◌, ◌++◌, length, Result, Ok, Err, refl, sym, ap, subst, ◌∙◌, inl, inr, arith}
+use Rattle.std.specs.Prelude.{◌==◌, ◌&&◌, nat_le, Option, None, Some, slice_index}
+use Rattle.std.specs.Int.{Width, w16, w64, to_be_bytes}
 use Rattle.std.proofs.lemmas.Bool.Decides.{nat_tests}
 use Rattle.std.proofs.lemmas.Bool.{eqb-true}
 use Rattle.cns_ids.specs.Cusip.{IsCusip, cusip_text, read_cusip, with_digit, first_bad, number_of, check_digit}
 use Rattle.cns_ids.specs.Day.{IsRealDay, IsDayNumber, is_real_day, number_of_day}
 use Rattle.cns_ids.specs.DayNumber.{year-number, month-number, day-number}
-use Rattle.cns_ids.specs.Member.{IsMember, is_member}
-use Rattle.cns_ids.specs.Shares.{IsShares, is_shares, IsQuantity, is_quantity}
+use Rattle.cns_ids.specs.Member.{IsMember}
+use Rattle.cns_ids.specs.Shares.{IsShares, is_shares, IsQuantity}
 use Rattle.cns_ids.specs.declared.cusip.CusipFault.{CusipFault}
 use Rattle.cns_ids.specs.declared.cusip.CusipFault.TheVariants as fault
-use Rattle.cns_ids.specs.declared.cycle.CycleKind.{CycleKind}
 use Rattle.cns_ids.specs.declared.cycle.CycleKind.TheVariants.{Night, Day}
 use Rattle.cns_ids.proofs.CusipLemmas.{is_cusip, cusip_text-number_of}
-use Rattle.cns_movements.specs.Asked.{IsAsked, is_asked}
-use Rattle.cns_movements.specs.Number.{IsMoveNo, is_move_no}
-use Rattle.cns_movements.specs.declared.order.MoveKind.{MoveKind}
+use Rattle.cns_movements.specs.Asked.{IsAsked}
+use Rattle.cns_movements.specs.Number.{IsMoveNo}
 use Rattle.cns_movements.specs.declared.order.MoveKind.TheVariants.{Cover, Delivery}
 use Rattle.cns_trades.specs.TradeId.{IsId, is_id_text}
-use Rattle.cns_records.specs.Fields.{◌>>=◌, byte_at, text_at, tested, member_at, quantity_at, shares_at, move_no_at, asked_at, id_bytes, id_at, day_bytes, day_at, issue_from, issue_at, flag_bytes, flag_at, cycle_kind_bytes, cycle_kind_at, move_kind_bytes, move_kind_at}
+use Rattle.cns_records.specs.Fields.{◌&◌, byte_at, text_at, number_at, tested, tested_at, member_at, quantity_at, shares_at, move_no_at, asked_at, id_bytes, id_at, day_bytes, day_at, issue_from, issue_at, flag_bytes, flag_at, cycle_kind_bytes, cycle_kind_at, move_kind_bytes, move_kind_at}
 use Rattle.cns_movements.proofs.BytesLemmas.{IsBytes}
-use Rattle.cns_records.proofs.FieldLemmas.{bind_ok, chosen, tested_ok, ok_is, Takes, IsField, step, byte_field, number_field, tested_field, text_takes, text_again, wide16, wide64, one_takes}
+use Rattle.cns_records.proofs.FieldLemmas.{bind_ok, chosen, tested_ok, ok_is, Takes, IsField, IsWide, step, both_field, made_field, tested_field, told_field, byte_field, number_field, text_takes, text_again, wide16, wide64, one_field}
 
 -- ---- numbers
 
-pub is_member-sound : (n : ℕ) → is_member n ≡ true → IsMember n
-is_member-sound n h = record { from = grind (arith, nat_tests); to = grind (arith, nat_tests) }
-
-is_member-complete : (n : ℕ) → IsMember n → (n < 2 ^ 16) × (is_member n ≡ true)
-is_member-complete n h = let from = h.from in let to = h.to in (omega arith, grind (arith, nat_tests))
+-- a number from 1 to the most
+from_one_field : {w : Width} {limit : ℕ} → IsWide w limit → (most : ℕ) → most < limit → IsField (tested_at (number_at w) (λ n. nat_le 1 n && nat_le n most)) (to_be_bytes w) (λ n. (1 ≤ n) × (n ≤ most))
+from_one_field wide most below = tested_field (number_field wide) (λ n. nat_le 1 n && nat_le n most) _
+    (λ n fits passes. (grind (arith, nat_tests), grind (arith, nat_tests))) (λ n is. let from = is.0 in let to = is.1 in (omega arith, grind (arith, nat_tests)))
 
 pub member_field : IsField member_at (to_be_bytes w16) IsMember
 unfolding member_at
-member_field = tested_field w16 (2 ^ 16) wide16 is_member IsMember is_member-sound is_member-complete
-
-is_quantity-sound : (n : ℕ) → is_quantity n ≡ true → IsQuantity n
-is_quantity-sound n h = record { from = grind (arith, nat_tests); to = grind (arith, nat_tests) }
-
-is_quantity-complete : (n : ℕ) → IsQuantity n → (n < 2 ^ 64) × (is_quantity n ≡ true)
-is_quantity-complete n h = let from = h.from in let to = h.to in (omega arith, grind (arith, nat_tests))
+member_field = told_field (from_one_field wide16 9999 (omega arith)) (λ n is. record { from = is.0; to = is.1 }) (λ n is. (is.from, is.to))
 
 pub quantity_field : IsField quantity_at (to_be_bytes w64) IsQuantity
 unfolding quantity_at
-quantity_field = tested_field w64 (2 ^ 64) wide64 is_quantity IsQuantity is_quantity-sound is_quantity-complete
-
-pub is_shares-sound : (n : ℕ) → is_shares n ≡ true → IsShares n
-is_shares-sound n h = grind (arith, nat_tests)
-
-is_shares-complete : (n : ℕ) → IsShares n → (n < 2 ^ 64) × (is_shares n ≡ true)
-is_shares-complete n h = (omega arith, grind (arith, nat_tests))
-
-pub shares_field : IsField shares_at (to_be_bytes w64) IsShares
-unfolding shares_at
-shares_field = tested_field w64 (2 ^ 64) wide64 is_shares IsShares is_shares-sound is_shares-complete
-
-is_move_no-sound : (n : ℕ) → is_move_no n ≡ true → IsMoveNo n
-is_move_no-sound n h = record { from = grind (arith, nat_tests); to = grind (arith, nat_tests) }
-
-is_move_no-complete : (n : ℕ) → IsMoveNo n → (n < 2 ^ 64) × (is_move_no n ≡ true)
-is_move_no-complete n h = let from = h.from in let to = h.to in (omega arith, grind (arith, nat_tests))
+quantity_field = told_field (from_one_field wide64 999999999999 (omega arith)) (λ n is. record { from = is.0; to = is.1 }) (λ n is. (is.from, is.to))
 
 pub move_no_field : IsField move_no_at (to_be_bytes w64) IsMoveNo
 unfolding move_no_at
-move_no_field = tested_field w64 (2 ^ 64) wide64 is_move_no IsMoveNo is_move_no-sound is_move_no-complete
-
-pub is_asked-sound : (n : ℕ) → is_asked n ≡ true → IsAsked n
-is_asked-sound n h = record { from = grind (arith, nat_tests); to = grind (arith, nat_tests) }
-
-is_asked-complete : (n : ℕ) → IsAsked n → (n < 2 ^ 64) × (is_asked n ≡ true)
-is_asked-complete n h = let from = h.from in let to = h.to in (omega arith, grind (arith, nat_tests))
+move_no_field = told_field (from_one_field wide64 1000000 (omega arith)) (λ n is. record { from = is.0; to = is.1 }) (λ n is. (is.from, is.to))
 
 pub asked_field : IsField asked_at (to_be_bytes w64) IsAsked
 unfolding asked_at
-asked_field = tested_field w64 (2 ^ 64) wide64 is_asked IsAsked is_asked-sound is_asked-complete
+asked_field = told_field (from_one_field wide64 1000000000000000000 (omega arith)) (λ n is. record { from = is.0; to = is.1 }) (λ n is. (is.from, is.to))
+
+pub shares_field : IsField shares_at (to_be_bytes w64) IsShares
+unfolding shares_at
+shares_field = tested_field (number_field wide64) is_shares IsShares (λ n fits passes. grind (arith, nat_tests)) (λ n is. (omega arith, grind (arith, nat_tests)))
 
 -- ---- one of two values
 
 pub flag_field : IsField flag_at flag_bytes (λ _. Unit {0})
 unfolding flag_at byte_at
-flag_field = record { takes = λ bytes x fits e. one_takes 0 false 1 true flag_bytes refl refl bytes x fits e; again = again } where
-  again : (on : Bool) (rest : List ℕ) → Unit {0} → flag_at (flag_bytes on ++ rest) ≡ Ok (on, rest)
-  again false rest fits = refl
-  again true rest fits = refl
+flag_field = one_field 0 false 1 true flag_bytes (λ P p q x. elim x as (λ y. P y) [ false ↦ p | true ↦ q ]) refl refl (λ rest. refl) (λ rest. refl)
 
 pub cycle_kind_field : IsField cycle_kind_at cycle_kind_bytes (λ _. Unit {0})
 unfolding cycle_kind_at byte_at
-cycle_kind_field = record { takes = λ bytes x fits e. one_takes 0 Night 1 Day cycle_kind_bytes refl refl bytes x fits e; again = again } where
-  again : (kind : CycleKind) (rest : List ℕ) → Unit {0} → cycle_kind_at (cycle_kind_bytes kind ++ rest) ≡ Ok (kind, rest)
-  again Night rest fits = refl
-  again Day rest fits = refl
+cycle_kind_field = one_field 0 Night 1 Day cycle_kind_bytes (λ P p q x. elim x as (λ y. P y) [ Night ↦ p | Day ↦ q ]) refl refl (λ rest. refl) (λ rest. refl)
 
 pub move_kind_field : IsField move_kind_at move_kind_bytes (λ _. Unit {0})
 unfolding move_kind_at byte_at
-move_kind_field = record { takes = λ bytes x fits e. one_takes 1 Cover 2 Delivery move_kind_bytes refl refl bytes x fits e; again = again } where
-  again : (kind : MoveKind) (rest : List ℕ) → Unit {0} → move_kind_at (move_kind_bytes kind ++ rest) ≡ Ok (kind, rest)
-  again Cover rest fits = refl
-  again Delivery rest fits = refl
+move_kind_field = one_field 1 Cover 2 Delivery move_kind_bytes (λ P p q x. elim x as (λ y. P y) [ Cover ↦ p | Delivery ↦ q ]) refl refl (λ rest. refl) (λ rest. refl)
 
 -- ---- ids
 
@@ -105,7 +69,7 @@ unfolding id_at byte_at
 id_field = record { takes = takes; again = again } where
   takes : (bytes : List ℕ) (x : List ℕ × List ℕ) → IsBytes bytes → id_at bytes ≡ Ok x → Takes bytes (id_bytes x.0) x.1 × IsId x.0
   takes bytes x fits e =
-      let a = step byte_field bytes (λ len. text_at len.0 len.1 >>= λ text. tested (is_id_text text.0) text) x fits e in
+      let a = step byte_field bytes (λ len. tested_at (text_at len.0) is_id_text len.1) x fits e in
       let b = bind_ok (text_at a.value a.rest) (λ text. tested (is_id_text text.0) text) x a.then in
       let t = text_takes a.value a.rest b.0 a.rest_fits b.1 in
       let g = tested_ok (is_id_text b.0.0) b.0 x b.2 in
@@ -130,37 +94,27 @@ is_real_day-sound y m d h = record {
 is_real_day-complete : (y m d : ℕ) → IsRealDay y m d → is_real_day y m d ≡ true
 is_real_day-complete y m d h = grind (arith, nat_tests)
 
--- the number of a real day gives back its parts
-pub day_bytes-number : (y m d : ℕ) → IsRealDay y m d → day_bytes (number_of_day y m d) ≡ to_be_bytes w16 y ++ m ∷ d ∷ []
-day_bytes-number y m d h = let year = year-number y m d h in let month = month-number y m d h in let day = day-number y m d h in rw (year, month, day) refl
-
 IsDayNumber-number : (y m d : ℕ) → IsRealDay y m d → IsDayNumber (number_of_day y m d)
 IsDayNumber-number y m d h = rw (year-number y m d h, month-number y m d h, day-number y m d h) h
 
-pub day_field : IsField day_at day_bytes IsDayNumber
-unfolding day_at byte_at
-day_field = record { takes = takes; again = again } where
-  takes : (bytes : List ℕ) (x : ℕ × List ℕ) → IsBytes bytes → day_at bytes ≡ Ok x → Takes bytes (day_bytes x.0) x.1 × IsDayNumber x.0
-  takes bytes x fits e =
-      let a = step (number_field w16 (2 ^ 16) wide16) bytes
-      (λ year. byte_at year.1 >>= λ month. byte_at month.1 >>= λ day. tested (is_real_day year.0 month.0 day.0) (number_of_day year.0 month.0 day.0, day.1)) x fits e in
-      let b = step byte_field a.rest (λ month. byte_at month.1 >>= λ day. tested (is_real_day a.value month.0 day.0) (number_of_day a.value month.0 day.0, day.1)) x a.rest_fits a.then in
-      let d = step byte_field b.rest (λ day. tested (is_real_day a.value b.value day.0) (number_of_day a.value b.value day.0, day.1)) x b.rest_fits b.then in
-      let g = tested_ok (is_real_day a.value b.value d.value) (number_of_day a.value b.value d.value, d.rest) x d.then in
-      let real = is_real_day-sound a.value b.value d.value g.0 in
-      let text = ap (λ (t : List ℕ). t ++ d.rest) (sym (day_bytes-number a.value b.value d.value real)) in
-      let parts : bytes ≡ day_bytes (number_of_day a.value b.value d.value) ++ d.rest =
-      a.parts ∙ ap (λ (t : List ℕ). to_be_bytes w16 a.value ++ t) (b.parts ∙ ap (λ (t : List ℕ). b.value ∷ t) d.parts) ∙ text in
-      subst (λ (p : ℕ × List ℕ). Takes bytes (day_bytes p.0) p.1 × IsDayNumber p.0) g.1
-      (record { parts = parts; rest_fits = d.rest_fits }, IsDayNumber-number a.value b.value d.value real)
+few_days : (y m d : ℕ) → IsRealDay y m d → d < 256
+few_days y m d h = let to = h.day_to in grind (arith, nat_tests)
 
-  again : (n : ℕ) (rest : List ℕ) → IsDayNumber n → day_at (day_bytes n ++ rest) ≡ Ok (n, rest)
-  again n rest is =
-      let to = is.year_to in
-      let real = is_real_day-complete (n / 10000) (n / 100 % 100) (n % 100) is in
-      let year : n / 10000 < 2 ^ 16 = omega arith in
-      let back : number_of_day (n / 10000) (n / 100 % 100) (n % 100) ≡ n = omega arith in
-      rw ((number_field w16 (2 ^ 16) wide16).again (n / 10000) ((n / 100 % 100) ∷ (n % 100) ∷ rest) year, real, back) refl
+-- a year, a month and a day that are a date
+real_field : IsField (tested_at (number_at w16 & byte_at & byte_at) (λ x. is_real_day x.0 x.1.0 x.1.1)) (λ x. to_be_bytes w16 x.0 ++ (x.1.0 ∷ []) ++ (x.1.1 ∷ [])) (λ x. IsRealDay x.0 x.1.0 x.1.1)
+real_field =
+    let parts = both_field (number_field wide16) (both_field byte_field byte_field) in
+    tested_field parts (λ x. is_real_day x.0 x.1.0 x.1.1) (λ x. IsRealDay x.0 x.1.0 x.1.1) (λ x fits passes. is_real_day-sound x.0 x.1.0 x.1.1 passes)
+    (λ x is. let year = is.year_to in let month = is.month_to in ((omega arith, (omega arith, few_days x.0 x.1.0 x.1.1 is)), is_real_day-complete x.0 x.1.0 x.1.1 is))
+
+-- the number of a real day gives back its parts
+number_parts : (y m d : ℕ) → IsRealDay y m d → ◌≡◌ {A = ℕ × (ℕ × ℕ)} (number_of_day y m d / 10000, (number_of_day y m d / 100 % 100, number_of_day y m d % 100)) (y, (m, d))
+number_parts y m d h = rw (year-number y m d h, month-number y m d h, day-number y m d h) refl
+
+pub day_field : IsField day_at day_bytes IsDayNumber
+unfolding day_at
+day_field = made_field real_field (λ x. number_of_day x.0 x.1.0 x.1.1) (λ n. (n / 10000, (n / 100 % 100, n % 100))) IsDayNumber
+    (λ x is. (number_parts x.0 x.1.0 x.1.1 is, IsDayNumber-number x.0 x.1.0 x.1.1 is)) (λ n is. (omega arith, is))
 
 -- ---- issues
 

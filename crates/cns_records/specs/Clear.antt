@@ -1,5 +1,5 @@
 -- The records of the clearing node and the payload of each (this project's own format).
-use Rattle.std.specs.Prelude.{◌≡◌, ◌≢◌, ℕ, ◌^◌, ◌<◌, ◌≤◌, nat_le, ◌==◌, not, List, ◌∷◌, ◌++◌, Result, Ok, Err, if◌then◌else◌}
+use Rattle.std.specs.Prelude.{◌≡◌, ◌≢◌, ℕ, ◌^◌, ◌<◌, ◌≤◌, nat_le, ◌==◌, Bool, not, List, ◌∷◌, ◌++◌, Result, Ok, Err, if◌then◌else◌}
 use Rattle.std.specs.Int.{w16, w64, to_be_bytes}
 use Rattle.cns_ids.specs.Cusip.{IsCusip, cusip_text}
 use Rattle.cns_ids.specs.Day.{IsDayNumber}
@@ -8,7 +8,7 @@ use Rattle.cns_ids.specs.Shares.{IsShares, IsQuantity}
 use Rattle.cns_movements.specs.Number.{IsMoveNo}
 use Rattle.cns_trades.specs.TradeId.{IsId}
 use Rattle.cns_trades.specs.declared.trade.Trade.{Trade}
-use Rattle.cns_records.specs.Fields.{bad, ◌>>=◌, number_at, tested, tested_at, whole, id_bytes, id_at, day_bytes, day_at, member_at, issue_at, quantity_at, shares_at, flag_bytes, flag_at, cycle_kind_bytes, cycle_kind_at, move_no_at}
+use Rattle.cns_records.specs.Fields.{bad, ◌>>=◌, Reader, ◌&◌, made, tested_at, whole_at, payload_as, number_at, id_bytes, id_at, day_bytes, day_at, member_at, issue_at, quantity_at, shares_at, flag_bytes, flag_at, cycle_kind_bytes, cycle_kind_at, move_no_at}
 use Rattle.cns_records.specs.Drawn.{AreDrawn, IsByStart, drawn_bytes, drawn_of}
 use Rattle.cns_records.specs.declared.allocation.Allocation.{Allocation}
 use Rattle.cns_records.specs.declared.bad_record.BadRecord.{BadRecord}
@@ -73,78 +73,48 @@ HasPayload r = HasRanges r × IsWritable r
 abbrev pub AreWritable : List ClearRecord → Type 0
 AreWritable rs = AreFit HasPayload rs
 
--- a trade has two members
-abbrev pub accepted : Trade → Result ClearRecord BadRecord
-accepted t = tested (not (t.buyer == t.seller)) (Accept t)
+-- a trade, which has two members
+unfoldable pub trade_at : Reader Trade
+trade_at bytes =
+    tested_at
+    (made (id_at & day_at & member_at & member_at & issue_at & quantity_at)
+    (λ t. record { id = t.0; settle = t.1.0; buyer = t.1.1.0; seller = t.1.1.1.0; issue = t.1.1.1.1.0; quantity = t.1.1.1.1.1 }))
+    (λ t. not (t.buyer == t.seller))
+    bytes
 
-unfoldable pub accept_of : List ℕ → Result ClearRecord BadRecord
-accept_of bytes = do
-  id ← id_at bytes
-  settle ← day_at id.1
-  buyer ← member_at settle.1
-  seller ← member_at buyer.1
-  issue ← issue_at seller.1
-  quantity ← quantity_at issue.1
-  trade ← whole quantity.1 (record { id = id.0; settle = settle.0; buyer = buyer.0; seller = seller.0; issue = issue.0; quantity = quantity.0 })
-  accepted trade
+-- the record of this kind, its fields one after another; an allocation's are below
+unfoldable pub entry_at : ℕ → Reader ClearRecord
+entry_at kind bytes =
+    if kind == 1 then made trade_at (λ t. Accept t) bytes
+    else if kind == 2 then made (member_at & issue_at & shares_at) (λ x. Exempt x.0 x.1.0 x.1.1) bytes
+    else if kind == 3 then made (member_at & issue_at & flag_at) (λ x. Priority x.0 x.1.0 x.1.1) bytes
+    else if kind == 4 then made (day_at & cycle_kind_at) (λ id. Cycle (record { day = id.0; kind = id.1 })) bytes
+    else if kind == 6 then made (move_no_at & shares_at) (λ r. Confirm (record { number = r.0; moved = r.1 })) bytes
+    else bad
 
-unfoldable pub exempt_of : List ℕ → Result ClearRecord BadRecord
-exempt_of bytes = do
-  member ← member_at bytes
-  issue ← issue_at member.1
-  shares ← shares_at issue.1
-  whole shares.1 (Exempt member.0 issue.0 shares.0)
+-- what an allocation has before its tickets; its lot is opened not after its last pour
+unfoldable pub lot_at : Reader (ℕ × (ℕ × (ℕ × (ℕ × Bool))))
+lot_at bytes = tested_at (issue_at & number_at w64 & number_at w64 & shares_at & flag_at) (λ lot. nat_le lot.1.0 lot.1.1.0) bytes
 
-unfoldable pub priority_of : List ℕ → Result ClearRecord BadRecord
-priority_of bytes = do
-  member ← member_at bytes
-  issue ← issue_at member.1
-  on ← flag_at issue.1
-  whole on.1 (Priority member.0 issue.0 on.0)
-
-unfoldable pub cycle_of : List ℕ → Result ClearRecord BadRecord
-cycle_of bytes = do
-  day ← day_at bytes
-  kind ← cycle_kind_at day.1
-  whole kind.1 (Cycle (record { day = day.0; kind = kind.0 }))
-
--- a lot is opened not after its last pour, and its tickets stand by start
+-- an allocation, whose tickets stand by start
 unfoldable pub allocation_of : List ℕ → Result Allocation BadRecord
 allocation_of bytes = do
-  issue ← issue_at bytes
-  opened ← number_at w64 issue.1
-  upto ← tested_at w64 (nat_le opened.0) opened.1
-  poured ← shares_at upto.1
-  sealed ← flag_at poured.1
-  drawn ← drawn_of sealed.1
-  Ok (record { issue = issue.0; opened = opened.0; upto = upto.0; poured = poured.0; sealed = sealed.0; drawn = drawn })
+  lot ← lot_at bytes
+  drawn ← drawn_of lot.1
+  Ok (record { issue = lot.0.0; opened = lot.0.1.0; upto = lot.0.1.1.0; poured = lot.0.1.1.1.0; sealed = lot.0.1.1.1.1; drawn = drawn })
 
 abbrev pub allocate_of : List ℕ → Result ClearRecord BadRecord
 allocate_of bytes = do
   allocation ← allocation_of bytes
   Ok (Allocate allocation)
 
-unfoldable pub confirm_of : List ℕ → Result ClearRecord BadRecord
-confirm_of bytes = do
-  number ← move_no_at bytes
-  moved ← shares_at number.1
-  whole moved.1 (Confirm (record { number = number.0; moved = moved.0 }))
-
 -- the record of this kind that the bytes after version and kind are
 abbrev pub of_kind : ℕ → List ℕ → Result ClearRecord BadRecord
-of_kind kind fields =
-    if kind == 1 then accept_of fields
-    else if kind == 2 then exempt_of fields
-    else if kind == 3 then priority_of fields
-    else if kind == 4 then cycle_of fields
-    else if kind == 5 then allocate_of fields
-    else if kind == 6 then confirm_of fields
-    else bad
+of_kind kind fields = if kind == 5 then allocate_of fields else whole_at (entry_at kind) fields
 
 -- the record that a payload is
 unfoldable pub read_clear_of : List ℕ → Result ClearRecord BadRecord
-read_clear_of (version ∷ kind ∷ fields) = if version == 1 then of_kind kind fields else bad
-read_clear_of _ = bad
+read_clear_of payload = payload_as of_kind payload
 
 -- what reading a payload answers: its record, or that it is none; memory may be short for an allocation only
 abbrev pub ReadsAs : List ℕ → Result ClearRecord RecordFault → Type 0

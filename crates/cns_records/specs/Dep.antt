@@ -5,7 +5,7 @@ use Rattle.cns_ids.specs.Cusip.{cusip_text}
 use Rattle.cns_ids.specs.Shares.{IsShares}
 use Rattle.cns_movements.specs.Ranges.{IsOrderInRange}
 use Rattle.cns_movements.specs.declared.order.Order.{Order}
-use Rattle.cns_records.specs.Fields.{bad, ◌>>=◌, tested, whole, member_at, issue_at, shares_at, asked_at, move_no_at, move_kind_bytes, move_kind_at}
+use Rattle.cns_records.specs.Fields.{bad, Reader, ◌&◌, made, tested_at, whole_at, payload_as, member_at, issue_at, shares_at, asked_at, move_no_at, move_kind_bytes, move_kind_at}
 use Rattle.cns_records.specs.declared.bad_record.BadRecord.{BadRecord}
 use Rattle.cns_records.specs.declared.dep_record.DepRecord.{DepRecord}
 use Rattle.cns_records.specs.declared.dep_record.DepRecord.TheVariants.{Exec}
@@ -27,22 +27,21 @@ IsDepWritable (Exec o moved) = moved ≤ o.asked
 abbrev pub HasDepPayload : DepRecord → Type 0
 HasDepPayload r = HasDepRanges r × IsDepWritable r
 
--- no more is moved than the order asks for
-abbrev pub executed : Order → ℕ → Result DepRecord BadRecord
-executed o moved = tested (nat_le moved o.asked) (Exec o moved)
+-- an order
+abbrev pub order_at : Reader Order
+order_at bytes =
+    made (move_kind_at & move_no_at & member_at & issue_at & asked_at)
+    (λ o. record { kind = o.0; number = o.1.0; member = o.1.1.0; issue = o.1.1.1.0; asked = o.1.1.1.1 })
+    bytes
 
+-- an order and what was moved, no more than the order asks for
 unfoldable pub exec_of : List ℕ → Result DepRecord BadRecord
-exec_of bytes = do
-  kind ← move_kind_at bytes
-  number ← move_no_at kind.1
-  member ← member_at number.1
-  issue ← issue_at member.1
-  asked ← asked_at issue.1
-  moved ← shares_at asked.1
-  order ← whole moved.1 (record { number = number.0; kind = kind.0; member = member.0; issue = issue.0; asked = asked.0 })
-  executed order moved.0
+exec_of bytes = whole_at (made (tested_at (order_at & shares_at) (λ x. nat_le x.1 x.0.asked)) (λ x. Exec x.0 x.1)) bytes
+
+-- the record of this kind that the bytes after version and kind are
+abbrev pub dep_of_kind : ℕ → List ℕ → Result DepRecord BadRecord
+dep_of_kind kind fields = if kind == 7 then exec_of fields else bad
 
 -- the record that a payload is
 unfoldable pub read_dep_of : List ℕ → Result DepRecord BadRecord
-read_dep_of (version ∷ kind ∷ fields) = if version == 1 then (if kind == 7 then exec_of fields else bad) else bad
-read_dep_of _ = bad
+read_dep_of payload = payload_as dep_of_kind payload

@@ -6,7 +6,7 @@ use Rattle.std.specs.List.Sorted.{IsNonDecreasingBy}
 use Rattle.cns_ids.specs.Member.{IsMember}
 use Rattle.cns_ids.specs.Shares.{IsShares}
 use Rattle.cns_movements.specs.Asked.{IsAsked}
-use Rattle.cns_records.specs.Fields.{bad, ◌>>=◌, tested, tested_at, member_at, shares_at, asked_at, whole}
+use Rattle.cns_records.specs.Fields.{bad, ◌>>=◌, Reader, ◌&◌, made, tested, tested_at, whole, number_at, member_at, shares_at, asked_at}
 use Rattle.cns_records.specs.declared.bad_record.BadRecord.{BadRecord}
 use Rattle.cns_records.specs.declared.drawn.Drawn.{Drawn}
 use Rattle.cns_journal.specs.declared.record_log.RecordFault.{RecordFault}
@@ -40,15 +40,11 @@ by_start tickets = starts_from 0 tickets
 abbrev pub ticket_bytes : Drawn → List ℕ
 ticket_bytes t = to_be_bytes w16 t.member ++ (to_be_bytes w64 t.start ++ to_be_bytes w64 t.asked)
 
-unfoldable pub ticket_at : List ℕ → Result (Drawn × List ℕ) BadRecord
-ticket_at bytes = do
-  member ← member_at bytes
-  start ← shares_at member.1
-  asked ← asked_at start.1
-  Ok (record { member = member.0; start = start.0; asked = asked.0 }, asked.1)
+unfoldable pub ticket_at : Reader Drawn
+ticket_at bytes = made (member_at & shares_at & asked_at) (λ t. record { member = t.0; start = t.1.0; asked = t.1.1 }) bytes
 
 -- so many tickets, one after the other
-unfoldable pub tickets_at : ℕ → List ℕ → Result (List Drawn × List ℕ) BadRecord
+unfoldable pub tickets_at : ℕ → Reader (List Drawn)
 tickets_at zero bytes = Ok ([], bytes)
 tickets_at (suc n) bytes = do
   first ← ticket_at bytes
@@ -73,7 +69,7 @@ tickets_of n bytes = do
 -- the tickets that bytes are: how many they are, and each of them, by their starts
 unfoldable pub drawn_of : List ℕ → Result (List Drawn) BadRecord
 drawn_of bytes = do
-  count ← tested_at w32 is_few bytes
+  count ← tested_at (number_at w32) is_few bytes
   tickets_of count.0 count.1
 
 -- what a reader that takes memory returned is what reading gives; memory is short only where reading gives a value

@@ -1,6 +1,5 @@
 -- The fields of a payload, and how each is read from the front of the bytes (this project's own format).
 use Rattle.std.specs.Prelude.{◌≡◌, ℕ, ◌/◌, ◌%◌, Bool, true, false, ◌==◌, nat_lt, List, [], ◌∷◌, ◌++◌, length, take, drop, Result, Ok, Err, if◌then◌else◌}
-use Rattle.std.specs.Borrow.{Bor}
 use Rattle.std.specs.Int.{Width, w16, w64, byte_len, from_be_bytes, to_be_bytes}
 use Rattle.cns_ids.specs.Cusip.{read_cusip}
 use Rattle.cns_ids.specs.Day.{is_real_day, number_of_day}
@@ -25,83 +24,107 @@ abbrev pub ◌>>=◌ : {A B : Type 0} → Result A BadRecord → (A → Result B
 (Ok x) >>= f = f x
 (Err e) >>= f = Err e
 
+-- how a value is read from the front of bytes: it and the bytes after it, or none
+abbrev pub Reader : Type 0 → Type 0
+Reader A = List ℕ → Result (A × List ℕ) BadRecord
+
 -- what a function returned, and the bytes that it left, are what reading gives
 abbrev pub Gives : {X : Type 0} → Result X BadRecord → List ℕ → Result (X × List ℕ) BadRecord → Type 0
 Gives (Ok x) rest read = read ≡ Ok (x, rest)
 Gives (Err e) rest read = read ≡ Err e
 
--- the same where it returned a part of the bytes
-abbrev pub GivesText : Result (Bor (List ℕ)) BadRecord → List ℕ → Result (List ℕ × List ℕ) BadRecord → Type 0
-GivesText (Ok text) rest read = read ≡ Ok (text.now, rest)
-GivesText (Err e) rest read = read ≡ Err e
+-- ---- readers that are made of others
 
--- A field is a value and the bytes after it.
+-- one value after another
+infixr 20 ◌&◌
+abbrev pub ◌&◌ : {A B : Type 0} → Reader A → Reader B → Reader (A × B)
+◌&◌ first second bytes = do
+  x ← first bytes
+  y ← second x.1
+  Ok ((x.0, y.0), y.1)
 
--- a number of so many bytes
-unfoldable pub number_at : Width → List ℕ → Result (ℕ × List ℕ) BadRecord
-number_at w bytes = if nat_lt (length bytes) (byte_len w) then bad else Ok (from_be_bytes w (take (byte_len w) bytes), drop (byte_len w) bytes)
-
--- one byte
-unfoldable pub byte_at : List ℕ → Result (ℕ × List ℕ) BadRecord
-byte_at [] = bad
-byte_at (byte ∷ rest) = Ok (byte, rest)
-
--- so many bytes
-unfoldable pub text_at : ℕ → List ℕ → Result (List ℕ × List ℕ) BadRecord
-text_at len bytes = if nat_lt (length bytes) len then bad else Ok (take len bytes, drop len bytes)
+-- what is made of a value
+abbrev pub made : {A B : Type 0} → Reader A → (A → B) → Reader B
+made read make bytes = do
+  x ← read bytes
+  Ok (make x.0, x.1)
 
 -- a value that passes a test
 abbrev pub tested : {A : Type 0} → Bool → A → Result A BadRecord
 tested passes x = if passes then Ok x else bad
 
--- a number of so many bytes that passes a test
-abbrev pub tested_at : Width → (ℕ → Bool) → List ℕ → Result (ℕ × List ℕ) BadRecord
-tested_at w test bytes = do
-  number ← number_at w bytes
-  tested (test number.0) number
+abbrev pub tested_at : {A : Type 0} → Reader A → (A → Bool) → Reader A
+tested_at read test bytes = do
+  x ← read bytes
+  tested (test x.0) x
 
-unfoldable pub member_at : List ℕ → Result (ℕ × List ℕ) BadRecord
-member_at bytes = tested_at w16 is_member bytes
+-- nothing but the value stands in the bytes
+abbrev pub whole : {A : Type 0} → List ℕ → A → Result A BadRecord
+whole rest x = tested (length rest == 0) x
 
-unfoldable pub quantity_at : List ℕ → Result (ℕ × List ℕ) BadRecord
-quantity_at bytes = tested_at w64 is_quantity bytes
+abbrev pub whole_at : {A : Type 0} → Reader A → List ℕ → Result A BadRecord
+whole_at read bytes = do
+  x ← read bytes
+  whole x.1 x.0
 
-unfoldable pub shares_at : List ℕ → Result (ℕ × List ℕ) BadRecord
-shares_at bytes = tested_at w64 is_shares bytes
+-- the record that a payload is: after the version 1 and its kind, what the bytes of that kind are
+abbrev pub payload_as : {R : Type 0} → (ℕ → List ℕ → Result R BadRecord) → List ℕ → Result R BadRecord
+payload_as of_kind (version ∷ kind ∷ fields) = if version == 1 then of_kind kind fields else bad
+payload_as of_kind _ = bad
 
-unfoldable pub move_no_at : List ℕ → Result (ℕ × List ℕ) BadRecord
-move_no_at bytes = tested_at w64 is_move_no bytes
+-- ---- the fields
 
-unfoldable pub asked_at : List ℕ → Result (ℕ × List ℕ) BadRecord
-asked_at bytes = tested_at w64 is_asked bytes
+-- one byte
+unfoldable pub byte_at : Reader ℕ
+byte_at [] = bad
+byte_at (byte ∷ rest) = Ok (byte, rest)
+
+-- so many bytes
+unfoldable pub text_at : ℕ → Reader (List ℕ)
+text_at len bytes = if nat_lt (length bytes) len then bad else Ok (take len bytes, drop len bytes)
+
+-- a number of so many bytes
+unfoldable pub number_at : Width → Reader ℕ
+number_at w bytes = made (text_at (byte_len w)) (from_be_bytes w) bytes
+
+unfoldable pub member_at : Reader ℕ
+member_at bytes = tested_at (number_at w16) is_member bytes
+
+unfoldable pub quantity_at : Reader ℕ
+quantity_at bytes = tested_at (number_at w64) is_quantity bytes
+
+unfoldable pub shares_at : Reader ℕ
+shares_at bytes = tested_at (number_at w64) is_shares bytes
+
+unfoldable pub move_no_at : Reader ℕ
+move_no_at bytes = tested_at (number_at w64) is_move_no bytes
+
+unfoldable pub asked_at : Reader ℕ
+asked_at bytes = tested_at (number_at w64) is_asked bytes
 
 -- a trade's id: its length, and its characters
 abbrev pub id_bytes : List ℕ → List ℕ
 id_bytes id = length id ∷ id
 
-unfoldable pub id_at : List ℕ → Result (List ℕ × List ℕ) BadRecord
+unfoldable pub id_at : Reader (List ℕ)
 id_at bytes = do
   len ← byte_at bytes
-  text ← text_at len.0 len.1
-  tested (is_id_text text.0) text
+  tested_at (text_at len.0) is_id_text len.1
 
 -- a date, of the number yyyymmdd: the year, the month and the day
 abbrev pub day_bytes : ℕ → List ℕ
 day_bytes n = to_be_bytes w16 (n / 10000) ++ (n / 100 % 100) ∷ (n % 100) ∷ []
 
-unfoldable pub day_at : List ℕ → Result (ℕ × List ℕ) BadRecord
-day_at bytes = do
-  year ← number_at w16 bytes
-  month ← byte_at year.1
-  day ← byte_at month.1
-  tested (is_real_day year.0 month.0 day.0) (number_of_day year.0 month.0 day.0, day.1)
+unfoldable pub day_at : Reader ℕ
+day_at bytes =
+    made (tested_at (number_at w16 & byte_at & byte_at) (λ day. is_real_day day.0 day.1.0 day.1.1)) (λ day. number_of_day day.0 day.1.0 day.1.1) bytes
 
 -- an issue: the nine characters of its CUSIP
 abbrev pub issue_from : Result ℕ CusipFault → List ℕ → Result (ℕ × List ℕ) BadRecord
 issue_from (Ok issue) rest = Ok (issue, rest)
 issue_from (Err fault) rest = bad
 
-unfoldable pub issue_at : List ℕ → Result (ℕ × List ℕ) BadRecord
+unfoldable pub issue_at : Reader ℕ
 issue_at bytes = do
   text ← text_at 9 bytes
   issue_from (read_cusip text.0) text.1
@@ -110,36 +133,29 @@ issue_at bytes = do
 abbrev pub one_of : {A : Type 0} → ℕ → A → ℕ → A → ℕ × List ℕ → Result (A × List ℕ) BadRecord
 one_of m a n b byte = if byte.0 == m then Ok (a, byte.1) else if byte.0 == n then Ok (b, byte.1) else bad
 
+abbrev pub one_of_at : {A : Type 0} → ℕ → A → ℕ → A → Reader A
+one_of_at m a n b bytes = byte_at bytes >>= one_of m a n b
+
 -- yes or no: 1 or 0
 abbrev pub flag_bytes : Bool → List ℕ
 flag_bytes false = 0 ∷ []
 flag_bytes true = 1 ∷ []
 
-unfoldable pub flag_at : List ℕ → Result (Bool × List ℕ) BadRecord
-flag_at bytes = do
-  byte ← byte_at bytes
-  one_of 0 false 1 true byte
+unfoldable pub flag_at : Reader Bool
+flag_at bytes = one_of_at 0 false 1 true bytes
 
 -- a cycle's kind: 0 at night, 1 by day
 abbrev pub cycle_kind_bytes : CycleKind → List ℕ
 cycle_kind_bytes Night = 0 ∷ []
 cycle_kind_bytes Day = 1 ∷ []
 
-unfoldable pub cycle_kind_at : List ℕ → Result (CycleKind × List ℕ) BadRecord
-cycle_kind_at bytes = do
-  byte ← byte_at bytes
-  one_of 0 Night 1 Day byte
+unfoldable pub cycle_kind_at : Reader CycleKind
+cycle_kind_at bytes = one_of_at 0 Night 1 Day bytes
 
 -- an order's kind: 1 for a cover, 2 for a delivery
 abbrev pub move_kind_bytes : MoveKind → List ℕ
 move_kind_bytes Cover = 1 ∷ []
 move_kind_bytes Delivery = 2 ∷ []
 
-unfoldable pub move_kind_at : List ℕ → Result (MoveKind × List ℕ) BadRecord
-move_kind_at bytes = do
-  byte ← byte_at bytes
-  one_of 1 Cover 2 Delivery byte
-
--- nothing but the record stands in the payload
-abbrev pub whole : {A : Type 0} → List ℕ → A → Result A BadRecord
-whole rest x = tested (length rest == 0) x
+unfoldable pub move_kind_at : Reader MoveKind
+move_kind_at bytes = one_of_at 1 Cover 2 Delivery bytes

@@ -1,5 +1,9 @@
-ghost use Rattle.std.specs.Prelude.{◌≡◌, ◌≤◌, length, IfOk};
-ghost use Rattle.cns_records.specs.Clear.{spelling, HasRanges, IsWritable, accept_of, exempt_of, priority_of, cycle_of, allocation_of, confirm_of, read_clear_of, ReadsAs};
+ghost use Rattle.std.specs.Prelude.{◌≡◌, ◌≤◌, ◌∷◌, ◌++◌, length, IfOk};
+ghost use Rattle.std.specs.Int.{w16, to_be_bytes};
+ghost use Rattle.cns_ids.specs.Cusip.{IsCusip, cusip_text};
+ghost use Rattle.cns_ids.specs.Member.{IsMember};
+ghost use Rattle.cns_records.specs.Clear.{spelling, HasRanges, IsWritable, trade_at, entry_at, allocation_of, read_clear_of, ReadsAs};
+ghost use Rattle.cns_records.specs.Fields.{Gives};
 ghost use Rattle.cns_records.specs.Drawn.{AnswersIfRoom};
 
 use crate::allocation::Allocation;
@@ -134,38 +138,20 @@ fn write_accept(alloc: Global, trade: &Trade) -> Result<Vec<u8>, AllocError>
     )
 }
 
-#[tactic(auto, unfolding(crate::specs::Clear::spelling))]
-fn write_exempt(
+// The payload of a record that sets something of a member in an issue.
+fn write_setting(
     alloc: Global,
+    kind: u8,
     member: MemberNo,
     issue: Cusip,
-    shares: Shares,
+    value: &[u8],
 ) -> Result<Vec<u8>, AllocError>
-    ensures spelled { IfOk result (λ v. v.items ≡ spelling (ClearRecord.Exempt member issue shares)) }
-    ensures ranges { HasRanges (ClearRecord.Exempt member issue shares) }
+    ensures spelled { IfOk result (λ v. v.items ≡ 1 ∷ kind ∷ (to_be_bytes w16 member ++ (cusip_text issue ++ value.now))) }
+    ensures ranges { IsMember member × IsCusip issue }
 {
     let member = member.number().to_be_bytes();
     let issue = issue.to_bytes();
-    let shares = shares.count().to_be_bytes();
-    joined(alloc, &[&[VERSION, EXEMPT], &member, &issue, &shares])
-}
-
-#[tactic(auto, unfolding(crate::specs::Clear::spelling))]
-fn write_priority(
-    alloc: Global,
-    member: MemberNo,
-    issue: Cusip,
-    on: bool,
-) -> Result<Vec<u8>, AllocError>
-    ensures spelled { IfOk result (λ v. v.items ≡ spelling (ClearRecord.Priority member issue on)) }
-    ensures ranges { HasRanges (ClearRecord.Priority member issue on) }
-{
-    let member = member.number().to_be_bytes();
-    let issue = issue.to_bytes();
-    joined(
-        alloc,
-        &[&[VERSION, PRIORITY], &member, &issue, &[u8::from(on)]],
-    )
+    joined(alloc, &[&[VERSION, kind], &member, &issue, value])
 }
 
 #[tactic(auto, unfolding(crate::specs::Clear::spelling))]
@@ -219,83 +205,65 @@ fn write_confirm(alloc: Global, reply: &Reply) -> Result<Vec<u8>, AllocError>
     joined(alloc, &[&[VERSION, CONFIRM], &number, &moved])
 }
 
-#[tactic(auto, unfolding(crate::specs::Clear::accept_of))]
-fn read_accept(mut fields: Fields) -> Result<ClearRecord, BadRecord>
-    ensures { result ≡ accept_of fields.entry }
+#[tactic(auto, unfolding(crate::specs::Clear::trade_at))]
+fn take_trade(fields: &mut Fields) -> Result<Trade, BadRecord>
+    ensures { Gives result fields.new (trade_at fields.old) }
 {
-    let id = fields.take_id()?;
-    let settle = fields.take_day()?;
-    let buyer = fields.take_member()?;
-    let seller = fields.take_member()?;
-    let issue = fields.take_issue()?;
-    let quantity = fields.take_quantity()?;
-    if !fields.is_at_end() || buyer == seller {
+    let trade = Trade {
+        id: fields.take_id()?,
+        settle: fields.take_day()?,
+        buyer: fields.take_member()?,
+        seller: fields.take_member()?,
+        issue: fields.take_issue()?,
+        quantity: fields.take_quantity()?,
+    };
+    if trade.buyer == trade.seller {
         return Err(BadRecord);
     }
-    Ok(ClearRecord::Accept(Trade {
-        id,
-        settle,
-        buyer,
-        seller,
-        issue,
-        quantity,
-    }))
+    Ok(trade)
 }
 
-#[tactic(auto, unfolding(crate::specs::Clear::exempt_of))]
-fn read_exempt(mut fields: Fields) -> Result<ClearRecord, BadRecord>
-    ensures { result ≡ exempt_of fields.entry }
+// The fields of a record of this kind. An allocation, which takes memory, is read by `read_allocation`.
+#[tactic(auto, unfolding(crate::specs::Clear::entry_at))]
+fn take_entry(kind: u8, fields: &mut Fields) -> Result<ClearRecord, BadRecord>
+    ensures { Gives result fields.new (entry_at kind fields.old) }
 {
-    let member = fields.take_member()?;
-    let issue = fields.take_issue()?;
-    let shares = fields.take_shares()?;
-    if !fields.is_at_end() {
-        return Err(BadRecord);
+    match kind {
+        ACCEPT => Ok(ClearRecord::Accept(take_trade(fields)?)),
+        EXEMPT => Ok(ClearRecord::Exempt {
+            member: fields.take_member()?,
+            issue: fields.take_issue()?,
+            shares: fields.take_shares()?,
+        }),
+        PRIORITY => Ok(ClearRecord::Priority {
+            member: fields.take_member()?,
+            issue: fields.take_issue()?,
+            on: fields.take_flag()?,
+        }),
+        CYCLE => Ok(ClearRecord::Cycle(CycleId {
+            day: fields.take_day()?,
+            kind: fields.take_cycle_kind()?,
+        })),
+        CONFIRM => Ok(ClearRecord::Confirm(Reply {
+            number: fields.take_move_no()?,
+            moved: fields.take_shares()?,
+        })),
+        _ => Err(BadRecord),
     }
-    Ok(ClearRecord::Exempt {
-        member,
-        issue,
-        shares,
-    })
 }
 
-#[tactic(auto, unfolding(crate::specs::Clear::priority_of))]
-fn read_priority(mut fields: Fields) -> Result<ClearRecord, BadRecord>
-    ensures { result ≡ priority_of fields.entry }
-{
-    let member = fields.take_member()?;
-    let issue = fields.take_issue()?;
-    let on = fields.take_flag()?;
-    if !fields.is_at_end() {
-        return Err(BadRecord);
-    }
-    Ok(ClearRecord::Priority { member, issue, on })
-}
-
-#[tactic(auto, unfolding(crate::specs::Clear::cycle_of))]
-fn read_cycle(mut fields: Fields) -> Result<ClearRecord, BadRecord>
-    ensures { result ≡ cycle_of fields.entry }
-{
-    let day = fields.take_day()?;
-    let kind = fields.take_cycle_kind()?;
-    if !fields.is_at_end() {
-        return Err(BadRecord);
-    }
-    Ok(ClearRecord::Cycle(CycleId { day, kind }))
-}
-
-#[tactic(auto, unfolding(crate::specs::Clear::allocation_of))]
+#[tactic(auto, unfolding(crate::specs::Clear::allocation_of, crate::specs::Clear::lot_at))]
 fn read_allocation(alloc: Global, mut fields: Fields) -> Result<Allocation, RecordFault>
     ensures { AnswersIfRoom result (allocation_of fields.entry) }
 {
     let issue = fields.take_issue()?;
     let opened = fields.take_u64()?;
     let upto = fields.take_u64()?;
+    let poured = fields.take_shares()?;
+    let sealed = fields.take_flag()?;
     if opened > upto {
         return Err(RecordFault::BadRecord);
     }
-    let poured = fields.take_shares()?;
-    let sealed = fields.take_flag()?;
     let drawn = fields.into_drawn(alloc)?;
     Ok(Allocation {
         issue,
@@ -307,18 +275,6 @@ fn read_allocation(alloc: Global, mut fields: Fields) -> Result<Allocation, Reco
     })
 }
 
-#[tactic(auto, unfolding(crate::specs::Clear::confirm_of))]
-fn read_confirm(mut fields: Fields) -> Result<ClearRecord, BadRecord>
-    ensures { result ≡ confirm_of fields.entry }
-{
-    let number = fields.take_move_no()?;
-    let moved = fields.take_shares()?;
-    if !fields.is_at_end() {
-        return Err(BadRecord);
-    }
-    Ok(ClearRecord::Confirm(Reply { number, moved }))
-}
-
 #[tactic(auto, unfolding(crate::specs::Clear::read_clear_of))]
 fn record_of(alloc: Global, payload: &[u8]) -> Result<ClearRecord, RecordFault>
     ensures { ReadsAs payload.now result }
@@ -326,18 +282,18 @@ fn record_of(alloc: Global, payload: &[u8]) -> Result<ClearRecord, RecordFault>
     let [VERSION, kind, fields @ ..] = payload else {
         return Err(RecordFault::BadRecord);
     };
-    let fields = Fields::new(fields);
-    match *kind {
-        ACCEPT => Ok(read_accept(fields)?),
-        EXEMPT => Ok(read_exempt(fields)?),
-        PRIORITY => Ok(read_priority(fields)?),
-        CYCLE => Ok(read_cycle(fields)?),
-        ALLOCATE => Ok(ClearRecord::Allocate(read_allocation(alloc, fields)?)),
-        CONFIRM => Ok(read_confirm(fields)?),
-        _ => Err(RecordFault::BadRecord),
+    let mut fields = Fields::new(fields);
+    if *kind == ALLOCATE {
+        return Ok(ClearRecord::Allocate(read_allocation(alloc, fields)?));
     }
+    let entry = take_entry(*kind, &mut fields)?;
+    if !fields.is_at_end() {
+        return Err(RecordFault::BadRecord);
+    }
+    Ok(entry)
 }
 
+#[tactic(auto, unfolding(crate::specs::Clear::spelling))]
 fn payload_of(alloc: Global, entry: &ClearRecord) -> Result<Vec<u8>, AllocError>
     ensures spelled { IfOk result (λ v. v.items ≡ spelling entry.now) }
     ensures ranges { HasRanges entry.now }
@@ -348,8 +304,16 @@ fn payload_of(alloc: Global, entry: &ClearRecord) -> Result<Vec<u8>, AllocError>
             member,
             issue,
             shares,
-        } => write_exempt(alloc, *member, *issue, *shares),
-        ClearRecord::Priority { member, issue, on } => write_priority(alloc, *member, *issue, *on),
+        } => write_setting(
+            alloc,
+            EXEMPT,
+            *member,
+            *issue,
+            &shares.count().to_be_bytes(),
+        ),
+        ClearRecord::Priority { member, issue, on } => {
+            write_setting(alloc, PRIORITY, *member, *issue, &[u8::from(*on)])
+        }
         ClearRecord::Cycle(id) => write_cycle(alloc, id),
         ClearRecord::Allocate(allocation) => write_allocate(alloc, allocation),
         ClearRecord::Confirm(reply) => write_confirm(alloc, reply),

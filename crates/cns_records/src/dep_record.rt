@@ -101,22 +101,17 @@ fn write_exec(alloc: Global, order: &Order, moved: Shares) -> Result<Vec<u8>, Al
 fn read_exec(mut fields: Fields) -> Result<DepRecord, BadRecord>
     ensures { result ≡ exec_of fields.entry }
 {
-    let kind = fields.take_move_kind()?;
-    let number = fields.take_move_no()?;
-    let member = fields.take_member()?;
-    let issue = fields.take_issue()?;
-    let asked = fields.take_asked()?;
+    let order = Order {
+        kind: fields.take_move_kind()?,
+        number: fields.take_move_no()?,
+        member: fields.take_member()?,
+        issue: fields.take_issue()?,
+        asked: fields.take_asked()?,
+    };
     let moved = fields.take_shares()?;
-    if !fields.is_at_end() || moved.count() > asked.shares() {
+    if !fields.is_at_end() || moved.count() > order.asked.shares() {
         return Err(BadRecord);
     }
-    let order = Order {
-        number,
-        kind,
-        member,
-        issue,
-        asked,
-    };
     Ok(DepRecord::Exec { order, moved })
 }
 

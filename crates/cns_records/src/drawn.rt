@@ -65,11 +65,12 @@ fn are_in_range(tickets: &[Drawn]) -> bool
 }
 
 impl DrawnList {
-    // The tickets of this `Vec`, which are in their ranges.
+    // The tickets of this `Vec`, which are in the ranges of their types.
     pub(crate) fn new(tickets: Vec<Drawn>) -> DrawnList
-        requires { AreDrawn tickets.items }
+        requires { length tickets.items ≤ 9999 }
         ensures { result ≡ tickets.items }
     {
+        prove!(are_in_range(tickets.as_slice()));
         DrawnList { tickets }
     }
 
@@ -80,7 +81,6 @@ impl DrawnList {
         if tickets.len() > MAX_DRAWN {
             return None;
         }
-        prove!(are_in_range(tickets.as_slice()));
         Some(DrawnList::new(tickets))
     }
 

@@ -3,7 +3,7 @@ ghost use Rattle.std.specs.Prelude.{◌≡◌, ◌≤◌, ◌==◌, ◌++◌, If
 ghost use Rattle.std.specs.Int.{w16, w32, w64};
 ghost use Rattle.std.specs.List.{flat_map};
 ghost use Rattle.cns_ids.specs.Day.{IsDayNumber};
-ghost use Rattle.cns_records.specs.Fields.{day_bytes as day_bytes_of, Gives, byte_at, number_at, text_at, GivesText, member_at, quantity_at, shares_at, move_no_at, asked_at, id_at, day_at, issue_at, flag_at, cycle_kind_at, move_kind_at};
+ghost use Rattle.cns_records.specs.Fields.{day_bytes as day_bytes_of, Gives, byte_at, number_at, text_at, member_at, quantity_at, shares_at, move_no_at, asked_at, id_at, day_at, issue_at, one_of_at, flag_at, cycle_kind_at, move_kind_at};
 ghost use Rattle.cns_records.specs.Drawn.{ticket_bytes, ticket_at, tickets_at, tickets_of, drawn_of, AnswersIfRoom};
 
 use crate::bad_record::BadRecord;
@@ -118,26 +118,30 @@ impl<'a> Fields<'a> {
         Ok(*byte)
     }
 
+    // The next `N` bytes.
+    #[tactic(auto, unfolding(crate::specs::Fields::text_at))]
+    fn take_array<const N: usize>(&mut self) -> Result<[u8; N], BadRecord>
+        ensures { Gives result self.new (text_at N self.old) }
+    {
+        let Some((front, rest)) = self.bytes.split_first_chunk::<N>() else {
+            return Err(BadRecord);
+        };
+        self.bytes = rest;
+        Ok(*front)
+    }
+
     #[tactic(auto, unfolding(crate::specs::Fields::number_at))]
     fn take_u16(&mut self) -> Result<u16, BadRecord>
         ensures { Gives result self.new (number_at w16 self.old) }
     {
-        let Some((front, rest)) = self.bytes.split_first_chunk::<2>() else {
-            return Err(BadRecord);
-        };
-        self.bytes = rest;
-        Ok(u16::from_be_bytes(*front))
+        Ok(u16::from_be_bytes(self.take_array()?))
     }
 
     #[tactic(auto, unfolding(crate::specs::Fields::number_at))]
     fn take_u32(&mut self) -> Result<u32, BadRecord>
         ensures { Gives result self.new (number_at w32 self.old) }
     {
-        let Some((front, rest)) = self.bytes.split_first_chunk::<4>() else {
-            return Err(BadRecord);
-        };
-        self.bytes = rest;
-        Ok(u32::from_be_bytes(*front))
+        Ok(u32::from_be_bytes(self.take_array()?))
     }
 
     /// A number: 8 bytes.
@@ -145,24 +149,7 @@ impl<'a> Fields<'a> {
     pub fn take_u64(&mut self) -> Result<u64, BadRecord>
         ensures { Gives result self.new (number_at w64 self.old) }
     {
-        let Some((front, rest)) = self.bytes.split_first_chunk::<8>() else {
-            return Err(BadRecord);
-        };
-        self.bytes = rest;
-        Ok(u64::from_be_bytes(*front))
-    }
-
-    // The next `len` bytes.
-    #[tactic(auto, unfolding(crate::specs::Fields::text_at))]
-    fn take_text(&mut self, len: usize) -> Result<&'a [u8], BadRecord>
-        ensures { GivesText result self.new (text_at len self.old) }
-    {
-        if self.bytes.len() < len {
-            return Err(BadRecord);
-        }
-        let (text, rest) = self.bytes.split_at(len);
-        self.bytes = rest;
-        Ok(text)
+        Ok(u64::from_be_bytes(self.take_array()?))
     }
 
     /// A member's number: 2 bytes.
@@ -170,8 +157,7 @@ impl<'a> Fields<'a> {
     pub fn take_member(&mut self) -> Result<MemberNo, BadRecord>
         ensures { Gives result self.new (member_at self.old) }
     {
-        let number = self.take_u16()?;
-        MemberNo::new(number).ok_or(BadRecord)
+        MemberNo::new(self.take_u16()?).ok_or(BadRecord)
     }
 
     /// A trade's quantity: 8 bytes.
@@ -179,8 +165,7 @@ impl<'a> Fields<'a> {
     pub fn take_quantity(&mut self) -> Result<Quantity, BadRecord>
         ensures { Gives result self.new (quantity_at self.old) }
     {
-        let shares = self.take_u64()?;
-        Quantity::new(shares).ok_or(BadRecord)
+        Quantity::new(self.take_u64()?).ok_or(BadRecord)
     }
 
     /// A count of shares: 8 bytes.
@@ -188,8 +173,7 @@ impl<'a> Fields<'a> {
     pub fn take_shares(&mut self) -> Result<Shares, BadRecord>
         ensures { Gives result self.new (shares_at self.old) }
     {
-        let count = self.take_u64()?;
-        Shares::new(count).ok_or(BadRecord)
+        Shares::new(self.take_u64()?).ok_or(BadRecord)
     }
 
     /// A movement's number: 8 bytes.
@@ -197,8 +181,7 @@ impl<'a> Fields<'a> {
     pub fn take_move_no(&mut self) -> Result<MoveNo, BadRecord>
         ensures { Gives result self.new (move_no_at self.old) }
     {
-        let number = self.take_u64()?;
-        MoveNo::new(number).ok_or(BadRecord)
+        MoveNo::new(self.take_u64()?).ok_or(BadRecord)
     }
 
     /// The shares that an order asks for: 8 bytes.
@@ -206,17 +189,20 @@ impl<'a> Fields<'a> {
     pub fn take_asked(&mut self) -> Result<Asked, BadRecord>
         ensures { Gives result self.new (asked_at self.old) }
     {
-        let shares = self.take_u64()?;
-        Asked::new(shares).ok_or(BadRecord)
+        Asked::new(self.take_u64()?).ok_or(BadRecord)
     }
 
     /// A trade's id: its length in one byte, and its characters.
-    #[tactic(auto, unfolding(crate::specs::Fields::id_at))]
+    #[tactic(auto, unfolding(crate::specs::Fields::id_at, crate::specs::Fields::text_at))]
     pub fn take_id(&mut self) -> Result<TradeId, BadRecord>
         ensures { Gives result self.new (id_at self.old) }
     {
-        let len = self.take_u8()?;
-        let text = self.take_text(usize::from(len))?;
+        let len = usize::from(self.take_u8()?);
+        if self.bytes.len() < len {
+            return Err(BadRecord);
+        }
+        let (text, rest) = self.bytes.split_at(len);
+        self.bytes = rest;
         TradeId::read(text).map_err(|_| BadRecord)
     }
 
@@ -239,8 +225,22 @@ impl<'a> Fields<'a> {
     pub fn take_issue(&mut self) -> Result<Cusip, BadRecord>
         ensures { Gives result self.new (issue_at self.old) }
     {
-        let text = self.take_text(CUSIP_LEN)?;
-        Cusip::read(text).map_err(|_| BadRecord)
+        let text = self.take_array::<CUSIP_LEN>()?;
+        Cusip::read(&text).map_err(|_| BadRecord)
+    }
+
+    // One of two values, by the byte that stands for it.
+    fn take_one_of<T: Copy>(&mut self, a: (u8, T), b: (u8, T)) -> Result<T, BadRecord>
+        ensures { Gives result self.new (one_of_at a.0 a.1 b.0 b.1 self.old) }
+    {
+        let byte = self.take_u8()?;
+        if byte == a.0 {
+            Ok(a.1)
+        } else if byte == b.0 {
+            Ok(b.1)
+        } else {
+            Err(BadRecord)
+        }
     }
 
     /// Yes or no: a byte 1 or 0.
@@ -248,11 +248,7 @@ impl<'a> Fields<'a> {
     pub fn take_flag(&mut self) -> Result<bool, BadRecord>
         ensures { Gives result self.new (flag_at self.old) }
     {
-        match self.take_u8()? {
-            0 => Ok(false),
-            1 => Ok(true),
-            _ => Err(BadRecord),
-        }
+        self.take_one_of((0, false), (1, true))
     }
 
     /// A cycle's kind: a byte, 0 at night and 1 by day.
@@ -260,11 +256,7 @@ impl<'a> Fields<'a> {
     pub fn take_cycle_kind(&mut self) -> Result<CycleKind, BadRecord>
         ensures { Gives result self.new (cycle_kind_at self.old) }
     {
-        match self.take_u8()? {
-            NIGHT_CYCLE => Ok(CycleKind::Night),
-            DAY_CYCLE => Ok(CycleKind::Day),
-            _ => Err(BadRecord),
-        }
+        self.take_one_of((NIGHT_CYCLE, CycleKind::Night), (DAY_CYCLE, CycleKind::Day))
     }
 
     /// An order's kind: a byte, 1 for a cover and 2 for a delivery.
@@ -272,11 +264,10 @@ impl<'a> Fields<'a> {
     pub fn take_move_kind(&mut self) -> Result<MoveKind, BadRecord>
         ensures { Gives result self.new (move_kind_at self.old) }
     {
-        match self.take_u8()? {
-            COVER_ORDER => Ok(MoveKind::Cover),
-            DELIVERY_ORDER => Ok(MoveKind::Delivery),
-            _ => Err(BadRecord),
-        }
+        self.take_one_of(
+            (COVER_ORDER, MoveKind::Cover),
+            (DELIVERY_ORDER, MoveKind::Delivery),
+        )
     }
 
     // A ticket: its member (2), its start (8) and how many shares it has (8).
@@ -284,13 +275,10 @@ impl<'a> Fields<'a> {
     fn take_ticket(&mut self) -> Result<Drawn, BadRecord>
         ensures { Gives result self.new (ticket_at self.old) }
     {
-        let member = self.take_member()?;
-        let start = self.take_shares()?;
-        let asked = self.take_asked()?;
         Ok(Drawn {
-            member,
-            start,
-            asked,
+            member: self.take_member()?,
+            start: self.take_shares()?,
+            asked: self.take_asked()?,
         })
     }
 
@@ -317,7 +305,8 @@ impl<'a> Fields<'a> {
     fn take_tickets(&mut self, alloc: Global, count: usize) -> Result<Vec<Drawn>, AllocError>
         requires few { count ≤ 9999 }
         requires there { IsOk (tickets_at count self.old) }
-        ensures { IfOk result (λ tickets. tickets_at count self.old ≡ Ok (tickets.items, self.new)) }
+        ensures reads { IfOk result (λ tickets. tickets_at count self.old ≡ Ok (tickets.items, self.new)) }
+        ensures len { IfOk result (λ tickets. length tickets.items ≡ count) }
     {
         let mut tickets = Vec::with_capacity(alloc, count)?;
         for _ in 0..count {

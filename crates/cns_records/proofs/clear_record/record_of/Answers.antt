@@ -4,9 +4,9 @@ use Rattle.cns_records.specs.Clear.{read_clear_of, allocate_of}
 use Rattle.cns_records.proofs.ClearLaws.{no_allocation}
 use Rattle.cns_records.proofs.clear_record.record_of.Goals as goal
 
-pub returns-in_err-read_allocation-in-5 : goal.returns-in_err-read_allocation-in-5
+pub returns-in_err-read_allocation : goal.returns-in_err-read_allocation
 unfolding read_clear_of
-returns-in_err-read_allocation-in-5 c =
+returns-in_err-read_allocation c =
     let is : read_clear_of c.args.payload.now ≡ allocate_of c.new-fields.result = grind (arith, common_steps) in
-    no_allocation c.args.payload.now c.new-fields.result c.in_err-read_allocation-in-5.field-0.0 c.from_residual-in_err-read_allocation-in-5.result is
-    c.in_err-read_allocation-in-5.ensures c.from_residual-in_err-read_allocation-in-5.ensures.1
+    no_allocation c.args.payload.now c.new-fields.result c.in_err-read_allocation.field-0.0 c.from_residual.result is
+    c.in_err-read_allocation.ensures c.from_residual.ensures.1

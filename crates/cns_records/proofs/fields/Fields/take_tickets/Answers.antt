@@ -26,5 +26,5 @@ loop-preserved c =
       room = omega arith;
     }
 
-pub returns : goal.returns
-returns c = c.loop.invariant.reads ∙ after_all c.loop.tickets.items (c.args.count - c.loop.counter) c.loop.self (omega arith)
+pub returns-clause-reads : goal.returns-clause-reads
+returns-clause-reads c = c.loop.invariant.reads ∙ after_all c.loop.tickets.items (c.args.count - c.loop.counter) c.loop.self (omega arith)
