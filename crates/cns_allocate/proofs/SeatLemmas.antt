@@ -13,7 +13,7 @@ use Rattle.cns_pool.specs.declared.ticket.Ticket.{Ticket}
 use Rattle.cns_pool.specs.WorkerSeat.{WorkerState, DrawsTicket, Joins, MeetsSeal, after_split, room_taken, split_off}
 use Rattle.cns_allocate.specs.Serving.{AreDrawnOf, HasDrawn, HasJoined, HasSplit, budgets_of, calls_of, every, have_seen_seal, made_by, places_of, rooms_of, shares_of, tickets_of}
 use Rattle.cns_allocate.specs.declared.planned.Planned.{Planned}
-use Rattle.cns_allocate.proofs.DealLemmas.{dealt, dealt-all, lists_of}
+use Rattle.cns_allocate.proofs.DealLemmas.{dealt, dealt-all, length-next, lists_of, shares-next}
 use Rattle.cns_allocate.proofs.DrawnLemmas.{drawn-append, drawn-cons, drawn-earlier, drawn-most, drawn-none, drawn-permutation}
 
 -- ---- one seat
@@ -258,6 +258,21 @@ split-more old mid new part parts budget calls before fits lasts after is = reco
     whole : part ≡ split_off old part.budget part.calls
     whole =
         is ∙ ap (λ (s : WorkerState). split_off s budget calls) before.rest ∙ (λ i. split_off old (sym its_budget i) (sym its_calls i))
+
+-- what is left of a seat is enough for the next worker's places, where the whole was enough for the group
+module _ (old rest : WorkerState) (parts : List WorkerState) (gap k : ℕ) (group : List Planned) (split : HasSplit old parts rest) (le : k ≤ gap) where
+  pub left-budget : budgets_of parts ≡ shares_of (dealt gap k group) → shares_of group ≤ old.budget → shares_of (every gap k group) ≤ rest.budget
+  left-budget are enough = omega (arith, are, enough, ap (λ (s : WorkerState). s.budget) split.rest, shares-next gap k group le)
+
+  pub left-calls : calls_of parts ≡ length (dealt gap k group) → length group ≤ old.calls → length (every gap k group) ≤ rest.calls
+  left-calls are enough = omega (arith, are, enough, ap (λ (s : WorkerState). s.calls) split.rest, length-next gap k group le)
+
+-- what the parts have is what their lists come to, with one part more
+pub parts-sum : (f : List Planned → ℕ) → ((ps qs : List Planned) → f (ps ++ qs) ≡ f ps + f qs) → (has : WorkerState → ℕ) (gap k : ℕ) (group : List Planned) (parts : List WorkerState) (part : WorkerState)
+    → sum_by has parts ≡ f (dealt gap k group) → has part ≡ f (every gap k group) → sum_by has (parts ++ part ∷ []) ≡ f (dealt gap (k + 1) group)
+parts-sum f append has gap k group parts part are is =
+    let next : k + 1 ≡ suc k = omega arith in
+    rw next (omega (arith, are, is, sum_by-push has parts part, append (dealt gap k group) (every gap k group)))
 
 -- what holds of each seat and its number holds of one seat more
 pub parts-more : (need : ℕ → ℕ) (has : WorkerState → ℕ) (parts : List WorkerState) (part : WorkerState) (n : ℕ) → length parts ≡ n

@@ -28,6 +28,22 @@ followed-count plan ts follow =
     let f = follow.follows in
     omega (arith, length_permutation ts follow.sorted follow.permutation, f.whole refl, length_permutation f.order plan f.permutation)
 
+-- where the next group is not served, somebody has no ticket, and the seal was not met
+pub fault-part : (plan : List Planned) (m : ℕ) (old new : WorkerState) → m < length plan → FollowPlanByStart (take m plan) old.tickets false → HasDrawn old [] new → length new.tickets < length plan
+fault-part plan m old new below follow draws =
+    omega (
+      arith,
+      below,
+      ap length draws.added,
+      length-append old.tickets draws.tickets,
+      drawn-most old.seen.asked [] draws.tickets draws.drawn,
+      followed-count (take m plan) old.tickets follow,
+      length-take m plan,
+    )
+
+pub fault-unmet : (old new : WorkerState) → HasDrawn old [] new → new.seen.sealed ≡ old.seen.sealed
+fault-unmet old new draws = draws.all (omega (arith, drawn-most old.seen.asked [] draws.tickets draws.drawn))
+
 -- ---- where a group stands in the plan
 
 -- the places of a plan up to the end of a group
@@ -106,22 +122,6 @@ module _ (plan : List Planned) (m n r : ℕ) (is : IsPlan plan) (below : m < len
         no_tickets : (ts : List Ticket) → length ts ≤ 0 → ts ≡ []
         no_tickets [] none = refl
         no_tickets (t ∷ ts) none = absurd (omega (arith, none))
-
-    -- somebody has no ticket then, and the seal was not met
-    pub fault-part : HasDrawn old [] new → length new.tickets < length plan
-    fault-part draws =
-        omega (
-          arith,
-          below,
-          ap length draws.added,
-          length-append old.tickets draws.tickets,
-          drawn-most old.seen.asked [] draws.tickets draws.drawn,
-          followed-count (take m plan) old.tickets follow,
-          length-take m plan,
-        )
-
-    pub fault-unmet : HasDrawn old [] new → new.seen.sealed ≡ old.seen.sealed
-    fault-unmet draws = draws.all (omega (arith, drawn-most old.seen.asked [] draws.tickets draws.drawn))
 
     module _ (draws : HasDrawn old (take n (drop m plan)) new) (ends : EndWithin old.seen.asked old.tickets) where
       after : (sealed : Bool) → (sealed ≡ false → length draws.tickets ≡ length (take n (drop m plan))) → FollowPlanByStart (take (m + n) plan) new.tickets sealed

@@ -1,8 +1,8 @@
 -- In each issue longs less shorts are the shares that confirmed covers brought, less those that confirmed deliveries took.
-use Rattle.std.proofs.Common.{◌≡◌, ◌+◌, ℕ, List, [], ◌∷◌, Option, Some, None, Bool, true, false, refl, ◌∙◌, arith}
-use Rattle.std.specs.Prelude.{◌&&◌, ◌==◌, if◌then◌else◌}
+use Rattle.std.proofs.Common.{◌≡◌, ◌≤◌, ◌+◌, ℕ, List, [], ◌∷◌, Option, Some, None, Bool, true, false, refl, ◌∙◌, arith}
+use Rattle.std.specs.Prelude.{◌&&◌, ◌==◌, sum_by, if◌then◌else◌}
 use Rattle.std.proofs.lemmas.List.Sums.{sum_by-cons}
-use Rattle.cns_netting.specs.History.{longs_of, settled_in, settled_out, shorts_of}
+use Rattle.cns_netting.specs.History.{bought, due, longs_of, settled_in, settled_out, shorts_of, sold}
 use Rattle.cns_netting.specs.declared.entry.NetEntry.{NetEntry}
 use Rattle.cns_netting.proofs.BalanceLemmas.{AreMembers, IsUpTo, bought-members, longs_balance, part_of, parts_total, sold-members, total, total-same, upto_less}
 use Rattle.cns_movements.specs.Order.{is_of, moved_part, moved_sum, order_of, same_kind}
@@ -39,7 +39,7 @@ abbrev moved_by_order : MoveKind → List Reply → ℕ → Order → ℕ
 moved_by_order kind rs issue o = if same_kind kind o.kind && (o.issue == issue) then moved_part rs o else 0
 
 -- what orders of a kind moved for a member in an issue is its part of what they moved in the issue
-member_part : (kind : MoveKind) (rs : List Reply) (orders : List Order) (member issue : ℕ)
+pub member_part : (kind : MoveKind) (rs : List Reply) (orders : List Order) (member issue : ℕ)
     → moved_sum orders rs kind member issue ≡ part_of (λ (o : Order). o.member) (moved_by_order kind rs issue) orders member
 unfolding moved_sum
 member_part kind rs [] member issue = refl
@@ -58,43 +58,26 @@ member_part kind rs (o ∷ orders) member issue =
     by false true here = refl
     by false false here = refl
 
--- what settlements brought the members is what covers brought
-brought_total : (c : List ClearRecord) (issue : ℕ) → IsLawful c → AreWritable c
-    → total 9999 (λ m. settled_in (history_of c) m issue) ≡ covered_of (orders_of c) issue
-unfolding covered_of
-brought_total c issue lawful fits =
-    let b : Books = books_of c in
-    let bounded = (lawful_bounded c lawful).bounded in
-    let f = moved_by_order Cover b.orders.replies issue in
-    let part : (m : ℕ) → settled_in b.history m issue ≡ part_of (λ (o : Order). o.member) f b.orders.orders m =
-    λ m. (lawful_moved c m issue lawful).brought ∙ member_part Cover b.orders.replies b.orders.orders m issue in
-    let upto : IsUpTo 9999 (part_of (λ (o : Order). o.member) f b.orders.orders) =
-    upto_less 9999 _ _ (λ m. let is = part m in let most = bounded.covered m issue in omega arith)
-    (sold-members 9999 issue b.history (writable_members c fits)) in
-    total-same 9999 _ _ part ∙ parts_total 9999 (λ (o : Order). o.member) f b.orders.orders upto
-
--- what settlements took from them is what deliveries took
-took_total : (c : List ClearRecord) (issue : ℕ) → IsLawful c → AreWritable c
-    → total 9999 (λ m. settled_out (history_of c) m issue) ≡ delivered_of (orders_of c) issue
-unfolding delivered_of
-took_total c issue lawful fits =
-    let b : Books = books_of c in
-    let bounded = (lawful_bounded c lawful).bounded in
-    let f = moved_by_order Delivery b.orders.replies issue in
-    let part : (m : ℕ) → settled_out b.history m issue ≡ part_of (λ (o : Order). o.member) f b.orders.orders m =
-    λ m. (lawful_moved c m issue lawful).took ∙ member_part Delivery b.orders.replies b.orders.orders m issue in
-    let upto : IsUpTo 9999 (part_of (λ (o : Order). o.member) f b.orders.orders) =
-    upto_less 9999 _ _ (λ m. let is = part m in let most = bounded.delivered m issue in omega arith)
-    (bought-members 9999 issue b.history (writable_members c fits)) in
-    total-same 9999 _ _ part ∙ parts_total 9999 (λ (o : Order). o.member) f b.orders.orders upto
+-- what was settled with the members either way is what the orders of a kind moved, where none but the members 1 to 9999 can have any
+settled_total : (kind : MoveKind) (rs : List Reply) (orders : List Order) (issue : ℕ) (settled bound : ℕ → ℕ) → ((m : ℕ) → settled m ≡ moved_sum orders rs kind m issue)
+    → ((m : ℕ) → settled m ≤ bound m) → IsUpTo 9999 bound → total 9999 settled ≡ sum_by (moved_by_order kind rs issue) orders
+settled_total kind rs orders issue settled bound is most upto =
+    let f = moved_by_order kind rs issue in
+    let part : (m : ℕ) → settled m ≡ part_of (λ (o : Order). o.member) f orders m = λ m. is m ∙ member_part kind rs orders m issue in
+    total-same 9999 _ _ part ∙ parts_total 9999 (λ (o : Order). o.member) f orders (upto_less 9999 _ bound (λ m. omega (arith, part m, most m)) upto)
 
 -- in each issue longs less shorts are the shares that covers brought less those that deliveries took
 pub balanced : (c : List ClearRecord) (issue : ℕ) → IsLawful c → AreWritable c
     → longs_of (history_of c) issue + delivered_of (orders_of c) issue ≡ shorts_of (history_of c) issue + covered_of (orders_of c) issue
+unfolding covered_of delivered_of
 balanced c issue lawful fits =
-    omega (
-      arith,
-      longs_balance 9999 issue (history_of c) (writable_members c fits),
-      brought_total c issue lawful fits,
-      took_total c issue lawful fits,
-    )
+    let b : Books = books_of c in
+    let bounded = (lawful_bounded c lawful).bounded in
+    let members = writable_members c fits in
+    let brought : total 9999 (λ m. settled_in b.history m issue) ≡ covered_of b.orders issue =
+    settled_total Cover b.orders.replies b.orders.orders issue (λ m. settled_in b.history m issue) (λ m. sold (due b.history) m issue) (λ m. (lawful_moved c m issue lawful).brought)
+    (λ m. omega (arith, bounded.covered m issue)) (sold-members 9999 issue b.history members) in
+    let took : total 9999 (λ m. settled_out b.history m issue) ≡ delivered_of b.orders issue =
+    settled_total Delivery b.orders.replies b.orders.orders issue (λ m. settled_out b.history m issue) (λ m. bought (due b.history) m issue) (λ m. (lawful_moved c m issue lawful).took)
+    (λ m. omega (arith, bounded.delivered m issue)) (bought-members 9999 issue b.history members) in
+    omega (arith, longs_balance 9999 issue b.history members, brought, took)

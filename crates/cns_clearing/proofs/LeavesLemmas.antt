@@ -115,32 +115,33 @@ close_small node issue tickets sealed a lawful fits are may =
     asked_small node.log.records may.lot tickets sealed lawful fits (lot_found node.log.records node.lots issue may.lot are may.found).0 may.served
 
 -- the deliveries of the tickets are those of the allocation
-pub close_asks : (node : ClearNode) (issue : ℕ) (tickets : List Ticket) (sealed : Bool) (a : Allocation) (asks : List Ask) → AreLots node.log.records node.lots
-    → MayClose node issue tickets sealed a → asks ≡ deliveries_of issue a.poured tickets → asks ≡ deliveries_in a
-close_asks node issue tickets sealed a asks are may is =
+pub close_asks : (node : ClearNode) (issue poured : ℕ) (tickets : List Ticket) (sealed : Bool) (a : Allocation) (asks : List Ask) → AreLots node.log.records node.lots
+    → MayClose node issue tickets sealed a → poured ≡ a.poured → asks ≡ deliveries_of issue poured tickets → asks ≡ deliveries_in a
+close_asks node issue poured tickets sealed a asks are may count is =
     let same = (lot_found node.log.records node.lots issue may.lot are may.found).1 in
     let its : a.issue ≡ issue = ap (λ (x : Allocation). x.issue) may.closes ∙ same in
     let drawn : tickets_of a.drawn ≡ tickets = ap (λ (x : Allocation). tickets_of x.drawn) may.closes ∙ tickets_drawn tickets in
-    is ∙ ap (λ (i : ℕ). deliveries_of i a.poured tickets) (sym its) ∙ ap (λ (ts : List Ticket). deliveries_of a.issue a.poured ts) (sym drawn)
-
--- and where there are numbers for them the allocation may be recorded
-pub close_allowed : (node : ClearNode) (issue : ℕ) (tickets : List Ticket) (sealed : Bool) (a : Allocation) (asks : List Ask) → IsLawful node.log.records → AreWritable node.log.records
-    → AreLots node.log.records node.lots → MayClose node issue tickets sealed a → asks ≡ deliveries_in a → are_spent (orders_of node.log.records) asks ≡ false
-    → IsAllowed node.log.records (Allocate a)
-close_allowed node issue tickets sealed a asks lawful fits are may is enough =
-    let lot = may.lot in
-    let its = (lot_found node.log.records node.lots issue lot are may.found).0 in
-    let mine : deliveries_in a ≡ deliveries_of lot.issue lot.poured tickets =
-    ap deliveries_in may.closes ∙ ap (λ (ts : List Ticket). deliveries_of lot.issue lot.poured ts) (tickets_drawn tickets) in
-    let numbers : are_spent (orders_of node.log.records) (deliveries_of lot.issue lot.poured tickets) ≡ false =
-    subst (λ (l : List Ask). are_spent (orders_of node.log.records) l ≡ false) (is ∙ mine) enough in
-    subst (λ (x : Allocation). IsAllocable (books_of node.log.records) x) (sym may.closes) (allocable node.log.records lot tickets sealed lawful fits its may.served numbers)
+    is ∙ ap (λ (p : ℕ). deliveries_of issue p tickets) count ∙ ap (λ (i : ℕ). deliveries_of i a.poured tickets) (sym its)
+    ∙ ap (λ (ts : List Ticket). deliveries_of a.issue a.poured ts) (sym drawn)
 
 -- whether the numbers suffice, of the records
 pub spent_is : (b : Books) (c : List ClearRecord) (l asks : List Ask) (a : Allocation) (r v : Bool) → b ≡ books_of c → l ≡ asks → asks ≡ deliveries_in a
     → r ≡ are_spent b.orders l → r ≡ v → are_spent (orders_of c) (deliveries_in a) ≡ v
 spent_is b c l asks a r v same list is spent e =
     sym (spent ∙ ap (λ (x : Books). are_spent x.orders l) same ∙ ap (are_spent (orders_of c)) (list ∙ is)) ∙ e
+
+-- and where there are numbers for them the allocation may be recorded
+pub close_allowed : (node : ClearNode) (issue : ℕ) (tickets : List Ticket) (sealed : Bool) (a : Allocation) (b : Books) (l asks : List Ask) (spent : Bool) → IsLawful node.log.records → AreWritable node.log.records
+    → AreLots node.log.records node.lots → MayClose node issue tickets sealed a → b ≡ books_of node.log.records → l ≡ asks → asks ≡ deliveries_in a → spent ≡ are_spent b.orders l → spent ≡ false
+    → IsAllowed node.log.records (Allocate a)
+close_allowed node issue tickets sealed a b l asks spent lawful fits are may same list is read enough =
+    let lot = may.lot in
+    let its = (lot_found node.log.records node.lots issue lot are may.found).0 in
+    let mine : deliveries_in a ≡ deliveries_of lot.issue lot.poured tickets =
+    ap deliveries_in may.closes ∙ ap (λ (ts : List Ticket). deliveries_of lot.issue lot.poured ts) (tickets_drawn tickets) in
+    let numbers : are_spent (orders_of node.log.records) (deliveries_of lot.issue lot.poured tickets) ≡ false =
+    subst (λ (m : List Ask). are_spent (orders_of node.log.records) m ≡ false) mine (spent_is b node.log.records l asks a spent false same list is read enough) in
+    subst (λ (x : Allocation). IsAllocable (books_of node.log.records) x) (sym may.closes) (allocable node.log.records lot tickets sealed lawful fits its may.served numbers)
 
 some_found : (node : ClearNode) (issue : ℕ) (lot : Lot) → lot_of node.lots issue ≡ Some lot → lot_of node.lots issue ≢ None
 some_found node issue lot found none = none-some lot (sym none ∙ found)

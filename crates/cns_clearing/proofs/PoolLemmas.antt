@@ -68,15 +68,17 @@ new_taken n (a ∷ asks) rs issue none =
     let here : taken_by_order rs issue o ≡ (if is_delivery_of issue a then a.asked else 0) = rw (none n (omega arith)) refl in
     omega (arith, sum_by-cons (taken_by_order rs issue) o (numbered (suc n) asks), rest, here)
 
--- but brought nothing
+-- but have moved nothing, whichever orders are counted
+pub moved_with_asks : (counted : Order → Bool) (book : Orders) (asks : List Ask) → IsOrderBook book
+    → sum_by (λ (o : Order). if counted o then moved_part book.replies o else 0) (with_asks book asks).orders ≡ sum_by (λ (o : Order). if counted o then moved_part book.replies o else 0) book.orders
+moved_with_asks counted book asks lawful =
+    let next : ℕ = length book.orders + 1 in
+    let new = moved_new counted next asks book.replies (λ j le. moved_of_above book.orders book.replies j lawful.numbered lawful.known (omega arith)) in
+    omega (arith, sum_by-append (λ (o : Order). if counted o then moved_part book.replies o else 0) book.orders (numbered next asks), new)
+
 pub covered_ordered : (book : Orders) (asks : List Ask) (issue : ℕ) → IsOrderBook book → covered_of (with_asks book asks) issue ≡ covered_of book issue
 unfolding covered_of
-covered_ordered book asks issue lawful =
-    let next : ℕ = length book.orders + 1 in
-    let new =
-    moved_new (λ (o : Order). is_cover o.kind && (o.issue == issue)) next asks book.replies
-    (λ j le. moved_of_above book.orders book.replies j lawful.numbered lawful.known (omega arith)) in
-    omega (arith, sum_by-append (covered_by_order book.replies issue) book.orders (numbered next asks), new)
+covered_ordered book asks issue lawful = moved_with_asks (λ (o : Order). is_cover o.kind && (o.issue == issue)) book asks lawful
 
 pub taken_ordered : (book : Orders) (asks : List Ask) (issue : ℕ) → IsOrderBook book → taken_of (with_asks book asks) issue ≡ taken_of book issue + asked_of_pool issue asks
 unfolding taken_of

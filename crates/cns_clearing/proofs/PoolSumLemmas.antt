@@ -11,14 +11,14 @@ use Rattle.cns_movements.specs.declared.order.Order.{Order}
 use Rattle.cns_movements.specs.declared.order.Reply.{Reply}
 use Rattle.cns_movements.proofs.ConfirmLemmas.{IsTaken}
 use Rattle.cns_movements.proofs.OrderLemmas.{length-numbered, sum_le_found}
-use Rattle.cns_movements.proofs.ReplyLemmas.{moved_new, moved_of_above, moved_with_reply, open_new, open_with_reply, parts_le_asked}
-use Rattle.cns_clearing.specs.Pools.{asked_of_pool, covered_of, delivered_by_order, delivered_of, out_by_order, out_of}
+use Rattle.cns_movements.proofs.ReplyLemmas.{moved_of_above, moved_with_reply, open_new, open_with_reply, parts_le_asked}
+use Rattle.cns_clearing.specs.Pools.{asked_of_pool, covered_of, delivered_of, out_by_order, out_of}
 use Rattle.cns_clearing.specs.PoolSums.{AreSumsOf}
 use Rattle.cns_clearing.specs.declared.pool_sums.PoolSums.{PoolSums}
 use Rattle.cns_movements.proofs.BookLemmas.{with_asks_lawful, with_reply_lawful}
 use Rattle.cns_clearing.specs.Books.{are_spent}
 use Rattle.cns_clearing.proofs.BooksLemmas.{numbers_suffice}
-use Rattle.cns_clearing.proofs.PoolLemmas.{covered_ordered}
+use Rattle.cns_clearing.proofs.PoolLemmas.{covered_ordered, moved_with_asks}
 
 -- ---- as they are
 
@@ -77,12 +77,7 @@ nothing_asked (a ∷ asks) issue none = absurd (omega arith)
 
 delivered_ordered : (book : Orders) (asks : List Ask) (issue : ℕ) → IsOrderBook book → delivered_of (with_asks book asks) issue ≡ delivered_of book issue
 unfolding delivered_of
-delivered_ordered book asks issue lawful =
-    let next : ℕ = length book.orders + 1 in
-    let new =
-    moved_new (λ (o : Order). is_delivery o.kind && (o.issue == issue)) next asks book.replies
-    (λ j le. moved_of_above book.orders book.replies j lawful.numbered lawful.known (omega arith)) in
-    omega (arith, sum_by-append (delivered_by_order book.replies issue) book.orders (numbered next asks), new)
+delivered_ordered book asks issue lawful = moved_with_asks (λ (o : Order). is_delivery o.kind && (o.issue == issue)) book asks lawful
 
 out_ordered : (book : Orders) (asks : List Ask) (issue : ℕ) → IsOrderBook book → out_of (with_asks book asks) issue ≡ out_of book issue + asked_of_pool issue asks
 unfolding out_of

@@ -14,7 +14,7 @@ use Rattle.cns_movements.specs.declared.order.MoveKind.TheVariants.{Cover, Deliv
 use Rattle.cns_movements.specs.declared.order.Order.{Order}
 use Rattle.cns_movements.specs.declared.order.Reply.{Reply}
 use Rattle.cns_movements.proofs.ConfirmLemmas.{IsTaken, taken_from_done}
-use Rattle.cns_movements.proofs.ReplyLemmas.{moved_new, moved_of_above, moved_sum-append, moved_sum-with_reply}
+use Rattle.cns_movements.proofs.ReplyLemmas.{moved_sum-with_reply}
 use Rattle.cns_covers.proofs.BoundLemmas.{credit_moved, debit_moved, position_bounds}
 use Rattle.cns_records.specs.declared.clear_record.ClearRecord.{ClearRecord}
 use Rattle.cns_records.specs.declared.clear_record.ClearRecord.TheVariants.{Accept, Exempt, Priority, Cycle, Allocate, Confirm}
@@ -23,6 +23,7 @@ use Rattle.cns_netting.specs.Rows.{holdings_of, rows_of}
 use Rattle.cns_clearing.specs.Lots.{up_to_cycle, up_to_previous}
 use Rattle.cns_clearing.specs.Position.{IsBetween, due_before, due_in, is_cycle_from, position_in}
 use Rattle.cns_clearing.proofs.BooksLemmas.{lawful_bounded}
+use Rattle.cns_clearing.proofs.PoolLemmas.{moved_with_asks}
 
 -- a settlement makes no trade due
 due_settled : (reached : Option ℕ) (o : Option Order) (moved : ℕ) (h : List NetEntry) → due_since reached (settled_by o moved h) ≡ due_since reached h
@@ -72,12 +73,7 @@ moved_confirmed b r m i ordered taken moved =
 moved_ordered : (b : Books) (asks : List Ask) (kind : MoveKind) (m i : ℕ) → IsOrderBook b.orders
     → moved_sum (b.orders.orders ++ numbered (length b.orders.orders + 1) asks) b.orders.replies kind m i ≡ moved_sum b.orders.orders b.orders.replies kind m i
 unfolding moved_sum
-moved_ordered b asks kind m i ordered =
-    let os = b.orders.orders in
-    let rs = b.orders.replies in
-    let next : ℕ = length os + 1 in
-    let new = moved_new (is_of kind m i) next asks rs (λ j le. moved_of_above os rs j ordered.numbered ordered.known (omega arith)) in
-    omega (arith, moved_sum-append os (numbered next asks) rs kind m i, new)
+moved_ordered b asks kind m i ordered = moved_with_asks (is_of kind m i) b.orders asks ordered
 
 moved_more : (r : ClearRecord) (b : Books) (m i : ℕ) → IsOrderBook b.orders → Allows b r → AreMoved b m i → AreMoved (with_record r b) m i
 unfolding settled_in settled_out
@@ -122,24 +118,16 @@ position_between c m i lawful =
 
 -- ---- the positions that the books keep
 
--- the positions directly after the latest cycle
-pub recent_is : (c : List ClearRecord) → (books_of c).recent ≡ rows_of (history_of (up_to_cycle c))
+-- those directly after the latest cycle, and those directly after the cycle before it
+cycles_are : (c : List ClearRecord) → ((books_of c).recent ≡ rows_of (history_of (up_to_cycle c))) × ((books_of c).previous ≡ rows_of (history_of (up_to_previous c)))
 unfolding books_of holdings_of
-recent_is [] = refl
-recent_is (Accept t ∷ c) = recent_is c
-recent_is (Exempt m i s ∷ c) = recent_is c
-recent_is (Priority m i is_on ∷ c) = recent_is c
-recent_is (Cycle id ∷ c) = refl
-recent_is (Allocate a ∷ c) = recent_is c
-recent_is (Confirm r ∷ c) = recent_is c
+cycles_are [] = (refl, refl)
+cycles_are (Accept t ∷ c) = cycles_are c
+cycles_are (Exempt m i s ∷ c) = cycles_are c
+cycles_are (Priority m i is_on ∷ c) = cycles_are c
+cycles_are (Cycle id ∷ c) = (refl, (cycles_are c).0)
+cycles_are (Allocate a ∷ c) = cycles_are c
+cycles_are (Confirm r ∷ c) = cycles_are c
 
--- and those directly after the cycle before it
 pub previous_is : (c : List ClearRecord) → (books_of c).previous ≡ rows_of (history_of (up_to_previous c))
-unfolding books_of holdings_of
-previous_is [] = refl
-previous_is (Accept t ∷ c) = previous_is c
-previous_is (Exempt m i s ∷ c) = previous_is c
-previous_is (Priority m i is_on ∷ c) = previous_is c
-previous_is (Cycle id ∷ c) = recent_is c
-previous_is (Allocate a ∷ c) = previous_is c
-previous_is (Confirm r ∷ c) = previous_is c
+previous_is c = (cycles_are c).1

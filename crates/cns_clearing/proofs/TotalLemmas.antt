@@ -1,17 +1,14 @@
 -- What orders and tickets come to over all members.
 use Rattle.std.proofs.Common.{◌≡◌, ◌≤◌, ◌+◌, ℕ, zero, suc, List, [], ◌∷◌, length, Bool, true, false, cond, refl, sym, subst, arith, inl, inr}
-use Rattle.std.specs.Prelude.{◌==◌, ◌&&◌, All, count_by, sum_by, if◌then◌else◌}
+use Rattle.std.specs.Prelude.{◌==◌, All, count_by}
 use Rattle.std.proofs.lemmas.Bool.{cases_eq, cond-false, cond-true, eq-eqb, eqb-true, ne_eqb}
 use Rattle.std.proofs.lemmas.List.Elements.{All-head, All-tail}
 use Rattle.std.proofs.lemmas.List.Sums.{sum_by-cons}
 use Rattle.cns_netting.specs.History.{due}
 use Rattle.cns_netting.specs.declared.entry.NetEntry.TheVariants.{Netted}
 use Rattle.cns_movements.specs.Book.{IsOrderBook}
-use Rattle.cns_movements.specs.Order.{is_cover, is_of, moved_part, moved_sum}
 use Rattle.cns_movements.specs.declared.order.Ask.{Ask}
 use Rattle.cns_movements.specs.declared.order.MoveKind.TheVariants.{Cover}
-use Rattle.cns_movements.specs.declared.order.Order.{Order}
-use Rattle.cns_movements.specs.declared.order.Reply.{Reply}
 use Rattle.cns_movements.proofs.ConfirmLemmas.{taken_from_done}
 use Rattle.cns_allocate.proofs.DeliveryLemmas.{deliveries_sum}
 use Rattle.cns_covers.proofs.BoundLemmas.{covers_are_covers}
@@ -24,31 +21,12 @@ use Rattle.cns_records.specs.declared.drawn.Drawn.{Drawn}
 use Rattle.cns_clearing.specs.Books.{Books, Allows, IsAllocable, IsLawful, books_of, covers_on, deliveries_in, orders_of, tickets_of, with_record}
 use Rattle.cns_clearing.specs.Lots.{avail_in}
 use Rattle.cns_clearing.specs.Pools.{asked_of_pool, avail_of, covered_by_order, covered_of, taken_of}
+use Rattle.cns_clearing.proofs.BalanceLemmas.{member_part}
 use Rattle.cns_clearing.proofs.BooksLemmas.{lawful_bounded, lawful_sound}
 use Rattle.cns_clearing.proofs.PoolLemmas.{allocation_issue, covered_confirmed, covered_ordered, covers_deliver_nothing, delivered_most, others_deliver_nothing, taken_confirmed, taken_ordered}
 use Rattle.cns_clearing.proofs.PositionLemmas.{lawful_moved}
 
 -- ---- the shares that covers brought
-
--- what covers brought a member in an issue is its part of what they brought in the issue
-member_part : (rs : List Reply) (issue member : ℕ) (orders : List Order)
-    → sum_by (λ (o : Order). if o.member == member then covered_by_order rs issue o else 0) orders ≡ moved_sum orders rs Cover member issue
-unfolding moved_sum
-member_part rs issue member [] = refl
-member_part rs issue member (o ∷ orders) =
-    omega (
-      arith,
-      sum_by-cons (λ (x : Order). if x.member == member then covered_by_order rs issue x else 0) o orders,
-      sum_by-cons (λ (x : Order). if is_of Cover member issue x then moved_part rs x else 0) o orders,
-      by (is_cover o.kind) (o.member == member) (o.issue == issue),
-      member_part rs issue member orders,
-    )
-  where
-    by : (cover its here : Bool) → (if its then (if cover && here then moved_part rs o else 0) else 0) ≡ (if cover && (its && here) then moved_part rs o else 0)
-    by true true here = refl
-    by true false here = refl
-    by false true here = refl
-    by false false here = refl
 
 -- covers brought at most 10^18 shares of an issue
 pub covered_most : (c : List ClearRecord) (issue : ℕ) → IsLawful c → AreWritable c → covered_of (orders_of c) issue ≤ 1000000000000000000
@@ -60,7 +38,7 @@ covered_most c issue lawful fits =
     moved_total (due b.history) b.orders.orders (covered_by_order b.orders.replies issue) issue
     (λ member. omega (
       arith,
-      member_part b.orders.replies issue member b.orders.orders,
+      member_part Cover b.orders.replies b.orders.orders member issue,
       (lawful_moved c member issue lawful).brought,
       sound.bounded.covered member issue,
     )) in

@@ -7,7 +7,8 @@ use Rattle.cns_trades.specs.declared.trade.Trade.{Trade}
 use Rattle.cns_netting.specs.History.{bought, credit, debit, due, due_since, is_reached, latest, long_up_to, settled_in, settled_out, short_up_to, sold}
 use Rattle.cns_netting.specs.declared.entry.NetEntry.{NetEntry}
 use Rattle.cns_netting.specs.declared.entry.NetEntry.TheVariants.{Accepted, Netted, Settled}
-use Rattle.cns_netting.proofs.TradeLemmas.{bought-due, sold-due}
+use Rattle.cns_netting.specs.Sides.{bought_by, sold_by}
+use Rattle.cns_netting.proofs.TradeLemmas.{either-sum}
 
 -- ---- sums over the members 1 to n
 
@@ -108,54 +109,43 @@ AreMembers n (Accepted t ∷ h) = (1 ≤ t.buyer) × (t.buyer ≤ n) × (1 ≤ t
 AreMembers n (Netted d ∷ h) = AreMembers n h
 AreMembers n (Settled m i z ∷ h) = AreMembers n h
 
-share_zero : (b c d : Bool) (q : ℕ) → b ≡ false → (if c then (if b && d then q else 0) else 0) ≡ 0
-share_zero b true d q e = rw e refl
-share_zero b false d q e = refl
-
 -- a number is not 1 to n
 pub record IsNoMember (n m : ℕ) : Type 0 where
   pub not : 1 ≤ m → n < m
 
-bought_none : (n m i : ℕ) (reached : Option ℕ) (h : List NetEntry) → AreMembers n h → IsNoMember n m → bought (due_since reached h) m i ≡ 0
-unfolding bought
-bought_none n m i reached [] members none = refl
-bought_none n m i reached (Accepted t ∷ h) members none =
-    let other = ne_eqb t.buyer m (λ e. let a = members.0 in let b = members.1 in let c = none.not in omega arith) in
-    omega (
-      arith,
-      bought-due (is_reached reached t.settle) t (due_since reached h) m i,
-      share_zero (t.buyer == m) (is_reached reached t.settle) (t.issue == i) t.quantity other,
-      bought_none n m i reached h members.4 none,
-    )
-bought_none n m i reached (Netted d ∷ h) members none = bought_none n m i (latest reached d) h members none
-bought_none n m i reached (Settled k j z ∷ h) members none = bought_none n m i reached h members none
+up_to : (n : ℕ) (f : ℕ → ℕ) → ((m : ℕ) → IsNoMember n m → f m ≡ 0) → IsUpTo n f
+up_to n f none = record {
+  zeroth = none 0 (record { not = λ le. absurd (omega arith) });
+  above = λ m less. none m (record { not = λ le. less });
+}
 
-sold_none : (n m i : ℕ) (reached : Option ℕ) (h : List NetEntry) → AreMembers n h → IsNoMember n m → sold (due_since reached h) m i ≡ 0
-unfolding sold
-sold_none n m i reached [] members none = refl
-sold_none n m i reached (Accepted t ∷ h) members none =
-    let other = ne_eqb t.seller m (λ e. let a = members.2 in let b = members.3 in let c = none.not in omega arith) in
+-- a number that no trade between the members 1 to n has sums to nothing
+due_none : (n : ℕ) (f : Trade → ℕ) → ((t : Trade) → (1 ≤ t.buyer) × (t.buyer ≤ n) × (1 ≤ t.seller) × (t.seller ≤ n) → f t ≡ 0)
+    → (reached : Option ℕ) (h : List NetEntry) → AreMembers n h → sum_by f (due_since reached h) ≡ 0
+due_none n f none reached [] members = refl
+due_none n f none reached (Accepted t ∷ h) members =
     omega (
       arith,
-      sold-due (is_reached reached t.settle) t (due_since reached h) m i,
-      share_zero (t.seller == m) (is_reached reached t.settle) (t.issue == i) t.quantity other,
-      sold_none n m i reached h members.4 none,
+      either-sum f (is_reached reached t.settle) t (due_since reached h),
+      either (is_reached reached t.settle) (f t) (none t (members.0, members.1, members.2, members.3)),
+      due_none n f none reached h members.4,
     )
-sold_none n m i reached (Netted d ∷ h) members none = sold_none n m i (latest reached d) h members none
-sold_none n m i reached (Settled k j z ∷ h) members none = sold_none n m i reached h members none
+due_none n f none reached (Netted d ∷ h) members = due_none n f none (latest reached d) h members
+due_none n f none reached (Settled k j z ∷ h) members = due_none n f none reached h members
+
+party_none : (n m p : ℕ) (b : Bool) (q : ℕ) → IsNoMember n m → 1 ≤ p → p ≤ n → (if (p == m) && b then q else 0) ≡ 0
+party_none n m p b q none from to = rw (ne_eqb p m (λ e. let not = none.not in omega arith)) refl
 
 -- only the members 1 to n bought and sold
 pub bought-members : (n i : ℕ) (h : List NetEntry) → AreMembers n h → IsUpTo n (λ m. bought (due h) m i)
-bought-members n i h members = record {
-  zeroth = bought_none n 0 i None h members (record { not = λ le. absurd (omega arith) });
-  above = λ m less. bought_none n m i None h members (record { not = λ le. less });
-}
+unfolding bought
+bought-members n i h members =
+    up_to n _ (λ m none. due_none n (bought_by m i) (λ t among. party_none n m t.buyer (t.issue == i) t.quantity none among.0 among.1) None h members)
 
 pub sold-members : (n i : ℕ) (h : List NetEntry) → AreMembers n h → IsUpTo n (λ m. sold (due h) m i)
-sold-members n i h members = record {
-  zeroth = sold_none n 0 i None h members (record { not = λ le. absurd (omega arith) });
-  above = λ m less. sold_none n m i None h members (record { not = λ le. less });
-}
+unfolding sold
+sold-members n i h members =
+    up_to n _ (λ m none. due_none n (sold_by m i) (λ t among. party_none n m t.seller (t.issue == i) t.quantity none among.2 among.3) None h members)
 
 -- the shares that a trade moves in an issue
 traded : ℕ → Trade → ℕ

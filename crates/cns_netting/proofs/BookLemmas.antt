@@ -4,59 +4,43 @@ use Rattle.std.specs.Prelude.{◌&&◌, ◌==◌, ℤ, pos, negsuc, ◌-ℤ◌, 
 use Rattle.std.proofs.lemmas.Int.{ints}
 use Rattle.std.proofs.lemmas.Bool.{eqb-true}
 use Rattle.cns_trades.specs.declared.trade.Trade.{Trade}
-use Rattle.cns_netting.specs.History.{accepted, bought, credit, credit_part, debit, debit_part, due_since, is_reached, latest, position_of, settled_in, settled_out, sold}
+use Rattle.cns_netting.specs.History.{accepted, bought, credit, credit_part, debit, debit_part, due_since, position_of, settled_in, settled_out, sold}
 use Rattle.cns_netting.specs.Sides.{bought_by, sold_by}
 use Rattle.cns_netting.specs.Undue.{undue}
 use Rattle.cns_netting.specs.Book.{AmountsFit, IsBook, IsSettled, IsWithin, QuantitiesFit}
 use Rattle.cns_netting.specs.declared.entry.NetEntry.{NetEntry}
 use Rattle.cns_netting.specs.declared.entry.NetEntry.TheVariants.{Accepted, Netted, Settled}
-use Rattle.cns_netting.proofs.TradeLemmas.{bought-due, sold-due}
-use Rattle.cns_netting.proofs.TradeLemmas.{undue-most}
+use Rattle.cns_netting.proofs.TradeLemmas.{accepted-most}
 
 share_most : (b : Bool) (q n : ℕ) → q ≤ n → (if b then q else 0) ≤ n
 share_most true q n h = h
 share_most false q n h = omega arith
 
+bought_by-most : (m i : ℕ) (t : Trade) → bought_by m i t ≤ t.quantity
+bought_by-most m i t = share_most ((t.buyer == m) && (t.issue == i)) t.quantity t.quantity (omega arith)
+
+sold_by-most : (m i : ℕ) (t : Trade) → sold_by m i t ≤ t.quantity
+sold_by-most m i t = share_most ((t.seller == m) && (t.issue == i)) t.quantity t.quantity (omega arith)
+
 -- the shares that due trades bring a member are at most those of all accepted trades
 pub bought-most : (reached : Option ℕ) (h : List NetEntry) (m i : ℕ) → QuantitiesFit h → bought (due_since reached h) m i ≤ length (accepted h) * 999999999999
-unfolding bought QuantitiesFit
-bought-most reached [] m i fit = omega arith
-bought-most reached (Accepted t ∷ h) m i fit =
-    let due = bought-due (is_reached reached t.settle) t (due_since reached h) m i in
-    let one = share_most ((t.buyer == m) && (t.issue == i)) t.quantity 999999999999 fit.0 in
-    let most = share_most (is_reached reached t.settle) (if (t.buyer == m) && (t.issue == i) then t.quantity else 0) 999999999999 one in
-    omega (arith, due, most, bought-most reached h m i fit.1, length-append (accepted h) (t ∷ []))
-bought-most reached (Netted d ∷ h) m i fit = bought-most (latest reached d) h m i fit
-bought-most reached (Settled k j z ∷ h) m i fit = bought-most reached h m i fit
+unfolding bought
+bought-most reached h m i fit = omega (arith, accepted-most (bought_by m i) (bought_by-most m i) reached h fit)
 
 pub sold-most : (reached : Option ℕ) (h : List NetEntry) (m i : ℕ) → QuantitiesFit h → sold (due_since reached h) m i ≤ length (accepted h) * 999999999999
-unfolding sold QuantitiesFit
-sold-most reached [] m i fit = omega arith
-sold-most reached (Accepted t ∷ h) m i fit =
-    let due = sold-due (is_reached reached t.settle) t (due_since reached h) m i in
-    let one = share_most ((t.seller == m) && (t.issue == i)) t.quantity 999999999999 fit.0 in
-    let most = share_most (is_reached reached t.settle) (if (t.seller == m) && (t.issue == i) then t.quantity else 0) 999999999999 one in
-    omega (arith, due, most, sold-most reached h m i fit.1, length-append (accepted h) (t ∷ []))
-sold-most reached (Netted d ∷ h) m i fit = sold-most (latest reached d) h m i fit
-sold-most reached (Settled k j z ∷ h) m i fit = sold-most reached h m i fit
+unfolding sold
+sold-most reached h m i fit = omega (arith, accepted-most (sold_by m i) (sold_by-most m i) reached h fit)
 
-settled_in-most : (h : List NetEntry) (m i : ℕ) → AmountsFit h → settled_in h m i ≤ length h * 2000000000000000000
-unfolding settled_in AmountsFit
-settled_in-most [] m i fit = omega arith
-settled_in-most (Accepted t ∷ h) m i fit = omega (arith, settled_in-most h m i fit)
-settled_in-most (Netted d ∷ h) m i fit = omega (arith, settled_in-most h m i fit)
-settled_in-most (Settled k j z ∷ h) m i fit =
-    let one = share_most ((k == m) && (j == i)) (credit_part z) 2000000000000000000 fit.0 in
-    omega (arith, one, settled_in-most h m i fit.2)
-
-settled_out-most : (h : List NetEntry) (m i : ℕ) → AmountsFit h → settled_out h m i ≤ length h * 2000000000000000000
-unfolding settled_out AmountsFit
-settled_out-most [] m i fit = omega arith
-settled_out-most (Accepted t ∷ h) m i fit = omega (arith, settled_out-most h m i fit)
-settled_out-most (Netted d ∷ h) m i fit = omega (arith, settled_out-most h m i fit)
-settled_out-most (Settled k j z ∷ h) m i fit =
-    let one = share_most ((k == m) && (j == i)) (debit_part z) 2000000000000000000 fit.1 in
-    omega (arith, one, settled_out-most h m i fit.2)
+-- so many shares at most are settled either way
+settled-most : (h : List NetEntry) (m i : ℕ) → AmountsFit h → settled_in h m i + settled_out h m i ≤ length h * 4000000000000000000
+unfolding settled_in settled_out AmountsFit
+settled-most [] m i fit = omega arith
+settled-most (Accepted t ∷ h) m i fit = omega (arith, settled-most h m i fit)
+settled-most (Netted d ∷ h) m i fit = omega (arith, settled-most h m i fit)
+settled-most (Settled k j z ∷ h) m i fit =
+    let come = share_most ((k == m) && (j == i)) (credit_part z) 2000000000000000000 fit.0 in
+    let gone = share_most ((k == m) && (j == i)) (debit_part z) 2000000000000000000 fit.1 in
+    omega (arith, come, gone, settled-most h m i fit.2)
 
 -- the sums of a book fit, with those that are still to come
 pub record AreSmall (h : List NetEntry) (m i : ℕ) : Type 0 where
@@ -64,13 +48,11 @@ pub record AreSmall (h : List NetEntry) (m i : ℕ) : Type 0 where
   pub debit : debit h m i + sum_by (sold_by m i) (undue h) < 2 ^ 127
 
 pub small : (m i : ℕ) (h : List NetEntry) → IsBook h → length h < 2 ^ 63 → AreSmall h m i
-small m i h book size =
-    let bought_most = undue-most (bought_by m i) (λ (t : Trade). share_most ((t.buyer == m) && (t.issue == i)) t.quantity t.quantity (omega arith)) None h book.quantities in
-    let sold_most = undue-most (sold_by m i) (λ (t : Trade). share_most ((t.seller == m) && (t.issue == i)) t.quantity t.quantity (omega arith)) None h book.quantities in
-    record {
-      credit = omega (arith, bought_most, bought-most None h m i book.quantities, settled_in-most h m i book.amounts, book.few, size);
-      debit = omega (arith, sold_most, sold-most None h m i book.quantities, settled_out-most h m i book.amounts, book.few, size);
-    }
+unfolding bought sold
+small m i h book size = record {
+  credit = omega (arith, accepted-most (bought_by m i) (bought_by-most m i) None h book.quantities, settled-most h m i book.amounts, book.few, size);
+  debit = omega (arith, accepted-most (sold_by m i) (sold_by-most m i) None h book.quantities, settled-most h m i book.amounts, book.few, size);
+}
 
 pub book_empty : IsBook []
 unfolding QuantitiesFit AmountsFit settled_in settled_out

@@ -78,6 +78,11 @@ module _ {S : Type 0} where
     heap = kept.heap;
   }
 
+  -- a number of the trades that are due after a netting, by those that waited
+  due_then : (h : List NetEntry) (day : ℕ) (sides : HashMap Holding Sides S) (waiting : List Trade) → IsKept h sides waiting → (f : Trade → ℕ)
+      → sum_by f (due (Netted day ∷ h)) ≡ sum_by f (due h) + sum_by (if_settled day f) waiting
+  due_then h day sides waiting kept f = omega (arith, kept.undue (if_settled day f), due-netting f None day h)
+
   pub kept_netted : (h : List NetEntry) (day : ℕ) (old new : HashMap Holding Sides S) (waiting queue : List Trade) → IsKept h old waiting → IsBook (Netted day ∷ h)
       → ((f : Trade → ℕ) → sum_by f queue ≡ sum_by (if_left day f) waiting)
       → ((m i : ℕ) → credit_in new m i + sum_by (bought_by m i) queue ≡ credit_in old m i + sum_by (bought_by m i) waiting)
@@ -87,26 +92,8 @@ module _ {S : Type 0} where
   kept_netted h day old new waiting queue kept book left credit debit named heap = record {
     book = book;
     sides = record {
-      credit = λ m i.
-          omega (
-            arith,
-            credit m i,
-            kept.sides.credit m i,
-            left (bought_by m i),
-            settled-left day (bought_by m i) waiting,
-            kept.undue (if_settled day (bought_by m i)),
-            due-netting (bought_by m i) None day h,
-          );
-      debit = λ m i.
-          omega (
-            arith,
-            debit m i,
-            kept.sides.debit m i,
-            left (sold_by m i),
-            settled-left day (sold_by m i) waiting,
-            kept.undue (if_settled day (sold_by m i)),
-            due-netting (sold_by m i) None day h,
-          );
+      credit = λ m i. omega (arith, credit m i, kept.sides.credit m i, left (bought_by m i), settled-left day (bought_by m i) waiting, due_then h day old waiting kept (bought_by m i));
+      debit = λ m i. omega (arith, debit m i, kept.sides.debit m i, left (sold_by m i), settled-left day (sold_by m i) waiting, due_then h day old waiting kept (sold_by m i));
     };
     undue = λ f. left f ∙ kept.undue (if_left day f) ∙ sym (undue-netting f None day h);
     named = named;
@@ -119,16 +106,7 @@ module _ {S : Type 0} where
       → count + sum_by (λ (t : Trade). 1) queue ≡ sum_by (λ (t : Trade). 1) waiting → count ≡ becoming_due h day
   netted-count h day count old waiting queue kept left all =
       let one : Trade → ℕ = λ t. 1 in
-      omega (
-        arith,
-        all,
-        left one,
-        settled-left day one waiting,
-        kept.undue (if_settled day one),
-        due-netting one None day h,
-        length-sum (due h),
-        length-sum (due (Netted day ∷ h)),
-      )
+      omega (arith, all, left one, settled-left day one waiting, due_then h day old waiting kept one, length-sum (due h), length-sum (due (Netted day ∷ h)))
 
   -- the sides as after a netting of a day
   pub sides_netted : (h : List NetEntry) (day : ℕ) (old new : HashMap Holding Sides S) (waiting : List Trade) → IsKept h old waiting
@@ -137,8 +115,8 @@ module _ {S : Type 0} where
       → AreSidesOf new (Netted day ∷ h)
   unfolding bought sold settled_in settled_out
   sides_netted h day old new waiting kept credit debit = record {
-    credit = λ m i. omega (arith, credit m i, kept.sides.credit m i, kept.undue (if_settled day (bought_by m i)), due-netting (bought_by m i) None day h);
-    debit = λ m i. omega (arith, debit m i, kept.sides.debit m i, kept.undue (if_settled day (sold_by m i)), due-netting (sold_by m i) None day h);
+    credit = λ m i. omega (arith, credit m i, kept.sides.credit m i, due_then h day old waiting kept (bought_by m i));
+    debit = λ m i. omega (arith, debit m i, kept.sides.debit m i, due_then h day old waiting kept (sold_by m i));
   }
 
   -- the sums fit, with those of the trades that are not due

@@ -1,5 +1,5 @@
 -- What a queue of undue trades still has, as its trades become due one by one.
-use Rattle.std.proofs.Common.{◌≡◌, ◌≤◌, ◌<◌, ◌+◌, ℕ, List, [], ◌∷◌, refl, arith}
+use Rattle.std.proofs.Common.{◌≡◌, ◌≤◌, ◌<◌, ◌+◌, ℕ, List, [], ◌∷◌, refl, ap, arith}
 use Rattle.std.specs.Prelude.{All, sum_by}
 use Rattle.std.specs.List.Sorted.{IsPermutation}
 use Rattle.std.proofs.lemmas.Bool.Decides.{nat_tests}
@@ -32,14 +32,16 @@ pub popped-tail : (P : Trade → Type 0) (t : Trade) (xs ys : List Trade) → Is
 popped-tail P t xs ys perm all = All-tail P t ys (All-permutation P xs (t ∷ ys) perm all)
 
 -- the first trade counts where it settles by the day, and else not
-pub settled-first : (day : ℕ) (f : Trade → ℕ) (t : Trade) (ts : List Trade) → t.settle ≤ day → sum_by (if_settled day f) (t ∷ ts) ≡ f t + sum_by (if_settled day f) ts
-settled-first day f t ts due = omega (arith, sum_by-cons (if_settled day f) t ts, one)
+pub settled-first : (day : ℕ) (f : Trade → ℕ) (left : List Trade) (t : Trade) (ts : List Trade) → left ≡ t ∷ ts → t.settle ≤ day
+    → sum_by (if_settled day f) left ≡ f t + sum_by (if_settled day f) ts
+settled-first day f left t ts is due = omega (arith, ap (sum_by (if_settled day f)) is, sum_by-cons (if_settled day f) t ts, one)
   where
     one : if_settled day f t ≡ f t
     one = grind (arith, nat_tests)
 
-pub later-first : (day : ℕ) (f : Trade → ℕ) (t : Trade) (ts : List Trade) → day < t.settle → sum_by (if_settled day f) (t ∷ ts) ≡ sum_by (if_settled day f) ts
-later-first day f t ts later = omega (arith, sum_by-cons (if_settled day f) t ts, one)
+pub later-first : (day : ℕ) (f : Trade → ℕ) (left : List Trade) (t : Trade) (ts : List Trade) → left ≡ t ∷ ts → day < t.settle
+    → sum_by (if_settled day f) left ≡ sum_by (if_settled day f) ts
+later-first day f left t ts is later = omega (arith, ap (sum_by (if_settled day f)) is, sum_by-cons (if_settled day f) t ts, one)
   where
     one : ◌≡◌ {A = ℕ} (if_settled day f t) 0
     one = grind (arith, nat_tests)

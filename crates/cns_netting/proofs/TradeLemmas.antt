@@ -55,7 +55,11 @@ latest-swap : (reached : Option ℕ) (a b : ℕ) → latest (latest reached a) b
 latest-swap None a b = grind (arith, nat_tests)
 latest-swap (Some c) a b = grind (arith, nat_tests)
 
-either-sum : (f : Trade → ℕ) (b : Bool) (t : Trade) (ts : List Trade) → sum_by f (if b then t ∷ ts else ts) ≡ (if b then f t else 0) + sum_by f ts
+either-other : (b : Bool) (q : ℕ) → (if b then q else 0) + (if b then 0 else q) ≡ q
+either-other true q = omega arith
+either-other false q = omega arith
+
+pub either-sum : (f : Trade → ℕ) (b : Bool) (t : Trade) (ts : List Trade) → sum_by f (if b then t ∷ ts else ts) ≡ (if b then f t else 0) + sum_by f ts
 either-sum f true t ts = sum_by-cons f t ts
 either-sum f false t ts = omega arith
 
@@ -102,28 +106,21 @@ undue-netting f reached day (Settled m i z ∷ h) = undue-netting f reached day 
 pub settled-left : (day : ℕ) (f : Trade → ℕ) (ts : List Trade) → sum_by (if_settled day f) ts + sum_by (if_left day f) ts ≡ sum_by f ts
 settled-left day f [] = refl
 settled-left day f (t ∷ ts) =
-    omega (arith, sum_by-cons (if_settled day f) t ts, sum_by-cons (if_left day f) t ts, sum_by-cons f t ts, settled-left day f ts, one (nat_le t.settle day))
-  where
-    one : (b : Bool) → (if b then f t else 0) + (if b then 0 else f t) ≡ f t
-    one true = omega arith
-    one false = omega arith
+    omega (arith, sum_by-cons (if_settled day f) t ts, sum_by-cons (if_left day f) t ts, sum_by-cons f t ts, settled-left day f ts, either-other (nat_le t.settle day) (f t))
 
 -- how many there are, as a sum
 pub length-sum : (ts : List Trade) → sum_by (λ (t : Trade). 1) ts ≡ length ts
 length-sum [] = refl
 length-sum (t ∷ ts) = omega (arith, sum_by-cons (λ (s : Trade). 1) t ts, length-sum ts)
 
--- the shares that undue trades would bring a member are at most those of all accepted trades
-pub undue-most : (f : Trade → ℕ) → ((t : Trade) → f t ≤ t.quantity) → (reached : Option ℕ) (h : List NetEntry) → QuantitiesFit h
-    → sum_by f (undue_since reached h) ≤ length (accepted h) * 999999999999
+-- a number of each trade that is at most its shares sums, over the due trades and the undue ones, to at most all accepted shares
+pub accepted-most : (f : Trade → ℕ) → ((t : Trade) → f t ≤ t.quantity) → (reached : Option ℕ) (h : List NetEntry) → QuantitiesFit h
+    → sum_by f (due_since reached h) + sum_by f (undue_since reached h) ≤ length (accepted h) * 999999999999
 unfolding QuantitiesFit
-undue-most f each reached [] fit = omega arith
-undue-most f each reached (Accepted t ∷ h) fit =
-    let one = other-sum f (is_reached reached t.settle) t (undue_since reached h) in
-    omega (arith, one, at_most (is_reached reached t.settle) (f t), each t, fit.0, undue-most f each reached h fit.1, length-append (accepted h) (t ∷ []))
-  where
-    at_most : (b : Bool) (q : ℕ) → (if b then 0 else q) ≤ q
-    at_most true q = omega arith
-    at_most false q = omega arith
-undue-most f each reached (Netted d ∷ h) fit = undue-most f each (latest reached d) h fit
-undue-most f each reached (Settled k j z ∷ h) fit = undue-most f each reached h fit
+accepted-most f each reached [] fit = omega arith
+accepted-most f each reached (Accepted t ∷ h) fit =
+    let due = either-sum f (is_reached reached t.settle) t (due_since reached h) in
+    let left = other-sum f (is_reached reached t.settle) t (undue_since reached h) in
+    omega (arith, due, left, either-other (is_reached reached t.settle) (f t), each t, fit.0, accepted-most f each reached h fit.1, length-append (accepted h) (t ∷ []))
+accepted-most f each reached (Netted d ∷ h) fit = accepted-most f each (latest reached d) h fit
+accepted-most f each reached (Settled k j z ∷ h) fit = accepted-most f each reached h fit

@@ -1,14 +1,15 @@
 -- What one seat's step, a split and a join leave of a cell's law.
-use Rattle.std.proofs.Common.{◌≡◌, ◌≢◌, ℕ, ◌+◌, ◌-◌, ◌≤◌, Bool, true, false, List, [], ◌∷◌, ◌++◌, length, min, set, sym, refl, ap, ◌∙◌, subst, ⊎_elim, arith, true≢false, length-set}
-use Rattle.std.specs.Prelude.{cond, nat_lt, sum_by}
+use Rattle.std.proofs.Common.{◌≡◌, ◌≢◌, ℕ, ◌+◌, ◌-◌, ◌≤◌, Bool, true, false, List, [], ◌∷◌, ◌++◌, length, min, set, sym, refl, ◌∙◌, subst, ⊎_elim, arith, true≢false, length-append, length-set}
+use Rattle.std.specs.Prelude.{◌||◌, cond, nat_lt, sum_by}
 use Rattle.std.proofs.lemmas.List.Sums.{sum_by-append, sum_by_push}
 use mathlib.Core.Option.{some}
 use lib.ListN.{get_elem?}
 use Rattle.atomic_table.proofs.Lists.{at_set}
 use Rattle.cns_pool.specs.declared.view.View.{View}
 use Rattle.cns_pool.specs.Tiles.{Interval, lies_in, cover_count, size_sum}
-use Rattle.cns_pool.specs.CellLaw.{Account, asked_in_all, calls_of, IsSeat, IsCell}
-use Rattle.cns_pool.specs.CellWords.{no_view}
+use Rattle.cns_pool.specs.Seen.{Seen, both_seen}
+use Rattle.cns_pool.specs.CellLaw.{Account, asked_in_all, calls_of, IsFeeder, IsSeat, IsCell}
+use Rattle.cns_pool.specs.CellWords.{no_view, view_after_join}
 use Rattle.cns_pool.proofs.TileLemmas.{below_number, lies_in_number}
 use Rattle.cns_pool.proofs.SumLemmas.{sum_by_put, sum_by_cut, sum_by_merged, sum_by_alone, get_elem?_push}
 
@@ -32,6 +33,18 @@ below_push share n more = omega (arith, below_number share n, below_number share
 pub by_seal : {P : Type 0} (sealed : Bool) → (sealed ≡ true → P) → (sealed ≡ false → P) → P
 by_seal true is_true is_false = is_true refl
 by_seal false is_true is_false = is_false refl
+
+-- an account has what was seen
+abbrev HasSeen : Account → Seen → Type 0
+HasSeen account seen = (seen.poured ≤ account.poured) × (seen.asked ≤ asked_in_all account) × (seen.sealed ≡ true → account.sealed ≡ true)
+
+pub has_seen : (account : Account) (number : ℕ) (v : View) → IsSeat account number v → HasSeen account v.seen
+has_seen account number v seat = (seat.saw_poured, seat.saw_asked, seat.saw_seal)
+
+-- a seat, part by part
+pub seat_by : (account : Account) (number : ℕ) (v : View) → HasSeen account v.seen → (v.works ≡ true → v.given ≡ account.given) → length v.intervals ≤ v.made → (v.feeds ≡ true → IsFeeder account number v)
+    → IsSeat account number v
+seat_by account number v saw given made feeds = record { saw_poured = saw.0; saw_asked = saw.1; saw_seal = saw.2; given = given; made = made; feeds = feeds }
 
 -- what the change of one seat's view asks
 pub record ChangesSeat (old new : Account) (number : ℕ) (v w : View) : Type 0 where
@@ -59,65 +72,87 @@ IsCell_changed views old new number v w cell at moves = record {
   seats = λ other u found. ⊎_elim (λ here. seat_at new other number w u here.0 here.1 moves.own) (λ there. moves.others other u there.0 (cell.seats other u there.1)) (at_set views number other w u found);
 }
 
--- what a split of one seat's view in two asks; `last` is the number of the new seat
-pub record SplitsSeat (old new : Account) (number last : ℕ) (v left right : View) : Type 0 where
+-- the account where the seat of this number feeds
+abbrev pub fed_by : Account → ℕ → Account
+fed_by account feeder = record account { feeder = feeder }
+
+-- a seat stays one there, where it still feeds if it did
+seat_stays : (account : Account) (feeder number : ℕ) (v : View) → (number ≡ account.feeder → number ≡ feeder) → IsSeat account number v → IsSeat (fed_by account feeder) number v
+seat_stays account feeder number v stays seat = seat_by (fed_by account feeder) number v (has_seen account number v seat) seat.given seat.made
+    (λ feeds. let f = seat.feeds feeds in record { one = stays f.one; pours = f.pours; seals = f.seals; most = f.most })
+
+-- what a split of one seat's view in two asks; `last` is the number of the new seat, and `feeder` that of the seat that feeds then
+pub record SplitsSeat (account : Account) (feeder number last : ℕ) (v left right : View) : Type 0 where
   pub budget : left.budget + right.budget ≡ v.budget
   pub tiled : (share : ℕ) → cover_count share left.intervals + cover_count share right.intervals ≡ cover_count share v.intervals
   pub sizes : size_sum left.intervals + size_sum right.intervals ≡ size_sum v.intervals
   pub calls : calls_of left + calls_of right ≡ calls_of v
-  pub same : new ≡ record old { feeder = new.feeder }
-  pub own : IsSeat new number left
-  pub other_own : IsSeat new last right
-  pub others : (other : ℕ) (u : View) → other ≢ number → IsSeat old other u → IsSeat new other u
+  pub own : IsSeat (fed_by account feeder) number left
+  pub other_own : IsSeat (fed_by account feeder) last right
+  pub others : (other : ℕ) → other ≢ number → other ≡ account.feeder → other ≡ feeder
 
-pub IsCell_split : (views : List View) (old new : Account) (number : ℕ) (v left right : View) → IsCell old views → get_elem? views number ≡ some v
-    → SplitsSeat old new number (length views) v left right → IsCell new (set views number left ++ right ∷ [])
-IsCell_split views old new number v left right cell at splits = record {
-  budget = let is : asked_in_all new ≡ asked_in_all old = ap asked_in_all splits.same in omega (arith, sum_by_cut (λ (u : View). u.budget) views number v left right at splits.budget, cell.budget);
-  unsealed = λ open_. ap (λ (a : Account). a.refused) splits.same ∙ cell.unsealed (sym (ap (λ (a : Account). a.sealed) splits.same) ∙ open_);
-  tiled = λ share. sum_by_cut (λ (u : View). cover_count share u.intervals) views number v left right at (splits.tiled share) ∙ cell.tiled share ∙ ap (λ (a : Account). below share a.drawn) (sym splits.same);
-  sizes = sum_by_cut (λ (u : View). size_sum u.intervals) views number v left right at splits.sizes ∙ cell.sizes ∙ ap (λ (a : Account). a.drawn) (sym splits.same);
-  calls = sum_by_cut calls_of views number v left right at splits.calls ∙ cell.calls ∙ ap (λ (a : Account). a.given) (sym splits.same);
+pub IsCell_split : (views : List View) (account : Account) (feeder number : ℕ) (v left right : View) → IsCell account views → get_elem? views number ≡ some v
+    → SplitsSeat account feeder number (length views) v left right → IsCell (fed_by account feeder) (set views number left ++ right ∷ [])
+IsCell_split views account feeder number v left right cell at splits = let new : Account = fed_by account feeder in record {
+  budget = omega (arith, sum_by_cut (λ (u : View). u.budget) views number v left right at splits.budget, cell.budget);
+  unsealed = cell.unsealed;
+  tiled = λ share. sum_by_cut (λ (u : View). cover_count share u.intervals) views number v left right at (splits.tiled share) ∙ cell.tiled share;
+  sizes = sum_by_cut (λ (u : View). size_sum u.intervals) views number v left right at splits.sizes ∙ cell.sizes;
+  calls = sum_by_cut calls_of views number v left right at splits.calls ∙ cell.calls;
   seats = λ other u found. ⊎_elim
-      (λ before. ⊎_elim (λ here. seat_at new other number left u here.0 here.1 splits.own) (λ there. splits.others other u there.0 (cell.seats other u there.1)) (at_set views number other left u before))
+      (λ before. ⊎_elim (λ here. seat_at new other number left u here.0 here.1 splits.own)
+      (λ there. seat_stays account feeder other u (splits.others other there.0) (cell.seats other u there.1)) (at_set views number other left u before))
       (λ end. seat_at new other (length views) right u (end.0 ∙ length-set views number left) end.1 splits.other_own)
       (get_elem?_push (set views number left) right u other found);
 }
 
+-- two views put together, which feed as a third one does
+abbrev pub joined_as : View → View → View → View
+joined_as v u x = record (view_after_join v u) { feeds = x.feeds; poured = x.poured; pour_room = x.pour_room; sealed = x.sealed }
+
 -- what a join of another seat's view into one asks
-pub record JoinsSeat (old new : Account) (number other : ℕ) (v u w : View) : Type 0 where
-  pub intervals : w.intervals ≡ v.intervals ++ u.intervals
-  pub budget : w.budget ≡ v.budget + u.budget
-  pub calls : calls_of w ≡ calls_of v + calls_of u
-  pub same : new ≡ record old { feeder = new.feeder }
-  pub own : IsSeat new number w
-  pub others : (third : ℕ) (x : View) → third ≢ number → third ≢ other → IsSeat old third x → IsSeat new third x
+pub record JoinsSeat (account : Account) (feeder number other : ℕ) (x : View) : Type 0 where
+  pub feeds : x.feeds ≡ true → IsFeeder (fed_by account feeder) number x
+  pub others : (third : ℕ) → third ≢ other → third ≡ account.feeder → third ≡ feeder
+
+-- the seat that is joined in, before
+pub before_join : (views : List View) (number other : ℕ) (w u : View) → other ≢ number → get_elem? (set views number w) other ≡ some u → get_elem? views other ≡ some u
+before_join views number other w u differs at = ⊎_elim (λ here. absurd (differs here.0)) (λ there. there.1) (at_set views number other w u at)
+
+or_cases : {P : Type 0} (a b : Bool) → (a ≡ true → P) → (b ≡ true → P) → a || b ≡ true → P
+or_cases true b left right is = left refl
+or_cases false b left right is = right is
+
+saw_both : (account : Account) (one other : Seen) → HasSeen account one → HasSeen account other → HasSeen account (both_seen one other)
+saw_both account one other saw also = (omega (arith, saw.0, also.0), omega (arith, saw.1, also.1), or_cases one.sealed other.sealed saw.2 also.2)
+
+-- the seat that it is joined into, after
+joined_own : (account : Account) (feeder number other : ℕ) (v u x : View) → IsSeat account number v → IsSeat account other u → (x.feeds ≡ true → IsFeeder (fed_by account feeder) number x)
+    → IsSeat (fed_by account feeder) number (joined_as v u x)
+joined_own account feeder number other v u x mine its feeds =
+    seat_by (fed_by account feeder) number (joined_as v u x) (saw_both account v.seen u.seen (has_seen account number v mine) (has_seen account other u its)) mine.given
+    (omega (arith, mine.made, its.made, length-append v.intervals u.intervals)) (λ fed. let f = feeds fed in record { one = f.one; pours = f.pours; seals = f.seals; most = f.most })
 
 -- a view that has nothing fits any account
 no_view_fits : (account : Account) (number : ℕ) → IsSeat account number no_view
-no_view_fits account number = record {
-  saw_poured = omega arith;
-  saw_asked = omega arith;
-  saw_seal = λ h. absurd (true≢false (sym h));
-  given = λ h. absurd (true≢false (sym h));
-  made = omega arith;
-  feeds = λ h. absurd (true≢false (sym h));
-}
+no_view_fits account number =
+    seat_by account number no_view (omega arith, omega arith, λ h. absurd (true≢false (sym h))) (λ h. absurd (true≢false (sym h))) (omega arith) (λ h. absurd (true≢false (sym h)))
 
-pub IsCell_joined : (views : List View) (old new : Account) (number other : ℕ) (v u w : View) → IsCell old views → get_elem? views number ≡ some v
-    → get_elem? (set views number w) other ≡ some u → JoinsSeat old new number other v u w → IsCell new (set (set views number w) other no_view)
-IsCell_joined views old new number other v u w cell at also joins = record {
-  budget = let is : asked_in_all new ≡ asked_in_all old = ap asked_in_all joins.same in omega (arith, sum_by_merged (λ (x : View). x.budget) views number other v u w no_view refl at also joins.budget, cell.budget);
-  unsealed = λ open_. ap (λ (a : Account). a.refused) joins.same ∙ cell.unsealed (sym (ap (λ (a : Account). a.sealed) joins.same) ∙ open_);
-  tiled = λ share. sum_by_merged (λ (x : View). cover_count share x.intervals) views number other v u w no_view refl at also
-      (ap (cover_count share) joins.intervals ∙ sum_by-append (λ (i : Interval). cond (lies_in share i) 1 0) v.intervals u.intervals) ∙ cell.tiled share ∙ ap (λ (a : Account). below share a.drawn) (sym joins.same);
-  sizes = sum_by_merged (λ (x : View). size_sum x.intervals) views number other v u w no_view refl at also
-      (ap size_sum joins.intervals ∙ sum_by-append (λ (i : Interval). i.1) v.intervals u.intervals) ∙ cell.sizes ∙ ap (λ (a : Account). a.drawn) (sym joins.same);
-  calls = sum_by_merged calls_of views number other v u w no_view refl at also joins.calls ∙ cell.calls ∙ ap (λ (a : Account). a.given) (sym joins.same);
-  seats = λ third x found. ⊎_elim
-      (λ here. seat_at new third other no_view x here.0 here.1 (no_view_fits new other))
-      (λ there. ⊎_elim (λ here. seat_at new third number w x here.0 here.1 joins.own) (λ beyond. joins.others third x beyond.0 there.0 (cell.seats third x beyond.1)) (at_set views number third w x there.1))
-      (at_set (set views number w) other third no_view x found);
+pub IsCell_joined : (views : List View) (account : Account) (feeder number other : ℕ) (v u x : View) → IsCell account views → get_elem? views number ≡ some v → other ≢ number
+    → get_elem? (set views number (joined_as v u x)) other ≡ some u → JoinsSeat account feeder number other x → IsCell (fed_by account feeder) (set (set views number (joined_as v u x)) other no_view)
+IsCell_joined views account feeder number other v u x cell at differs also joins = let new : Account = fed_by account feeder in let w : View = joined_as v u x in record {
+  budget = omega (arith, sum_by_merged (λ (y : View). y.budget) views number other v u w no_view refl at also refl, cell.budget);
+  unsealed = cell.unsealed;
+  tiled = λ share. sum_by_merged (λ (y : View). cover_count share y.intervals) views number other v u w no_view refl at also
+      (sum_by-append (λ (i : Interval). cond (lies_in share i) 1 0) v.intervals u.intervals) ∙ cell.tiled share;
+  sizes = sum_by_merged (λ (y : View). size_sum y.intervals) views number other v u w no_view refl at also (sum_by-append (λ (i : Interval). i.1) v.intervals u.intervals) ∙ cell.sizes;
+  calls = sum_by_merged calls_of views number other v u w no_view refl at also (omega arith) ∙ cell.calls;
+  seats = λ third y found. ⊎_elim
+      (λ here. seat_at new third other no_view y here.0 here.1 (no_view_fits new other))
+      (λ there. ⊎_elim
+      (λ here. seat_at new third number w y here.0 here.1 (joined_own account feeder number other v u x (cell.seats number v at) (cell.seats other u (before_join views number other w u differs also)) joins.feeds))
+      (λ beyond. seat_stays account feeder third y (joins.others third there.0) (cell.seats third y beyond.1)) (at_set views number third w y there.1))
+      (at_set (set views number w) other third no_view y found);
 }
 
 -- a seat without calls has no tickets

@@ -12,12 +12,12 @@ use Rattle.cns_pool.specs.Replies.{AreReplies, AreDrawn}
 use Rattle.cns_pool.proofs.TileLemmas.{below_number, cover_count-cons}
 
 -- none of the tickets starts below n, and each has a share
-abbrev StartFrom : ℕ → List Ticket → Type 0
+abbrev pub StartFrom : ℕ → List Ticket → Type 0
 StartFrom n [] = Unit {0}
 StartFrom n (t ∷ ts) = (n ≤ t.start) × (1 ≤ t.asked) × StartFrom n ts
 
 -- none of the tickets starts below one before it, and each has a share
-abbrev ByStart : List Ticket → Type 0
+abbrev pub ByStart : List Ticket → Type 0
 ByStart [] = Unit {0}
 ByStart (t ∷ ts) = (1 ≤ t.asked) × StartFrom t.start ts × ByStart ts
 
@@ -118,6 +118,10 @@ Tiles-permutation ts us same tiles share =
     let sizes = sum_by-IsPermutation (λ (i : Interval). i.1) (intervals_of ts) (intervals_of us) moved in
     omega (arith, tiles share, below_number share (size_sum (intervals_of ts)), counts, sizes)
 
+-- tickets that tile stand end to end from 0 by start
+pub Tiles-AreChained : (ts us : List Ticket) → IsPermutation ts us → ByStart us → Tiles (intervals_of ts) → AreChained 0 (intervals_of us)
+Tiles-AreChained ts us same sorted tiles = chained_from 0 us sorted (Tiles-permutation ts us same tiles)
+
 -- tickets that stand end to end from where a pool's own end are its replies
 replies_from : (before : List Ticket) (budget calls : ℕ) (ts : List Ticket) → AreChained (asked_sum before) (intervals_of ts)
     → AreReplies (record { tickets = before; poured = 0; sealed = false; budget = budget; pour_room = 0; calls = calls }) ts
@@ -134,5 +138,5 @@ Tiles-AreDrawn tickets have tiles =
     let sorted = sort tickets have in record {
       drawn = sorted.drawn;
       same = sorted.same;
-      replies = replies_from [] (asked_sum tickets) (length tickets) sorted.drawn (chained_from 0 sorted.drawn sorted.sorted (Tiles-permutation tickets sorted.drawn sorted.same tiles));
+      replies = replies_from [] (asked_sum tickets) (length tickets) sorted.drawn (Tiles-AreChained tickets sorted.drawn sorted.same sorted.sorted tiles);
     }

@@ -1,17 +1,18 @@
 -- Splits and joins of seats, the opening and the close of a cell keep its law.
-use Rattle.std.proofs.Common.{◌≡◌, ℕ, zero, suc, ◌≤◌, Bool, true, false, List, [], ◌∷◌, ◌++◌, length, max, set, sym, refl, ap, ◌∙◌, subst, ⊎_elim, arith, true≢false, length-append}
-use Rattle.std.specs.Prelude.{◌||◌, cond, nat_lt}
+use Rattle.std.proofs.Common.{◌≡◌, ℕ, zero, suc, ◌+◌, ◌<◌, ◌≤◌, true, false, List, [], ◌∷◌, length, sym, refl, ap, ◌∙◌, subst, arith, true≢false, append-nil}
+use Rattle.std.specs.Prelude.{cond, nat_lt}
 use mathlib.Core.Option.{some, some-injective, some-ne-none}
 use lib.ListN.{get_elem?}
+use Rattle.atomic_table.specs.Seated.{TableId}
 use Rattle.atomic_table.specs.Table.{Splits, Joins, Final, opening, Seen as SeenBy}
-use Rattle.atomic_table.proofs.Lists.{at_set}
 use Rattle.cns_pool.specs.declared.pool.TheConstants.{MAX_POOL}
 use Rattle.cns_pool.specs.declared.view.View.{View}
 use Rattle.cns_pool.specs.Tiles.{Tiles}
-use Rattle.cns_pool.specs.CellLaw.{Account, asked_in_all, calls_of, IsSeat}
-use Rattle.cns_pool.specs.CellWords.{KeepsCell, no_view, first_view, working_part, feeding_part, view_after_split, view_split_off, view_after_join, last_view, note_of, view_told}
+use Rattle.cns_pool.specs.Seen.{both_seen}
+use Rattle.cns_pool.specs.CellLaw.{Account, calls_of, IsSeat}
+use Rattle.cns_pool.specs.CellWords.{Token, KeepsCell, no_view, first_view, working_part, feeding_part, view_after_split, view_split_off, view_after_join, last_view, note_of, view_told}
 use Rattle.cns_pool.proofs.TileLemmas.{below_number}
-use Rattle.cns_pool.proofs.CellLemmas.{IsCell_split, IsCell_joined, all_drawn, all_covered}
+use Rattle.cns_pool.proofs.CellLemmas.{has_seen, seat_by, fed_by, IsCell_split, before_join, IsCell_joined, all_drawn, all_covered}
 
 -- the account of a new cell
 abbrev new_account : ℕ → Account
@@ -45,39 +46,18 @@ opens budget pours calls fits room = record {
 -- the feeder's part of the first seat is split off
 pub feeder_splits : (id : ℕ) (v : View) → v.feeds ≡ true → Splits KeepsCell id v (working_part v) (feeding_part v)
 feeder_splits id v feeds s rule at =
-    let account = rule.account in let new : Account = record account { feeder = length s.views } in let of = rule.cell.seats id v at in let f = of.feeds feeds in record {
-      account = new;
+    let account = rule.account in let last : ℕ = length s.views in let of = rule.cell.seats id v at in let f = of.feeds feeds in record {
+      account = fed_by account last;
       words = rule.words;
-      cell = IsCell_split s.views account new id v (working_part v) (feeding_part v) rule.cell at (record {
+      cell = IsCell_split s.views account last id v (working_part v) (feeding_part v) rule.cell at (record {
         budget = omega arith;
         tiled = λ share. omega arith;
         sizes = omega arith;
         calls = omega arith;
-        same = refl;
-        own = record {
-          saw_poured = of.saw_poured;
-          saw_asked = of.saw_asked;
-          saw_seal = of.saw_seal;
-          given = of.given;
-          made = of.made;
-          feeds = λ h. absurd (true≢false (sym h));
-        };
-        other_own = record {
-          saw_poured = of.saw_poured;
-          saw_asked = of.saw_asked;
-          saw_seal = of.saw_seal;
-          given = λ h. absurd (true≢false (sym h));
-          made = omega arith;
-          feeds = λ _. record { one = refl; pours = f.pours; seals = f.seals; most = f.most };
-        };
-        others = λ other u differs g. record {
-          saw_poured = g.saw_poured;
-          saw_asked = g.saw_asked;
-          saw_seal = g.saw_seal;
-          given = g.given;
-          made = g.made;
-          feeds = λ too. absurd (differs ((g.feeds too).one ∙ sym f.one));
-        };
+        own = seat_by (fed_by account last) id (working_part v) (has_seen account id v of) of.given of.made (λ h. absurd (true≢false (sym h)));
+        other_own = seat_by (fed_by account last) last (feeding_part v) (has_seen account id v of) (λ h. absurd (true≢false (sym h))) (omega arith)
+            (λ _. record { one = refl; pours = f.pours; seals = f.seals; most = f.most });
+        others = λ other differs feeding. absurd (differs (feeding ∙ sym f.one));
       });
     }
 
@@ -87,29 +67,15 @@ worker_splits id budget calls v works within call s rule at =
     let account = rule.account in let of = rule.cell.seats id v at in record {
       account = account;
       words = rule.words;
-      cell = IsCell_split s.views account account id v (view_after_split budget calls v) (view_split_off budget calls v) rule.cell at (record {
+      cell = IsCell_split s.views account account.feeder id v (view_after_split budget calls v) (view_split_off budget calls v) rule.cell at (record {
         budget = omega arith;
         tiled = λ share. omega arith;
         sizes = omega arith;
         calls = omega arith;
-        same = refl;
-        own = record {
-          saw_poured = of.saw_poured;
-          saw_asked = of.saw_asked;
-          saw_seal = of.saw_seal;
-          given = of.given;
-          made = of.made;
-          feeds = λ feeds. let f = of.feeds feeds in record { one = f.one; pours = f.pours; seals = f.seals; most = f.most };
-        };
-        other_own = record {
-          saw_poured = of.saw_poured;
-          saw_asked = of.saw_asked;
-          saw_seal = of.saw_seal;
-          given = λ _. of.given works;
-          made = omega arith;
-          feeds = λ h. absurd (true≢false (sym h));
-        };
-        others = λ other u differs g. g;
+        own = seat_by account id (view_after_split budget calls v) (has_seen account id v of) of.given of.made
+            (λ feeds. let f = of.feeds feeds in record { one = f.one; pours = f.pours; seals = f.seals; most = f.most });
+        other_own = seat_by account (length s.views) (view_split_off budget calls v) (has_seen account id v of) (λ _. of.given works) (omega arith) (λ h. absurd (true≢false (sym h)));
+        others = λ other differs feeding. feeding;
       });
     }
 
@@ -119,119 +85,52 @@ note_splits id v s rule at =
     let account = rule.account in let of = rule.cell.seats id v at in record {
       account = account;
       words = rule.words;
-      cell = IsCell_split s.views account account id v v (note_of v) rule.cell at (record {
+      cell = IsCell_split s.views account account.feeder id v v (note_of v) rule.cell at (record {
         budget = omega arith;
         tiled = λ share. omega arith;
         sizes = omega arith;
         calls = omega arith;
-        same = refl;
         own = of;
-        other_own = record {
-          saw_poured = of.saw_poured;
-          saw_asked = of.saw_asked;
-          saw_seal = of.saw_seal;
-          given = λ h. absurd (true≢false (sym h));
-          made = omega arith;
-          feeds = λ h. absurd (true≢false (sym h));
-        };
-        others = λ other u differs g. g;
+        other_own = seat_by account (length s.views) (note_of v) (has_seen account id v of) (λ h. absurd (true≢false (sym h))) (omega arith) (λ h. absurd (true≢false (sym h)));
+        others = λ other differs feeding. feeding;
       });
     }
-
-or_cases : {P : Type 0} (a b : Bool) → (a ≡ true → P) → (b ≡ true → P) → a || b ≡ true → P
-or_cases true b left right is = left refl
-or_cases false b left right is = right is
-
-max-le : (a b c : ℕ) → a ≤ c → b ≤ c → max a b ≤ c
-max-le a b c left right = omega arith
-
--- the seat that is joined in, before
-before_join : (views : List View) (id other : ℕ) (w u : View) → ¬ (other ≡ id) → get_elem? (set views id w) other ≡ some u → get_elem? views other ≡ some u
-before_join views id other w u differs at = ⊎_elim (λ here. absurd (differs here.0)) (λ there. there.1) (at_set views id other w u at)
 
 -- a worker's seat is joined into another one
 pub worker_joins : (id other : ℕ) (v u : View) → Joins KeepsCell id v other u (view_after_join v u) no_view
 worker_joins id other v u s rule at differs also =
-    let account = rule.account in let of = rule.cell.seats id v at in let too = rule.cell.seats other u (before_join s.views id other (view_after_join v u) u differs also) in
-    let made = of.made in let made_too = too.made in record {
+    let account = rule.account in let of = rule.cell.seats id v at in record {
       account = account;
       words = rule.words;
-      cell = IsCell_joined s.views account account id other v u (view_after_join v u) rule.cell at also (record {
-        intervals = refl;
-        budget = refl;
-        calls = omega arith;
-        same = refl;
-        own = record {
-          saw_poured = max-le v.seen.poured u.seen.poured account.poured of.saw_poured too.saw_poured;
-          saw_asked = max-le v.seen.asked u.seen.asked (asked_in_all account) of.saw_asked too.saw_asked;
-          saw_seal = or_cases v.seen.sealed u.seen.sealed of.saw_seal too.saw_seal;
-          given = of.given;
-          made = omega (arith, length-append v.intervals u.intervals);
-          feeds = λ feeds. let f = of.feeds feeds in record { one = f.one; pours = f.pours; seals = f.seals; most = f.most };
-        };
-        others = λ third x differs differs_too g. g;
-      });
+      cell = IsCell_joined s.views account account.feeder id other v u v rule.cell at differs also (record { feeds = of.feeds; others = λ third differs feeding. feeding });
     }
 
 -- the feeder's seat is joined into the last worker's
 pub feeder_joins : (id other : ℕ) (v u : View) → u.feeds ≡ true → Joins KeepsCell id v other u (last_view v u) no_view
 feeder_joins id other v u feeds s rule at differs also =
-    let account = rule.account in let of = rule.cell.seats id v at in let too = rule.cell.seats other u (before_join s.views id other (last_view v u) u differs also) in
-    let made = of.made in let made_too = too.made in let f = too.feeds feeds in let new : Account = record account { feeder = id } in record {
-      account = new;
+    let account = rule.account in let f = (rule.cell.seats other u (before_join s.views id other (last_view v u) u differs also)).feeds feeds in record {
+      account = fed_by account id;
       words = rule.words;
-      cell = IsCell_joined s.views account new id other v u (last_view v u) rule.cell at also (record {
-        intervals = refl;
-        budget = refl;
-        calls = omega arith;
-        same = refl;
-        own = record {
-          saw_poured = max-le v.seen.poured u.seen.poured account.poured of.saw_poured too.saw_poured;
-          saw_asked = max-le v.seen.asked u.seen.asked (asked_in_all account) of.saw_asked too.saw_asked;
-          saw_seal = or_cases v.seen.sealed u.seen.sealed of.saw_seal too.saw_seal;
-          given = of.given;
-          made = omega (arith, length-append v.intervals u.intervals);
-          feeds = λ _. record { one = refl; pours = f.pours; seals = f.seals; most = f.most };
-        };
-        others = λ third x differs differs_too g. record {
-          saw_poured = g.saw_poured;
-          saw_asked = g.saw_asked;
-          saw_seal = g.saw_seal;
-          given = g.given;
-          made = g.made;
-          feeds = λ again. absurd (differs_too ((g.feeds again).one ∙ sym f.one));
-        };
+      cell = IsCell_joined s.views account id id other v u u rule.cell at differs also (record {
+        feeds = λ _. record { one = refl; pours = f.pours; seals = f.seals; most = f.most };
+        others = λ third differs feeding. absurd (differs (feeding ∙ sym f.one));
       });
     }
 
-with_none : {X : Type 0} (xs ys : List X) → ys ≡ [] → xs ≡ xs ++ ys
-with_none [] ys none = sym none
-with_none (x ∷ xs) ys none = λ i. x ∷ with_none xs ys none i
+-- what has nothing but what it has seen adds nothing else
+note_adds : (v w : View) → view_after_join v (note_of w) ≡ view_told v (note_of w)
+note_adds v w =
+    let none : (n : ℕ) → n + 0 ≡ n = λ n. omega arith in
+    λ i. record v { intervals = append-nil v.intervals i; budget = none v.budget i; calls = none v.calls i; made = none v.made i; seen = both_seen v.seen w.seen }
 
--- a seat is told what another one has seen
-pub note_joins : (id other : ℕ) (v u w : View) → u ≡ note_of w → Joins KeepsCell id v other u (view_told v u) no_view
-note_joins id other v u w note s rule at differs also =
-    let account = rule.account in let of = rule.cell.seats id v at in let too = rule.cell.seats other u (before_join s.views id other (view_told v u) u differs also) in
-    let budget : u.budget ≡ 0 = ap (λ (x : View). x.budget) note in let calls : u.calls ≡ 0 = ap (λ (x : View). x.calls) note in
-    let made : u.made ≡ 0 = ap (λ (x : View). x.made) note in record {
-      account = account;
-      words = rule.words;
-      cell = IsCell_joined s.views account account id other v u (view_told v u) rule.cell at also (record {
-        intervals = with_none v.intervals u.intervals (ap (λ (x : View). x.intervals) note);
-        budget = omega arith;
-        calls = omega arith;
-        same = refl;
-        own = record {
-          saw_poured = max-le v.seen.poured u.seen.poured account.poured of.saw_poured too.saw_poured;
-          saw_asked = max-le v.seen.asked u.seen.asked (asked_in_all account) of.saw_asked too.saw_asked;
-          saw_seal = or_cases v.seen.sealed u.seen.sealed of.saw_seal too.saw_seal;
-          given = of.given;
-          made = of.made;
-          feeds = λ feeds. let f = of.feeds feeds in record { one = f.one; pours = f.pours; seals = f.seals; most = f.most };
-        };
-        others = λ third x differs differs_too g. g;
-      });
-    }
+note_joins : (id other : ℕ) (v u w : View) → u ≡ note_of w → Joins KeepsCell id v other u (view_told v u) no_view
+note_joins id other v u w note = subst (λ (x : View). Joins KeepsCell id v other x (view_told v x) no_view) (sym note)
+    (subst (λ (both : View). Joins KeepsCell id v other (note_of w) both no_view) (note_adds v w) (worker_joins id other v (note_of w)))
+
+-- what a seat of a cell asks that is told what another one has seen; `me` is the token of the note
+pub told : (cell its notes : TableId) (id other : ℕ) (v w : View) (me : Token) → its ≡ cell → notes ≡ cell → cell.words ≡ 2 → me ≡ (note_of w, [])
+    → (its ≡ cell) × (notes ≡ cell) × (me.1 ≡ []) × (0 < cell.words) × Joins KeepsCell id v other me.0 (view_told v me.0) no_view
+told cell its notes id other v w me here there two is = (here, there, ap (λ (t : Token). t.1) is, omega arith, note_joins id other v me.0 w (ap (λ (t : Token). t.0) is))
 
 -- what the end of the table tells of a seat that feeds and has all calls
 pub record Ended (v : View) : Type 0 where

@@ -37,25 +37,14 @@ returns-in_err-serve_group-clause-fault g c =
 
 pub returns-in_err-serve_group-clause-unmet : goal.returns-in_err-serve_group-clause-unmet
 returns-in_err-serve_group-clause-unmet g c =
-    let i = c.loop-served.invariant in
-    let rest = take_rest c.args.plan.now c.loop-served.served in
-    let one = c.group_len.ensures.group in
-    let same = subst (λ (l : List Planned). All (λ (p : Planned). rank p.group ≡ one.0) (take c.group_len.result l)) rest one.1 in
-    let unmet =
-    fault-unmet c.args.plan.now c.loop-served.served c.group_len.result one.0 c.requires.plan c.loop-served-test.true c.group_len.ensures.some same c.loop-served.seat
-    c.serve_group.new.seat i.follow c.in_err-serve_group.ensures.fault
-    ∙ i.sealed in
+    let unmet = fault-unmet c.loop-served.seat c.serve_group.new.seat c.in_err-serve_group.ensures.fault ∙ c.loop-served.invariant.sealed in
     search (rules, unmet)
 
 pub returns-in_err-serve_group-clause-part : goal.returns-in_err-serve_group-clause-part
 returns-in_err-serve_group-clause-part g c =
-    let i = c.loop-served.invariant in
-    let rest = take_rest c.args.plan.now c.loop-served.served in
-    let one = c.group_len.ensures.group in
-    let same = subst (λ (l : List Planned). All (λ (p : Planned). rank p.group ≡ one.0) (take c.group_len.result l)) rest one.1 in
     let part =
-    fault-part c.args.plan.now c.loop-served.served c.group_len.result one.0 c.requires.plan c.loop-served-test.true c.group_len.ensures.some same c.loop-served.seat
-    c.serve_group.new.seat i.follow c.in_err-serve_group.ensures.fault in
+    fault-part c.args.plan.now c.loop-served.served c.loop-served.seat c.serve_group.new.seat c.loop-served-test.true c.loop-served.invariant.follow
+    c.in_err-serve_group.ensures.fault in
     search (rules, part)
 
 pub returns-then-tickets-served-clause-met : goal.returns-then-tickets-served-clause-met

@@ -1,9 +1,8 @@
-use Rattle.std.proofs.Common.{◌≡◌, ◌≤◌, ◌<◌, ◌∷◌, ap, arith, rules, subst}
-use Rattle.std.specs.Prelude.{All, sum_by}
+use Rattle.std.proofs.Common.{◌≡◌, ◌≤◌, ◌<◌, ◌∷◌, arith, rules, subst}
+use Rattle.std.specs.Prelude.{All}
 use borrow.Author.Tests.{tests}
 use Rattle.std.proofs.lemmas.List.Elements.{All-head, All-tail, All-weaker}
 use Rattle.cns_netting.specs.Sides.{bought_by, IsNamed, sold_by}
-use Rattle.cns_netting.specs.Undue.{if_settled}
 use Rattle.cns_netting.proofs.QueueLemmas.{later-first, settled-first}
 use Rattle.cns_netting.proofs.TradeLemmas.{settled-left}
 use Rattle.cns_netting.proofs.due.sides_after.Goals as goal
@@ -16,24 +15,8 @@ add_trade-requires c =
     let due : t.settle ≤ c.args.day = search (rules, tests) in
     record {
       named = All-head (IsNamed c.loop-first.after) t rest (subst (All (IsNamed c.loop-first.after)) list c.loop-first.invariant.named);
-      credit = λ m i.
-          omega (
-            arith,
-            c.loop-first.invariant.credit m i,
-            ap (sum_by (if_settled c.args.day (bought_by m i))) list,
-            settled-first c.args.day (bought_by m i) t rest due,
-            settled-left c.args.day (bought_by m i) c.args.undue.now,
-            c.requires.credit m i,
-          );
-      debit = λ m i.
-          omega (
-            arith,
-            c.loop-first.invariant.debit m i,
-            ap (sum_by (if_settled c.args.day (sold_by m i))) list,
-            settled-first c.args.day (sold_by m i) t rest due,
-            settled-left c.args.day (sold_by m i) c.args.undue.now,
-            c.requires.debit m i,
-          );
+      credit = λ m i. omega (arith, c.loop-first.invariant.credit m i, settled-first c.args.day (bought_by m i) _ t rest list due, settled-left c.args.day (bought_by m i) c.args.undue.now, c.requires.credit m i);
+      debit = λ m i. omega (arith, c.loop-first.invariant.debit m i, settled-first c.args.day (sold_by m i) _ t rest list due, settled-left c.args.day (sold_by m i) c.args.undue.now, c.requires.debit m i);
     }
 
 pub loop-first-preserved-then-le : goal.loop-first-preserved-then-le
@@ -46,22 +29,8 @@ loop-first-preserved-then-le c =
       named =
           All-weaker (IsNamed c.loop-first.after) (IsNamed c.add_trade.new.sides) (λ u both. (c.add_trade.ensures.named _ both.0, c.add_trade.ensures.named _ both.1)) rest
           (All-tail (IsNamed c.loop-first.after) t rest (subst (All (IsNamed c.loop-first.after)) list c.loop-first.invariant.named));
-      credit = λ m i.
-          omega (
-            arith,
-            c.loop-first.invariant.credit m i,
-            c.add_trade.ensures.credit m i,
-            ap (sum_by (if_settled c.args.day (bought_by m i))) list,
-            settled-first c.args.day (bought_by m i) t rest due,
-          );
-      debit = λ m i.
-          omega (
-            arith,
-            c.loop-first.invariant.debit m i,
-            c.add_trade.ensures.debit m i,
-            ap (sum_by (if_settled c.args.day (sold_by m i))) list,
-            settled-first c.args.day (sold_by m i) t rest due,
-          );
+      credit = λ m i. omega (arith, c.loop-first.invariant.credit m i, c.add_trade.ensures.credit m i, settled-first c.args.day (bought_by m i) _ t rest list due);
+      debit = λ m i. omega (arith, c.loop-first.invariant.debit m i, c.add_trade.ensures.debit m i, settled-first c.args.day (sold_by m i) _ t rest list due);
     }
 
 pub loop-first-preserved : goal.loop-first-preserved
@@ -72,6 +41,6 @@ loop-first-preserved c =
     let later : c.args.day < t.settle = search (rules, tests) in
     record {
       named = All-tail (IsNamed c.loop-first.after) t rest (subst (All (IsNamed c.loop-first.after)) list c.loop-first.invariant.named);
-      credit = λ m i. omega (arith, c.loop-first.invariant.credit m i, ap (sum_by (if_settled c.args.day (bought_by m i))) list, later-first c.args.day (bought_by m i) t rest later);
-      debit = λ m i. omega (arith, c.loop-first.invariant.debit m i, ap (sum_by (if_settled c.args.day (sold_by m i))) list, later-first c.args.day (sold_by m i) t rest later);
+      credit = λ m i. omega (arith, c.loop-first.invariant.credit m i, later-first c.args.day (bought_by m i) _ t rest list later);
+      debit = λ m i. omega (arith, c.loop-first.invariant.debit m i, later-first c.args.day (sold_by m i) _ t rest list later);
     }

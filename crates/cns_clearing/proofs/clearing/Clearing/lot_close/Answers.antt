@@ -3,8 +3,6 @@ use Rattle.std.specs.Prelude.{min, sum_by}
 use Rattle.cns_movements.specs.declared.order.Ask.{Ask}
 use Rattle.cns_pool.specs.Pool.{asked_sum, intervals_of}
 use Rattle.cns_pool.proofs.TileLemmas.{AreChained-Tiles}
-use Rattle.cns_allocate.specs.Deliveries.{deliveries_of}
-use Rattle.cns_clearing.specs.Books.{deliveries_in}
 use Rattle.cns_clearing.specs.Answers.{IsClosed}
 use Rattle.cns_clearing.specs.Lots.{AreLots}
 use Rattle.cns_clearing.specs.Node.{ClearNode}
@@ -20,10 +18,8 @@ pub returns-then-are_spent : goal.returns-then-are_spent
 returns-then-are_spent g c =
     let may = c.in_ok-allocation.ensures in
     let are = subst (λ (v : ClearNode). AreLots v.log.records v.lots) c.self.view_is c.self.invariant.lots in
-    let law = c.books-books.ensures in
-    let asks = close_asks c.args.self.now c.args.issue c.args.tickets.now c.args.sealed c.in_ok-allocation.allocation c.in_ok-asks.asks.items are may
-    (c.in_ok-asks.ensures.exact ∙ ap (λ (p : ℕ). deliveries_of c.args.issue p c.args.tickets.now) c.count-poured.ensures.value) in
-    let spent = spent_is _ c.args.self.now.log.records _ _ c.in_ok-allocation.allocation _ _ law.books c.as_slice.ensures.value asks c.are_spent.ensures c.if-are_spent.true in
+    let asks = close_asks c.args.self.now c.args.issue _ c.args.tickets.now c.args.sealed c.in_ok-allocation.allocation c.in_ok-asks.asks.items are may c.count-poured.ensures.value c.in_ok-asks.ensures.exact in
+    let spent = spent_is _ c.args.self.now.log.records _ _ c.in_ok-allocation.allocation _ _ c.books-books.ensures.books c.as_slice.ensures.value asks c.are_spent.ensures c.if-are_spent.true in
     (c.in_ok-up.ensures.up, (c.in_ok-allocation.allocation, may, spent), refl)
 
 pub add-requires-clause-allowed : goal.add-requires-clause-allowed
@@ -31,18 +27,14 @@ add-requires-clause-allowed g c =
     let may = c.in_ok-allocation.ensures in
     let are = subst (λ (v : ClearNode). AreLots v.log.records v.lots) c.self.view_is c.self.invariant.lots in
     let law = c.books-books.ensures in
-    let asks = close_asks c.args.self.now c.args.issue c.args.tickets.now c.args.sealed c.in_ok-allocation.allocation c.in_ok-asks.asks.items are may
-    (c.in_ok-asks.ensures.exact ∙ ap (λ (p : ℕ). deliveries_of c.args.issue p c.args.tickets.now) c.count-poured.ensures.value) in
-    let enough = spent_is _ c.args.self.now.log.records _ _ c.in_ok-allocation.allocation _ _ law.books c.as_slice.ensures.value asks c.are_spent.ensures c.if-are_spent.false in
-    close_allowed c.args.self.now c.args.issue c.args.tickets.now c.args.sealed c.in_ok-allocation.allocation (deliveries_in c.in_ok-allocation.allocation) law.lawful law.fits are may refl enough
+    let asks = close_asks c.args.self.now c.args.issue _ c.args.tickets.now c.args.sealed c.in_ok-allocation.allocation c.in_ok-asks.asks.items are may c.count-poured.ensures.value c.in_ok-asks.ensures.exact in
+    close_allowed c.args.self.now c.args.issue c.args.tickets.now c.args.sealed c.in_ok-allocation.allocation _ _ _ _ law.lawful law.fits are may law.books c.as_slice.ensures.value asks c.are_spent.ensures c.if-are_spent.false
 
 pub add-requires-clause-effects : goal.add-requires-clause-effects
 add-requires-clause-effects g c =
     let may = c.in_ok-allocation.ensures in
     let are = subst (λ (v : ClearNode). AreLots v.log.records v.lots) c.self.view_is c.self.invariant.lots in
-    let law = c.books-books.ensures in
-    let asks = close_asks c.args.self.now c.args.issue c.args.tickets.now c.args.sealed c.in_ok-allocation.allocation c.in_ok-asks.asks.items are may
-    (c.in_ok-asks.ensures.exact ∙ ap (λ (p : ℕ). deliveries_of c.args.issue p c.args.tickets.now) c.count-poured.ensures.value) in
+    let asks = close_asks c.args.self.now c.args.issue _ c.args.tickets.now c.args.sealed c.in_ok-allocation.allocation c.in_ok-asks.asks.items are may c.count-poured.ensures.value c.in_ok-asks.ensures.exact in
     record { asks = c.of_asks-effects.ensures.asks ∙ asks; rows = c.of_asks-effects.ensures.rows }
 
 pub returns-in_err-add : goal.returns-in_err-add
@@ -50,10 +42,8 @@ returns-in_err-add g c =
     let may = c.in_ok-allocation.ensures in
     let are = subst (λ (v : ClearNode). AreLots v.log.records v.lots) c.self.view_is c.self.invariant.lots in
     let law = c.books-books.ensures in
-    let asks = close_asks c.args.self.now c.args.issue c.args.tickets.now c.args.sealed c.in_ok-allocation.allocation c.in_ok-asks.asks.items are may
-    (c.in_ok-asks.ensures.exact ∙ ap (λ (p : ℕ). deliveries_of c.args.issue p c.args.tickets.now) c.count-poured.ensures.value) in
-    let enough = spent_is _ c.args.self.now.log.records _ _ c.in_ok-allocation.allocation _ _ law.books c.as_slice.ensures.value asks c.are_spent.ensures c.if-are_spent.false in
-    let allowed = close_allowed c.args.self.now c.args.issue c.args.tickets.now c.args.sealed c.in_ok-allocation.allocation (deliveries_in c.in_ok-allocation.allocation) law.lawful law.fits are may refl enough in
+    let asks = close_asks c.args.self.now c.args.issue _ c.args.tickets.now c.args.sealed c.in_ok-allocation.allocation c.in_ok-asks.asks.items are may c.count-poured.ensures.value c.in_ok-asks.ensures.exact in
+    let allowed = close_allowed c.args.self.now c.args.issue c.args.tickets.now c.args.sealed c.in_ok-allocation.allocation _ _ _ _ law.lawful law.fits are may law.books c.as_slice.ensures.value asks c.are_spent.ensures c.if-are_spent.false in
     let left = close_refused c.args.self.now c.add.new.self c.args.issue c.args.tickets.now c.args.sealed c.in_ok-allocation.allocation _ c.in_ok-up.ensures.up
     may allowed c.in_err-add.ensures in
     search (rules, left)
@@ -63,10 +53,8 @@ returns g c =
     let may = c.in_ok-allocation.ensures in
     let are = subst (λ (v : ClearNode). AreLots v.log.records v.lots) c.self.view_is c.self.invariant.lots in
     let law = c.books-books.ensures in
-    let asks = close_asks c.args.self.now c.args.issue c.args.tickets.now c.args.sealed c.in_ok-allocation.allocation c.in_ok-asks.asks.items are may
-    (c.in_ok-asks.ensures.exact ∙ ap (λ (p : ℕ). deliveries_of c.args.issue p c.args.tickets.now) c.count-poured.ensures.value) in
-    let enough = spent_is _ c.args.self.now.log.records _ _ c.in_ok-allocation.allocation _ _ law.books c.as_slice.ensures.value asks c.are_spent.ensures c.if-are_spent.false in
-    let allowed = close_allowed c.args.self.now c.args.issue c.args.tickets.now c.args.sealed c.in_ok-allocation.allocation (deliveries_in c.in_ok-allocation.allocation) law.lawful law.fits are may refl enough in
+    let asks = close_asks c.args.self.now c.args.issue _ c.args.tickets.now c.args.sealed c.in_ok-allocation.allocation c.in_ok-asks.asks.items are may c.count-poured.ensures.value c.in_ok-asks.ensures.exact in
+    let allowed = close_allowed c.args.self.now c.args.issue c.args.tickets.now c.args.sealed c.in_ok-allocation.allocation _ _ _ _ law.lawful law.fits are may law.books c.as_slice.ensures.value asks c.are_spent.ensures c.if-are_spent.false in
     let granted : c.min-granted.result ≡ min c.in_ok-allocation.allocation.poured (asked_sum c.args.tickets.now) = search rules in
     let done : IsClosed c.args.self.now.log.records c.args.tickets.now c.in_ok-allocation.allocation (record { granted = c.min-granted.result; orders = c.in_ok-orders.orders }) =
     record {

@@ -14,8 +14,7 @@ pub invariant_of-self-2 : goal.invariant_of-self-2
 invariant_of-self-2 g c =
     let count = rw (← c.self.view_is) at c.record_count-records.ensures in
     let avail = rw (← c.self.view_is) at c.avail-poured.ensures in
-    let books = rw (← c.self.view_is) at c.books.ensures.books in
-    let plan = plan_is _ c.args.issue _ c.in_ok-plan.plan books c.in_ok-plan.ensures in
+    let plan = plan_is _ c.args.issue _ c.in_ok-plan.plan (rw (← c.self.view_is) at c.books.ensures.books) c.in_ok-plan.ensures in
     let none : lot_of c.args.self.now.lots c.args.issue ≡ None = search rules in
     let none' = rw (← c.self.view_is) at none in
     node_lots _ _ _ c.self.invariant (opened_lots _ _ _ _ c.args.issue _ _ c.in_ok-plan.plan c.self.invariant.lots none' count avail plan c.in_ok-room.ensures.same c.open.ensures)
@@ -24,8 +23,7 @@ pub returns : goal.returns
 returns g c =
     let count = rw (← c.self.view_is) at c.record_count-records.ensures in
     let avail = rw (← c.self.view_is) at c.avail-poured.ensures in
-    let books = rw (← c.self.view_is) at c.books.ensures.books in
-    let plan = plan_is _ c.args.issue _ c.in_ok-plan.plan books c.in_ok-plan.ensures in
+    let plan = plan_is _ c.args.issue _ c.in_ok-plan.plan (rw (← c.self.view_is) at c.books.ensures.books) c.in_ok-plan.ensures in
     let none : lot_of c.args.self.now.lots c.args.issue ≡ None = search rules in
     let none' = rw (← c.self.view_is) at none in
     let up = rw (← c.self.view_is) at c.in_ok-up.ensures.up in

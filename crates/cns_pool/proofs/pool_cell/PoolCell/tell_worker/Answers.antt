@@ -1,8 +1,7 @@
 use Rattle.std.proofs.Common.{arith, refl, sym, ap, ◌∙◌}
 use Rattle.cns_pool.specs.WorkerSeat.{WorkerState}
 use Rattle.cns_pool.specs.FeederSeat.{FeederState}
-use Rattle.cns_pool.specs.CellWords.{Token}
-use Rattle.cns_pool.proofs.SplitLemmas.{note_splits, note_joins}
+use Rattle.cns_pool.proofs.SplitLemmas.{note_splits, told}
 use Rattle.cns_pool.proofs.SeatLemmas.{IsWorker_told}
 use Rattle.cns_pool.proofs.pool_cell.PoolCell.tell_worker.Goals as goal
 
@@ -10,13 +9,8 @@ pub split_seat-note-requires : goal.split_seat-note-requires
 split_seat-note-requires c = (ap (λ (f : FeederState). f.cell) c.feeder.view_is ∙ c.requires.feeder ∙ sym c.self.view_is, omega (arith, c.self.invariant.0), note_splits _ _)
 
 pub join_seat-requires : goal.join_seat-requires
-join_seat-requires c = let note = c.split_seat-note.ensures in (
-  ap (λ (w : WorkerState). w.cell) c.worker.view_is ∙ c.requires.worker ∙ sym c.self.view_is,
-  note.3 ∙ ap (λ (f : FeederState). f.cell) c.feeder.view_is ∙ c.requires.feeder ∙ sym c.self.view_is,
-  ap (λ (t : Token). t.1) note.4,
-  omega (arith, c.self.invariant.0),
-  note_joins _ _ _ _ c.feeder.inside.token.me.0 (ap (λ (t : Token). t.0) note.4),
-)
+join_seat-requires c =
+    told _ _ _ _ _ _ c.feeder.inside.token.me.0 _ (ap (λ (w : WorkerState). w.cell) c.worker.view_is ∙ c.requires.worker ∙ sym c.self.view_is) (c.split_seat-note.ensures.3 ∙ ap (λ (f : FeederState). f.cell) c.feeder.view_is ∙ c.requires.feeder ∙ sym c.self.view_is) c.self.invariant.0 c.split_seat-note.ensures.4
 
 pub invariant_of-worker : goal.invariant_of-worker
 invariant_of-worker c = IsWorker_told c.worker.inside.token.me c.join_seat.new.seat.me _ _ _ c.split_seat-note.result.me.0 c.worker.invariant c.join_seat.ensures.2 c.join_seat.ensures.0 refl refl refl
