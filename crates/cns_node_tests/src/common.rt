@@ -4,35 +4,16 @@ use cns_depository::Openings;
 use cns_ids::{Cusip, CycleId, CycleKind, Day, MemberNo, Quantity, Shares};
 use cns_journal::{Keeper, ListKeeper, MAX_PAYLOAD};
 use cns_movements::{Asked, MoveKind, MoveNo, Order, Reply};
+use cns_pool::Ticket;
 use cns_records::{Allocation, ClearRecord, DepRecord, Drawn, DrawnList};
+use cns_system::{Event, NodeName, System, Unopened};
 use cns_trades::{Opening, Trade, TradeId};
 use std::alloc::Global;
 use std::fmt::Debug;
 use std::process::Abort;
-use std::test::Fail;
 
 pub(crate) fn assert_same<T: PartialEq + Debug>(rt: &impl Abort, answer: &T, wanted: &T) {
     assert!(rt; answer == wanted, "{answer:?} and not {wanted:?}");
-}
-
-pub(crate) fn issue() -> Result<Cusip, Fail> {
-    Ok(Cusip::read(b"037833100")?)
-}
-
-pub(crate) fn member(number: u16) -> Result<MemberNo, Fail> {
-    Ok(MemberNo::new(number).ok_or("a member's number")?)
-}
-
-pub(crate) fn shares(count: u64) -> Result<Shares, Fail> {
-    Ok(Shares::new(count).ok_or("a count of shares")?)
-}
-
-// The night cycle of a day.
-pub(crate) fn night(day: &[u8]) -> Result<CycleId, Fail> {
-    Ok(CycleId {
-        day: Day::read(day)?,
-        kind: CycleKind::Night,
-    })
 }
 
 // ---- Plain data, and what it stands for.
@@ -131,6 +112,23 @@ pub(crate) fn openings_of(rt: &impl Abort, alloc: Global, of: &[Opened]) -> Open
         list.add(&opening).expect(rt, "an opening");
     }
     list
+}
+
+pub(crate) fn ticket_of(rt: &impl Abort, draw: &Draw) -> Ticket {
+    let (number, start, asked) = *draw;
+    Ticket {
+        member: member_of(rt, number),
+        start,
+        asked,
+    }
+}
+
+pub(crate) fn tickets_of(rt: &impl Abort, alloc: Global, draws: &[Draw]) -> Vec<Ticket> {
+    let mut tickets = Vec::new(alloc);
+    for draw in draws {
+        tickets.push(ticket_of(rt, draw)).expect(rt, "memory");
+    }
+    tickets
 }
 
 // ---- Journals.
@@ -269,4 +267,97 @@ pub(crate) fn depot_keeper_of(rt: &impl Abort, alloc: Global, past: &[DepotPast]
         add(rt, &mut keeper, &depot_payload_of(rt, alloc, entry));
     }
     keeper
+}
+
+// ---- Both nodes, and what happens to them.
+
+pub(crate) type Both = System<ListKeeper, ListKeeper>;
+
+// The keepers of both nodes, the clearing node's first.
+pub(crate) type Keepers = (ListKeeper, ListKeeper);
+
+// What these keepers' journals open, where member 1 has so many shares.
+pub(crate) fn open_both(
+    rt: &impl Abort,
+    alloc: Global,
+    (clear, depot): Keepers,
+    count: u64,
+) -> Result<Both, Unopened<ListKeeper, ListKeeper>> {
+    let openings = openings_of(rt, alloc, &[(1, APPLE, count)]);
+    System::open(alloc, clear, depot, openings)
+}
+
+// The same, which opens.
+pub(crate) fn both_of(rt: &impl Abort, alloc: Global, keepers: Keepers, count: u64) -> Both {
+    match open_both(rt, alloc, keepers, count) {
+        Ok(both) => both,
+        Err(refused) => panic!(rt; "not opened: {}", refused.fault),
+    }
+}
+
+// Nodes with no records, where member 1 has so many shares.
+pub(crate) fn new_both(rt: &impl Abort, alloc: Global, count: u64) -> Both {
+    let keepers = (ListKeeper::new(alloc), ListKeeper::new(alloc));
+    both_of(rt, alloc, keepers, count)
+}
+
+// The day on which the trades of events settle.
+pub(crate) const TUESDAY: Text = b"2025-03-04";
+
+// An event.
+pub(crate) enum Deed {
+    // Member 1 sells 30 shares to this member, by the trade of this name.
+    Sell(Text, u16),
+    // Shares of member 1.
+    Exempt(u64),
+    // Of this member.
+    Priority(u16),
+    // The night cycle of the day on which the trades settle.
+    Cycle,
+    LotOpen,
+    LotPour(u64),
+    // The lot and the member.
+    Reserve(u64, u16),
+    LookPoured(u64),
+    LookAsked(u64),
+    Seal(u64),
+    LotClose(u64),
+    Send(u64),
+    OrderIn(u64),
+    ReplyIn(u64),
+    Restart(NodeName),
+}
+
+fn exemption_of(rt: &impl Abort, count: u64) -> Event {
+    Event::Exempt {
+        member: member_of(rt, 1),
+        issue: apple(rt),
+        shares: shares_of(rt, count),
+    }
+}
+
+pub(crate) fn event_of(rt: &impl Abort, deed: &Deed) -> Event {
+    match deed {
+        Deed::Sell(id, buyer) => Event::Trade(trade_of(rt, &(id, TUESDAY, *buyer, 30))),
+        Deed::Exempt(count) => exemption_of(rt, *count),
+        Deed::Priority(of) => {
+            let (member, issue, on) = (member_of(rt, *of), apple(rt), true);
+            Event::Priority { member, issue, on }
+        }
+        Deed::Cycle => Event::Cycle(cycle_of(rt, TUESDAY, CycleKind::Night)),
+        Deed::LotOpen => Event::LotOpen { issue: apple(rt) },
+        Deed::LotPour(lot) => Event::LotPour { lot: *lot },
+        Deed::Reserve(lot, of) => {
+            let (lot, member) = (*lot, member_of(rt, *of));
+            Event::Reserve { lot, member }
+        }
+        Deed::LookPoured(lot) => Event::LookPoured { lot: *lot },
+        Deed::LookAsked(lot) => Event::LookAsked { lot: *lot },
+        Deed::Seal(lot) => Event::Seal { lot: *lot },
+        Deed::LotClose(lot) => Event::LotClose { lot: *lot },
+        Deed::Send(number) => Event::Send { number: *number },
+        Deed::OrderIn(packet) => Event::OrderIn { packet: *packet },
+        Deed::ReplyIn(packet) => Event::ReplyIn { packet: *packet },
+        Deed::Restart(node) => Event::Restart(*node),
+    }
 }

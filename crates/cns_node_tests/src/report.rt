@@ -1,10 +1,11 @@
-use crate::common::{issue, member, night, shares};
+use crate::common::{
+    APPLE, apple, assert_same, cycle_of, member_of, order_of, reply_of, ticket_of,
+};
 use cns_clearing::PoolRow;
 use cns_depository::{Account, BalanceRow, OpeningFault};
-use cns_ids::{CusipFault, CycleId, CycleKind, Day, ReadFault};
-use cns_movements::{Asked, MoveKind, MoveNo, Order, Reply};
+use cns_ids::{CusipFault, CycleKind, ReadFault};
+use cns_movements::{Asked, MoveKind, MoveNo, Order};
 use cns_netting::PositionRow;
-use cns_pool::Ticket;
 use cns_records::Refusal;
 use cns_report::{
     Line, LotLine, OrderLine, Subject, write_balance_report, write_cycle_report, write_line,
@@ -14,28 +15,34 @@ use cns_system::NodeName;
 use cns_trades::{RowFault, TradeId, Verdict};
 use std::alloc::Global;
 use std::process::Abort;
-use std::test::Fail;
 
 mod outcome;
 
 // That this line has these bytes.
-fn see(rt: &impl Abort, alloc: Global, line: Line, want: &str) -> Result<(), Fail> {
+fn see(rt: &impl Abort, alloc: Global, line: Line, want: &str) {
     let mut out = String::new(alloc);
-    write_line(&mut out, line)?;
-    assert_eq!(rt; out.as_str(), want);
-    Ok(())
+    write_line(&mut out, line).expect(rt, "memory");
+    assert_same(rt, &out.as_str(), &want);
+    drop(out);
 }
 
 // That a line that ends with a name has these bytes.
-fn see_named(
-    rt: &impl Abort,
-    alloc: Global,
-    line: Line,
-    before: &str,
-    name: &str,
-) -> Result<(), Fail> {
-    let want = format!(in alloc; "{before} {name}\n")?;
-    see(rt, alloc, line, &want)
+fn see_named(rt: &impl Abort, alloc: Global, line: Line, before: &str, name: &str) {
+    let want = format!(in alloc; "{before} {name}\n").expect(rt, "memory");
+    see(rt, alloc, line, want.as_str());
+    drop(want);
+}
+
+#[test]
+fn openings_that_are_refused(rt: HostRuntime) {
+    let row = 6;
+    for (fault, name) in [
+        (OpeningFault::Double, "Double"),
+        (OpeningFault::IssueSum, "IssueSum"),
+    ] {
+        let line = Line::OpeningRefused { row, fault };
+        see_named(&rt, rt.alloc(), line, "opening row 6 fault", name);
+    }
 }
 
 // The faults of a row, and their names.
@@ -64,31 +71,14 @@ const BAD_CHARACTER: CusipFault = CusipFault::BadChar { place: 6 };
 const BAD_DIGIT: CusipFault = CusipFault::CheckDigit { want: 0 };
 
 #[test]
-fn row_faults(rt: HostRuntime) -> Result<(), Fail> {
-    let row = 5;
+fn row_faults(rt: HostRuntime) {
     for (fault, name) in &ROW_FAULTS {
-        let fault = *fault;
-        let (trade, opening) = (
-            Line::RowFault { row, fault },
-            Line::OpeningRowFault { row, fault },
-        );
-        see_named(&rt, rt.alloc(), trade, "row 5 fault", name)?;
-        see_named(&rt, rt.alloc(), opening, "opening row 5 fault", name)?;
+        let (row, fault) = (5, *fault);
+        let trade = Line::RowFault { row, fault };
+        let opening = Line::OpeningRowFault { row, fault };
+        see_named(&rt, rt.alloc(), trade, "row 5 fault", name);
+        see_named(&rt, rt.alloc(), opening, "opening row 5 fault", name);
     }
-    Ok(())
-}
-
-#[test]
-fn openings_that_are_refused(rt: HostRuntime) -> Result<(), Fail> {
-    let row = 6;
-    for (fault, name) in [
-        (OpeningFault::Double, "Double"),
-        (OpeningFault::IssueSum, "IssueSum"),
-    ] {
-        let line = Line::OpeningRefused { row, fault };
-        see_named(&rt, rt.alloc(), line, "opening row 6 fault", name)?;
-    }
-    Ok(())
 }
 
 // What may be refused, and its word.
@@ -138,179 +128,136 @@ const REFUSALS: [(Refusal, &str); 25] = [
 ];
 
 #[test]
-fn refusals(rt: HostRuntime) -> Result<(), Fail> {
+fn refusals(rt: HostRuntime) {
     let refusal = Refusal::Down;
     for (subject, word) in &SUBJECTS {
         let subject = *subject;
-        see_named(
-            &rt,
-            rt.alloc(),
-            Line::Refused { subject, refusal },
-            word,
-            "refused Down",
-        )?;
+        let line = Line::Refused { subject, refusal };
+        see_named(&rt, rt.alloc(), line, word, "refused Down");
     }
-    let (subject, id) = (Subject::Cycle, TradeId::read(b"A1")?);
+    let id = TradeId::read(b"A1").expect(&rt, "a trade's name");
     for (refusal, name) in &REFUSALS {
-        let refusal = *refusal;
-        let (line, trade) = (
-            Line::Refused { subject, refusal },
-            Line::TradeRefused { id, refusal },
-        );
-        see_named(&rt, rt.alloc(), line, "cycle refused", name)?;
-        see_named(&rt, rt.alloc(), trade, "trade A1 refused", name)?;
+        let (subject, refusal) = (Subject::Cycle, *refusal);
+        let line = Line::Refused { subject, refusal };
+        let trade = Line::TradeRefused { id, refusal };
+        see_named(&rt, rt.alloc(), line, "cycle refused", name);
+        see_named(&rt, rt.alloc(), trade, "trade A1 refused", name);
     }
-    Ok(())
+}
+
+fn restarted(node: NodeName, records: u64, kept: bool) -> Line {
+    Line::Restarted {
+        node,
+        records,
+        kept,
+    }
 }
 
 #[test]
-fn command_lines(rt: HostRuntime) -> Result<(), Fail> {
-    let (id, due, line) = (night(b"2025-03-04")?, 2, 1);
-    let (node, records, kept) = (NodeName::Clear, 6, false);
-    let came_back = Line::Restarted {
-        node,
-        records,
-        kept,
-    };
-    let (node, records, kept) = (NodeName::Depot, 1, true);
-    let came_back_with_one_more = Line::Restarted {
-        node,
-        records,
-        kept,
-    };
+fn command_lines(rt: HostRuntime) {
+    let trade = TradeId::read(b"A1").expect(&rt, "a trade's name");
+    let (id, due) = (cycle_of(&rt, b"2025-03-04", CycleKind::Night), 2);
+    let came_back = restarted(NodeName::Clear, 6, false);
+    let came_back_with_one_more = restarted(NodeName::Depot, 1, true);
     let lines = [
+        (Line::TradeAccepted(trade), "trade A1 accepted\n"),
+        (Line::BadCommand { line: 1 }, "line 1 bad command\n"),
+        (Line::ExemptionSet, "exempt ok\n"),
+        (Line::PrioritySet, "priority ok\n"),
+        (Line::FailurePlanned, "fail ok\n"),
+        (Line::FailureNotPlanned, "fail refused NotPlanned\n"),
+        (Line::Cycle { id, due }, "cycle 2025-03-04 NIGHT due 2\n"),
+        (came_back, "restart CLEAR records 6 kept no\n"),
         (
-            Line::TradeAccepted(TradeId::read(b"A1")?),
-            "trade A1 accepted",
+            came_back_with_one_more,
+            "restart DEPOT records 1 kept yes\n",
         ),
-        (Line::BadCommand { line }, "line 1 bad command"),
-        (Line::ExemptionSet, "exempt ok"),
-        (Line::PrioritySet, "priority ok"),
-        (Line::FailurePlanned, "fail ok"),
-        (Line::FailureNotPlanned, "fail refused NotPlanned"),
-        (Line::Cycle { id, due }, "cycle 2025-03-04 NIGHT due 2"),
-        (came_back, "restart CLEAR records 6 kept no"),
-        (came_back_with_one_more, "restart DEPOT records 1 kept yes"),
     ];
     for (line, want) in &lines {
-        let want = format!(in rt.alloc(); "{want}\n")?;
-        see(&rt, rt.alloc(), *line, &want)?;
+        see(&rt, rt.alloc(), *line, want);
     }
-    Ok(())
 }
 
 // A cover of member 1, and the largest delivery under the last number.
-fn two_orders() -> Result<[Order; 2], Fail> {
-    let cover = Order {
-        number: MoveNo::new(1).ok_or("number")?,
-        kind: MoveKind::Cover,
-        member: member(1)?,
-        issue: issue()?,
-        asked: Asked::new(60).ok_or("asked")?,
-    };
-    let delivery = Order {
-        number: MoveNo::new(MoveNo::MAX).ok_or("number")?,
-        kind: MoveKind::Delivery,
-        member: member(42)?,
-        issue: issue()?,
-        asked: Asked::new(Asked::MAX).ok_or("asked")?,
-    };
-    Ok([cover, delivery])
+fn two_orders(rt: &impl Abort) -> [Order; 2] {
+    let cover = (1, MoveKind::Cover, 1, APPLE, 60);
+    let delivery = (MoveNo::MAX, MoveKind::Delivery, 42, APPLE, Asked::MAX);
+    [order_of(rt, &cover), order_of(rt, &delivery)]
 }
 
 #[test]
-fn order_lines(rt: HostRuntime) -> Result<(), Fail> {
-    let number = MoveNo::new(1).ok_or("number")?;
-    let moved = shares(20)?;
-    let (reply, packet) = (Reply { number, moved }, 2);
-    let number = 1;
+fn order_lines(rt: HostRuntime) {
+    let (number, packet) = (1, 2);
+    let reply = reply_of(&rt, 1, 20);
+    let executed = OrderLine::Executed { reply, packet };
+    let reply = reply_of(&rt, 1, 20);
+    let again = OrderLine::ExecutedAgain { reply, packet };
+    let done = OrderLine::Confirmed(reply_of(&rt, 1, 20));
+    let done_again = OrderLine::ConfirmedAgain(reply_of(&rt, 1, 20));
     let lines = [
         (OrderLine::Sent { number, packet }, "send 1 packet 2\n"),
-        (
-            OrderLine::Executed { reply, packet },
-            "exec 1 moved 20 packet 2\n",
-        ),
-        (
-            OrderLine::ExecutedAgain { reply, packet },
-            "again 1 moved 20 packet 2\n",
-        ),
-        (OrderLine::Confirmed(reply), "confirm 1 moved 20 done\n"),
-        (
-            OrderLine::ConfirmedAgain(reply),
-            "confirm 1 moved 20 again\n",
-        ),
+        (executed, "exec 1 moved 20 packet 2\n"),
+        (again, "again 1 moved 20 packet 2\n"),
+        (done, "confirm 1 moved 20 done\n"),
+        (done_again, "confirm 1 moved 20 again\n"),
     ];
     for (line, want) in &lines {
-        see(&rt, rt.alloc(), Line::Order(*line), want)?;
+        see(&rt, rt.alloc(), Line::Order(*line), want);
     }
     let mut out = String::new(rt.alloc());
-    write_orders(&mut out, &two_orders()?)?;
+    write_orders(&mut out, &two_orders(&rt)).expect(&rt, "memory");
     let want = "\
         order 1 COVER 0001 037833100 60\n\
         order 1000000 DELIVERY 0042 037833100 1000000000000000000\n";
-    assert_eq!(rt; out.as_str(), want);
-    Ok(())
+    assert_same(&rt, &out.as_str(), &want);
+    drop(out);
+}
+
+fn looked(asked: u64, sealed: bool) -> LotLine {
+    LotLine::LookedAsked { asked, sealed }
 }
 
 #[test]
-fn lot_lines(rt: HostRuntime) -> Result<(), Fail> {
-    let (member, start, asked) = (member(3)?, 30, 10);
-    let ticket = Ticket {
-        member,
-        start,
-        asked,
-    };
+fn lot_lines(rt: HostRuntime) {
+    let ticket = ticket_of(&rt, &(3, 30, 10));
     let (number, poured, longs) = (1, 40, 2);
     let opened = LotLine::Opened {
         number,
         poured,
         longs,
     };
-    let (shares, granted, sealed) = (0, 30, true);
+    let (shares, granted) = (0, 30);
     let lines = [
         (opened, "lot 1 poured 40 longs 2\n"),
         (LotLine::Poured { shares }, "pour 0\n"),
         (LotLine::Drawn(ticket), "ticket 0003 start 30 asked 10\n"),
         (LotLine::LookedPoured { poured }, "look poured 40"),
-        (
-            LotLine::LookedAsked { asked, sealed },
-            " asked 10 sealed yes\n",
-        ),
-        (
-            LotLine::LookedAsked {
-                asked: 0,
-                sealed: false,
-            },
-            " asked 0 sealed no\n",
-        ),
+        (looked(10, true), " asked 10 sealed yes\n"),
+        (looked(0, false), " asked 0 sealed no\n"),
         (LotLine::Sealed, "seal ok\n"),
         (LotLine::Closed { granted }, "close granted 30\n"),
     ];
     for (line, want) in &lines {
-        see(&rt, rt.alloc(), Line::Lot(*line), want)?;
+        see(&rt, rt.alloc(), Line::Lot(*line), want);
     }
-    Ok(())
 }
 
 #[test]
-fn a_report(rt: HostRuntime) -> Result<(), Fail> {
-    let issue = issue()?;
+fn a_report(rt: HostRuntime) {
+    let issue = apple(&rt);
     let rows = [
         PositionRow {
             issue,
-            member: member(1)?,
+            member: member_of(&rt, 1),
             position: -60,
         },
         PositionRow {
             issue,
-            member: member(2)?,
+            member: member_of(&rt, 2),
             position: 1_000_000_000_000_000_000,
         },
     ];
-    let day = CycleId {
-        day: Day::read(b"2025-03-04")?,
-        kind: CycleKind::Day,
-    };
+    let day = cycle_of(&rt, b"2025-03-04", CycleKind::Day);
     let pools = [PoolRow {
         issue,
         free: 20,
@@ -325,16 +272,16 @@ fn a_report(rt: HostRuntime) -> Result<(), Fail> {
         },
         BalanceRow {
             issue,
-            account: Account::Member(member(42)?),
+            account: Account::Member(member_of(&rt, 42)),
             shares: 1_000_000_000_000_000_000,
         },
     ];
     let mut out = String::new(rt.alloc());
-    write_cycle_report(&mut out, None, &[], &[])?;
-    write_report_end(&mut out)?;
-    write_cycle_report(&mut out, Some(day), &rows, &pools)?;
-    write_balance_report(&mut out, &balances)?;
-    write_report_end(&mut out)?;
+    write_cycle_report(&mut out, None, &[], &[]).expect(&rt, "memory");
+    write_report_end(&mut out).expect(&rt, "memory");
+    write_cycle_report(&mut out, Some(day), &rows, &pools).expect(&rt, "memory");
+    write_balance_report(&mut out, &balances).expect(&rt, "memory");
+    write_report_end(&mut out).expect(&rt, "memory");
     let want = "\
         REPORT cycle none\n\
         END\n\
@@ -345,6 +292,6 @@ fn a_report(rt: HostRuntime) -> Result<(), Fail> {
         BAL 037833100 0000                   20\n\
         BAL 037833100 0042  1000000000000000000\n\
         END\n";
-    assert_eq!(rt; out.as_str(), want);
-    Ok(())
+    assert_same(&rt, &out.as_str(), &want);
+    drop(out);
 }

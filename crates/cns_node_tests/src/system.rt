@@ -2,18 +2,16 @@ ghost use Rattle.std.specs.Prelude.{◌≡◌, ◌^◌, ◌≤◌, IfOk, IsTrue}
 ghost use Rattle.cns_allocate.specs.Plan.{LongsFit};
 ghost use Rattle.cns_system.specs.Lot.{planned_sum};
 
-use crate::common::{Draw, apple, member_of, trade_of};
+use crate::common::{Draw, TUESDAY, apple, member_of, ticket_of, trade_of};
 use cns_allocate::{Plan, Planned};
 use cns_covers::Priorities;
 use cns_movements::OrderBook;
 use cns_netting::NetBook;
-use cns_pool::Ticket;
 use cns_records::Refusal;
 use cns_system::{Look, LotBook};
 use std::alloc::{AllocError, Global};
 use std::process::Abort;
 use std::test::Fail;
-use story::TUESDAY;
 
 mod both;
 mod desk;
@@ -21,15 +19,6 @@ mod finish;
 mod floor;
 mod start;
 mod story;
-
-fn ticket_of(rt: &impl Abort, (member, start, asked): Draw) -> Ticket {
-    let member = member_of(rt, member);
-    Ticket {
-        member,
-        start,
-        asked,
-    }
-}
 
 // Members 2 and 3 are long of 30 each, and member 1 is short of all of them.
 #[tactic(auto, using(cns_allocate::proofs::PlanLemmas::unsettled_longs))]
@@ -132,7 +121,7 @@ fn are_drawn(rt: &impl Abort, book: &LotBook, number: u64, wanted: &[Draw]) -> b
     let tickets = book.tickets(number).expect(rt, "a lot");
     let mut same = tickets.len() == wanted.len();
     for (ticket, draw) in tickets.iter().zip(wanted) {
-        same = same && *ticket == ticket_of(rt, *draw);
+        same = same && *ticket == ticket_of(rt, draw);
     }
     same
 }
@@ -145,7 +134,7 @@ fn answers(rt: &impl Abort, alloc: Global, book: &mut LotBook, step: &Step) -> b
         Step::Issue(number, wanted) => book.issue(*number) == wanted.map(|()| apple(rt)),
         Step::Planned(number) => is_planned(rt, alloc, book, *number),
         Step::Draw(number, draw) => {
-            book.reserve(*number, member_of(rt, draw.0)) == Ok(ticket_of(rt, *draw))
+            book.reserve(*number, member_of(rt, draw.0)) == Ok(ticket_of(rt, draw))
         }
         Step::NoDraw(number, member, fault) => {
             book.reserve(*number, member_of(rt, *member)) == Err(*fault)

@@ -1,24 +1,21 @@
-ghost use Rattle.std.specs.Prelude.{◌≤◌, IfOk};
 ghost use Rattle.cns_allocate.specs.Plan.{LongsFit};
 
 use crate::common::{
-    AskedIn, Deal, asks_of, assert_same, high_issue, low_issue, member_of, trade_of,
+    AskedIn, DealtIn, Drawn, asks_of, assert_same, book_of, day_of, high_issue, low_issue,
+    member_of, ticket_of, tickets_of,
 };
 use cns_allocate::{Grants, Group, Plan, Planned, Turn, Turns, are_served, by_start, deliveries};
 use cns_covers::Priorities;
 use cns_movements::{Ask, MoveKind, OrderBook};
 use cns_netting::NetBook;
-use cns_pool::{Ticket, Tickets};
-use std::alloc::{AllocError, Global};
+use cns_pool::Tickets;
+use std::alloc::Global;
 use std::process::Abort;
 
 mod serving;
 
 // A member's number, the shares planned for it and its group.
 type PlannedRow = (u16, u64, Group);
-
-// A member's number, where its shares start and how many they are.
-type TicketRow = (u16, u64, u64);
 
 // Whether these members are planned, in their order.
 fn are_planned(planned: &[Planned], wanted: &[PlannedRow]) -> bool {
@@ -33,50 +30,24 @@ fn are_planned(planned: &[Planned], wanted: &[PlannedRow]) -> bool {
     true
 }
 
-fn ticket_of(rt: &impl Abort, (number, start, asked): TicketRow) -> Ticket {
-    let member = member_of(rt, number);
-    Ticket {
-        member,
-        start,
-        asked,
-    }
-}
-
-fn tickets_of(rt: &impl Abort, alloc: Global, rows: &[TicketRow]) -> Vec<Ticket> {
-    let mut tickets = Vec::new(alloc);
-    for row in rows {
-        tickets.push(ticket_of(rt, *row)).expect(rt, "memory");
-    }
-    tickets
-}
-
 // Members 2 and 3 buy 30 each of the low issue, and member 2 buys 7 of the high one; member 1 sells
 // all of them.
-const FIRST: Deal = (b"A1", 2, 1, 30);
-
-const SECOND: Deal = (b"A2", 3, 1, 30);
-
-const THIRD: Deal = (b"A3", 2, 1, 7);
+const TRADES: [DealtIn; 3] = [
+    (true, (b"A1", 2, 1, 30)),
+    (true, (b"A2", 3, 1, 30)),
+    (false, (b"A3", 2, 1, 7)),
+];
 
 // Members 2 and 3 are long of 30 each in the low issue, and member 2 of 7 in the high one; member 1
 // is short of all of them.
 #[tactic(auto, using(cns_allocate::proofs::PlanLemmas::unsettled_longs))]
-fn two_longs(rt: &impl Abort, alloc: Global) -> Result<NetBook, AllocError>
-    ensures { IfOk result (λ book. LongsFit book.history) }
+fn two_longs(rt: &impl Abort, alloc: Global) -> NetBook
+    ensures { LongsFit result.history }
 {
-    let first = trade_of(rt, low_issue(rt), FIRST);
-    let second = trade_of(rt, low_issue(rt), SECOND);
-    let third = trade_of(rt, high_issue(rt), THIRD);
-    if second.id == first.id || third.id == first.id || third.id == second.id {
-        panic!(rt; "two trades have one id");
-    }
-    let mut book = NetBook::new(alloc);
-    book.accept(first)?;
-    book.accept(second)?;
-    book.accept(third)?;
-    book.net(first.settle)?;
-    assert!(rt; book.position(first.buyer, first.issue) == 30);
-    Ok(book)
+    let mut book = book_of(rt, alloc, TRADES);
+    book.net(day_of(rt, b"2025-03-04")).expect(rt, "memory");
+    assert!(rt; book.position(member_of(rt, 2), low_issue(rt)) == 30);
+    book
 }
 
 // Member 3 has priority in the low issue, and member 2 in the high one.
@@ -95,26 +66,21 @@ fn plan_of(
     orders: &OrderBook,
     priorities: &Priorities,
     were_long: &[u16],
-) -> Result<Plan, AllocError> {
+) -> Plan {
     let mut members = Vec::new(alloc);
     for number in were_long {
-        members.push(member_of(rt, *number))?;
+        members.push(member_of(rt, *number)).expect(rt, "memory");
     }
-    let book = two_longs(rt, alloc)?;
-    Plan::of(
-        alloc,
-        low_issue(rt),
-        &book,
-        orders,
-        priorities,
-        members.as_slice(),
-    )
+    let book = two_longs(rt, alloc);
+    let issue = low_issue(rt);
+    let plan = Plan::of(alloc, issue, &book, orders, priorities, members.as_slice());
+    plan.expect(rt, "memory")
 }
 
 // Members 2 and 3 are in one group.
 fn even_plan(rt: &impl Abort, alloc: Global) -> Plan {
     let (orders, priorities) = (OrderBook::new(alloc), Priorities::new(alloc));
-    plan_of(rt, alloc, &orders, &priorities, &[]).expect(rt, "memory")
+    plan_of(rt, alloc, &orders, &priorities, &[])
 }
 
 // The plan after these orders, where these members were long.
@@ -122,7 +88,7 @@ fn plan_after(rt: &impl Abort, alloc: Global, issued: &[Ask], were_long: &[u16])
     let mut orders = OrderBook::new(alloc);
     orders.issue(issued).expect(rt, "orders");
     let priorities = two_priorities(rt, alloc);
-    plan_of(rt, alloc, &orders, &priorities, were_long).expect(rt, "memory")
+    plan_of(rt, alloc, &orders, &priorities, were_long)
 }
 
 // Member 3 has priority, and member 2 has not.
@@ -188,9 +154,9 @@ fn plans_of_members(rt: HostRuntime) {
     }
 }
 
-const FIRST_TICKET: TicketRow = (2, 0, 30);
+const FIRST_TICKET: Drawn = (2, 0, 30);
 
-const SECOND_TICKET: TicketRow = (3, 30, 30);
+const SECOND_TICKET: Drawn = (3, 30, 30);
 
 // What was poured, and what the two tickets are granted of it.
 static GRANTS: [(u64, [u64; 2]); 5] = [
@@ -256,7 +222,7 @@ fn a_later_group_waits_for_the_earlier_one(rt: HostRuntime) {
 }
 
 // Tickets, whether the lot is sealed, and whether a lot of the plan without orders may close with them.
-static CLOSES: [(&[TicketRow], bool, bool); 6] = [
+static CLOSES: [(&[Drawn], bool, bool); 6] = [
     (&[(3, 0, 30), (2, 30, 30)], false, true),
     (&[(3, 0, 30)], true, true),
     // A later group first, a member without its ticket though nothing is sealed, a gap, and fewer shares

@@ -1,9 +1,14 @@
 //! What several tests use.
 
-ghost use Rattle.std.specs.Prelude.{◌≤◌};
+ghost use Rattle.std.specs.Prelude.{◌≤◌, length};
+ghost use Rattle.cns_netting.specs.Book.{QuantitiesFit};
+ghost use Rattle.cns_netting.specs.History.{accepted};
+ghost use Rattle.cns_covers.specs.Covers.{IsUnsettled};
 
 use cns_ids::{Cusip, CycleId, CycleKind, Day, MemberNo, Quantity, Shares};
 use cns_movements::{Ask, Asked, MoveKind, MoveNo, Order, Reply};
+use cns_netting::NetBook;
+use cns_pool::Ticket;
 use cns_trades::{Trade, TradeId};
 use std::alloc::Global;
 use std::fmt::{Debug, Display};
@@ -46,10 +51,6 @@ pub(crate) fn shares_of(rt: &impl Abort, count: u64) -> Shares {
     Shares::new(count).expect(rt, "a count of shares")
 }
 
-pub(crate) fn asked_of(rt: &impl Abort, count: u64) -> Asked {
-    Asked::new(count).expect(rt, "shares that are asked for")
-}
-
 pub(crate) fn number_of(rt: &impl Abort, number: u64) -> MoveNo {
     MoveNo::new(number).expect(rt, "a movement's number")
 }
@@ -72,12 +73,11 @@ pub(crate) fn reply_of(rt: &impl Abort, number: u64, moved: u64) -> Reply {
 pub(crate) type Asking = (MoveKind, u16, u64);
 
 pub(crate) fn ask_of(rt: &impl Abort, issue: Cusip, (kind, member, count): Asking) -> Ask {
-    let (member, asked) = (member_of(rt, member), asked_of(rt, count));
     Ask {
         kind,
-        member,
+        member: member_of(rt, member),
         issue,
-        asked,
+        asked: Asked::new(count).expect(rt, "shares that are asked for"),
     }
 }
 
@@ -131,4 +131,48 @@ pub(crate) fn trade_of(rt: &impl Abort, issue: Cusip, deal: Deal) -> Trade
         issue,
         quantity,
     }
+}
+
+// A trade, with whether it is of the low issue or of the high one.
+pub(crate) type DealtIn = (bool, Deal);
+
+// A book of three trades.
+#[tactic(auto, unfolding(cns_netting::specs::Book::QuantitiesFit))]
+pub(crate) fn book_of(rt: &impl Abort, alloc: Global, deals: [DealtIn; 3]) -> NetBook
+    ensures few { length (accepted result.history) ≤ 1000000 }
+    ensures quantities { QuantitiesFit result.history }
+    ensures unsettled { IsUnsettled result.history }
+{
+    let [first, second, third] = deals;
+    let first = trade_of(rt, issue_in(rt, first.0), first.1);
+    let second = trade_of(rt, issue_in(rt, second.0), second.1);
+    let third = trade_of(rt, issue_in(rt, third.0), third.1);
+    if second.id == first.id || third.id == first.id || third.id == second.id {
+        panic!(rt; "two trades have one id");
+    }
+    let mut book = NetBook::new(alloc);
+    book.accept(first).expect(rt, "memory");
+    book.accept(second).expect(rt, "memory");
+    book.accept(third).expect(rt, "memory");
+    book
+}
+
+// A ticket: its member's number, where its shares start and how many they are.
+pub(crate) type Drawn = (u16, u64, u64);
+
+pub(crate) fn ticket_of(rt: &impl Abort, (number, start, asked): Drawn) -> Ticket {
+    let member = member_of(rt, number);
+    Ticket {
+        member,
+        start,
+        asked,
+    }
+}
+
+pub(crate) fn tickets_of(rt: &impl Abort, alloc: Global, drawn: &[Drawn]) -> Vec<Ticket> {
+    let mut tickets = Vec::new(alloc);
+    for one in drawn {
+        tickets.push(ticket_of(rt, *one)).expect(rt, "memory");
+    }
+    tickets
 }

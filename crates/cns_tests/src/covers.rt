@@ -1,38 +1,20 @@
-ghost use Rattle.std.specs.Prelude.{◌≤◌, IfOk, length};
-ghost use Rattle.cns_netting.specs.Book.{QuantitiesFit};
-ghost use Rattle.cns_netting.specs.History.{accepted};
-ghost use Rattle.cns_covers.specs.Covers.{IsUnsettled};
-
 use crate::common::{
-    AskedIn, asks_of, assert_same, day_of, high_issue, issue_in, low_issue, member_of, shares_of,
-    trade_of,
+    AskedIn, DealtIn, asks_of, assert_same, book_of, day_of, high_issue, issue_in, low_issue,
+    member_of, shares_of,
 };
 use cns_covers::{Exemptions, Priorities, covers};
-use cns_ids::{Cusip, Day};
+use cns_ids::Day;
 use cns_movements::{Ask, MoveKind, OrderBook};
-use cns_netting::NetBook;
-use std::alloc::{AllocError, Global};
+use std::alloc::Global;
 use std::process::Abort;
 
 // Member 3 buys 50 from member 1 and member 1 buys 10 from member 2 in the high issue, and member 2
 // buys 60 from member 1 in the low one: member 1 is short of 60 and 40, member 2 of 10.
-fn three_trades(rt: &impl Abort, alloc: Global) -> Result<NetBook, AllocError>
-    ensures few { IfOk result (λ book. length (accepted book.history) ≤ 1000000) }
-    ensures quantities { IfOk result (λ book. QuantitiesFit book.history) }
-    ensures unsettled { IfOk result (λ book. IsUnsettled book.history) }
-{
-    let first = trade_of(rt, high_issue(rt), (b"A1", 1, 2, 10));
-    let second = trade_of(rt, high_issue(rt), (b"A2", 3, 1, 50));
-    let third = trade_of(rt, low_issue(rt), (b"A3", 2, 1, 60));
-    if second.id == first.id || third.id == first.id || third.id == second.id {
-        panic!(rt; "two trades have one id");
-    }
-    let mut book = NetBook::new(alloc);
-    book.accept(first)?;
-    book.accept(second)?;
-    book.accept(third)?;
-    Ok(book)
-}
+const TRADES: [DealtIn; 3] = [
+    (false, (b"A1", 1, 2, 10)),
+    (false, (b"A2", 3, 1, 50)),
+    (true, (b"A3", 2, 1, 60)),
+];
 
 // An exemption: whether it is of the low issue or of the high one, its member and its shares.
 type Exempted = (bool, u16, u64);
@@ -57,11 +39,13 @@ fn covers_after(
     day: Day,
     exemptions: &Exemptions,
     issued: &[Ask],
-) -> Result<Vec<Ask>, AllocError> {
-    let book = three_trades(rt, alloc)?;
+) -> Vec<Ask> {
+    let book = book_of(rt, alloc, TRADES);
     let mut orders = OrderBook::new(alloc);
     orders.issue(issued).expect(rt, "orders");
-    covers(alloc, &book, day, &orders, exemptions)
+    let asks = covers(alloc, &book, day, &orders, exemptions);
+    drop((book, orders));
+    asks.expect(rt, "memory")
 }
 
 // The date of a cycle, the exemptions and orders before it, and the covers that it would ask for.
@@ -114,7 +98,6 @@ fn see(rt: &impl Abort, alloc: Global, case: &Case) {
     let exemptions = exemptions_of(rt, alloc, exempted);
     let (issued, wanted) = (asks_of(rt, alloc, issued), asks_of(rt, alloc, wanted));
     let asks = covers_after(rt, alloc, day_of(rt, day), &exemptions, issued.as_slice());
-    let asks = asks.expect(rt, "memory");
     assert_same(rt, &asks.as_slice(), &wanted.as_slice());
     drop((exemptions, issued, wanted, asks));
 }

@@ -1,17 +1,18 @@
-ghost use Rattle.std.specs.Prelude.{◌≡◌, ◌≤◌};
+ghost use Rattle.std.specs.Prelude.{◌≡◌, ◌≤◌, IfOk};
 ghost use Rattle.cns_pool.specs.FeederSeat.{new_feeder};
+ghost use Rattle.cns_pool.specs.Pool.{new_pool};
 ghost use Rattle.cns_pool.specs.WorkerSeat.{new_worker};
 
+use crate::common::{Drawn, member_of, tickets_of};
 use cns_ids::MemberNo;
 use cns_pool::{
     Asked, Closed, FeederSeat, Held, MAX_POOL, PlainPool, Pool, PoolCell, Reserved, Ticket,
     Tickets, WorkerSeat,
 };
-use std::alloc::Global;
+use std::alloc::{AllocError, Global};
+use std::marker::Model;
+use std::process::Abort;
 use std::test::Fail;
-
-// A ticket: its member's number, its start, and how many shares it asked.
-type Drawn = (u16, u64, u64);
 
 fn is_drawn(ticket: &Ticket, drawn: &Drawn) -> bool {
     let (number, start, asked) = *drawn;
@@ -43,104 +44,103 @@ enum Step {
     Seal,
 }
 
-// What a pool may still be asked: shares, shares that are poured, and calls.
+// What a pool may be asked: shares, shares that are poured, and calls.
 #[derive(Clone, Copy)]
-struct Left {
+struct Limits {
     budget: u64,
     pours: u64,
     calls: u64,
 }
 
-fn reserve<P: Pool>(pool: &mut P, left: &mut Left, number: u16, asked: u64) -> Option<Reserved>
-    requires budget { (P.pool pool.old).budget ≡ left.old.budget }
-    requires pours { (P.pool pool.old).pour_room ≡ left.old.pours }
-    requires calls { (P.pool pool.old).calls ≡ left.old.calls }
-    ensures budget { (P.pool pool.new).budget ≡ left.new.budget }
-    ensures pours { (P.pool pool.new).pour_room ≡ left.new.pours }
-    ensures calls { (P.pool pool.new).calls ≡ left.new.calls }
-{
-    let member = MemberNo::new(number)?;
-    if asked == 0 || asked > left.budget || left.calls == 0 {
-        return None;
-    }
-    left.budget -= asked;
-    left.calls -= 1;
-    Some(pool.reserve(member, asked))
+// A pool, and what it may still be asked.
+#[derive(Drop)]
+struct Limited<P: Pool> {
+    pool: P,
+    budget: u64,
+    pours: u64,
+    calls: u64,
 }
 
-fn draws<P: Pool>(pool: &mut P, left: &mut Left, drawn: &Drawn) -> bool
-    requires budget { (P.pool pool.old).budget ≡ left.old.budget }
-    requires pours { (P.pool pool.old).pour_room ≡ left.old.pours }
-    requires calls { (P.pool pool.old).calls ≡ left.old.calls }
-    ensures budget { (P.pool pool.new).budget ≡ left.new.budget }
-    ensures pours { (P.pool pool.new).pour_room ≡ left.new.pours }
-    ensures calls { (P.pool pool.new).calls ≡ left.new.calls }
-{
-    match reserve(pool, left, drawn.0, drawn.2) {
-        Some(Reserved::Ticket(ticket)) => is_drawn(&ticket, drawn),
-        _ => false,
-    }
+impl<P: Pool> Model for Limited<P> {
+    ghost use Rattle.std.specs.Prelude.{◌≡◌};
+    ghost use Rattle.cns_pool.specs.Pool.{Pooled};
+
+    ghost Value = { Pooled };
+
+    ghost view = { λ l. P.pool l.pool };
+
+    ghost invariant = { λ l. ((P.pool l.pool).budget ≡ l.budget)
+        × ((P.pool l.pool).pour_room ≡ l.pours)
+        × ((P.pool l.pool).calls ≡ l.calls) };
 }
 
-fn pours<P: Pool>(pool: &mut P, left: &mut Left, shares: u64) -> bool
-    requires budget { (P.pool pool.old).budget ≡ left.old.budget }
-    requires pours { (P.pool pool.old).pour_room ≡ left.old.pours }
-    requires calls { (P.pool pool.old).calls ≡ left.old.calls }
-    ensures budget { (P.pool pool.new).budget ≡ left.new.budget }
-    ensures pours { (P.pool pool.new).pour_room ≡ left.new.pours }
-    ensures calls { (P.pool pool.new).calls ≡ left.new.calls }
-{
-    if shares > left.pours {
-        return false;
-    }
-    left.pours -= shares;
-    pool.pour(shares);
-    true
-}
-
-fn looks<P: Pool>(pool: &mut P, poured: u64, sum: u64, sealed: bool) -> bool
-    ensures { P.pool pool.new ≡ P.pool pool.old }
-{
-    let seen = pool.look_poured();
-    let asked = pool.look_asked();
-    seen == poured && asked.sum == sum && asked.sealed == sealed
-}
-
-// Whether a pool answers a step as it says.
-fn answers<P: Pool>(pool: &mut P, left: &mut Left, step: &Step) -> bool
-    requires budget { (P.pool pool.old).budget ≡ left.old.budget }
-    requires pours { (P.pool pool.old).pour_room ≡ left.old.pours }
-    requires calls { (P.pool pool.old).calls ≡ left.old.calls }
-    ensures budget { (P.pool pool.new).budget ≡ left.new.budget }
-    ensures pours { (P.pool pool.new).pour_room ≡ left.new.pours }
-    ensures calls { (P.pool pool.new).calls ≡ left.new.calls }
-{
-    match *step {
-        Step::Pour(shares) => pours(pool, left, shares),
-        Step::Draw(drawn) => draws(pool, left, &drawn),
-        Step::Refused(number, asked) => {
-            reserve(pool, left, number, asked) == Some(Reserved::Sealed)
-        }
-        Step::Look(poured, sum, sealed) => looks(pool, poured, sum, sealed),
-        Step::Seal => {
-            pool.seal();
-            true
+impl<P: Pool> Limited<P> {
+    fn new(pool: P, limits: Limits) -> Limited<P>
+        requires { P.pool pool ≡ new_pool limits.budget limits.pours limits.calls }
+    {
+        Limited {
+            pool,
+            budget: limits.budget,
+            pours: limits.pours,
+            calls: limits.calls,
         }
     }
-}
 
-// How many steps a pool answers as they say, up to the first that it does not.
-fn count_answered<P: Pool>(pool: &mut P, mut left: Left, steps: &[Step]) -> usize
-    requires budget { (P.pool pool.old).budget ≡ left.budget }
-    requires pours { (P.pool pool.old).pour_room ≡ left.pours }
-    requires calls { (P.pool pool.old).calls ≡ left.calls }
-{
-    for (place, step) in steps.iter().enumerate() {
-        if !answers(pool, &mut left, step) {
-            return place;
+    fn reserve(&mut self, number: u16, asked: u64) -> Option<Reserved> {
+        let member = MemberNo::new(number)?;
+        if asked == 0 || asked > self.budget || self.calls == 0 {
+            return None;
+        }
+        self.budget -= asked;
+        self.calls -= 1;
+        Some(self.pool.reserve(member, asked))
+    }
+
+    fn draws(&mut self, drawn: &Drawn) -> bool {
+        match self.reserve(drawn.0, drawn.2) {
+            Some(Reserved::Ticket(ticket)) => is_drawn(&ticket, drawn),
+            _ => false,
         }
     }
-    steps.len()
+
+    fn pours(&mut self, shares: u64) -> bool {
+        if shares > self.pours {
+            return false;
+        }
+        self.pours -= shares;
+        self.pool.pour(shares);
+        true
+    }
+
+    fn looks(&mut self, poured: u64, sum: u64, sealed: bool) -> bool {
+        let seen = self.pool.look_poured();
+        let asked = self.pool.look_asked();
+        seen == poured && asked.sum == sum && asked.sealed == sealed
+    }
+
+    // Whether the pool answers a step as it says.
+    fn answers(&mut self, step: &Step) -> bool {
+        match *step {
+            Step::Pour(shares) => self.pours(shares),
+            Step::Draw(drawn) => self.draws(&drawn),
+            Step::Refused(number, asked) => self.reserve(number, asked) == Some(Reserved::Sealed),
+            Step::Look(poured, sum, sealed) => self.looks(poured, sum, sealed),
+            Step::Seal => {
+                self.pool.seal();
+                true
+            }
+        }
+    }
+
+    // How many steps the pool answers as they say, up to the first that it does not.
+    fn count_answered(&mut self, steps: &[Step]) -> usize {
+        for (place, step) in steps.iter().enumerate() {
+            if !self.answers(step) {
+                return place;
+            }
+        }
+        steps.len()
+    }
 }
 
 // What a pool comes to: its tickets, the shares poured, and whether it is sealed.
@@ -156,48 +156,65 @@ fn is_closed(closed: Closed, come: &Come) -> bool {
 }
 
 // Whether a pool of any kind answers these steps as they say, and then comes to this.
-fn comes_to<P: Pool>(mut pool: P, left: Left, steps: &[Step], come: &Come) -> bool
-    requires budget { (P.pool pool).budget ≡ left.budget }
-    requires pours { (P.pool pool).pour_room ≡ left.pours }
-    requires calls { (P.pool pool).calls ≡ left.calls }
+fn comes_to<P: Pool + Drop>(
+    opened: Result<P, AllocError>,
+    limits: Limits,
+    steps: &[Step],
+    come: &Come,
+) -> bool
+    requires { IfOk opened (λ pool. P.pool pool ≡ new_pool limits.budget limits.pours limits.calls) }
 {
-    let answered = count_answered(&mut pool, left, steps);
-    is_closed(pool.close(), come) && answered == steps.len()
-}
-
-fn plain_comes_to(alloc: Global, left: Left, steps: &[Step], come: &Come) -> bool {
-    if left.budget > MAX_POOL || left.pours > MAX_POOL {
-        return false;
-    }
-    match PlainPool::open(alloc, left.budget, left.pours, left.calls) {
-        Ok(pool) => comes_to(pool, left, steps, come),
+    match opened {
+        Ok(pool) => {
+            let mut limited = Limited::new(pool, limits);
+            let answered = limited.count_answered(steps);
+            is_closed(limited.pool.close(), come) && answered == steps.len()
+        }
         Err(_) => false,
     }
 }
 
-fn held_comes_to(alloc: Global, left: Left, steps: &[Step], come: &Come) -> bool {
-    if left.budget > MAX_POOL || left.pours > MAX_POOL {
+// The kinds of pools.
+#[derive(Clone, Copy)]
+enum Kind {
+    Plain,
+    Held,
+}
+
+// The kind of a pool, what it may be asked, what is done, and what it comes to.
+type Story = (Kind, Limits, &'static [Step], Come);
+
+fn is_so(alloc: Global, story: &Story) -> bool {
+    let (kind, limits, steps, come) = *story;
+    let (budget, pours, calls) = (limits.budget, limits.pours, limits.calls);
+    if budget > MAX_POOL || pours > MAX_POOL {
         return false;
     }
-    match Held::open(alloc, left.budget, left.pours, left.calls) {
-        Ok(pool) => comes_to(pool, left, steps, come),
-        Err(_) => false,
+    match kind {
+        Kind::Plain => {
+            let pool = PlainPool::open(alloc, budget, pours, calls);
+            comes_to(pool, limits, steps, &come)
+        }
+        Kind::Held => {
+            let pool = Held::open(alloc, budget, pours, calls);
+            comes_to(pool, limits, steps, &come)
+        }
     }
 }
 
-const ROOM: Left = Left {
+const ROOM: Limits = Limits {
     budget: 60,
     pours: 100,
     calls: 4,
 };
 
-const NO_ROOM: Left = Left {
+const NO_ROOM: Limits = Limits {
     budget: 0,
     pours: 0,
     calls: 0,
 };
 
-const ROOM_FOR_THREE: Left = Left {
+const ROOM_FOR_THREE: Limits = Limits {
     budget: 70,
     pours: 40,
     calls: 3,
@@ -205,7 +222,7 @@ const ROOM_FOR_THREE: Left = Left {
 
 const MOST: u64 = 1 << 62;
 
-const ROOM_FOR_MOST: Left = Left {
+const ROOM_FOR_MOST: Limits = Limits {
     budget: MOST,
     pours: MOST,
     calls: 2,
@@ -222,8 +239,9 @@ static END_TO_END: [Step; 6] = [
 
 #[test]
 fn tickets_stand_end_to_end(rt: HostRuntime) -> Result<(), Fail> {
-    let mut pool = PlainPool::open(rt.alloc(), 60, 100, 4)?;
-    let answered = count_answered(&mut pool, ROOM, &END_TO_END);
+    let mut limited = Limited::new(PlainPool::open(rt.alloc(), 60, 100, 4)?, ROOM);
+    let answered = limited.count_answered(&END_TO_END);
+    let pool = limited.pool;
     let so = are_drawn(pool.tickets(), &[(2, 0, 30), (3, 30, 30)]);
     drop(pool);
     assert!(rt; answered == END_TO_END.len() && so);
@@ -272,34 +290,19 @@ const HELD: &[Step] = &[
     Step::Look(40, 60, true),
 ];
 
-// What a pool may be asked, what is done, and what it comes to.
-type Story = (Left, &'static [Step], Come);
-
-static OF_PLAIN_POOLS: [Story; 4] = [
-    (ROOM, SEALED, (&[(2, 0, 30)], 100, true)),
-    (NO_ROOM, &[], (&[], 0, false)),
-    (ROOM_FOR_THREE, THREE, AFTER_THREE),
-    (ROOM_FOR_MOST, ALL, AFTER_ALL),
-];
-
-static OF_HELD_CELLS: [Story; 2] = [
-    (ROOM_FOR_THREE, THREE, AFTER_THREE),
-    (ROOM, HELD, (&[(2, 0, 30)], 40, true)),
+static STORIES: [Story; 6] = [
+    (Kind::Plain, ROOM, SEALED, (&[(2, 0, 30)], 100, true)),
+    (Kind::Plain, NO_ROOM, &[], (&[], 0, false)),
+    (Kind::Plain, ROOM_FOR_THREE, THREE, AFTER_THREE),
+    (Kind::Plain, ROOM_FOR_MOST, ALL, AFTER_ALL),
+    (Kind::Held, ROOM_FOR_THREE, THREE, AFTER_THREE),
+    (Kind::Held, ROOM, HELD, (&[(2, 0, 30)], 40, true)),
 ];
 
 #[test]
 fn stories_of_pools(rt: HostRuntime) {
-    for (place, (left, steps, come)) in OF_PLAIN_POOLS.iter().enumerate() {
-        assert!(rt;
-            plain_comes_to(rt.alloc(), *left, steps, come),
-            "story {place}"
-        );
-    }
-    for (place, (left, steps, come)) in OF_HELD_CELLS.iter().enumerate() {
-        assert!(rt;
-            held_comes_to(rt.alloc(), *left, steps, come),
-            "story {place}"
-        );
+    for (place, story) in STORIES.iter().enumerate() {
+        assert!(rt; is_so(rt.alloc(), story), "story {place}");
     }
 }
 
@@ -414,16 +417,14 @@ fn see_five(cell: &PoolCell, feeder: &mut FeederSeat, first: &mut WorkerSeat) ->
     fed == 5 && seen == 5
 }
 
-fn both_members() -> Result<Members, Fail> {
-    Ok(Members {
-        second: MemberNo::new(2).ok_or("member 2")?,
-        third: MemberNo::new(3).ok_or("member 3")?,
-    })
+fn both_members(rt: &impl Abort) -> Members {
+    let (second, third) = (member_of(rt, 2), member_of(rt, 3));
+    Members { second, third }
 }
 
 #[test]
 fn two_workers_and_a_seal(rt: HostRuntime) -> Result<(), Fail> {
-    let members = both_members()?;
+    let members = both_members(&rt);
     let (cell, mut feeder, mut first) = PoolCell::open(rt.alloc(), 60, 100, 4)?;
     assert!(rt; see_five(&cell, &mut feeder, &mut first));
     let second = cell.split(&mut first, 30, 2)?;
@@ -463,30 +464,9 @@ fn threads_share_a_cell_and_take_seats(rt: HostRuntime) -> Result<(), Fail> {
     Ok(())
 }
 
-fn ticket_of(drawn: &Drawn) -> Option<Ticket> {
-    Some(Ticket {
-        member: MemberNo::new(drawn.0)?,
-        start: drawn.1,
-        asked: drawn.2,
-    })
-}
-
-// A list of these two tickets.
-fn tickets_of(alloc: Global, first: &Drawn, second: &Drawn) -> Option<Tickets> {
-    let first = ticket_of(first)?;
-    let second = ticket_of(second)?;
-    let list = Vec::from_array(alloc, [first, second]).ok()?;
-    Some(Tickets::from_vec(list))
-}
-
-// Whether a list of these two tickets is the same as another.
-fn is_same(alloc: Global, tickets: &Tickets, first: &Drawn, second: &Drawn) -> bool {
-    let Some(other) = tickets_of(alloc, first, second) else {
-        return false;
-    };
-    let same = *tickets == other;
-    drop(other);
-    same
+// A list of these tickets.
+fn list_of(rt: &impl Abort, alloc: Global, drawn: &[Drawn]) -> Tickets {
+    Tickets::from_vec(tickets_of(rt, alloc, drawn))
 }
 
 // Whether this is the last of some tickets.
@@ -494,18 +474,24 @@ fn ends_in(tickets: Tickets, drawn: &Drawn) -> bool {
     let mut list = tickets.into_vec();
     let last = list.pop();
     drop(list);
-    last == ticket_of(drawn)
+    match last {
+        Some(ticket) => is_drawn(&ticket, drawn),
+        None => false,
+    }
 }
 
+static TWO: [Drawn; 2] = [(2, 0, 30), (3, 30, 5)];
+
+static OTHERS: [Drawn; 2] = [(2, 0, 30), (4, 30, 5)];
+
 #[test]
-fn a_list_of_tickets(rt: HostRuntime) -> Result<(), Fail> {
-    let tickets = tickets_of(rt.alloc(), &(2, 0, 30), &(3, 30, 5)).ok_or("tickets")?;
+fn a_list_of_tickets(rt: HostRuntime) {
+    let tickets = list_of(&rt, rt.alloc(), &TWO);
     assert!(rt; tickets.len() == 2 && !tickets.is_empty());
-    assert!(rt; are_drawn(tickets.as_slice(), &[(2, 0, 30), (3, 30, 5)]));
-    assert!(rt; is_same(rt.alloc(), &tickets, &(2, 0, 30), &(3, 30, 5)));
-    let other = tickets_of(rt.alloc(), &(2, 0, 30), &(4, 30, 5)).ok_or("tickets")?;
-    assert!(rt; tickets != other);
-    drop(other);
+    assert!(rt; are_drawn(tickets.as_slice(), &TWO));
+    let same = list_of(&rt, rt.alloc(), &TWO);
+    let others = list_of(&rt, rt.alloc(), &OTHERS);
+    assert!(rt; tickets == same && tickets != others);
+    drop((same, others));
     assert!(rt; ends_in(tickets, &(3, 30, 5)));
-    Ok(())
 }

@@ -1,10 +1,10 @@
 use crate::common::{
-    asked_of, assert_prints, assert_same, cycle_of, low_issue, member_of, order_of, reply_of,
-    shares_of, trade_of,
+    assert_prints, assert_same, cycle_of, low_issue, member_of, order_of, reply_of, shares_of,
+    trade_of,
 };
 use cns_ids::CycleKind;
 use cns_journal::RecordFault;
-use cns_movements::MoveKind;
+use cns_movements::{Asked, MoveKind};
 use cns_records::{
     Allocation, BadRecord, ClearRecord, DepRecord, Drawn, DrawnList, MAX_DRAWN, Refusal,
 };
@@ -94,10 +94,11 @@ fn assert_reads(rt: &impl Abort, alloc: Global, payload: &[u8], wanted: &ClearRe
 }
 
 // The record has this payload, and nothing shorter is a record.
-fn assert_both_ways(rt: &impl Abort, alloc: Global, entry: &ClearRecord, payload: &[u8]) {
-    let written = payload_of(rt, alloc, entry);
+fn assert_both_ways(rt: &impl Abort, alloc: Global, entry: ClearRecord, payload: &[u8]) {
+    let written = payload_of(rt, alloc, &entry);
     assert_same(rt, &written.as_slice(), &payload);
-    assert_reads(rt, alloc, payload, entry);
+    assert_reads(rt, alloc, payload, &entry);
+    drop((written, entry));
     for len in 0..payload.len() {
         assert_bad(rt, alloc, &payload[..len]);
     }
@@ -106,15 +107,6 @@ fn assert_both_ways(rt: &impl Abort, alloc: Global, entry: &ClearRecord, payload
 // What is written of the record is not read.
 fn assert_not_read(rt: &impl Abort, alloc: Global, entry: &ClearRecord) {
     assert_bad(rt, alloc, &payload_of(rt, alloc, entry));
-}
-
-// A record of the clearing node.
-enum Entry {
-    Accept,
-    Exempt,
-    Priority,
-    Cycle,
-    Confirm,
 }
 
 // The trade A1.
@@ -131,43 +123,29 @@ fn exempt(rt: &impl Abort) -> ClearRecord {
     }
 }
 
-fn record(rt: &impl Abort, of: &Entry) -> ClearRecord {
-    match of {
-        Entry::Accept => ClearRecord::Accept(trade(rt)),
-        Entry::Exempt => exempt(rt),
-        Entry::Priority => {
-            let (member, issue) = (member_of(rt, 9999), low_issue(rt));
-            let on = true;
-            ClearRecord::Priority { member, issue, on }
-        }
-        Entry::Cycle => ClearRecord::Cycle(cycle_of(rt, b"2025-03-04", CycleKind::Day)),
-        Entry::Confirm => ClearRecord::Confirm(reply_of(rt, 1, 20)),
-    }
+fn priority(rt: &impl Abort) -> ClearRecord {
+    let (member, issue, on) = (member_of(rt, 9999), low_issue(rt), true);
+    ClearRecord::Priority { member, issue, on }
 }
-
-static SPELLINGS: [(Entry, &[u8]); 5] = [
-    (Entry::Accept, &ACCEPT),
-    (Entry::Exempt, &EXEMPT),
-    (Entry::Priority, &PRIORITY),
-    (Entry::Cycle, &CYCLE),
-    (Entry::Confirm, &CONFIRM),
-];
 
 #[test]
 fn clearing_records_both_ways(rt: HostRuntime) {
-    for (entry, payload) in &SPELLINGS {
-        assert_both_ways(&rt, rt.alloc(), &record(&rt, entry), payload);
-    }
+    let alloc = rt.alloc();
+    let cycle = cycle_of(&rt, b"2025-03-04", CycleKind::Day);
+    let confirmed = reply_of(&rt, 1, 20);
+    assert_both_ways(&rt, alloc, ClearRecord::Accept(trade(&rt)), &ACCEPT);
+    assert_both_ways(&rt, alloc, exempt(&rt), &EXEMPT);
+    assert_both_ways(&rt, alloc, priority(&rt), &PRIORITY);
+    assert_both_ways(&rt, alloc, ClearRecord::Cycle(cycle), &CYCLE);
+    assert_both_ways(&rt, alloc, ClearRecord::Confirm(confirmed), &CONFIRM);
 }
 
 // A ticket's member, start and shares.
 fn ticket(rt: &impl Abort, number: u16, start: u64, count: u64) -> Drawn {
-    let (member, start) = (member_of(rt, number), shares_of(rt, start));
-    let asked = asked_of(rt, count);
     Drawn {
-        member,
-        start,
-        asked,
+        member: member_of(rt, number),
+        start: shares_of(rt, start),
+        asked: Asked::new(count).expect(rt, "shares that are asked for"),
     }
 }
 
@@ -194,7 +172,7 @@ fn allocation(rt: &impl Abort, drawn: DrawnList) -> Allocation {
 // The lot with so many of its tickets has this payload.
 fn assert_allocation(rt: &impl Abort, alloc: Global, count: usize, payload: &[u8]) {
     let entry = ClearRecord::Allocate(allocation(rt, drawn(rt, alloc, count)));
-    assert_both_ways(rt, alloc, &entry, payload);
+    assert_both_ways(rt, alloc, entry, payload);
 }
 
 #[test]

@@ -4,7 +4,7 @@
 
 use crate::common::{
     Draw, Placed, Sale, Text, apple, cycle_of, member_of, number_of, order_of, reply_of, shares_of,
-    trade_of,
+    tickets_of, trade_of,
 };
 use cns_allocate::{Group, Planned};
 use cns_clearing::{Clearing, PoolRow, Taken};
@@ -66,21 +66,6 @@ fn first(orders: &[Order]) -> u64 {
         Some(order) => order.number.number(),
         None => 0,
     }
-}
-
-fn tickets(rt: &impl Abort, alloc: Global, draws: &[Draw]) -> Vec<Ticket> {
-    let mut tickets = Vec::new(alloc);
-    for (member, start, asked) in draws {
-        let (member, start, asked) = (member_of(rt, *member), *start, *asked);
-        tickets
-            .push(Ticket {
-                member,
-                start,
-                asked,
-            })
-            .expect(rt, "memory");
-    }
-    tickets
 }
 
 type Node = Clearing<ListKeeper>;
@@ -151,7 +136,7 @@ fn closes(
     draws: &[Draw],
     sealed: bool,
 ) -> Ordered {
-    let tickets = tickets(rt, alloc, draws);
+    let tickets = tickets_of(rt, alloc, draws);
     let answer = closed(node, apple(rt), tickets.as_slice(), sealed);
     drop(tickets);
     answer

@@ -1,4 +1,5 @@
-use super::story::{Both, Deed, Happens, Told, event_of, is_told, new_both, stands};
+use super::story::{Happens, Told, is_told, stands};
+use crate::common::{Both, Deed, event_of, new_both};
 use cns_records::Refusal;
 use cns_system::{Counts, Event, NodeName};
 use std::alloc::Global;

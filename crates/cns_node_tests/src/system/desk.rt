@@ -1,6 +1,6 @@
 use super::floor::BEFORE;
-use super::story::{Deed, Happens, Told, event_of, is_told, new_both};
-use crate::common::apple;
+use super::story::{Happens, Told, is_told};
+use crate::common::{Deed, apple, event_of, new_both};
 use cns_allocate::{OpenGate, ServeCause};
 use cns_journal::ListKeeper;
 use cns_system::{Allocated, Cut, Desk};

@@ -1,11 +1,9 @@
 use super::floor::{BEFORE, Served, begin, new_floor, take_all};
-use super::story::{Deed, Happens, Told, is_told};
-use super::ticket_of;
-use crate::common::Draw;
-use cns_pool::Ticket;
+use super::story::{Happens, Told, is_told};
+use crate::common::{Deed, Draw, tickets_of};
 use cns_records::Refusal;
-use cns_system::NodeName;
-use std::alloc::Global;
+use cns_system::{NodeName, Outcome};
+use std::alloc::{AllocError, Global};
 use std::process::Abort;
 
 // Member 1's shares come into the lot.
@@ -74,23 +72,10 @@ static FINISHES: [Finishes; 5] = [
     (RESTARTED, &[FIRST], false, STALE, ENDED),
 ];
 
-fn tickets_of(rt: &impl Abort, alloc: Global, draws: &[Draw]) -> Vec<Ticket> {
-    let mut tickets = Vec::new(alloc);
-    for draw in draws {
-        tickets.push(ticket_of(rt, *draw)).expect(rt, "memory");
-    }
-    tickets
-}
+type Outcomes = Result<Vec<Outcome>, AllocError>;
 
-fn finish(
-    rt: &impl Abort,
-    alloc: Global,
-    floor: &mut Served,
-    tickets: &[Ticket],
-    failed: bool,
-    wanted: &[Told],
-) {
-    let outcomes = floor.finish(alloc, 1, tickets, failed).expect(rt, "memory");
+fn assert_told(rt: &impl Abort, outcomes: Outcomes, wanted: &[Told]) {
+    let outcomes = outcomes.expect(rt, "memory");
     assert!(rt; outcomes.len() == wanted.len());
     for (outcome, told) in outcomes.iter().zip(wanted) {
         assert!(rt; is_told(outcome, told));
@@ -104,9 +89,11 @@ fn see(rt: &impl Abort, alloc: Global, floor: &mut Served, finishes: &Finishes) 
     begin(rt, alloc, floor);
     take_all(rt, floor, before);
     let tickets = tickets_of(rt, alloc, draws);
-    finish(rt, alloc, floor, tickets.as_slice(), failed, wanted);
+    let ended = floor.finish(alloc, 1, tickets.as_slice(), failed);
+    assert_told(rt, ended, wanted);
     // It is no longer busy.
-    finish(rt, alloc, floor, tickets.as_slice(), failed, &[]);
+    let again = floor.finish(alloc, 1, tickets.as_slice(), failed);
+    assert_told(rt, again, &[]);
     drop(tickets);
     take_all(rt, floor, after);
 }

@@ -1,5 +1,5 @@
-use super::story::{Deed, Happens, Told, event_of, is_told, new_both};
-use crate::common::apple;
+use super::story::{Happens, Told, is_told};
+use crate::common::{Deed, apple, event_of, new_both};
 use cns_journal::ListKeeper;
 use cns_records::Refusal;
 use cns_system::{Begun, Floor, NodeName};

@@ -1,17 +1,18 @@
 use super::floor::{Served, take_all};
-use super::story::{Deed, Happens, TUESDAY, Told, both_of, stands};
+use super::story::{Happens, Told, stands};
 use crate::common::{
-    APPLE, DepotPast, Opened, Past, Placed, depot_keeper_of, keeper_of, openings_of,
+    APPLE, Deed, DepotPast, Keepers, Past, Placed, TUESDAY, both_of, depot_keeper_of, keeper_of,
+    open_both,
 };
-use cns_journal::{Keeper, ListKeeper, ReplayFault};
+use cns_journal::{Keeper, ReplayFault};
 use cns_movements::MoveKind;
 use cns_records::Refusal;
-use cns_system::{Floor, StartFault, System};
+use cns_system::{Floor, StartFault};
 use std::alloc::Global;
 use std::process::Abort;
 
 // Member 1 has 20 shares, and sells 30 to member 2.
-const TWENTY: &[Opened] = &[(1, APPLE, 20)];
+const SHARES: u64 = 20;
 
 const ORDERED: &[Past] = &[Past::Accept((b"A1", TUESDAY, 2, 30)), Past::Cycle(TUESDAY)];
 
@@ -73,15 +74,9 @@ static BAD: [Bad; 9] = [
 ];
 
 // Whether these keepers are refused for this, and come back with the records that they had.
-fn is_refused(
-    rt: &impl Abort,
-    alloc: Global,
-    clear: ListKeeper,
-    depot: ListKeeper,
-    fault: StartFault,
-) -> bool {
-    let records = (clear.count(), depot.count());
-    match System::open(alloc, clear, depot, openings_of(rt, alloc, TWENTY)) {
+fn is_refused(rt: &impl Abort, alloc: Global, keepers: Keepers, fault: StartFault) -> bool {
+    let records = (keepers.0.count(), keepers.1.count());
+    match open_both(rt, alloc, keepers, SHARES) {
         Err(refused) => {
             let told = (
                 refused.fault,
@@ -103,10 +98,8 @@ fn journals_that_do_not_open(rt: HostRuntime) {
     for (place, (past, last, depot_past, fault)) in BAD.iter().enumerate() {
         let clear = keeper_of(&rt, alloc, past, last);
         let depot = depot_keeper_of(&rt, alloc, depot_past);
-        assert!(&rt;
-            is_refused(&rt, alloc, clear, depot, *fault),
-            "journals {place}"
-        );
+        let refused = is_refused(&rt, alloc, (clear, depot), *fault);
+        assert!(&rt; refused, "journals {place}");
     }
 }
 
@@ -157,7 +150,7 @@ fn journals_that_open(rt: HostRuntime) {
     for good in &GOOD {
         let clear = keeper_of(&rt, alloc, ORDERED, good.0);
         let depot = depot_keeper_of(&rt, alloc, good.1);
-        let mut floor = Floor::new(alloc, both_of(&rt, alloc, clear, depot, 20));
+        let mut floor = Floor::new(alloc, both_of(&rt, alloc, (clear, depot), SHARES));
         see(&rt, &mut floor, good);
         drop(floor);
     }

@@ -2,39 +2,12 @@
 //!
 //! An event is plain data, and so is what it comes to: so a test is a table, and its proof is short.
 
-use crate::common::{APPLE, Draw, Text, apple, cycle_of, member_of, openings_of, trade_of};
+use crate::common::{Both, Deed, Draw, apple, member_of};
 use cns_depository::Account;
-use cns_ids::CycleKind;
-use cns_journal::ListKeeper;
 use cns_movements::{Order, Reply};
 use cns_records::Refusal;
-use cns_system::{Event, NodeName, Outcome, System};
-use std::alloc::Global;
+use cns_system::Outcome;
 use std::process::Abort;
-
-pub(super) type Both = System<ListKeeper, ListKeeper>;
-
-pub(super) const TUESDAY: Text = b"2025-03-04";
-
-// An event.
-pub(super) enum Deed {
-    // Member 1 sells 30 shares to this member, by the trade of this name.
-    Sell(Text, u16),
-    // The night cycle of the day on which the trades settle.
-    Cycle,
-    LotOpen,
-    LotPour(u64),
-    // The lot and the member.
-    Reserve(u64, u16),
-    LookPoured(u64),
-    LookAsked(u64),
-    Seal(u64),
-    LotClose(u64),
-    Send(u64),
-    OrderIn(u64),
-    ReplyIn(u64),
-    Restart(NodeName),
-}
 
 // What an event comes to.
 pub(super) enum Told {
@@ -64,27 +37,6 @@ pub(super) enum Told {
 
 // An event, and what it has to come to.
 pub(super) type Happens = (Deed, Told);
-
-pub(super) fn event_of(rt: &impl Abort, deed: &Deed) -> Event {
-    match deed {
-        Deed::Sell(id, buyer) => Event::Trade(trade_of(rt, &(id, TUESDAY, *buyer, 30))),
-        Deed::Cycle => Event::Cycle(cycle_of(rt, TUESDAY, CycleKind::Night)),
-        Deed::LotOpen => Event::LotOpen { issue: apple(rt) },
-        Deed::LotPour(lot) => Event::LotPour { lot: *lot },
-        Deed::Reserve(lot, of) => {
-            let (lot, member) = (*lot, member_of(rt, *of));
-            Event::Reserve { lot, member }
-        }
-        Deed::LookPoured(lot) => Event::LookPoured { lot: *lot },
-        Deed::LookAsked(lot) => Event::LookAsked { lot: *lot },
-        Deed::Seal(lot) => Event::Seal { lot: *lot },
-        Deed::LotClose(lot) => Event::LotClose { lot: *lot },
-        Deed::Send(number) => Event::Send { number: *number },
-        Deed::OrderIn(packet) => Event::OrderIn { packet: *packet },
-        Deed::ReplyIn(packet) => Event::ReplyIn { packet: *packet },
-        Deed::Restart(node) => Event::Restart(*node),
-    }
-}
 
 // Whether so many orders go from this number on.
 fn are_from(orders: &[Order], first: u64, count: usize) -> bool {
@@ -133,36 +85,6 @@ pub(super) fn is_told(outcome: &Outcome, told: &Told) -> bool {
         (Outcome::Refused(refusal), Told::Refused(wanted)) => refusal == wanted,
         _ => false,
     }
-}
-
-// What these keepers' journals open, where member 1 has so many shares.
-pub(super) fn both_of(
-    rt: &impl Abort,
-    alloc: Global,
-    clear: ListKeeper,
-    depot: ListKeeper,
-    count: u64,
-) -> Both {
-    match System::open(
-        alloc,
-        clear,
-        depot,
-        openings_of(rt, alloc, &[(1, APPLE, count)]),
-    ) {
-        Ok(both) => both,
-        Err(refused) => panic!(rt; "not opened: {}", refused.fault),
-    }
-}
-
-// Nodes with no records, where member 1 has so many shares.
-pub(super) fn new_both(rt: &impl Abort, alloc: Global, count: u64) -> Both {
-    both_of(
-        rt,
-        alloc,
-        ListKeeper::new(alloc),
-        ListKeeper::new(alloc),
-        count,
-    )
 }
 
 // The shares of member 1 at the depository, and its position at the clearing node.
