@@ -5,7 +5,7 @@
 # A part passes where its exit status is 0 and its last line is `N passed, 0 failed` with N above 0. Any
 # other part is a failure, which is named at the end with the lines that say what failed. What runs the
 # program is run only where `rt ci` has made the program in this run.
-# `rt ci` runs as many checks at once as RT_JOBS says; where that is not set, one more than there are processors, and no more
+# `rt ci` runs as many checks at once as RT_JOBS says; where that is not set, as many as there are processors, and no more
 # than there is memory for. (Of itself it reckons two to three times the memory that a check takes, and leaves processors idle.)
 # The last line of all is `N passed, M failed`: the sums of the parts, where each part that failed counts
 # 1 in M at least. The exit status is 0 where M is 0 and N is not.
@@ -33,7 +33,8 @@ readonly memory_of_a_check=4500000
 
 # checks_at_once: how many checks there are processors and memory for.
 checks_at_once() {
-    local most=$(($(nproc) + 1)) room
+    local most room
+    most=$(nproc)
     room=$(awk -v each="$memory_of_a_check" '$1 == "MemAvailable:" {print int($2 / each)}' /proc/meminfo)
     ((room >= 1)) || room=1
     printf '%d\n' "$((room < most ? room : most))"

@@ -1,5 +1,5 @@
 #!/usr/bin/env python3
-"""Lists the definitions that the output text of an input rests on: `text_of` of crates/cnsd/specs/Text.antt,
+"""Lists the definitions that the output text of an input rests on: `text_of` of crates/cns_batch/specs/Text.antt,
 what that names, and so on. For each file it says how many lines they take there, without imports, comments
 and blank lines, and then how many all together. That docs/BOOK.md names them all, check_book.py sees.
 """
@@ -8,7 +8,7 @@ import re
 
 from wrong_bodies import TOP
 
-START = ("cnsd", "Text", "text_of")
+START = ("cns_batch", "Text", "text_of")
 HEAD = re.compile(r"(?:(?:abbrev|unfoldable|opaque|pub|data|record)\s+)+([^\s:({]+)")
 WORD = re.compile(r"[^\s(){};,:=∷≡×→⊎≤<∙\[\]+*^]+")
 

@@ -99,7 +99,7 @@ def split(found, lanes):
     return [found[at::parts] for at in range(parts)]
 
 
-IMPL = re.compile(r"impl(?:<.*?>)? (?:[\w:<>, ]+ for )?(\w+)")
+IMPL = re.compile(r"impl(?:<.*?>)? (?:(?:\w+::)*(\w+)(?:<.*?>)? for )?(\w+)")
 FUNCTION = re.compile(r"\s*(?:pub(?:\([a-z]+\))? )?(?:const )?fn (\w+)")
 # What a proof file says where an edit took a name away: that tells nothing of the contract.
 NAMES = re.compile(r"(note: )?(\./)?proofs/.*(has no field|is not in scope|has no `|was not admitted)")
@@ -108,19 +108,26 @@ IN_PROOFS = re.compile(r"(?:note: )?(?:\./)?proofs/([\w/+]+)/(?:Answers|Invarian
 IN_SOURCE = re.compile(r"note: (?:\./)?(src/[\w/]+\.rt):(\d+):\d+: it is not proved that")
 
 
+def type_at(lines, number):
+    """The type of whose methods a line is one, with the trait behind it where they are a trait's; None outside of such."""
+    if lines[number].startswith(" "):
+        return next((found[2] + (found[1] or "") for found in map(IMPL.match, reversed(lines[:number])) if found), None)
+    return None
+
+
 def function_at(lines, number):
-    """The name and the lines of the function in which a line stands, counted from 0; None outside of one."""
+    """The type, the name and the first line of the function in which a line stands, counted from 0; None outside of one."""
     for first in range(number, -1, -1):
         found = FUNCTION.match(lines[first])
         if found:
             indent = len(lines[first]) - len(lines[first].lstrip())
             last = next((at for at in range(first + 1, len(lines)) if lines[at] == " " * indent + "}"), None)
-            return (found[1], first, last) if last is not None and number <= last else None
+            return (type_at(lines, first), found[1], first) if last is not None and number <= last else None
     return None
 
 
 def changed_functions(edit, name):
-    """The functions that an edit changes: file, name; None where it changes something else too."""
+    """The functions that an edit changes: file, type, name; None where it changes something else too."""
     found = set()
     for path, before, after in texts_of(edit, name):
         old, new = before.split("\n"), after.split("\n")
@@ -129,9 +136,9 @@ def changed_functions(edit, name):
         for number, (left, right) in enumerate(zip(old, new)):
             if left != right:
                 function = function_at(old, number)
-                if function is None or function[1] == number:
+                if function is None or function[2] == number:
                     return None
-                found.add((path, function[0]))
+                found.add((path, *function[:2]))
     return found or None
 
 
@@ -168,19 +175,6 @@ def function_told(lines, number):
     return function_at(lines, number)
 
 
-def types_with(path, name):
-    """The types for which a source file has a method of this name."""
-    found, type_name = set(), None
-    with open(path, encoding="utf-8") as lines:
-        for line in lines:
-            impl, function = IMPL.match(line), FUNCTION.match(line)
-            if impl:
-                type_name = impl[1]
-            elif function and function[1] == name and line.startswith(" ") and type_name:
-                found.add(type_name)
-    return found
-
-
 def refused_in(said, folder, functions):
     """Whether each of these functions has a goal that is not proved, by what a check said.
 
@@ -193,15 +187,14 @@ def refused_in(said, folder, functions):
         in_proofs, in_source = IN_PROOFS.match(line), IN_SOURCE.match(line)
         if in_proofs:
             words = in_proofs[1].split("/")
-            told.add((f"src/{words[0]}.rt", words[-1]))
+            told.add((f"src/{words[0]}.rt", None, words[-1]))
             methods.add(tuple(words[-2:]))
         elif in_source:
             with open(f"{folder}/{in_source[1]}", encoding="utf-8") as lines:
                 function = function_told(lines.read().split("\n"), int(in_source[2]) - 1)
             if function:
-                told.add((in_source[1], function[0]))
-    return all((path, name) in told or any((one, name) in methods for one in types_with(f"{folder}/{path}", name))
-               for path, name in functions)
+                told.add((in_source[1], *function[:2]))
+    return all((path, type_name, name) in told or (type_name, name) in methods for path, type_name, name in functions)
 
 
 def try_batch(job):

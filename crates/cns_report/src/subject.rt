@@ -25,8 +25,8 @@ pub enum Subject {
 }
 
 impl Subject {
-    // The word that a refusal of this event begins with.
-    pub(crate) fn of(event: &Event) -> Subject
+    /// The word that a refusal of this event begins with.
+    pub fn of(event: &Event) -> Subject
         ensures { result ≡ subject_of event.now }
     {
         match event {

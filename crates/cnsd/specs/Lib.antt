@@ -1,13 +1,1 @@
-pub mod Reading
-pub mod Sections
-pub mod Words
-pub mod Script
-pub mod Acts
-pub mod Commands
-pub mod Runs
-pub mod Run
-pub mod Opened
-pub mod Text
-pub mod Status
-pub mod Check
 pub mod CommandLine

@@ -2,12 +2,12 @@ ghost use Rattle.std.specs.Prelude.{◌≡◌, false, IfOk, codes, map, option_m
 ghost use Rattle.clap.specs.Words.{FailsBy, app_of, fault_of, rule_of, subcommand_of, subcommand_rows_of};
 ghost use Rattle.cnsd.specs.CommandLine.{AsksFor, IsCountIn, cnsd_app, journal_rule, text_rule, value_in, workers_rule};
 
-use crate::fault::BatchFault;
 use crate::help;
 use clap::builder::ValueParser;
 use clap::error::ErrorKind;
 use clap::{Arg, ArgAction, ArgMatches, Command, Error};
 use cns_allocate::MAX_WORKERS;
+use cns_input::BatchFault;
 use std::alloc::{AllocError, Global};
 use std::rt::Env;
 use std::{env, io};

@@ -1,6 +1,6 @@
 //! The two journals in a folder.
 
-use crate::fault::BatchFault;
+use cns_input::BatchFault;
 use cns_journal::{DiskJournal, FileDisk};
 use std::fs::{File, OpenOptions};
 use std::path::Path;

@@ -3,39 +3,23 @@
 //! whether it is a CUSIP.
 #![tactic(auto)]
 
+ghost use Rattle.std.specs.Prelude.{◌≡◌, ◌<◌};
+
 mod arguments;
-mod batch;
-mod check;
-mod command;
-mod commands;
-mod desk;
-mod fault;
 mod help;
-mod input;
 mod journal;
-mod line;
-mod lines;
-mod opening;
-mod output;
-mod page;
-mod runner;
-mod script;
-mod sections;
-mod steps;
 
 use arguments::{Request, read_request};
-use batch::{run_kept_uncounted, run_uncounted};
-use check::check_cusip;
 use cns_allocate::OpenGate;
+use cns_batch::{check_cusip, run_batch, run_batch_kept, run_desk};
+use cns_input::{BatchFault, Steps};
 use cns_journal::{Keeper, ListKeeper};
-use desk::run_desk_uncounted;
-use fault::BatchFault;
-use journal::open_journals;
+use journal::{Journals, open_journals};
 use std::io;
 use std::marker::Brand;
 use std::process::ExitCode;
 use std::sync::Wait;
-use std::sync::ledger::Blank;
+use std::sync::ledger::{Blank, Ledger};
 use std::thread::Threads;
 
 // Tells a fault on standard error, and gives its exit status.
@@ -53,44 +37,41 @@ fn exit_status(rt: &HostRuntime, ended: Result<(), BatchFault>) -> ExitCode {
 }
 
 // One batch from standard input to standard output, over keepers in memory.
-fn run(rt: &HostRuntime) -> Result<(), BatchFault> {
+fn run<L: Ledger>(rt: &HostRuntime, steps: &mut Steps<L>) -> Result<(), BatchFault> {
     let mut reader = rt.reader();
     let mut writer = io::writer(rt);
-    run_uncounted::<_, _, Brand>(rt.alloc(), &mut reader, &mut writer, Blank::new(1))
+    run_batch(rt.alloc(), &mut reader, &mut writer, steps)
 }
 
 // One batch from standard input to standard output, over the journals in a folder.
-fn run_over(rt: &HostRuntime, folder: &str) -> Result<(), BatchFault> {
-    let journals = open_journals(rt, folder)?;
+fn run_over<L: Ledger>(
+    rt: &HostRuntime,
+    folder: &str,
+    steps: &mut Steps<L>,
+) -> Result<(), BatchFault> {
+    let Journals { clear, depot } = open_journals(rt, folder)?;
     let mut reader = rt.reader();
     let mut writer = io::writer(rt);
-    let kept = run_kept_uncounted::<_, _, Brand, _, _>(
-        rt.alloc(),
-        &mut reader,
-        &mut writer,
-        Blank::new(1),
-        journals.clear,
-        journals.depot,
-    );
-    kept.result
+    run_batch_kept(rt.alloc(), &mut reader, &mut writer, steps, clear, depot).result
 }
 
 // One batch from standard input to standard output, over these keepers, by workers in threads.
-fn run_beside<H: Threads + Wait + Sync, C: Keeper + Drop, D: Keeper + Drop>(
+fn run_beside<H: Threads + Wait + Sync, L: Ledger, C: Keeper + Drop, D: Keeper + Drop>(
     rt: &HostRuntime,
     threads: &H,
+    steps: &mut Steps<L>,
     workers: usize,
     clear: C,
     depot: D,
 ) -> Result<(), BatchFault> {
     let mut reader = rt.reader();
     let mut writer = io::writer(rt);
-    run_desk_uncounted::<_, _, Brand, _, _, _, _>(
+    run_desk(
         threads,
         rt.alloc(),
         &mut reader,
         &mut writer,
-        Blank::new(1),
+        steps,
         workers,
         clear,
         depot,
@@ -99,43 +80,51 @@ fn run_beside<H: Threads + Wait + Sync, C: Keeper + Drop, D: Keeper + Drop>(
 }
 
 // One batch over keepers in memory, by so many workers.
-fn run_in_memory<H: Threads + Wait + Sync>(
+fn run_in_memory<H: Threads + Wait + Sync, L: Ledger>(
     rt: &HostRuntime,
     threads: &H,
+    steps: &mut Steps<L>,
     workers: usize,
 ) -> Result<(), BatchFault> {
     if workers == 0 {
-        return run(rt);
+        return run(rt, steps);
     }
     let alloc = rt.alloc();
     let (clear, depot) = (ListKeeper::new(alloc), ListKeeper::new(alloc));
-    run_beside(rt, threads, workers, clear, depot)
+    run_beside(rt, threads, steps, workers, clear, depot)
 }
 
 // The same over the journals in a folder.
-fn run_in_folder<H: Threads + Wait + Sync>(
+fn run_in_folder<H: Threads + Wait + Sync, L: Ledger>(
     rt: &HostRuntime,
     threads: &H,
+    steps: &mut Steps<L>,
     workers: usize,
     folder: &str,
 ) -> Result<(), BatchFault> {
     if workers == 0 {
-        return run_over(rt, folder);
+        return run_over(rt, folder, steps);
     }
-    let journals = open_journals(rt, folder)?;
-    run_beside(rt, threads, workers, journals.clear, journals.depot)
+    let Journals { clear, depot } = open_journals(rt, folder)?;
+    run_beside(rt, threads, steps, workers, clear, depot)
 }
 
-// One batch, over the journals in a folder where one is given.
-fn run_batch_over<H: Threads + Wait + Sync>(
+// One batch, over the journals in a folder where one is given. Nobody asks how many reads it makes.
+fn run_batch_over<H: Threads + Wait + Sync, L: Ledger>(
     rt: &HostRuntime,
     threads: &H,
+    blank: Blank,
     workers: usize,
     folder: Option<String>,
-) -> Result<(), BatchFault> {
+) -> Result<(), BatchFault>
+    requires name { blank.name ≡ L.name }
+    requires parts { blank.parts ≡ L.parts }
+    requires some { 0 < L.parts }
+{
+    let mut steps = Steps::<L>::new(blank);
     match folder {
-        Some(folder) => run_in_folder(rt, threads, workers, folder.as_str()),
-        None => run_in_memory(rt, threads, workers),
+        Some(folder) => run_in_folder(rt, threads, &mut steps, workers, folder.as_str()),
+        None => run_in_memory(rt, threads, &mut steps, workers),
     }
 }
 
@@ -152,7 +141,8 @@ fn cusip(rt: &HostRuntime, text: &[u8]) -> ExitCode {
 fn main(rt: HostRuntime) -> ExitCode {
     match read_request(&rt) {
         Ok(Request::Run { journal, workers }) => {
-            exit_status(&rt, run_batch_over(&rt, &rt, workers, journal))
+            let ended = run_batch_over::<_, Brand>(&rt, &rt, Blank::new(1), workers, journal);
+            exit_status(&rt, ended)
         }
         Ok(Request::Cusip(text)) => cusip(&rt, text.as_bytes()),
         Ok(Request::Told) => ExitCode::SUCCESS,
@@ -160,12 +150,3 @@ fn main(rt: HostRuntime) -> ExitCode {
         Err(fault) => tell_fault(&rt, fault),
     }
 }
-
-#[cfg(test)]
-mod desk_tests;
-#[cfg(test)]
-mod disk_tests;
-#[cfg(test)]
-mod story_tests;
-#[cfg(test)]
-mod tests;

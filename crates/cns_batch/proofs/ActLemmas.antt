@@ -1,0 +1,337 @@
+-- Acts that come to pass one after another, and what is written of their text.
+use Rattle.std.proofs.Common.{◌≡◌, ◌<◌, ◌≤◌, ℕ, suc, zero, ◌+◌, ◌-◌, Bool, true, false, get_or, List, [], ◌∷◌, ◌++◌, length, take, drop, Option, Some, None, Result, Ok, Err, refl, sym, ap, ◌∙◌, subst, append_assoc, arith}
+use Rattle.std.proofs.lemmas.List.{append-nil, drop_all, drop_more}
+use Rattle.std.specs.Result.{IsErr}
+use Rattle.std.specs.Io.KnownBytes.{Appends}
+use Rattle.cns_trades.specs.declared.row.Row.{Row}
+use Rattle.cns_system.specs.Scene.{Chance, Comes, comes_to, is_planner, planned, scene_of}
+use Rattle.cns_system.specs.declared.event.NodeName.{NodeName}
+use Rattle.cns_report.specs.Lines.{line_text}
+use Rattle.cns_report.specs.declared.line.Line.TheVariants as line
+use Rattle.cns_batch.specs.declared.runner.Beside.{Beside}
+use Rattle.cns_system.specs.World.{World}
+use Rattle.cns_allocate.specs.declared.planned.Planned.{Planned}
+use Rattle.cns_system.specs.declared.event.Event.{Event}
+use Rattle.cns_system.specs.declared.event.Event.TheVariants as event
+use Rattle.cns_system.specs.declared.outcome.Outcome.{Outcome}
+use Rattle.cns_report.specs.Outcomes.{outcome_line}
+use Rattle.cns_batch.specs.Acts.{Act, Told, after_text, continued, done, each, gives, happened, tells, followed, times, with_outcome}
+use Rattle.cns_batch.specs.Commands.{ends_with, failed, learned, next_reserved, next_taken, reserved, row_taken}
+use Rattle.cns_batch.specs.Runs.{Continues, Place, RunState, Runs, Stops, Writes, course_at}
+
+-- ---- what is written
+
+pub appends_nothing : (a : Option (List ℕ)) → Appends a a []
+appends_nothing None = tt
+appends_nothing (Some xs) = sym (append-nil xs)
+
+pub appends_more : (a b d : Option (List ℕ)) (s t : List ℕ) → Appends a b s → Appends b d t → Appends a d (s ++ t)
+appends_more None b d s t f g = tt
+appends_more (Some xs) None d s t f g = absurd f
+appends_more (Some xs) (Some ys) None s t f g = absurd g
+appends_more (Some xs) (Some ys) (Some zs) s t f g = g ∙ ap (λ l. l ++ t) f ∙ append_assoc xs s t
+
+writes_more : (p q r : Place) (s t : List ℕ) → Writes s p q → Writes t q r → Writes (s ++ t) p r
+writes_more p q r s t (one, a, e) (two, b, f) = (
+  one ++ two,
+  appends_more p.sent q.sent r.sent one two a b,
+  append_assoc one two r.run.held ∙ ap (λ l. one ++ l) f ∙ sym (append_assoc one q.run.held t) ∙ ap (λ l. l ++ t) e ∙ append_assoc p.run.held s t,
+)
+
+-- as much is at the front of a longer list
+take_front : (n : ℕ) (xs ys : List ℕ) → (m : ℕ) × (take m (xs ++ ys) ≡ take n xs)
+take_front zero xs ys = (0, refl)
+take_front (suc n) [] ys = (0, refl)
+take_front (suc n) (x ∷ xs) ys = let (m, e) = take_front n xs ys in (suc m, ap (λ l. x ∷ l) e)
+
+take_past : (n : ℕ) (xs ys : List ℕ) → take (length xs + n) (xs ++ ys) ≡ xs ++ take n ys
+take_past n [] ys = let none : 0 + n ≡ n = omega arith in ap (λ k. take k ys) none
+take_past n (x ∷ xs) ys =
+    let one : suc (length xs) + n ≡ suc (length xs + n) = omega arith in ap (λ k. take k (x ∷ (xs ++ ys))) one ∙ ap (λ l. x ∷ l) (take_past n xs ys)
+
+-- ---- acts
+
+text_of_nothing : {A : Type 0} (t : Told A) → after_text [] t ≡ t
+text_of_nothing t = refl
+
+pub continues_here : {A : Type 0} (act : Act A) (p : Place) → Continues act act p p
+continues_here act p = record { chances = []; text = []; act_is = λ more. refl; writes = ([], appends_nothing p.sent, sym (append-nil p.run.held)) }
+
+pub continues_more : {A : Type 0} (a b d : Act A) (p q r : Place) → Continues a b p q → Continues b d q r → Continues a d p r
+continues_more {A} a b d p q r one two = record {
+  chances = one.chances ++ two.chances;
+  text = one.text ++ two.text;
+  act_is = λ more.
+      ap (λ cs. a (course_at p.run cs)) (append_assoc one.chances two.chances more)
+      ∙ one.act_is (two.chances ++ more) ∙ ap (after_text one.text) (two.act_is more)
+      ∙ ap (λ t. record (d (course_at r.run more)) { text = t }) (sym (append_assoc one.text two.text (d (course_at r.run more)).text));
+  writes = writes_more p q r one.text two.text one.writes two.writes;
+}
+
+-- what an act does, and then another one
+pub followed_continues : {A B : Type 0} (a b : Act A) (next : A → Act B) (p q : Place) → Continues a b p q → Continues (followed a next) (followed b next) p q
+unfolding followed
+followed_continues a b next p q one = record {
+  chances = one.chances;
+  text = one.text;
+  act_is = λ more.
+      let told = b (course_at q.run more) in
+      let rest = next told.value told.course in
+      ap (λ t. continued t next) (one.act_is more) ∙ ap (λ t. record rest { text = t }) (append_assoc one.text told.text rest.text);
+  writes = one.writes;
+}
+
+pub followed_gives : {A B : Type 0} (a : Act A) (v : A) (next : A → Act B) (p q : Place) → Continues a (gives v) p q → Continues (followed a next) (next v) p q
+unfolding followed followed_continues
+followed_gives a v next p q one = record {
+  chances = one.chances;
+  text = one.text;
+  act_is = λ more. (followed_continues a (gives v) next p q one).act_is more;
+  writes = one.writes;
+}
+
+-- a call does the rest of an act that has come so far
+pub stops_after : {A : Type 0} (a b : Act A) (p q r : Place) → Continues a b p q → Stops b q r → Stops a p r
+stops_after {A} a b p q r one stop =
+    let part = one.writes.0 in
+    let rest = (b (course_at q.run stop.chances)).text in
+    let told : (a (course_at p.run (one.chances ++ stop.chances))).text ≡ one.text ++ rest = ap (λ (t : Told A). t.text) (one.act_is stop.chances) in
+    let all : p.run.held ++ (a (course_at p.run (one.chances ++ stop.chances))).text ≡ part ++ (q.run.held ++ rest) =
+    ap (λ t. p.run.held ++ t) told ∙ sym (append_assoc p.run.held one.text rest) ∙ ap (λ t. t ++ rest) (sym one.writes.2) ∙ append_assoc part q.run.held rest in
+    record {
+      chances = one.chances ++ stop.chances;
+      size = length part + stop.size;
+      writes = subst (λ t. Appends p.sent r.sent t) (sym (ap (take (length part + stop.size)) all ∙ take_past stop.size part (q.run.held ++ rest)))
+          (appends_more p.sent q.sent r.sent part (take stop.size (q.run.held ++ rest)) one.writes.1 stop.writes);
+    }
+
+pub runs_after : {A E : Type 0} (a b : Act A) (result : Result A E) (p q r : Place) → Continues a b p q → Runs b result q r → Runs a result p r
+runs_after a b (Ok v) p q r one two = continues_more a b (gives v) p q r one two
+runs_after a b (Err e) p q r one stop = stops_after a b p q r one stop
+
+-- an act, and then another one
+pub runs_followed : {A B E : Type 0} (a : Act A) (v : A) (next : A → Act B) (result : Result B E) (p q r : Place) → Continues a (gives v) p q → Runs (next v) result q r
+    → Runs (followed a next) result p r
+runs_followed a v next result p q r one two = runs_after (followed a next) (next v) result p q r (followed_gives a v next p q one) two
+
+-- the first of them stops
+pub stops_followed : {A B : Type 0} (a : Act A) (next : A → Act B) (p q : Place) → Stops a p q → Stops (followed a next) p q
+unfolding followed
+stops_followed a next p q stop =
+    let told = a (course_at p.run stop.chances) in
+    let rest = (next told.value told.course).text in
+    let (size, same) = take_front stop.size (p.run.held ++ told.text) rest in
+    record {
+      chances = stop.chances;
+      size = size;
+      writes = subst (λ t. Appends p.sent q.sent t) (sym (ap (take size) (sym (append_assoc p.run.held told.text rest)) ∙ same)) stop.writes;
+    }
+
+-- nothing was written
+pub stops_here : {A : Type 0} (a : Act A) (p q : Place) → q.sent ≡ p.sent → Stops a p q
+stops_here a p q same = record { chances = []; size = 0; writes = subst (λ s. Appends p.sent s []) (sym same) (appends_nothing p.sent) }
+
+-- ---- single acts
+
+-- a text is held, and nothing else changes
+pub told_line : (line : List ℕ) (p q : Place) → q ≡ record p { run = record p.run { held = p.run.held ++ line } } → Continues (tells line) done p q
+told_line line p q is = subst (λ q. Continues (tells line) done p q) (sym is)
+    (record {
+      chances = [];
+      text = line;
+      act_is = λ more. ap (λ t. record { course = course_at p.run more; text = t; value = tt }) (sym (append-nil line));
+      writes = ([], appends_nothing p.sent, refl);
+    })
+
+-- an event happened, and its line is held
+pub told_event : (e : Event) (o : Outcome) (p q : Place) (old new : World) → p.run.world ≡ old → Comes e o old new
+    → q ≡ record p { run = record p.run { world = new; held = p.run.held ++ outcome_line e o } } → Continues (happened e) (gives o) p q
+unfolding happened
+told_event e o p q old new before (chance, came) is = subst (λ q. Continues (happened e) (gives o) p q) (sym is)
+    (record {
+      chances = chance ∷ [];
+      text = outcome_line e o;
+      act_is = λ more.
+          ap (with_outcome e (course_at p.run (chance ∷ more))) (ap (λ w. comes_to chance e (scene_of w)) before ∙ came)
+          ∙ ap (λ t. record { course = record (course_at p.run more) { scene = scene_of new }; text = t; value = o }) (sym (append-nil (outcome_line e o)));
+      writes = ([], appends_nothing p.sent, refl);
+    })
+
+-- ---- acts for each of a list, and so many times
+
+pub each_step : {A : Type 0} (act : A → Act (Unit {0})) (x : A) (xs : List A) (p q : Place) → Continues (act x) done p q → Continues (each act (x ∷ xs)) (each act xs) p q
+unfolding each
+each_step act x xs p q one = followed_gives (act x) tt (λ _. each act xs) p q one
+
+pub each_stops : {A : Type 0} (act : A → Act (Unit {0})) (x : A) (xs : List A) (p q : Place) → Stops (act x) p q → Stops (each act (x ∷ xs)) p q
+unfolding each
+each_stops act x xs p q stop = stops_followed (act x) (λ _. each act xs) p q stop
+
+pub times_step : (n : ℕ) (act : Act (Unit {0})) (p q : Place) → Continues act done p q → Continues (times (suc n) act) (times n act) p q
+unfolding times
+times_step n act p q one = followed_gives act tt (λ _. times n act) p q one
+
+pub times_stops : (n : ℕ) (act : Act (Unit {0})) (p q : Place) → Stops act p q → Stops (times (suc n) act) p q
+unfolding times
+times_stops n act p q stop = stops_followed act (λ _. times n act) p q stop
+
+-- ---- what was told is written
+
+pub flushed : (p q : Place) → Appends p.sent q.sent p.run.held → q.run ≡ record p.run { held = [] } → Continues done (gives tt) p q
+flushed p q all is = record {
+  chances = [];
+  text = [];
+  act_is = λ more. ap (λ r. gives tt (course_at r more)) (sym (ap (λ (r : RunState). record r { held = p.run.held }) is));
+  writes = (p.run.held, all, ap (λ (r : RunState). p.run.held ++ r.held) is);
+}
+
+pub flush_stops : (p q : Place) (size : ℕ) → Appends p.sent q.sent (take size p.run.held) → Stops done p q
+flush_stops p q size part = record { chances = []; size = size; writes = subst (λ t. Appends p.sent q.sent (take size t)) (sym (append-nil p.run.held)) part }
+
+-- nothing is told, whatever is given
+pub gives_any : {A : Type 0} (v : A) (p q : Place) → Continues done done p q → Continues (gives v) (gives v) p q
+gives_any v p q one = record {
+  chances = one.chances;
+  text = one.text;
+  act_is = λ more. ap (λ (t : Told (Unit {0})). record { course = t.course; text = t.text; value = v }) (one.act_is more);
+  writes = one.writes;
+}
+
+pub stops_any : {A : Type 0} (v : A) (p q : Place) → Stops done p q → Stops (gives v) p q
+stops_any v p q stop = record { chances = stop.chances; size = stop.size; writes = stop.writes }
+
+-- a call that answers a fault stops
+pub runs_fault : {A E : Type 0} (act : Act A) (result : Result A E) (p q : Place) → IsErr result → Stops act p q → Runs act result p q
+runs_fault act (Ok v) p q is stop = absurd (cc is)
+runs_fault act (Err e) p q is stop = stop
+
+-- an event of which only a part is given
+pub learns : {A : Type 0} (e : Event) (o : Outcome) (part : Outcome → A) (a : A) (p q : Place) → Continues (happened e) (gives o) p q → a ≡ part o
+    → Continues (learned e part) (gives a) p q
+unfolding learned
+learns e o part a p q one is = rw is (followed_gives (happened e) o (λ outcome. gives (part outcome)) p q one)
+
+pub learns_not : {A : Type 0} (e : Event) (part : Outcome → A) (p q : Place) → Stops (happened e) p q → Stops (learned e part) p q
+unfolding learned
+learns_not e part p q stop = stops_followed (happened e) (λ outcome. gives (part outcome)) p q stop
+
+-- ---- loops
+
+-- what is left of a list begins with the next one
+first_left : {A : Type 0} (xs : List A) (i : ℕ) (x : A) → i < length xs → x ≡ get_or xs i x → drop i xs ≡ x ∷ drop (i + 1) xs
+first_left xs i x lt is = drop_more xs i x lt ∙ ap (λ y. y ∷ drop (i + 1) xs) (sym is)
+
+pub each_next : {A : Type 0} (act : A → Act (Unit {0})) (xs : List A) (i : ℕ) (x : A) (p q r : Place) → i < length xs → x ≡ get_or xs i x
+    → Continues (each act xs) (each act (drop i xs)) p q → Continues (act x) done q r → Continues (each act xs) (each act (drop (i + 1) xs)) p r
+each_next act xs i x p q r lt is so one =
+    continues_more (each act xs) (each act (drop i xs)) (each act (drop (i + 1) xs)) p q r so
+    (subst (λ l. Continues (each act l) (each act (drop (i + 1) xs)) q r) (sym (first_left xs i x lt is)) (each_step act x (drop (i + 1) xs) q r one))
+
+pub each_ends : {A : Type 0} (act : A → Act (Unit {0})) (xs : List A) (i : ℕ) (x : A) (p q r : Place) → i < length xs → x ≡ get_or xs i x
+    → Continues (each act xs) (each act (drop i xs)) p q → Stops (act x) q r → Stops (each act xs) p r
+each_ends act xs i x p q r lt is so stop =
+    stops_after (each act xs) (each act (drop i xs)) p q r so
+    (subst (λ l. Stops (each act l) q r) (sym (first_left xs i x lt is)) (each_stops act x (drop (i + 1) xs) q r stop))
+
+pub each_done : {A : Type 0} (act : A → Act (Unit {0})) (xs : List A) (i : ℕ) (p q : Place) → length xs ≤ i → Continues (each act xs) (each act (drop i xs)) p q
+    → Continues (each act xs) done p q
+unfolding each
+each_done act xs i p q le so = subst (λ l. Continues (each act xs) (each act l) p q) (drop_all i xs le) so
+
+one_fewer : (n i : ℕ) → i < n → n - i ≡ suc (n - (i + 1))
+one_fewer n i lt = omega (arith, lt)
+
+pub times_next : (n i : ℕ) (act : Act (Unit {0})) (p q r : Place) → i < n → Continues (times n act) (times (n - i) act) p q → Continues act done q r
+    → Continues (times n act) (times (n - (i + 1)) act) p r
+times_next n i act p q r lt so one =
+    continues_more (times n act) (times (n - i) act) (times (n - (i + 1)) act) p q r so
+    (subst (λ k. Continues (times k act) (times (n - (i + 1)) act) q r) (sym (one_fewer n i lt)) (times_step (n - (i + 1)) act q r one))
+
+pub times_ends : (n i : ℕ) (act : Act (Unit {0})) (p q r : Place) → i < n → Continues (times n act) (times (n - i) act) p q → Stops act q r → Stops (times n act) p r
+times_ends n i act p q r lt so stop =
+    stops_after (times n act) (times (n - i) act) p q r so
+    (subst (λ k. Stops (times k act) q r) (sym (one_fewer n i lt)) (times_stops (n - (i + 1)) act q r stop))
+
+pub times_done : (n i : ℕ) (act : Act (Unit {0})) (p q : Place) → n ≤ i → Continues (times n act) (times (n - i) act) p q → Continues (times n act) done p q
+unfolding times
+times_done n i act p q le so = let none : n - i ≡ 0 = omega (arith, le) in subst (λ k. Continues (times n act) (times k act) p q) none so
+
+-- a ticket for the next member of a plan, or the last one
+reserved_step : (lot : ℕ) (x : Planned) (plan : List Planned) (p q : Place) → Continues (learned (event.Reserve lot x.member) ends_with) (gives None) p q
+    → Continues (reserved lot (x ∷ plan)) (reserved lot plan) p q
+unfolding reserved
+reserved_step lot x plan p q one = followed_gives (learned (event.Reserve lot x.member) ends_with) None (next_reserved (reserved lot plan)) p q one
+
+pub reserved_next : (lot : ℕ) (plan : List Planned) (i : ℕ) (x : Planned) (p q r : Place) → i < length plan → x ≡ get_or plan i x
+    → Continues (reserved lot plan) (reserved lot (drop i plan)) p q → Continues (learned (event.Reserve lot x.member) ends_with) (gives None) q r
+    → Continues (reserved lot plan) (reserved lot (drop (i + 1) plan)) p r
+reserved_next lot plan i x p q r lt is so one =
+    continues_more (reserved lot plan) (reserved lot (drop i plan)) (reserved lot (drop (i + 1) plan)) p q r so
+    (subst (λ l. Continues (reserved lot l) (reserved lot (drop (i + 1) plan)) q r) (sym (first_left plan i x lt is))
+    (reserved_step lot x (drop (i + 1) plan) q r one))
+
+pub reserved_last : (lot : ℕ) (plan : List Planned) (i : ℕ) (x : Planned) (is_due : Bool) (p q r : Place) → i < length plan → x ≡ get_or plan i x
+    → Continues (reserved lot plan) (reserved lot (drop i plan)) p q → Continues (learned (event.Reserve lot x.member) ends_with) (gives (Some is_due)) q r
+    → Continues (reserved lot plan) (gives is_due) p r
+unfolding reserved
+reserved_last lot plan i x is_due p q r lt is so one =
+    continues_more (reserved lot plan) (reserved lot (drop i plan)) (gives is_due) p q r so
+    (subst (λ l. Continues (reserved lot l) (gives is_due) q r) (sym (first_left plan i x lt is))
+    (followed_gives (learned (event.Reserve lot x.member) ends_with) (Some is_due) (next_reserved (reserved lot (drop (i + 1) plan))) q r one))
+
+pub reserved_stops : (lot : ℕ) (plan : List Planned) (i : ℕ) (x : Planned) (p q r : Place) → i < length plan → x ≡ get_or plan i x
+    → Continues (reserved lot plan) (reserved lot (drop i plan)) p q → Stops (learned (event.Reserve lot x.member) ends_with) q r → Stops (reserved lot plan) p r
+unfolding reserved
+reserved_stops lot plan i x p q r lt is so stop =
+    stops_after (reserved lot plan) (reserved lot (drop i plan)) p q r so
+    (subst (λ l. Stops (reserved lot l) q r) (sym (first_left plan i x lt is))
+    (stops_followed (learned (event.Reserve lot x.member) ends_with) (next_reserved (reserved lot (drop (i + 1) plan))) q r stop))
+
+pub reserved_done : (lot : ℕ) (plan : List Planned) (i : ℕ) (p q : Place) → length plan ≤ i → Continues (reserved lot plan) (reserved lot (drop i plan)) p q
+    → Continues (reserved lot plan) (gives true) p q
+unfolding reserved
+reserved_done lot plan i p q le so = subst (λ l. Continues (reserved lot plan) (reserved lot l) p q) (drop_all i plan le) so
+
+-- ---- acts that are others, by what a script has come to
+
+-- nothing is told, and what is left to do is another act of what the script has come to since
+pub moves : {A : Type 0} (a b : Act A) (p q : Place) → ((more : List Chance) → a (course_at p.run more) ≡ b (course_at q.run more)) → q.sent ≡ p.sent → q.run.held ≡ p.run.held
+    → Continues a b p q
+moves a b p q same sent held = record {
+  chances = [];
+  text = [];
+  act_is = same;
+  writes = ([], subst (λ s. Appends p.sent s []) (sym sent) (appends_nothing p.sent), held ∙ sym (append-nil p.run.held));
+}
+
+pub runs_as : {A E : Type 0} (a b : Act A) (result : Result A E) (p q : Place) → ((more : List Chance) → a (course_at p.run more) ≡ b (course_at p.run more)) → Runs b result p q
+    → Runs a result p q
+runs_as a b result p q same runs = runs_after a b result p p q (moves a b p p same refl refl) runs
+
+-- another lot waits, or none
+pub beside_set : {A : Type 0} (a b : Act A) (p q : Place) (beside : Option Beside) → q ≡ record p { run = record p.run { beside = beside } }
+    → ((more : List Chance) → a (course_at p.run more) ≡ b (record (course_at p.run more) { beside = beside })) → Continues a b p q
+beside_set a b p q beside is same =
+    subst (λ q. Continues a b p q) (sym is) (moves a b p (record p { run = record p.run { beside = beside } }) same refl refl)
+
+-- a row is taken
+pub row_next : (r : Row) (rest : List Row) (p q : Place) → p.run.rows ≡ r ∷ rest → q ≡ record p { run = record p.run { rows = rest } } → Continues next_taken (row_taken r) p q
+unfolding next_taken
+row_next r rest p q rows is =
+    subst (λ q. Continues next_taken (row_taken r) p q) (sym is)
+    (moves next_taken (row_taken r) p (record p { run = record p.run { rows = rest } }) (λ more. rw rows refl) refl refl)
+
+-- a failure is planned, or is not
+pub fails_next : (name : NodeName) (stands : Bool) (p q : Place) → is_planner name (scene_of p.run.world) ≡ true → scene_of q.run.world ≡ planned name stands (scene_of p.run.world)
+    → q ≡ record p { run = record p.run { world = q.run.world } } → Continues (failed name stands) (tells (line_text line.FailurePlanned)) p q
+fails_next name stands p q planner scene is =
+    let rows : q.run.rows ≡ p.run.rows = ap (λ (x : Place). x.run.rows) is in
+    let beside : q.run.beside ≡ p.run.beside = ap (λ (x : Place). x.run.beside) is in
+    moves (failed name stands) (tells (line_text line.FailurePlanned)) p q (λ more. rw (planner, rows, beside, scene) refl) (ap (λ (x : Place). x.sent) is) (ap (λ (x : Place). x.run.held) is)
+
+pub fails_not : (name : NodeName) (stands : Bool) (p q : Place) → is_planner name (scene_of p.run.world) ≡ false → scene_of q.run.world ≡ scene_of p.run.world
+    → q ≡ record p { run = record p.run { world = q.run.world } } → Continues (failed name stands) (tells (line_text line.FailureNotPlanned)) p q
+fails_not name stands p q planner scene is =
+    let rows : q.run.rows ≡ p.run.rows = ap (λ (x : Place). x.run.rows) is in
+    let beside : q.run.beside ≡ p.run.beside = ap (λ (x : Place). x.run.beside) is in
+    moves (failed name stands) (tells (line_text line.FailureNotPlanned)) p q (λ more. rw (planner, rows, beside, scene) refl) (ap (λ (x : Place). x.sent) is) (ap (λ (x : Place). x.run.held) is)

@@ -1,0 +1,5 @@
+pub mod WriteLemmas
+pub mod ActLemmas
+pub mod RunLemmas
+pub mod OpenedLemmas
+pub mod TextLemmas

@@ -1,0 +1,104 @@
+-- Nodes that are opened over empty journals have no records, and these are never bad.
+use Rattle.std.proofs.Common.{◌≡◌, ℕ, List, [], ◌∷◌, true, false, None, Err, ◌∙◌, map, reverse, refl, sym, ap, inl, inr, length, length-append, arith}
+use Rattle.std.proofs.lemmas.List.{length-reverse}
+use Rattle.std.proofs.lemmas.List.Elements.{All-nil}
+use Rattle.std.proofs.lemmas.Option.{none-some}
+use Rattle.cns_journal.specs.Keeper.{IsReopened, Succeeds}
+use Rattle.cns_journal.specs.RecordLog.{IsOpened, LogState}
+use Rattle.cns_journal.specs.Replay.{IsBadPlace, KeeperState, Reread}
+use Rattle.cns_journal.specs.declared.record_log.ReplayFault.TheVariants as replay
+use Rattle.cns_records.specs.Clear.{spelling, HasPayload}
+use Rattle.cns_records.specs.Dep.{dep_spelling, HasDepPayload}
+use Rattle.cns_records.specs.declared.clear_record.ClearRecord.{ClearRecord}
+use Rattle.cns_records.specs.declared.dep_record.DepRecord.{DepRecord}
+use Rattle.cns_trades.specs.declared.opening.Opening.{Opening}
+use Rattle.cns_clearing.specs.Books.{IsAllowed, books_of, orders_of}
+use Rattle.cns_depository.specs.Stock.{IsExecutable}
+use Rattle.cns_system.specs.Agreement.{Agree, IsExecuted, IsOrdered}
+use Rattle.cns_system.specs.Scene.{scene_of}
+use Rattle.cns_system.specs.Start.{IsStarted}
+use Rattle.cns_system.specs.World.{World}
+use Rattle.cns_system.specs.declared.fault.StartFault.TheVariants as start
+use Rattle.cns_batch.specs.Text.{Input, IsUnopened, first_scene, new_keeper}
+
+-- no payloads are of no records
+no_items : {R : Type 0} (f : R → List ℕ) (items : List R) → map f items ≡ [] → items ≡ []
+no_items f [] e = refl
+no_items f (x ∷ xs) e = absurd (cc e)
+
+no_records : {R : Type 0} (records : List R) → reverse records ≡ [] → records ≡ []
+no_records [] e = refl
+no_records {R} (x ∷ xs) e = absurd (omega (arith, length-reverse (x ∷ xs), ap (λ (l : List R). length l) e))
+
+nothing_given : (given : List (List ℕ)) → IsReopened (record { kept = []; undecided = None }) given → given ≡ []
+nothing_given given (inl e) = e
+nothing_given given (inr more) = absurd (none-some more.0 more.1)
+
+-- ---- both nodes at the start
+
+-- a log that is opened over an empty journal has no records, and what was known of its keeper is known still
+record IsFirst {R : Type 0} (log : LogState R) : Type 0 where
+  records : log.records ≡ []
+  tried : log.tried ≡ None
+  down : log.down ≡ false
+  honest : log.honest ≡ true
+  foresight : log.foresight ≡ record { next = Succeeds; stands = None }
+
+first : {R : Type 0} (spelling : R → List ℕ) (allows : List R → R → Type 0) (log : LogState R) → IsOpened spelling allows new_keeper log → IsFirst log
+first {R} spelling allows log opened = record {
+  records = no_records log.records (no_items spelling (reverse log.records) (nothing_given _ (opened.given refl)));
+  tried = ap (λ (l : LogState R). l.tried) opened.value;
+  down = ap (λ (l : LogState R). l.down) opened.value;
+  honest = ap (λ (l : LogState R). l.honest) opened.value;
+  foresight = ap (λ (l : LogState R). l.foresight) opened.value;
+}
+
+pub started_first : (openings : List Opening) (w : World) → IsStarted openings new_keeper new_keeper w → scene_of w ≡ first_scene openings
+started_first openings w started =
+    let c = first spelling IsAllowed w.clear.clear.log started.clear_opens.0 in
+    let p = first dep_spelling (IsExecutable openings) w.depot.log started.depot_opens.0 in
+    rw (
+      c.records,
+      c.tried,
+      c.down,
+      c.honest,
+      c.foresight,
+      started.clear_opens.1,
+      started.lots,
+      p.records,
+      p.tried,
+      p.down,
+      p.honest,
+      p.foresight,
+      started.depot_opens.1,
+      started.orders,
+      started.replies,
+    ) refl
+
+-- ---- no opening is refused but for want of memory
+
+no_bad_place : {R : Type 0} (spelling : R → List ℕ) (allows : List R → R → Type 0) (fits : R → Type 0) (given : List (List ℕ)) (place : ℕ) → given ≡ []
+    → IsBadPlace spelling allows fits given place → ⊥
+no_bad_place spelling allows fits given place none bad =
+    omega (arith, length-append (map spelling bad.before) (bad.payload ∷ bad.after), ap (λ (l : List (List ℕ)). length l) (sym bad.given_is ∙ none))
+
+reads : {R : Type 0} (spelling : R → List ℕ) (allows : List R → R → Type 0) (fits : R → Type 0) (new : KeeperState) (place : ℕ)
+    → Reread spelling allows fits (Err (replay.BadJournal place)) new_keeper new → ⊥
+reads spelling allows fits new place (given, reopened, bad) = no_bad_place spelling allows fits given place (nothing_given given (reopened.keeps refl).0) bad
+
+nothing_agrees : (c : List ClearRecord) (p : List DepRecord) → c ≡ [] → p ≡ [] → Agree c p
+unfolding books_of
+nothing_agrees c p none nothing = rw (none, nothing) (record { ordered = All-nil (IsOrdered (orders_of []).orders); executed = All-nil (IsExecuted []) })
+
+pub none_unopened : (input : Input) (clear depot : KeeperState) → IsUnopened false input new_keeper new_keeper clear depot → ⊥
+none_unopened input clear depot (start.Clear (replay.BadJournal place), long, (unread, same)) = reads spelling IsAllowed HasPayload clear place unread
+none_unopened input clear depot (start.Clear replay.OutOfMemory, long, why) = absurd (cc long)
+none_unopened input clear depot (start.Clear replay.Device, long, (reopened, same)) = absurd (cc reopened.foreseen.0)
+none_unopened input clear depot (start.Depot (replay.BadJournal place), long, (returned, unread)) =
+    reads dep_spelling (IsExecutable input.openings) HasDepPayload depot place unread
+none_unopened input clear depot (start.Depot replay.OutOfMemory, long, why) = absurd (cc long)
+none_unopened input clear depot (start.Depot replay.Device, long, (returned, reopened)) = absurd (cc reopened.foreseen.0)
+none_unopened input clear depot (start.Disagree, long, (c, opened, (p, stocked, differs))) =
+    differs
+    (nothing_agrees c.log.records p.log.records (first spelling IsAllowed c.log opened.0.0).records
+    (first dep_spelling (IsExecutable input.openings) p.log stocked.0.0).records)

@@ -1,0 +1,18 @@
+use Rattle.cns_batch.proofs.TextLemmas.{run_may_write, says_ran, says_unopened}
+use Rattle.cns_batch.proofs.desk.run_desk.Goals as goal
+
+pub returns-in-Err-clause-says : goal.returns-in-Err-clause-says
+returns-in-Err-clause-says g c =
+    let same = c.as_slice.ensures.value in
+    rw c.start_fault.ensures
+    (says_unopened _ c.as_slice.result.now _ c.in-Err.refused.fault _ _ _ _ (rw same c.in_ok-bytes.ensures.text) c.in_ok-openings.ensures c.in-Err.ensures.err)
+
+pub returns-clause-says : goal.returns-clause-says
+returns-clause-says g c =
+    let same = c.as_slice.ensures.value in
+    rw c.batch_result.ensures
+    (says_ran _ c.run_script.result c.as_slice.result.now _ _ _ c.in-Ok.system (rw same c.in_ok-bytes.ensures.text) (rw same c.in_ok-bytes.ensures.size) c.in_ok-openings.ensures
+    c.in-Ok.ensures.ok)
+
+pub returns-clause-none : goal.returns-clause-none
+returns-clause-none g c = rw c.batch_result.ensures (run_may_write _ c.run_script.result)

@@ -1,0 +1,197 @@
+-- The output text of a whole input, and what a fault says of it.
+use Rattle.std.specs.Prelude.{◌≡◌, ◌⊎◌, ⊤, ℕ, Bool, ◌<◌, ◌≤◌, true, false, List, [], ◌++◌, length, take, Option, Some, None, Result, Ok, Err, if◌then◌else◌}
+use Rattle.std.specs.Io.KnownBytes.{Appends}
+use Rattle.cns_trades.specs.Openings.{opening_rows}
+use Rattle.cns_trades.specs.Rows.{trade_rows}
+use Rattle.cns_trades.specs.declared.fault.CsvFault.{CsvFault}
+use Rattle.cns_trades.specs.declared.fault.CsvFault.TheVariants as rows
+use Rattle.cns_trades.specs.declared.opening.Opening.{Opening}
+use Rattle.cns_trades.specs.declared.opening.OpeningRow.{OpeningRow}
+use Rattle.cns_trades.specs.declared.row.Row.{Row}
+use Rattle.cns_journal.specs.Keeper.{Succeeds}
+use Rattle.cns_journal.specs.Replay.{KeeperState}
+use Rattle.cns_system.specs.Scene.{Chance, Scene, Sight, scene_of}
+use Rattle.cns_journal.specs.declared.record_log.ReplayFault.TheVariants as replay
+use Rattle.cns_system.specs.Start.{IsNotOpened, IsStarted}
+use Rattle.cns_system.specs.declared.fault.StartFault.{StartFault}
+use Rattle.cns_system.specs.declared.fault.StartFault.TheVariants as start
+use Rattle.cns_system.specs.World.{World}
+use Rattle.cns_batch.specs.Opened.{told_openings}
+use Rattle.cns_batch.specs.Run.{script_text}
+use Rattle.cns_input.specs.Sections.{sections}
+use Rattle.cns_input.specs.declared.fault.BatchFault.{BatchFault}
+use Rattle.cns_input.specs.declared.fault.BatchFault.TheVariants as fault
+
+-- what an input holds: the openings that stand, what the rows of openings tell, the rows of trades, and the script
+pub record Input : Type 0 where
+  pub openings : List Opening
+  pub told : List ℕ
+  pub rows : List Row
+  pub script : List ℕ
+
+abbrev pub input_under : List ℕ → Option (List OpeningRow) → Option (List Row) → Result Input BatchFault
+input_under script (Some openings) (Some rows) =
+    Ok (record { openings = (told_openings 1 [] openings).0; told = (told_openings 1 [] openings).1; rows = rows; script = script })
+input_under script (Some openings) None = Err fault.Csv
+input_under script None rows = Err fault.Csv
+
+abbrev pub input_from : Option (List ℕ × List ℕ × List ℕ) → Result Input BatchFault
+input_from None = Err fault.Sections
+input_from (Some p) = input_under p.2 (opening_rows p.0) (trade_rows p.1)
+
+-- what the bytes of an input hold, or their fault
+abbrev pub input_of : List ℕ → Result Input BatchFault
+input_of bytes = input_from (sections bytes)
+
+-- the output text of an input, from a scene on, by what comes between
+abbrev pub text_from : List Chance → Scene → Input → List ℕ
+text_from chances scene input = input.told ++ script_text chances scene input.rows input.script
+
+-- a keeper in memory without records
+abbrev pub new_keeper : KeeperState
+new_keeper = record {
+  honest = true;
+  run = record { down = false; failures = 0; count = 0 };
+  journal = record { kept = []; undecided = None };
+  foresight = record { next = Succeeds; stands = None };
+}
+
+-- and both nodes over two of them
+abbrev pub new_sight : Sight
+new_sight = record { honest = true; foresight = record { next = Succeeds; stands = None } }
+
+abbrev pub first_scene : List Opening → Scene
+first_scene openings = record {
+  shown = record {
+    clear = record { records = []; tried = None; down = false; open_lots = []; lots = [] };
+    depot = record { openings = openings; records = []; tried = None; down = false };
+    orders = [];
+    replies = [];
+  };
+  clear = new_sight;
+  depot = new_sight;
+}
+
+abbrev pub text_in : List Chance → Result Input BatchFault → Result (List ℕ) BatchFault
+text_in chances (Ok input) = Ok (text_from chances (first_scene input.openings) input)
+text_in chances (Err e) = Err e
+
+-- the output text of an input's bytes over keepers in memory, by what comes between, or the fault of the bytes
+abbrev pub text_by : List Chance → List ℕ → Result (List ℕ) BatchFault
+text_by chances bytes = text_in chances (input_of bytes)
+
+-- and where nothing comes between
+abbrev pub text_of : List ℕ → Result (List ℕ) BatchFault
+text_of bytes = text_by [] bytes
+
+-- the fault of a batch whose rows cannot be read
+abbrev pub fault_of_rows : CsvFault → BatchFault
+fault_of_rows rows.OutOfMemory = fault.Memory
+fault_of_rows rows.Reading = fault.Read
+fault_of_rows rows.Header = fault.Csv
+
+-- what a fault of reading says of the input
+abbrev pub Tells : BatchFault → Result Input BatchFault → Type 0
+Tells fault.Sections r = r ≡ Err fault.Sections
+Tells fault.Csv r = r ≡ Err fault.Csv
+Tells fault.Read r = ⊤
+Tells fault.Memory r = ⊤
+Tells fault.TooLong r = ⊥
+Tells fault.Journal r = ⊥
+Tells fault.Write r = ⊥
+
+-- ---- what a batch leaves of what its writer holds
+
+-- the text over these keepers was written
+abbrev pub WritesAll : Input → KeeperState → KeeperState → Option (List ℕ) → Option (List ℕ) → Type 0
+WritesAll input clear depot old new =
+    (w : World) × IsStarted input.openings clear depot w × ((chances : List Chance) × Appends old new (text_from chances (scene_of w) input))
+
+-- or a first part of it
+abbrev pub WritesPart : Input → KeeperState → KeeperState → Option (List ℕ) → Option (List ℕ) → Type 0
+WritesPart input clear depot old new =
+    (w : World) × IsStarted input.openings clear depot w
+    × ((chances : List Chance) × (size : ℕ) × Appends old new (take size (text_from chances (scene_of w) input)))
+
+-- an opening is refused for want of memory
+abbrev pub is_short : StartFault → Bool
+is_short (start.Clear replay.OutOfMemory) = true
+is_short (start.Depot replay.OutOfMemory) = true
+is_short _ = false
+
+-- both nodes were not opened, for want of memory or for another cause
+abbrev pub IsUnopened : Bool → Input → KeeperState → KeeperState → KeeperState → KeeperState → Type 0
+IsUnopened for_memory input clear depot clear' depot' =
+    (why : StartFault) × (is_short why ≡ for_memory) × IsNotOpened input.openings why clear depot clear' depot'
+
+-- what a batch over the input leaves of both keepers and of what its writer holds, by its answer
+abbrev pub RunsInput : Result (Unit {0}) BatchFault → Input → KeeperState → KeeperState → KeeperState → KeeperState → Option (List ℕ) → Option (List ℕ) → Type 0
+RunsInput (Ok _) input clear depot clear' depot' old new = WritesAll input clear depot old new
+RunsInput (Err fault.Journal) input clear depot clear' depot' old new = IsUnopened false input clear depot clear' depot' × (new ≡ old)
+RunsInput (Err fault.Memory) input clear depot clear' depot' old new =
+    (IsUnopened true input clear depot clear' depot' × (new ≡ old)) ⊎ WritesPart input clear depot old new
+RunsInput (Err fault.Write) input clear depot clear' depot' old new = WritesPart input clear depot old new
+RunsInput (Err _) input clear depot clear' depot' old new = ⊥
+
+abbrev pub fault_of_start : StartFault → BatchFault
+fault_of_start why = if is_short why then fault.Memory else fault.Journal
+
+-- the faults with which nothing was written
+abbrev pub WritesNothing : BatchFault → Type 0
+WritesNothing fault.Memory = ⊥
+WritesNothing fault.Write = ⊥
+WritesNothing _ = Unit {0}
+
+-- what a batch over keepers leaves, by its answer
+abbrev pub KeptLeaves : Result (Unit {0}) BatchFault → List ℕ → KeeperState → KeeperState → KeeperState → KeeperState → Option (List ℕ) → Option (List ℕ) → Type 0
+KeptLeaves (Ok _) bytes clear depot clear' depot' old new =
+    (length bytes ≤ 67108864) × ((input : Input) × (input_of bytes ≡ Ok input) × RunsInput (Ok tt) input clear depot clear' depot' old new)
+KeptLeaves (Err fault.Read) bytes clear depot clear' depot' old new = (clear' ≡ clear) × (depot' ≡ depot)
+KeptLeaves (Err fault.TooLong) bytes clear depot clear' depot' old new = (67108864 < length bytes) × (clear' ≡ clear) × (depot' ≡ depot)
+KeptLeaves (Err fault.Sections) bytes clear depot clear' depot' old new = (input_of bytes ≡ Err fault.Sections) × (clear' ≡ clear) × (depot' ≡ depot)
+KeptLeaves (Err fault.Csv) bytes clear depot clear' depot' old new = (input_of bytes ≡ Err fault.Csv) × (clear' ≡ clear) × (depot' ≡ depot)
+KeptLeaves (Err fault.Journal) bytes clear depot clear' depot' old new =
+    (input : Input) × (input_of bytes ≡ Ok input) × RunsInput (Err fault.Journal) input clear depot clear' depot' old new
+KeptLeaves (Err fault.Memory) bytes clear depot clear' depot' old new =
+    ((new ≡ old) × (clear' ≡ clear) × (depot' ≡ depot))
+    ⊎ ((input : Input) × (input_of bytes ≡ Ok input) × RunsInput (Err fault.Memory) input clear depot clear' depot' old new)
+KeptLeaves (Err fault.Write) bytes clear depot clear' depot' old new =
+    (input : Input) × (input_of bytes ≡ Ok input) × RunsInput (Err fault.Write) input clear depot clear' depot' old new
+
+-- the same, where nothing is said of what becomes of the keepers
+abbrev pub LeavesSomeKeepers : Result (Unit {0}) BatchFault → List ℕ → KeeperState → KeeperState → Option (List ℕ) → Option (List ℕ) → Type 0
+LeavesSomeKeepers result bytes clear depot old new = (clear' : KeeperState) × (depot' : KeeperState) × KeptLeaves result bytes clear depot clear' depot' old new
+
+-- both nodes are opened over these keepers with the openings of the bytes
+abbrev pub OpensBoth : List ℕ → KeeperState → KeeperState → Type 0
+OpensBoth bytes clear depot = (input : Input) × (input_of bytes ≡ Ok input) × ((w : World) × IsStarted input.openings clear depot w)
+
+-- what an answer says of the bytes and of the keepers, whatever was written
+abbrev pub SaysOf : Result (Unit {0}) BatchFault → List ℕ → KeeperState → KeeperState → Type 0
+SaysOf (Ok _) bytes clear depot = (length bytes ≤ 67108864) × OpensBoth bytes clear depot
+SaysOf (Err fault.Read) bytes clear depot = ⊤
+SaysOf (Err fault.TooLong) bytes clear depot = 67108864 < length bytes
+SaysOf (Err fault.Sections) bytes clear depot = input_of bytes ≡ Err fault.Sections
+SaysOf (Err fault.Csv) bytes clear depot = input_of bytes ≡ Err fault.Csv
+SaysOf (Err fault.Journal) bytes clear depot =
+    (input : Input) × (input_of bytes ≡ Ok input) × ((clear' : KeeperState) × (depot' : KeeperState) × IsUnopened false input clear depot clear' depot')
+SaysOf (Err fault.Memory) bytes clear depot = ⊤
+SaysOf (Err fault.Write) bytes clear depot = OpensBoth bytes clear depot
+
+-- the text over keepers in memory was written, or a first part of it
+abbrev pub WritesText : List ℕ → Option (List ℕ) → Option (List ℕ) → Type 0
+WritesText bytes old new = (chances : List Chance) × (text : List ℕ) × (text_by chances bytes ≡ Ok text) × Appends old new text
+
+abbrev pub WritesTextPart : List ℕ → Option (List ℕ) → Option (List ℕ) → Type 0
+WritesTextPart bytes old new = (chances : List Chance) × (text : List ℕ) × (size : ℕ) × (text_by chances bytes ≡ Ok text) × Appends old new (take size text)
+
+-- what a batch over keepers in memory leaves, by its answer
+abbrev pub BatchLeaves : Result (Unit {0}) BatchFault → List ℕ → Option (List ℕ) → Option (List ℕ) → Type 0
+BatchLeaves (Ok _) bytes old new = (length bytes ≤ 67108864) × WritesText bytes old new
+BatchLeaves (Err fault.Read) bytes old new = ⊤
+BatchLeaves (Err fault.TooLong) bytes old new = 67108864 < length bytes
+BatchLeaves (Err fault.Sections) bytes old new = text_of bytes ≡ Err fault.Sections
+BatchLeaves (Err fault.Csv) bytes old new = text_of bytes ≡ Err fault.Csv
+BatchLeaves (Err fault.Journal) bytes old new = ⊥
+BatchLeaves (Err fault.Memory) bytes old new = (new ≡ old) ⊎ WritesTextPart bytes old new
+BatchLeaves (Err fault.Write) bytes old new = WritesTextPart bytes old new

@@ -1,0 +1,251 @@
+ghost use Rattle.std.specs.Prelude.{◌≡◌, ◌+◌, ◌<◌, ◌≤◌, ◌⊎◌, [], Ok, MatchResult, IfSome, OnOk, IfErr, List, ℕ, string_bytes};
+ghost use Rattle.std.specs.Io.KnownBytes.{Appends, IsAtEnd};
+ghost use Rattle.cns_trades.specs.Openings.{opening_rows};
+ghost use Rattle.cns_trades.specs.Rows.{trade_rows};
+ghost use Rattle.cns_batch.specs.Ending.{batch_result};
+ghost use Rattle.cns_batch.specs.Run.{lines_run};
+ghost use Rattle.cns_batch.specs.Runs.{Runs};
+ghost use Rattle.cns_input.specs.Sections.{raw_lines};
+ghost use Rattle.cns_batch.specs.Text.{BatchLeaves, KeptLeaves, RunsInput, Tells, WritesNothing, fault_of_rows, fault_of_start, input_of, input_under};
+
+use crate::fault::OutputFault;
+use crate::opening::take_openings;
+use crate::runner::Runner;
+use cns_depository::Openings;
+use cns_input::{BatchFault, Steps, read_input, split_input};
+use cns_journal::{Keeper, ListKeeper, ReplayFault};
+use cns_system::{StartFault, System};
+use cns_trades::{CsvFault, Row, read_openings, read_trades};
+use std::alloc::Global;
+use std::io::{Read, Write};
+use std::sync::ledger::Ledger;
+
+/// What a batch comes to, and both keepers.
+#[derive(Drop)]
+pub struct Kept<C, D> {
+    pub result: Result<(), BatchFault>,
+    /// The keeper of the clearing node.
+    pub clear: C,
+    /// The keeper of the depository.
+    pub depot: D,
+}
+
+// The rows of an input: the openings that stand, what the rows of openings tell, and the rows of trades.
+#[derive(Drop)]
+pub(crate) struct Rows {
+    pub(crate) openings: Openings,
+    pub(crate) told: String,
+    pub(crate) trades: Vec<Row>,
+}
+
+// What an input holds: its rows and its script.
+#[derive(Drop)]
+pub(crate) struct Parts<'a> {
+    pub(crate) rows: Rows,
+    pub(crate) script: &'a [u8],
+}
+
+// The fault of a batch whose rows cannot be read.
+fn rows_fault(fault: CsvFault) -> BatchFault
+    ensures { result ≡ fault_of_rows fault }
+{
+    match fault {
+        CsvFault::OutOfMemory => BatchFault::Memory,
+        CsvFault::Reading => BatchFault::Read,
+        CsvFault::Header => BatchFault::Csv,
+    }
+}
+
+// The fault of a batch whose nodes are not opened.
+pub(crate) fn start_fault(fault: StartFault) -> BatchFault
+    ensures { result ≡ fault_of_start fault }
+{
+    match fault {
+        StartFault::Clear(ReplayFault::OutOfMemory) | StartFault::Depot(ReplayFault::OutOfMemory) =>
+            BatchFault::Memory,
+        _ => BatchFault::Journal,
+    }
+}
+
+// What the rows of an input hold.
+fn read_rows(alloc: Global, openings: &[u8], trades: &[u8]) -> Result<Rows, BatchFault>
+    ensures { MatchResult result
+        (λ rows. (script : List ℕ) → input_under script (opening_rows openings.now) (trade_rows trades.now)
+        ≡ Ok (record { openings = rows.openings; told = string_bytes rows.told; rows = rows.trades.items; script = script }))
+        (λ e. (script : List ℕ) → Tells e (input_under script (opening_rows openings.now) (trade_rows trades.now))) }
+{
+    let rows = match read_openings(alloc, openings) {
+        Ok(rows) => rows,
+        Err(fault) => return Err(rows_fault(fault)),
+    };
+    let trades = match read_trades(alloc, trades) {
+        Ok(rows) => rows,
+        Err(fault) => return Err(rows_fault(fault)),
+    };
+    let mut told = String::new(alloc);
+    let openings = take_openings(alloc, rows.as_slice(), &mut told)?;
+    Ok(Rows {
+        openings,
+        told,
+        trades,
+    })
+}
+
+// What the text of an input holds.
+pub(crate) fn read_parts(alloc: Global, text: &[u8]) -> Result<Parts<'_>, BatchFault>
+    ensures { MatchResult result
+        (λ parts. input_of text.now
+        ≡ Ok (record { openings = parts.rows.openings; told = string_bytes parts.rows.told; rows = parts.rows.trades.items; script = parts.script.now }))
+        (λ e. Tells e (input_of text.now)) }
+{
+    let Some(sections) = split_input(text) else {
+        return Err(BatchFault::Sections);
+    };
+    let rows = read_rows(alloc, sections.openings, sections.trades)?;
+    Ok(Parts {
+        rows,
+        script: sections.script,
+    })
+}
+
+// What a run comes to, as a batch.
+pub(crate) fn batch_result(ran: Result<(), OutputFault>) -> Result<(), BatchFault>
+    ensures { result ≡ batch_result ran }
+{
+    match ran {
+        Ok(()) => Ok(()),
+        Err(fault) => Err(fault.of_batch()),
+    }
+}
+
+// Runs a script, and writes all that is told.
+fn run_whole<C: Keeper, D: Keeper, W: Write>(
+    runner: &mut Runner<C, D>,
+    script: &[u8],
+    writer: &mut W,
+) -> Result<(), OutputFault>
+    ensures runs { Runs (lines_run 1 (raw_lines script.now)) result (record { run = runner.old; sent = W.contents writer.old }) (record { run = runner.new; sent = W.contents writer.new }) }
+    ensures none { OnOk result (runner.new.held ≡ []) }
+{
+    runner.run_script(script, writer)?;
+    runner.flush(writer)
+}
+
+// Opens both nodes, runs the script, and writes what all that tells.
+fn run_input<C: Keeper + Drop, D: Keeper + Drop, W: Write>(
+    alloc: Global,
+    rows: Rows,
+    script: &[u8],
+    clear: C,
+    depot: D,
+    writer: &mut W,
+) -> Kept<C, D>
+    ensures { RunsInput result.result
+        (record { openings = rows.openings; told = string_bytes rows.told; rows = rows.trades.items; script = script.now })
+        (record { honest = C.honest clear; run = C.run clear; journal = C.journal clear; foresight = C.foresight clear })
+        (record { honest = D.honest depot; run = D.run depot; journal = D.journal depot; foresight = D.foresight depot })
+        (record { honest = C.honest result.clear; run = C.run result.clear; journal = C.journal result.clear; foresight = C.foresight result.clear })
+        (record { honest = D.honest result.depot; run = D.run result.depot; journal = D.journal result.depot; foresight = D.foresight result.depot })
+        (W.contents writer.old) (W.contents writer.new) }
+{
+    let Rows {
+        openings,
+        told,
+        trades,
+    } = rows;
+    let system = match System::open(alloc, clear, depot, openings) {
+        Ok(system) => system,
+        Err(refused) => {
+            return Kept {
+                result: Err(start_fault(refused.fault)),
+                clear: refused.clear,
+                depot: refused.depot,
+            };
+        }
+    };
+    let mut runner = Runner::new(alloc, system, trades, told);
+    let ran = run_whole(&mut runner, script, writer);
+    let (clear, depot) = runner.into_keepers();
+    Kept {
+        result: batch_result(ran),
+        clear,
+        depot,
+    }
+}
+
+/// Reads an input text to its end, opens both nodes over these keepers with its openings, and writes what
+/// its script tells of its trades.
+///
+/// With `Read`, `TooLong`, `Sections`, `Csv` and `Journal` nothing was written, and the first four leave
+/// both keepers as they were. `Journal` comes after these, exactly where the nodes were not opened for
+/// another cause than want of memory. At `Write` and `Memory` a first part of the text was written, or
+/// none. `steps` counts the read calls, at most 67,108,866.
+pub fn run_batch_kept<R: Read, W: Write, L: Ledger, C: Keeper + Drop, D: Keeper + Drop>(
+    alloc: Global,
+    reader: &mut R,
+    writer: &mut W,
+    steps: &mut Steps<L>,
+    clear: C,
+    depot: D,
+) -> Kept<C, D>
+    ensures leaves { IfSome (R.remaining reader.old) (λ bytes. KeptLeaves result.result bytes
+        (record { honest = C.honest clear; run = C.run clear; journal = C.journal clear; foresight = C.foresight clear })
+        (record { honest = D.honest depot; run = D.run depot; journal = D.journal depot; foresight = D.foresight depot })
+        (record { honest = C.honest result.clear; run = C.run result.clear; journal = C.journal result.clear; foresight = C.foresight result.clear })
+        (record { honest = D.honest result.depot; run = D.run result.depot; journal = D.journal result.depot; foresight = D.foresight result.depot })
+        (W.contents writer.old) (W.contents writer.new)) }
+    ensures none { IfErr result.result (λ e. WritesNothing e → W.contents writer.new ≡ W.contents writer.old) }
+    ensures end { OnOk result.result (IsAtEnd (R.remaining reader.new)) }
+    ensures reads { steps.new ≤ steps.old + 67108866 }
+{
+    let bytes = match read_input(alloc, reader, steps) {
+        Ok(bytes) => bytes,
+        Err(fault) => {
+            return Kept {
+                result: Err(fault),
+                clear,
+                depot,
+            };
+        }
+    };
+    match read_parts(alloc, bytes.as_slice()) {
+        Ok(Parts { rows, script }) => { run_input(alloc, rows, script, clear, depot, writer) }
+        Err(fault) => Kept {
+            result: Err(fault),
+            clear,
+            depot,
+        },
+    }
+}
+
+/// Reads an input text to its end, and writes what its script tells of its trades, over keepers in memory.
+///
+/// With `Read`, `TooLong`, `Sections` and `Csv` nothing was written; `Journal` is never answered. At
+/// `Write` and `Memory` a first part of the text was written, or none. `steps` counts the read calls, at
+/// most 67,108,866.
+pub fn run_batch<R: Read, W: Write, L: Ledger>(
+    alloc: Global,
+    reader: &mut R,
+    writer: &mut W,
+    steps: &mut Steps<L>,
+) -> Result<(), BatchFault>
+    ensures leaves { IfSome (R.remaining reader.old) (λ bytes. BatchLeaves result bytes (W.contents writer.old) (W.contents writer.new)) }
+    ensures none { IfErr result (λ e. WritesNothing e → W.contents writer.new ≡ W.contents writer.old) }
+    ensures end { OnOk result (IsAtEnd (R.remaining reader.new)) }
+    ensures reads { steps.new ≤ steps.old + 67108866 }
+{
+    let Kept {
+        result,
+        clear,
+        depot,
+    } = run_batch_kept(
+        alloc,
+        reader,
+        writer,
+        steps,
+        ListKeeper::new(alloc),
+        ListKeeper::new(alloc),
+    );
+    drop((clear, depot));
+    result
+}

@@ -1,0 +1,24 @@
+//! Whole batches: an input text of openings, trades and a script is read, both nodes are opened, and what
+//! the script's commands tell is written.
+//!
+//! `run_batch` runs over keepers in memory, `run_batch_kept` over those that it is given, and `run_desk`
+//! lets workers serve the lots. The text that a batch writes is a function of the bytes that it reads
+//! (`text_of`). `check_cusip` says of one text whether it is a CUSIP.
+#![tactic(auto)]
+
+mod batch;
+mod check;
+mod commands;
+mod desk;
+mod fault;
+mod line;
+mod lines;
+mod opening;
+mod output;
+mod page;
+mod runner;
+mod script;
+
+pub use batch::{Kept, run_batch, run_batch_kept};
+pub use check::check_cusip;
+pub use desk::run_desk;

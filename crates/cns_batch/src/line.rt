@@ -1,0 +1,156 @@
+ghost use Rattle.std.specs.Prelude.{◌≡◌};
+ghost use Rattle.cns_batch.specs.Run.{beside_begun, beside_served, command_run, ended, ended_when_due, is_due as is_due_of, line_counted, line_run, one_line_fewer as one_line_fewer_of, waited};
+ghost use Rattle.cns_batch.specs.Runs.{Runs};
+
+use crate::fault::OutputFault;
+use crate::runner::{Beside, Runner};
+use cns_ids::Cusip;
+use cns_input::Command;
+use cns_journal::Keeper;
+use cns_report::Line;
+use cns_system::Opened;
+use std::io::Write;
+
+// One line fewer is to run beside the lot.
+fn one_line_fewer(beside: Option<Beside>) -> Option<Beside>
+    ensures { result ≡ one_line_fewer_of beside }
+{
+    match beside {
+        Some(Beside { lot, lines }) => Some(Beside {
+            lot,
+            lines: lines.saturating_sub(1),
+        }),
+        None => None,
+    }
+}
+
+// Whether a lot waits and no more lines are to run beside it.
+fn is_due(beside: &Option<Beside>) -> bool
+    ensures { result ≡ is_due_of beside.now }
+{
+    match beside {
+        Some(beside) => beside.lines == 0,
+        None => false,
+    }
+}
+
+impl<C: Keeper, D: Keeper> Runner<C, D> {
+    // Serves the lot that waited, where one did and was opened.
+    fn serve_beside<W: Write>(
+        &mut self,
+        beside: Option<Beside>,
+        writer: &mut W,
+    ) -> Result<(), OutputFault>
+        ensures { Runs (beside_served beside) result (record { run = self.old; sent = W.contents writer.old }) (record { run = self.new; sent = W.contents writer.new }) }
+    {
+        match beside {
+            Some(Beside { lot, .. }) => self.serve_if_open(lot, writer),
+            None => Ok(()),
+        }
+    }
+
+    /// Serves the lot that waits, where one does.
+    pub(crate) fn end<W: Write>(&mut self, writer: &mut W) -> Result<(), OutputFault>
+        ensures { Runs ended result (record { run = self.old; sent = W.contents writer.old }) (record { run = self.new; sent = W.contents writer.new }) }
+    {
+        let beside = self.take_beside();
+        self.serve_beside(beside, writer)
+    }
+
+    // Serves the lot that waits where no more lines are to run beside it.
+    fn end_when_due<W: Write>(&mut self, writer: &mut W) -> Result<(), OutputFault>
+        ensures { Runs ended_when_due result (record { run = self.old; sent = W.contents writer.old }) (record { run = self.new; sent = W.contents writer.new }) }
+    {
+        if is_due(&self.beside) {
+            return self.end(writer);
+        }
+        Ok(())
+    }
+
+    // Counts a line that has run, and serves the lot that waits where it was the last one.
+    fn count_line<W: Write>(&mut self, writer: &mut W) -> Result<(), OutputFault>
+        ensures { Runs line_counted result (record { run = self.old; sent = W.contents writer.old }) (record { run = self.new; sent = W.contents writer.new }) }
+    {
+        let beside = self.take_beside();
+        self.set_beside(one_line_fewer(beside));
+        self.end_when_due(writer)
+    }
+
+    // Lets a lot wait for so many lines.
+    fn wait_for<W: Write>(
+        &mut self,
+        lines: u64,
+        lot: Option<Opened>,
+        writer: &mut W,
+    ) -> Result<(), OutputFault>
+        ensures { Runs (waited lines lot) result (record { run = self.old; sent = W.contents writer.old }) (record { run = self.new; sent = W.contents writer.new }) }
+    {
+        self.set_beside(Some(Beside { lot, lines }));
+        self.end_when_due(writer)
+    }
+
+    // Runs the line, by its number, of a command that opens a lot beside the next lines. One of these lines
+    // can't do so again.
+    fn begin_beside<W: Write>(
+        &mut self,
+        number: u64,
+        issue: Cusip,
+        lines: u64,
+        writer: &mut W,
+    ) -> Result<(), OutputFault>
+        ensures { Runs (beside_begun number issue lines) result (record { run = self.old; sent = W.contents writer.old }) (record { run = self.new; sent = W.contents writer.new }) }
+    {
+        if self.is_beside() {
+            self.tell(Line::BadCommand { line: number }, writer)?;
+            return self.count_line(writer);
+        }
+        let lot = self.open_lot(issue, writer)?;
+        self.wait_for(lines, lot, writer)
+    }
+
+    // Runs a command, in the line of this number.
+    fn run_command<W: Write>(
+        &mut self,
+        number: u64,
+        command: &Command,
+        writer: &mut W,
+    ) -> Result<(), OutputFault>
+        ensures { Runs (command_run number command.now) result (record { run = self.old; sent = W.contents writer.old }) (record { run = self.new; sent = W.contents writer.new }) }
+    {
+        match *command {
+            Command::Skip => Ok(()),
+            Command::TakeAll => self.take_all(writer),
+            Command::Take(rows) => self.take(rows, writer),
+            Command::Single(event) => self.run_event(event, writer),
+            Command::Look(lot) => self.look(lot, writer),
+            Command::Allocate(issue) => self.allocate(issue, writer),
+            Command::Fail { node, stands } => self.fail(node, stands, writer),
+            Command::Pump => self.pump(writer),
+            Command::Report => self.report(writer),
+            Command::Beside { .. } | Command::Bad => {
+                self.tell(Line::BadCommand { line: number }, writer)
+            }
+        }
+    }
+
+    /// Runs the line of this number.
+    pub(crate) fn run_line<W: Write>(
+        &mut self,
+        number: u64,
+        command: &Command,
+        writer: &mut W,
+    ) -> Result<(), OutputFault>
+        ensures { Runs (line_run number command.now) result (record { run = self.old; sent = W.contents writer.old }) (record { run = self.new; sent = W.contents writer.new }) }
+    {
+        match command {
+            Command::Skip => Ok(()),
+            Command::Beside { issue, lines } => {
+                self.begin_beside(number, *issue, *lines, writer)
+            }
+            command => {
+                self.run_command(number, command, writer)?;
+                self.count_line(writer)
+            }
+        }
+    }
+}

@@ -1,0 +1,3 @@
+pub mod ReadLemmas
+pub mod SectionLemmas
+pub mod WordLemmas

@@ -1,0 +1,287 @@
+ghost use Rattle.std.specs.Prelude.{◌≡◌, ◌==◌, ◌<◌, option_map, length, IfSome};
+ghost use Rattle.std.specs.List.{position_from};
+ghost use Rattle.cns_input.specs.Words.{split_at_space, words_of};
+ghost use Rattle.cns_input.specs.Script.{command_of as command_of_line, form_of, single as single_of, pair as pair_of, pair_event as pair_event_of, triple_event as triple_event_of, triple as triple_of, quadruple as quadruple_of, quadruple_event as quadruple_event_of, take_in, one_of, place_in, member_in, issue_in, switch_in, node_in, stands_in, kind_in};
+
+use cns_ids::{Cusip, CycleId, CycleKind, Day, MemberNo, Shares, read_number};
+use cns_system::{Event, NodeName};
+
+/// A line of the script.
+#[derive(Clone, Copy)]
+pub enum Command {
+    /// A blank line or a comment.
+    Skip,
+    /// `TAKE ALL`: all rows of trades that are left.
+    TakeAll,
+    /// `TAKE n`: the next n rows of trades.
+    Take(u64),
+    /// A command that is one event at a node, of the link or of a lot.
+    Single(Event),
+    /// `LOOK lot`: what stands of the lot is told.
+    Look(u64),
+    /// `ALLOCATE cusip`: a lot of the issue is opened, served and closed.
+    Allocate(Cusip),
+    /// `BESIDE cusip k`: the same, with this many of the next lines run once the lot is open.
+    Beside { issue: Cusip, lines: u64 },
+    /// `FAIL node KEEP` or `DROP`: the next commit of the node fails, and its record then stands at
+    /// the restart or does not.
+    Fail { node: NodeName, stands: bool },
+    /// `PUMP`: each unconfirmed order is sent, executed and confirmed.
+    Pump,
+    /// `REPORT`.
+    Report,
+    /// A line that fits no form.
+    Bad,
+}
+
+// The place of the first space.
+fn first_space(line: &[u8]) -> Option<usize>
+    ensures place { result ≡ position_from (λ c. c == 32) 0 line.now }
+    ensures within { IfSome result (λ i. i < length line.now) }
+{
+    for (place, byte) in line.iter().enumerate() {
+        if *byte == b' ' {
+            return Some(place);
+        }
+    }
+    None
+}
+
+// The bytes before the first space, and those after it where there is one.
+fn split_word(line: &[u8]) -> (&[u8], Option<&[u8]>)
+    ensures { (result.0.now, option_map (λ r. r.now) result.1) ≡ split_at_space line.now }
+{
+    match first_space(line) {
+        Some(place) => (&line[..place], Some(&line[place + 1..])),
+        None => (line, None),
+    }
+}
+
+// The number of an order, of a packet or of a lot.
+fn read_place(text: &[u8]) -> Option<u64>
+    ensures { result ≡ place_in text.now }
+{
+    read_number(text, 0, 1_000_000_000).ok()
+}
+
+fn read_member(text: &[u8]) -> Option<MemberNo>
+    ensures { result ≡ member_in text.now }
+{
+    MemberNo::read(text).ok()
+}
+
+fn read_issue(text: &[u8]) -> Option<Cusip>
+    ensures { result ≡ issue_in text.now }
+{
+    Cusip::read(text).ok()
+}
+
+// What one of two words stands for.
+fn read_one_of<T: Drop>(text: &[u8], this: &[u8], a: T, that: &[u8], b: T) -> Option<T>
+    ensures { result ≡ one_of this.now a that.now b text.now }
+{
+    if text == this {
+        Some(a)
+    } else if text == that {
+        Some(b)
+    } else {
+        None
+    }
+}
+
+fn read_kind(text: &[u8]) -> Option<CycleKind>
+    ensures { result ≡ kind_in text.now }
+{
+    read_one_of(text, b"NIGHT", CycleKind::Night, b"DAY", CycleKind::Day)
+}
+
+fn read_switch(text: &[u8]) -> Option<bool>
+    ensures { result ≡ switch_in text.now }
+{
+    read_one_of(text, b"ON", true, b"OFF", false)
+}
+
+fn read_node(text: &[u8]) -> Option<NodeName>
+    ensures { result ≡ node_in text.now }
+{
+    read_one_of(text, b"CLEAR", NodeName::Clear, b"DEPOT", NodeName::Depot)
+}
+
+// Whether the record of a planned failure stands.
+fn read_stands(text: &[u8]) -> Option<bool>
+    ensures { result ≡ stands_in text.now }
+{
+    read_one_of(text, b"KEEP", true, b"DROP", false)
+}
+
+// All rows, or a number of them.
+fn read_take(text: &[u8]) -> Option<Command>
+    ensures { result ≡ take_in text.now }
+{
+    if text == b"ALL".as_slice() {
+        return Some(Command::TakeAll);
+    }
+    read_number(text, 1, 1_000_000).ok().map(Command::Take)
+}
+
+// The commands of one word.
+fn single(word: &[u8]) -> Option<Command>
+    ensures { result ≡ single_of word.now }
+{
+    if word == b"REPORT".as_slice() {
+        Some(Command::Report)
+    } else if word == b"PUMP".as_slice() {
+        Some(Command::Pump)
+    } else {
+        None
+    }
+}
+
+// The event that two words are: `SEND n`, `ORDER k`, `REPLY k`, `RESTART node`, `LOT cusip`, `POUR lot`,
+// `SEAL lot` or `CLOSE lot`.
+fn pair_event(word: &[u8], first: &[u8]) -> Option<Event>
+    ensures { result ≡ pair_event_of word.now first.now }
+{
+    if word == b"SEND".as_slice() {
+        let number = read_place(first)?;
+        Some(Event::Send { number })
+    } else if word == b"ORDER".as_slice() {
+        let packet = read_place(first)?;
+        Some(Event::OrderIn { packet })
+    } else if word == b"REPLY".as_slice() {
+        let packet = read_place(first)?;
+        Some(Event::ReplyIn { packet })
+    } else if word == b"RESTART".as_slice() {
+        read_node(first).map(Event::Restart)
+    } else if word == b"LOT".as_slice() {
+        let issue = read_issue(first)?;
+        Some(Event::LotOpen { issue })
+    } else if word == b"POUR".as_slice() {
+        let lot = read_place(first)?;
+        Some(Event::LotPour { lot })
+    } else if word == b"SEAL".as_slice() {
+        let lot = read_place(first)?;
+        Some(Event::Seal { lot })
+    } else if word == b"CLOSE".as_slice() {
+        let lot = read_place(first)?;
+        Some(Event::LotClose { lot })
+    } else {
+        None
+    }
+}
+
+// The commands of two words.
+fn pair(word: &[u8], first: &[u8]) -> Option<Command>
+    ensures { result ≡ pair_of word.now first.now }
+{
+    if word == b"TAKE".as_slice() {
+        read_take(first)
+    } else if word == b"LOOK".as_slice() {
+        read_place(first).map(Command::Look)
+    } else if word == b"ALLOCATE".as_slice() {
+        read_issue(first).map(Command::Allocate)
+    } else {
+        pair_event(word, first).map(Command::Single)
+    }
+}
+
+// The event that three words are: `CYCLE NIGHT date`, `CYCLE DAY date`, or `RESERVE lot member`.
+fn triple_event(word: &[u8], first: &[u8], second: &[u8]) -> Option<Event>
+    ensures { result ≡ triple_event_of word.now first.now second.now }
+{
+    if word == b"CYCLE".as_slice() {
+        let kind = read_kind(first)?;
+        let day = Day::read(second).ok()?;
+        Some(Event::Cycle(CycleId { day, kind }))
+    } else if word == b"RESERVE".as_slice() {
+        let lot = read_place(first)?;
+        let member = read_member(second)?;
+        Some(Event::Reserve { lot, member })
+    } else {
+        None
+    }
+}
+
+// The commands of three words.
+fn triple(word: &[u8], first: &[u8], second: &[u8]) -> Option<Command>
+    ensures { result ≡ triple_of word.now first.now second.now }
+{
+    if word == b"FAIL".as_slice() {
+        Some(Command::Fail {
+            node: read_node(first)?,
+            stands: read_stands(second)?,
+        })
+    } else if word == b"BESIDE".as_slice() {
+        Some(Command::Beside {
+            issue: read_issue(first)?,
+            lines: read_number(second, 0, 1000).ok()?,
+        })
+    } else {
+        triple_event(word, first, second).map(Command::Single)
+    }
+}
+
+// The event that four words are: `EXEMPT member cusip shares`, or `PRIORITY member cusip ON` or `OFF`.
+fn quadruple_event(word: &[u8], first: &[u8], second: &[u8], third: &[u8]) -> Option<Event>
+    ensures { result ≡ quadruple_event_of word.now first.now second.now third.now }
+{
+    if word == b"EXEMPT".as_slice() {
+        Some(Event::Exempt {
+            member: read_member(first)?,
+            issue: read_issue(second)?,
+            shares: Shares::read(third).ok()?,
+        })
+    } else if word == b"PRIORITY".as_slice() {
+        Some(Event::Priority {
+            member: read_member(first)?,
+            issue: read_issue(second)?,
+            on: read_switch(third)?,
+        })
+    } else {
+        None
+    }
+}
+
+// The commands of four words.
+fn quadruple(word: &[u8], first: &[u8], second: &[u8], third: &[u8]) -> Option<Command>
+    ensures { result ≡ quadruple_of word.now first.now second.now third.now }
+{
+    quadruple_event(word, first, second, third).map(Command::Single)
+}
+
+// The command that the words of a line are, where they fit a form.
+fn read_command(line: &[u8]) -> Option<Command>
+    ensures { result ≡ form_of (words_of line.now) }
+{
+    let (word, rest) = split_word(line);
+    let Some(rest) = rest else {
+        return single(word);
+    };
+    let (first, rest) = split_word(rest);
+    let Some(rest) = rest else {
+        return pair(word, first);
+    };
+    let (second, rest) = split_word(rest);
+    let Some(rest) = rest else {
+        return triple(word, first, second);
+    };
+    let (third, rest) = split_word(rest);
+    match rest {
+        None => quadruple(word, first, second, third),
+        Some(_) => None,
+    }
+}
+
+/// The command that a line of the script is.
+#[tactic(auto, unfolding(crate::specs::Script::command_of))]
+pub fn command_of(line: &[u8]) -> Command
+    ensures { result ≡ command_of_line line.now }
+{
+    if line.is_empty() || line[0] == b'#' {
+        return Command::Skip;
+    }
+    match read_command(line) {
+        Some(command) => command,
+        None => Command::Bad,
+    }
+}

@@ -1,7 +1,0 @@
-use Rattle.std.proofs.Common.{refl}
-use Rattle.cnsd.proofs.TextLemmas.{batch_leaves}
-use Rattle.cnsd.proofs.batch.run_batch.Goals as goal
-
-pub returns-clause-leaves : goal.returns-clause-leaves
-returns-clause-leaves g c =
-    batch_leaves _ c.run_batch_kept-result.result.result _ _ _ _ _ _ (rw c.new.ensures refl) (rw c.new-2.ensures refl) c.run_batch_kept-result.ensures.leaves

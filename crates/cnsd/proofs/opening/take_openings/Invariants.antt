@@ -1,9 +1,0 @@
-use Rattle.std.proofs.Common.{◌≡◌, ◌++◌, ◌+◌, [], drop, string_bytes}
-use Rattle.cnsd.specs.Opened.{told_openings}
-use Rattle.cnsd.proofs.opening.take_openings.Given as goal
-
-abbrev pub invariant-loop-row : goal.invariant-loop-row
-invariant-loop-row l =
-    (l.number ≡ l.row-index + 1)
-    × ((told_openings l.number l.openings (drop l.row-index l.rows)).0 ≡ (told_openings 1 [] l.rows).0)
-    × (string_bytes l.out ++ (told_openings l.number l.openings (drop l.row-index l.rows)).1 ≡ string_bytes l.fn.out ++ (told_openings 1 [] l.rows).1)

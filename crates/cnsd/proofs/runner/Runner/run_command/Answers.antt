@@ -1,6 +1,0 @@
-use Rattle.cnsd.specs.Acts.{done}
-use Rattle.cnsd.proofs.ActLemmas.{continues_here}
-use Rattle.cnsd.proofs.runner.Runner.run_command.Goals as goal
-
-pub returns-in-Skip : goal.returns-in-Skip
-returns-in-Skip g c = rw c.in-Skip.is (continues_here done _)
