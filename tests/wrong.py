@@ -43,15 +43,12 @@ def lanes_here():
     return max(1, min(len(os.sched_getaffinity(0)), free // MEMORY_OF_A_LANE))
 
 
-def copy_crate(name, to):
-    """Copies a crate with what was built of it, and without its edits."""
+def copy_crate(name, to, kept):
+    """Copies a crate with its library where that was built, with the kept work of its checks where that is asked for, and without its edits."""
     source, target = os.path.join(TOP, "crates", name), os.path.join(to, "crates", name)
-    for part in PARTS:
+    for part in [*PARTS, "out/rlib", *(["out/incremental"] if kept else [])]:
         if os.path.isdir(os.path.join(source, part)):
             shutil.copytree(os.path.join(source, part), os.path.join(target, part))
-    for part in ("rlib", "incremental"):
-        if os.path.isdir(os.path.join(source, "out", part)):
-            shutil.copytree(os.path.join(source, "out", part), os.path.join(target, "out", part))
 
 
 def run(words, folder):
@@ -67,15 +64,18 @@ def run(words, folder):
 
 
 def build_libraries(wanted, tree, lanes):
-    """Checks the wanted crates and those below them in the copy, and builds the libraries of the latter."""
+    """Builds the libraries below the wanted crates in the copy, where they are not there, and checks these crates."""
     stands_on = below()
     libraries = [name for name in crates() if any(name in all_below(one, stands_on) for one in wanted)]
-    checked = [name for name in crates() if name in libraries or name in wanted]
-    for name in checked:
-        copy_crate(name, tree)
-    write_lines_of(tree, checked)
-    steps = [(["rt", "all", "check", "--jobs", str(lanes)], tree)]
+    copied = [name for name in crates() if name in libraries or name in wanted]
+    for name in copied:
+        copy_crate(name, tree, name in wanted)
+    write_lines_of(tree, copied)
+    # (many libraries are built side by side by the check of all)
+    are_there = all(os.path.isdir(f"{tree}/crates/{name}/out/rlib") for name in libraries)
+    steps = [] if are_there else [(["rt", "all", "check", "--jobs", str(lanes)], tree)]
     steps += [(["rt", "lib"], f"{tree}/crates/{name}") for name in libraries]
+    steps += [(["rt", "check", "--jobs", str(lanes)], f"{tree}/crates/{name}") for name in wanted]
     for words, folder in steps:
         status, said, _ = run(words, folder)
         if status:

@@ -333,7 +333,8 @@ impl<'a, C: Keeper, D: Keeper, G: Gate + Sync, R: Threads + Wait + Sync> DeskRun
 /// where there is no memory for them.
 ///
 /// With `Read`, `TooLong`, `Sections`, `Csv` and `Journal`, each told where `run_batch_kept` tells it,
-/// nothing was written. At `Write` and `Memory` a first part of the text was written, or none. `steps` counts the read calls, at most 67,108,866.
+/// nothing was written. At `Write` and `Memory` a first part of the text was written, or none. `steps`
+/// counts the read calls, at most 67,108,866.
 pub fn run_desk<
     I: Read,
     W: Write,
