@@ -1,6 +1,6 @@
 -- What the deliveries of tickets are of, one by one and together.
-use Rattle.std.proofs.Common.{◌≡◌, ◌≤◌, ◌+◌, ℕ, min, List, [], ◌∷◌, length, Bool, true, false, None, Some, refl, arith, ◌∙◌}
-use Rattle.std.specs.Prelude.{◌==◌, All, IfSome, count_by, sum_by, if◌then◌else◌}
+use Rattle.std.proofs.Common.{◌≡◌, ◌≤◌, ◌+◌, ℕ, suc, min, cond, List, [], ◌∷◌, length, Bool, true, false, not, None, Some, ap, refl, arith, ◌∙◌}
+use Rattle.std.specs.Prelude.{◌==◌, All, IfSome, count_by, filter, sum_by, if◌then◌else◌}
 use Rattle.std.specs.List.{cons_option}
 use Rattle.std.proofs.lemmas.Bool.{eqb-true}
 use Rattle.std.proofs.lemmas.List.Sums.{sum_by-cons}
@@ -95,3 +95,18 @@ deliveries_few issue poured (t ∷ ts) = by (grant_of poured t == 0) (deliveries
         → length (cons_option (if b then None else Some (granted_ask issue poured t)) (deliveries_of issue poured ts)) ≤ length (t ∷ ts)
     by true few = omega arith
     by false few = omega arith
+
+-- there is one for each ticket that is granted a share
+pub deliveries_counted : (issue poured : ℕ) (tickets : List Ticket)
+    → length (filter (λ (t : Ticket). not (grant_of poured t == 0)) tickets) ≡ length (deliveries_of issue poured tickets)
+unfolding delivery_ask
+deliveries_counted issue poured [] = refl
+deliveries_counted issue poured (t ∷ ts) = by (grant_of poured t == 0) (deliveries_counted issue poured ts)
+  where
+    granted : List Ticket
+    granted = filter (λ (u : Ticket). not (grant_of poured u == 0)) ts
+
+    by : (b : Bool) → length granted ≡ length (deliveries_of issue poured ts)
+        → length (cond (not b) (t ∷ granted) granted) ≡ length (cons_option (if b then None else Some (granted_ask issue poured t)) (deliveries_of issue poured ts))
+    by true rest = rest
+    by false rest = ap suc rest

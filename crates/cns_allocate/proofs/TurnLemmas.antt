@@ -43,7 +43,7 @@ pub count_by-filter : {X : Type 0} (p q : X → Bool) (xs : List X) → count_by
 count_by-filter p q xs = omega (arith, sum_by-filter_both p (λ x. not (p x)) (λ x. refl) (λ x. cond (q x) 1 0) xs)
 
 -- where none passes, each fails
-count_none : {X : Type 0} (p : X → Bool) (xs : List X) → count_by p xs ≡ 0 → All (λ x. p x ≡ false) xs
+pub count_none : {X : Type 0} (p : X → Bool) (xs : List X) → count_by p xs ≡ 0 → All (λ x. p x ≡ false) xs
 count_none p [] none = All-nil _
 count_none p (x ∷ xs) none = by (p x) refl (count_none p xs)
   where

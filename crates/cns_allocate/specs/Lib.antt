@@ -4,3 +4,4 @@ pub mod Grants
 pub mod Served
 pub mod Deliveries
 pub mod Serving
+pub mod Waiting

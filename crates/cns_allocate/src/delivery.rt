@@ -1,4 +1,4 @@
-ghost use Rattle.std.specs.Prelude.{◌≡◌, ◌^◌, ◌≤◌, min, sum_by, IfOk};
+ghost use Rattle.std.specs.Prelude.{◌≡◌, ◌^◌, ◌≤◌, ℕ, length, min, sum_by, IfOk};
 ghost use Rattle.cns_pool.specs.Tiles.{Tiles};
 ghost use Rattle.cns_pool.specs.Pool.{asked_sum, intervals_of};
 ghost use Rattle.cns_movements.specs.declared.order.Ask.{Ask};
@@ -30,6 +30,17 @@ pub fn deliveries(
         .iter()
         .filter_map(|ticket| delivery_of(issue, ticket, poured))
         .collect(alloc)
+}
+
+/// How many deliveries tickets are granted where this many shares were poured into their pool: one for
+/// each ticket that is granted a share. It takes no memory. (This project's own rule.)
+pub fn delivery_count(tickets: &[Ticket], poured: u64) -> usize
+    ensures { (issue : ℕ) → result ≡ length (deliveries_of issue poured tickets.now) }
+{
+    tickets
+        .iter()
+        .filter(|ticket| grant(ticket, poured) != 0)
+        .count()
 }
 
 // The delivery of a ticket, where it is granted a share.

@@ -16,8 +16,9 @@ mod served;
 mod serving;
 mod ticket_order;
 mod turns;
+mod waiting;
 
-pub use delivery::deliveries;
+pub use delivery::{deliveries, delivery_count};
 pub use gate::{Gate, OpenGate};
 pub use grants::Grants;
 pub use group::Group;

@@ -128,7 +128,7 @@ fn planned_as(plan: &[Planned], member: MemberNo) -> Option<Planned>
 }
 
 // Whether one is of an earlier group than another.
-fn is_before(one: &Planned, other: &Planned) -> bool
+pub(crate) fn is_before(one: &Planned, other: &Planned) -> bool
     ensures { result ≡ nat_lt (rank one.now.group) (rank other.now.group) }
 {
     one.group < other.group

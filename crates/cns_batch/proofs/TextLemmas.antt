@@ -1,5 +1,5 @@
 -- What a run of a script writes of an input's text.
-use Rattle.std.proofs.Common.{◌≡◌, ◌<◌, ◌≤◌, ℕ, Bool, false, true, length, List, [], ◌++◌, take, Option, Some, None, Result, Ok, Err, refl, sym, ap, ◌∙◌, subst, inl, inr}
+use Rattle.std.proofs.Common.{◌≡◌, ◌≤◌, ℕ, Bool, false, true, length, List, [], ◌++◌, take, Option, Some, None, Result, Ok, Err, refl, sym, ap, ◌∙◌, subst, inl, inr}
 use Rattle.std.specs.Prelude.{IfErr, IfSome, OnOk, if◌then◌else◌}
 use Rattle.std.proofs.lemmas.List.{append-nil}
 use Rattle.std.proofs.lemmas.Option.{IfSome_then}
@@ -11,11 +11,10 @@ use Rattle.cns_system.specs.World.{World}
 use Rattle.cns_system.specs.declared.fault.StartFault.{StartFault}
 use Rattle.cns_batch.specs.Acts.{Told, done}
 use Rattle.cns_batch.specs.Ending.{batch_result}
-use Rattle.cns_input.specs.Reading.{IsReadFault}
 use Rattle.cns_batch.specs.Run.{lines_run}
 use Rattle.cns_batch.specs.Runs.{Continues, Place, RunState, Runs, Stops, course_at}
 use Rattle.cns_input.specs.Sections.{raw_lines}
-use Rattle.cns_batch.specs.Text.{BatchLeaves, Input, KeptLeaves, LeavesSomeKeepers, OpensBoth, RunsInput, SaysOf, Tells, WritesAll, WritesNothing, WritesPart, WritesTextPart, fault_of_start, input_of, is_short, new_keeper, text_by, text_from, text_in}
+use Rattle.cns_batch.specs.Text.{BatchLeaves, Input, KeptLeaves, OpensBoth, RunsInput, SaysOf, Tells, WritesAll, WritesNothing, WritesPart, WritesTextPart, fault_of_start, input_of, is_short, new_keeper, text_by, text_from, text_in}
 use Rattle.cns_input.specs.declared.fault.BatchFault.{BatchFault}
 use Rattle.cns_input.specs.declared.fault.BatchFault.TheVariants as fault
 use Rattle.cns_batch.specs.declared.fault.OutputFault.{OutputFault}
@@ -116,44 +115,6 @@ batch_leaves known result c d c' d' old new is_c is_d left =
     batch_by result b c' d' old new (subst (λ c. KeptLeaves result b c new_keeper c' d' old new) is_c (subst (λ d. KeptLeaves result b c d c' d' old new) is_d kept)))
 
 -- ---- what an answer says of the input, whatever was written
-
-pub leaves_some : (known : Option (List ℕ)) (result : Result (Unit {0}) BatchFault) (c d c' d' : KeeperState) (old new : Option (List ℕ))
-    → IfSome known (λ b. KeptLeaves result b c d c' d' old new) → IfSome known (λ b. LeavesSomeKeepers result b c d old new)
-leaves_some known result c d c' d' old new left = IfSome_then known left (λ b kept. (c', d', kept))
-
-said_by : (result : Result (Unit {0}) BatchFault) (bytes : List ℕ) (c d c' d' : KeeperState) (old new : Option (List ℕ)) → KeptLeaves result bytes c d c' d' old new
-    → SaysOf result bytes c d
-said_by (Ok u) bytes c d c' d' old new (le, (input, is, (w, started, written))) = (le, (input, is, (w, started)))
-said_by (Err fault.Read) bytes c d c' d' old new left = tt
-said_by (Err fault.TooLong) bytes c d c' d' old new left = left.0
-said_by (Err fault.Sections) bytes c d c' d' old new left = left.0
-said_by (Err fault.Csv) bytes c d c' d' old new left = left.0
-said_by (Err fault.Journal) bytes c d c' d' old new (input, is, (unopened, same)) = (input, is, (c', d', unopened))
-said_by (Err fault.Memory) bytes c d c' d' old new left = tt
-said_by (Err fault.Write) bytes c d c' d' old new (input, is, (w, started, written)) = (input, is, (w, started))
-
-pub says_kept : (known : Option (List ℕ)) (result : Result (Unit {0}) BatchFault) (c d c' d' : KeeperState) (old new : Option (List ℕ))
-    → IfSome known (λ b. KeptLeaves result b c d c' d' old new) → IfSome known (λ b. SaysOf result b c d)
-says_kept known result c d c' d' old new left = IfSome_then known left (λ b kept. said_by result b c d c' d' old new kept)
-
-pub says_unread : (known : Option (List ℕ)) (e : BatchFault) (c d : KeeperState) → IsReadFault e → (e ≡ fault.TooLong → IfSome known (λ b. 67108864 < length b))
-    → IfSome known (λ b. SaysOf (Err e) b c d)
-says_unread None e c d kind long = tt
-says_unread (Some b) fault.Read c d kind long = tt
-says_unread (Some b) fault.TooLong c d kind long = long refl
-says_unread (Some b) fault.Memory c d kind long = tt
-says_unread (Some b) _ c d kind long = absurd kind
-
-said_told : (e : BatchFault) (bytes : List ℕ) (c d : KeeperState) → Tells e (input_of bytes) → SaysOf (Err e) bytes c d
-said_told fault.Read bytes c d told = tt
-said_told fault.Sections bytes c d told = told
-said_told fault.Csv bytes c d told = told
-said_told fault.Memory bytes c d told = tt
-said_told _ bytes c d told = absurd told
-
-pub says_told : (known : Option (List ℕ)) (bytes : List ℕ) (e : BatchFault) (c d : KeeperState) → IfSome known (λ b. bytes ≡ b) → Tells e (input_of bytes)
-    → IfSome known (λ b. SaysOf (Err e) b c d)
-says_told known bytes e c d all told = of_all (λ b. SaysOf (Err e) b c d) known bytes all (said_told e bytes c d told)
 
 said_unopened : (short : Bool) (bytes : List ℕ) (input : Input) (why : StartFault) (c d c' d' : KeeperState) → is_short why ≡ short → input_of bytes ≡ Ok input
     → IsNotOpened input.openings why c d c' d' → SaysOf (Err (if short then fault.Memory else fault.Journal)) bytes c d

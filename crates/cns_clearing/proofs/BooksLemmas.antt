@@ -6,7 +6,11 @@ use Rattle.std.proofs.lemmas.Option.{same_Some}
 use Rattle.cns_trades.proofs.ListLemmas.{new-few}
 use Rattle.cns_netting.specs.Book.{IsWithin, IsBook}
 use Rattle.cns_netting.specs.History.{accepted, position_of}
+use Rattle.cns_netting.specs.declared.entry.NetEntry.TheVariants.{Netted}
+use Rattle.cns_netting.specs.declared.position.PositionRow.{PositionRow}
 use Rattle.cns_netting.proofs.BookLemmas.{book_accepted, book_empty, book_netted, book_settled}
+use Rattle.cns_netting.proofs.IssueLemmas.{rows_stand_by_issue}
+use Rattle.std.specs.List.Sorted.{IsNonDecreasingBy}
 use Rattle.cns_movements.specs.Book.{Orders, IsOrderBook}
 use Rattle.cns_movements.specs.Confirm.{confirm_answer}
 use Rattle.cns_movements.specs.Order.{order_of}
@@ -103,16 +107,30 @@ netted_more (Cycle id) b sound allowed ranges = book_netted b.history id.day sou
 netted_more (Allocate a) b sound allowed ranges = sound.netted
 netted_more (Confirm r) b sound allowed ranges = netted_confirmed b r sound (taken_from_done b.orders r allowed)
 
+-- the positions after the latest cycle and after the one before it stand by issue
+abbrev StandByIssue : List PositionRow → Type 0
+StandByIssue rows = IsNonDecreasingBy (λ (row : PositionRow). row.issue) rows
+
+listed : (c : List ClearRecord) → StandByIssue (books_of c).recent × StandByIssue (books_of c).previous
+unfolding books_of
+listed [] = (λ i j d le below. absurd (omega (arith, below)), λ i j d le below. absurd (omega (arith, below)))
+listed (Accept t ∷ c) = listed c
+listed (Exempt m i s ∷ c) = listed c
+listed (Priority m i is_on ∷ c) = listed c
+listed (Cycle id ∷ c) = (rows_stand_by_issue (Netted id.day ∷ (books_of c).history), (listed c).0)
+listed (Allocate a ∷ c) = listed c
+listed (Confirm r ∷ c) = listed c
+
 -- the books of lawful records are sound
 pub lawful_sound : (c : List ClearRecord) → IsLawful c → AreWritable c → AreSound (books_of c)
 unfolding books_of
 lawful_sound [] lawful fits =
     let orderly = lawful_bounded [] lawful in
-    record { netted = book_empty; bounded = orderly.bounded; ordered = orderly.ordered }
+    record { netted = book_empty; bounded = orderly.bounded; ordered = orderly.ordered; listed = (listed []).1 }
 lawful_sound (r ∷ c) lawful fits =
     let orderly = lawful_bounded (r ∷ c) lawful in
     let netted = netted_more r (books_of c) (lawful_sound c lawful.1 fits.1) lawful.0 fits.0.0 in
-    record { netted = netted; bounded = orderly.bounded; ordered = orderly.ordered }
+    record { netted = netted; bounded = orderly.bounded; ordered = orderly.ordered; listed = (listed (r ∷ c)).1 }
 
 -- records are lawful from the oldest one on
 pub lawful_before : (later c : List ClearRecord) → IsLawful (later ++ c) → IsLawful c

@@ -7,12 +7,12 @@ use Rattle.std.proofs.lemmas.List.Elements.{All-weaker}
 use Rattle.std.proofs.lemmas.List.Sums.{sum_by-cons}
 use Rattle.std.proofs.lemmas.Option.{none-some}
 use Rattle.cns_pool.specs.declared.ticket.Ticket.{Ticket}
+use Rattle.cns_allocate.proofs.NumberLemmas.{pigeonhole}
 use Rattle.cns_records.specs.Drawn.{IsDrawn}
 use Rattle.cns_records.specs.declared.drawn.Drawn.{Drawn}
 use Rattle.cns_clearing.specs.Answers.{drawn_in_record, drawn_of}
 use Rattle.cns_clearing.specs.Books.{tickets_of}
 use Rattle.cns_clearing.specs.Closing.{AreApart}
-use Rattle.cns_clearing.proofs.TotalLemmas.{small_pigeonhole}
 
 -- the tickets of a record are those that were drawn
 pub tickets_drawn : (tickets : List Ticket) → tickets_of (drawn_of tickets) ≡ tickets
@@ -37,7 +37,7 @@ drawn_few ts ds i all same ranges apart =
     let whole : ds ≡ drawn_of ts = same ∙ ap (map drawn_in_record) (take_all i ts all) in
     let once : (member : ℕ) → count_by (λ (d : Drawn). d.member == member) ds ≤ 1 =
     λ member. subst (λ (l : List Drawn). count_by (λ (d : Drawn). d.member == member) l ≤ 1) (sym whole) (let most = apart member in omega (arith, most, drawn_times member ts)) in
-    small_pigeonhole 9999 ds (All-weaker IsDrawn (λ (d : Drawn). (1 ≤ d.member) × (d.member ≤ 9999)) (λ d is. (is.member.from, is.member.to)) ds ranges) once
+    pigeonhole (λ (d : Drawn). d.member) 9999 ds (All-weaker IsDrawn (λ (d : Drawn). (1 ≤ d.member) × (d.member ≤ 9999)) (λ d is. (is.member.from, is.member.to)) ds ranges) once
 
 -- so they are a list of a record
 pub drawn_fits : (d : List Drawn) (answer : Option (List Drawn)) → length d ≤ 9999 → answer ≡ (if nat_le (length d) 9999 then Some d else None) → answer ≡ None → ⊥

@@ -1,5 +1,5 @@
 -- What the calls of lots leave.
-use Rattle.std.proofs.Common.{◌≡◌, ◌≤◌, ◌+◌, ◌-◌, ℕ, Bool, false, List, [], ◌∷◌, ◌++◌, length, map, Some, None, Ok, Err, ◌≢◌, refl, sym, ap, ◌∙◌, subst}
+use Rattle.std.proofs.Common.{◌≡◌, ◌≤◌, ◌+◌, ◌-◌, ℕ, Bool, false, List, [], ◌∷◌, ◌++◌, length, map, Some, None, Ok, Err, refl, sym, ap, ◌∙◌, subst}
 use Rattle.std.specs.Prelude.{IfOk, Result}
 use Rattle.std.specs.declared.alloc.AllocError.{AllocError}
 use Rattle.cns_pool.specs.Pool.{asked_sum}
@@ -16,12 +16,11 @@ use Rattle.cns_records.specs.Clear.{AreWritable}
 use Rattle.cns_records.specs.declared.allocation.Allocation.{Allocation}
 use Rattle.cns_records.specs.declared.clear_record.ClearRecord.{ClearRecord}
 use Rattle.cns_records.specs.declared.clear_record.ClearRecord.TheVariants.{Allocate}
-use Rattle.cns_clearing.specs.Answers.{LotCloseLeaves, LotOpenLeaves, LotPourLeaves, MayClose, allocation_of}
+use Rattle.cns_clearing.specs.Answers.{Closes, LotCloseLeaves, LotOpenLeaves, LotPourLeaves, MayClose, allocation_of}
 use Rattle.cns_records.specs.Refusals.{commit_refusal}
 use Rattle.cns_journal.specs.declared.record_log.CommitFault.{CommitFault}
 use Rattle.cns_journal.specs.declared.record_log.CommitFault.TheVariants as commit
-use Rattle.std.proofs.lemmas.Option.{none-some}
-use Rattle.cns_clearing.specs.Books.{Books, IsAllocable, IsAllowed, IsLawful, are_spent, books_of, deliveries_in, history_of, orders_of, tickets_of}
+use Rattle.cns_clearing.specs.Books.{Books, IsAllocable, IsAllowed, IsLawful, are_spent, are_spent_by, books_of, deliveries_in, history_of, orders_of, tickets_of}
 use Rattle.cns_clearing.specs.Closing.{AreRecordable}
 use Rattle.cns_clearing.specs.Lots.{AreLots, IsAllocation, avail_in, longs_among, lots_poured, new_lot, plan_in}
 use Rattle.cns_clearing.specs.Node.{AddLeaves, ClearNode}
@@ -80,15 +79,11 @@ pub opened_lots : (c : List ClearRecord) (lots room lots' : List Lot) (issue n p
 opened_lots c lots room lots' issue n poured plan are none count avail is same list =
     subst (AreLots c) (sym (list ∙ ap (with_lot issue n poured plan) same ∙ ap (λ (x : Lot). lots ++ x ∷ []) (opened_is c issue n poured plan count avail is))) (lots_opened c lots issue are none)
 
-pub open_leaves : (old : ClearNode) (room lots' : List Lot) (issue n poured : ℕ) (plan answer : List Planned) → old.log.down ≡ false → lot_of old.lots issue ≡ None
-    → n ≡ length old.log.records → poured ≡ avail_in old.log.records issue → plan ≡ plan_in old.log.records issue → answer ≡ plan
-    → room ≡ old.lots → lots' ≡ room ++ record { issue = issue; opened = n; upto = n; poured = poured; plan = plan } ∷ [] → LotOpenLeaves issue (Ok answer) old (record old { lots = lots' })
-open_leaves old room lots' issue n poured plan answer up none count avail is copied same list = (
-  up,
-  none,
-  copied ∙ is,
-  ap (λ (l : List Lot). record old { lots = l }) (list ∙ ap (with_lot issue n poured plan) same ∙ ap (λ (x : Lot). old.lots ++ x ∷ []) (opened_is old.log.records issue n poured plan count avail is)),
-)
+pub opened_with : (old : ClearNode) (room lots' : List Lot) (issue n poured : ℕ) (plan : List Planned) → n ≡ length old.log.records → poured ≡ avail_in old.log.records issue
+    → plan ≡ plan_in old.log.records issue → room ≡ old.lots → lots' ≡ room ++ record { issue = issue; opened = n; upto = n; poured = poured; plan = plan } ∷ []
+    → record old { lots = lots' } ≡ record old { lots = old.lots ++ new_lot old.log.records issue ∷ [] }
+opened_with old room lots' issue n poured plan count avail is same list =
+    ap (λ (l : List Lot). record old { lots = l }) (list ∙ ap (with_lot issue n poured plan) same ∙ ap (λ (x : Lot). old.lots ++ x ∷ []) (opened_is old.log.records issue n poured plan count avail is))
 
 -- ---- closing a lot
 
@@ -124,34 +119,44 @@ close_asks node issue poured tickets sealed a asks are may count is =
     is ∙ ap (λ (p : ℕ). deliveries_of issue p tickets) count ∙ ap (λ (i : ℕ). deliveries_of i a.poured tickets) (sym its)
     ∙ ap (λ (ts : List Ticket). deliveries_of a.issue a.poured ts) (sym drawn)
 
--- whether the numbers suffice, of the records
-pub spent_is : (b : Books) (c : List ClearRecord) (l asks : List Ask) (a : Allocation) (r v : Bool) → b ≡ books_of c → l ≡ asks → asks ≡ deliveries_in a
-    → r ≡ are_spent b.orders l → r ≡ v → are_spent (orders_of c) (deliveries_in a) ≡ v
-spent_is b c l asks a r v same list is spent e =
-    sym (spent ∙ ap (λ (x : Books). are_spent x.orders l) same ∙ ap (are_spent (orders_of c)) (list ∙ is)) ∙ e
+-- whether the numbers suffice for the deliveries, of the records
+pub close_spent : (c : List ClearRecord) (b : Books) (lot : Lot) (tickets : List Ticket) (sealed : Bool) (poured count : ℕ) (spent v : Bool) → b ≡ books_of c → poured ≡ lot.poured
+    → ((issue : ℕ) → count ≡ length (deliveries_of issue poured tickets)) → spent ≡ are_spent_by b.orders count → spent ≡ v
+    → are_spent (orders_of c) (deliveries_in (allocation_of lot tickets sealed)) ≡ v
+close_spent c b lot tickets sealed poured count spent v same is counted read e =
+    let asks : deliveries_in (allocation_of lot tickets sealed) ≡ deliveries_of lot.issue poured tickets =
+    ap (deliveries_of lot.issue lot.poured) (tickets_drawn tickets) ∙ ap (λ (p : ℕ). deliveries_of lot.issue p tickets) (sym is) in
+    ap (are_spent (orders_of c)) asks ∙ ap (are_spent_by (orders_of c)) (sym (counted lot.issue)) ∙ ap (λ (x : Books). are_spent_by x.orders count) (sym same) ∙ sym read ∙ e
+
+-- the allocation of a lot that closes
+pub closes_by : (node : ClearNode) (issue : ℕ) (tickets : List Ticket) (sealed : Bool) (lot : Lot) (a : Allocation) → Closes node issue tickets sealed lot
+    → a ≡ allocation_of lot tickets sealed → MayClose node issue tickets sealed a × (are_spent (orders_of node.log.records) (deliveries_in a) ≡ false)
+closes_by node issue tickets sealed lot a closes is =
+    subst (λ (x : Allocation). MayClose node issue tickets sealed x × (are_spent (orders_of node.log.records) (deliveries_in x) ≡ false)) (sym is) (closes.may, closes.numbers)
+
+-- there are numbers for its deliveries
+pub close_numbers : (b : Books) (c : List ClearRecord) (l asks : List Ask) (a : Allocation) → b ≡ books_of c → l ≡ asks → asks ≡ deliveries_in a
+    → are_spent (orders_of c) (deliveries_in a) ≡ false → are_spent b.orders l ≡ false
+close_numbers b c l asks a same list is enough = ap (λ (x : Books). are_spent x.orders l) same ∙ ap (are_spent (orders_of c)) (list ∙ is) ∙ enough
 
 -- and where there are numbers for them the allocation may be recorded
-pub close_allowed : (node : ClearNode) (issue : ℕ) (tickets : List Ticket) (sealed : Bool) (a : Allocation) (b : Books) (l asks : List Ask) (spent : Bool) → IsLawful node.log.records → AreWritable node.log.records
-    → AreLots node.log.records node.lots → MayClose node issue tickets sealed a → b ≡ books_of node.log.records → l ≡ asks → asks ≡ deliveries_in a → spent ≡ are_spent b.orders l → spent ≡ false
+pub close_allowed : (node : ClearNode) (issue : ℕ) (tickets : List Ticket) (sealed : Bool) (a : Allocation) → IsLawful node.log.records → AreWritable node.log.records
+    → AreLots node.log.records node.lots → MayClose node issue tickets sealed a → are_spent (orders_of node.log.records) (deliveries_in a) ≡ false
     → IsAllowed node.log.records (Allocate a)
-close_allowed node issue tickets sealed a b l asks spent lawful fits are may same list is read enough =
+close_allowed node issue tickets sealed a lawful fits are may enough =
     let lot = may.lot in
     let its = (lot_found node.log.records node.lots issue lot are may.found).0 in
     let mine : deliveries_in a ≡ deliveries_of lot.issue lot.poured tickets =
     ap deliveries_in may.closes ∙ ap (λ (ts : List Ticket). deliveries_of lot.issue lot.poured ts) (tickets_drawn tickets) in
-    let numbers : are_spent (orders_of node.log.records) (deliveries_of lot.issue lot.poured tickets) ≡ false =
-    subst (λ (m : List Ask). are_spent (orders_of node.log.records) m ≡ false) mine (spent_is b node.log.records l asks a spent false same list is read enough) in
+    let numbers = subst (λ (m : List Ask). are_spent (orders_of node.log.records) m ≡ false) mine enough in
     subst (λ (x : Allocation). IsAllocable (books_of node.log.records) x) (sym may.closes) (allocable node.log.records lot tickets sealed lawful fits its may.served numbers)
-
-some_found : (node : ClearNode) (issue : ℕ) (lot : Lot) → lot_of node.lots issue ≡ Some lot → lot_of node.lots issue ≢ None
-some_found node issue lot found none = none-some lot (sym none ∙ found)
 
 -- what a refused commit leaves of a close
 pub close_refused : (old new : ClearNode) (issue : ℕ) (tickets : List Ticket) (sealed : Bool) (a : Allocation) (fault : CommitFault) → old.log.down ≡ false
-    → MayClose old issue tickets sealed a → IsAllowed old.log.records (Allocate a) → AddLeaves (Allocate a) (Err fault) old new
-    → LotCloseLeaves issue tickets sealed (Err (commit_refusal fault)) old new
-close_refused old new issue tickets sealed a commit.OutOfMemory up may allowed left = (up, some_found old issue may.lot may.found, left)
-close_refused old new issue tickets sealed a commit.Device up may allowed left = (a, may, allowed, left)
+    → MayClose old issue tickets sealed a → are_spent (orders_of old.log.records) (deliveries_in a) ≡ false → IsAllowed old.log.records (Allocate a)
+    → AddLeaves (Allocate a) (Err fault) old new → LotCloseLeaves issue tickets sealed (Err (commit_refusal fault)) old new
+close_refused old new issue tickets sealed a commit.OutOfMemory up may enough allowed left = (up, (a, may, enough), left)
+close_refused old new issue tickets sealed a commit.Device up may enough allowed left = (a, may, allowed, left)
 
 -- the orders under the next numbers, of the records
 pub orders_are : (b : Books) (c : List ClearRecord) (l : List Ask) (a : Allocation) (orders : List Order) → b ≡ books_of c → l ≡ deliveries_in a

@@ -1,7 +1,11 @@
 -- The plan of a lot and the shares poured into it: what holds of them at its opening holds until it closes.
-use Rattle.std.proofs.Common.{◌≡◌, ℕ, ◌≤◌, List, [], ◌∷◌, ◌++◌, sym, ◌∙◌, subst, arith, append_assoc}
-use Rattle.std.specs.Prelude.{All}
+use Rattle.std.proofs.Common.{◌≡◌, ℕ, ◌≤◌, Bool, true, false, not, List, [], ◌∷◌, ◌++◌, Some, None, refl, ap, sym, ◌∙◌, subst, arith, append_assoc}
+use Rattle.std.specs.Prelude.{◌&&◌, ◌==◌, All, filter, if◌then◌else◌}
+use Rattle.std.specs.List.{cons_option}
 use Rattle.std.proofs.lemmas.List.Elements.{All-weaker}
+use Rattle.cns_netting.specs.History.{credit_part}
+use Rattle.cns_netting.specs.Rows.{is_row_in}
+use Rattle.cns_netting.specs.declared.position.PositionRow.{PositionRow}
 use Rattle.cns_allocate.specs.Plan.{IsPlan}
 use Rattle.cns_allocate.specs.declared.planned.Planned.{Planned}
 use Rattle.cns_allocate.proofs.PlanLemmas.{IsPlan-plan_of, bounded_longs}
@@ -10,7 +14,7 @@ use Rattle.cns_covers.specs.Bounds.{want_in}
 use Rattle.cns_records.specs.Clear.{AreWritable}
 use Rattle.cns_records.specs.declared.clear_record.ClearRecord.{ClearRecord}
 use Rattle.cns_clearing.specs.Books.{IsLawful, books_of, history_of, orders_of}
-use Rattle.cns_clearing.specs.Lots.{AreQuiet, IsLot, avail_in, plan_in, were_long}
+use Rattle.cns_clearing.specs.Lots.{AreQuiet, IsLot, avail_in, long_member, longs_among, plan_in, were_long}
 use Rattle.cns_clearing.specs.declared.lot.Lot.{Lot}
 use Rattle.cns_clearing.proofs.BooksLemmas.{lawful_before, lawful_sound, writable_before}
 use Rattle.cns_clearing.proofs.PoolLemmas.{avail_since}
@@ -40,6 +44,20 @@ lot_pours c lot lawful is =
     let there =
     avail_since is.later (is.middle ++ is.before) lot.issue (subst IsLawful is.split lawful) (quiet_first lot.issue is.later is.middle is.quiet) in
     subst (λ (l : List ClearRecord). lot.poured ≤ avail_in l lot.issue) (sym is.split) (omega (arith, there, is.poured))
+
+-- ---- who was long
+
+-- the members that are long in an issue stand among the rows of it
+pub longs_in_part : (issue : ℕ) (rows : List PositionRow) → longs_among issue (filter (is_row_in issue) rows) ≡ longs_among issue rows
+unfolding long_member
+longs_in_part issue [] = refl
+longs_in_part issue (row ∷ rows) = by (row.issue == issue) refl (longs_in_part issue rows)
+  where
+    by : (b : Bool) → (row.issue == issue) ≡ b → longs_among issue (filter (is_row_in issue) rows) ≡ longs_among issue rows
+        → longs_among issue (if b then row ∷ filter (is_row_in issue) rows else filter (is_row_in issue) rows) ≡ longs_among issue (row ∷ rows)
+    by true e rest = ap (cons_option (long_member issue row)) rest
+    by false e rest =
+        rest ∙ sym (ap (λ (b : Bool). cons_option (if b && not (credit_part row.position == 0) then Some row.member else None) (longs_among issue rows)) e)
 
 -- ---- plans
 

@@ -1,9 +1,7 @@
 -- What orders and tickets come to over all members.
-use Rattle.std.proofs.Common.{◌≡◌, ◌≤◌, ◌+◌, ℕ, zero, suc, List, [], ◌∷◌, length, Bool, true, false, cond, refl, sym, subst, arith, inl, inr}
-use Rattle.std.specs.Prelude.{◌==◌, All, count_by}
-use Rattle.std.proofs.lemmas.Bool.{cases_eq, cond-false, cond-true, eq-eqb, eqb-true, ne_eqb}
-use Rattle.std.proofs.lemmas.List.Elements.{All-head, All-tail}
-use Rattle.std.proofs.lemmas.List.Sums.{sum_by-cons}
+use Rattle.std.proofs.Common.{◌≡◌, ◌≤◌, ℕ, List, [], ◌∷◌, Bool, true, false, refl, sym, subst, arith}
+use Rattle.std.specs.Prelude.{◌==◌}
+use Rattle.std.proofs.lemmas.Bool.{eqb-true}
 use Rattle.cns_netting.specs.History.{due}
 use Rattle.cns_netting.specs.declared.entry.NetEntry.TheVariants.{Netted}
 use Rattle.cns_movements.specs.Book.{IsOrderBook}
@@ -17,7 +15,6 @@ use Rattle.cns_records.specs.Clear.{AreWritable}
 use Rattle.cns_records.specs.declared.allocation.Allocation.{Allocation}
 use Rattle.cns_records.specs.declared.clear_record.ClearRecord.{ClearRecord}
 use Rattle.cns_records.specs.declared.clear_record.ClearRecord.TheVariants.{Accept, Exempt, Priority, Cycle, Allocate, Confirm}
-use Rattle.cns_records.specs.declared.drawn.Drawn.{Drawn}
 use Rattle.cns_clearing.specs.Books.{Books, Allows, IsAllocable, IsLawful, books_of, covers_on, deliveries_in, orders_of, tickets_of, with_record}
 use Rattle.cns_clearing.specs.Lots.{avail_in}
 use Rattle.cns_clearing.specs.Pools.{asked_of_pool, avail_of, covered_by_order, covered_of, taken_of}
@@ -83,66 +80,3 @@ pub taken_covered : (c : List ClearRecord) (issue : ℕ) → IsLawful c → take
 unfolding books_of covered_of taken_of
 taken_covered [] issue lawful = omega arith
 taken_covered (r ∷ c) issue lawful = taken_more r (books_of c) issue (lawful_bounded c lawful.1).ordered lawful.0 (taken_covered c issue lawful.1)
-
--- ---- few tickets
-
--- how many tickets the members 1 to n have
-counted : ℕ → List Drawn → ℕ
-counted zero tickets = 0
-counted (suc n) tickets = count_by (λ (d : Drawn). d.member == suc n) tickets + counted n tickets
-
--- whether a member is 1 to n, counted
-counted_one : ℕ → ℕ → ℕ
-counted_one zero member = 0
-counted_one (suc n) member = cond (member == suc n) 1 0 + counted_one n member
-
-counted_none : (n : ℕ) → counted n [] ≡ 0
-unfolding counted
-counted_none zero = refl
-counted_none (suc n) = omega (arith, counted_none n)
-
-counted-cons : (n : ℕ) (d : Drawn) (tickets : List Drawn) → counted n (d ∷ tickets) ≡ counted_one n d.member + counted n tickets
-unfolding counted counted_one
-counted-cons zero d tickets = refl
-counted-cons (suc n) d tickets =
-    omega (arith, sum_by-cons (λ (x : Drawn). cond (x.member == suc n) 1 0) d tickets, counted-cons n d tickets)
-
--- a member above n is not among them
-one_above : (n member : ℕ) → suc n ≤ member → counted_one n member ≡ 0
-unfolding counted_one
-one_above zero member above = refl
-one_above (suc n) member above =
-    let here : ◌≡◌ {A = ℕ} (cond (member == suc n) 1 0) 0 = cond-false _ 1 0 (ne_eqb member (suc n) (λ e. omega arith)) in
-    omega (arith, here, one_above n member (omega arith))
-
--- one of them is once
-one_within : (n member : ℕ) → 1 ≤ member → member ≤ n → counted_one n member ≡ 1
-unfolding counted_one
-one_within zero member from to = absurd (omega arith)
-one_within (suc n) member from to =
-    elim (cases_eq member (suc n)) [
-      | inl e ↦
-          let here : ◌≡◌ {A = ℕ} (cond (member == suc n) 1 0) 1 = cond-true _ 1 0 (eq-eqb member (suc n) e) in
-          omega (arith, here, one_above n member (omega arith))
-      | inr ne ↦
-          let here : ◌≡◌ {A = ℕ} (cond (member == suc n) 1 0) 0 = cond-false _ 1 0 (ne_eqb member (suc n) ne) in
-          omega (arith, here, one_within n member from (omega arith))
-    ]
-
--- each ticket of the members 1 to n is counted
-all_counted : (n : ℕ) (tickets : List Drawn) → All (λ (d : Drawn). (1 ≤ d.member) × (d.member ≤ n)) tickets → length tickets ≡ counted n tickets
-all_counted n [] all = sym (counted_none n)
-all_counted n (d ∷ tickets) all =
-    let here = All-head (λ (x : Drawn). (1 ≤ x.member) × (x.member ≤ n)) d tickets all in
-    let rest = all_counted n tickets (All-tail (λ (x : Drawn). (1 ≤ x.member) × (x.member ≤ n)) d tickets all) in
-    omega (arith, counted-cons n d tickets, one_within n d.member here.0 here.1, rest)
-
--- and n members with at most one ticket each have at most n
-counted_most : (n : ℕ) (tickets : List Drawn) → ((member : ℕ) → count_by (λ (d : Drawn). d.member == member) tickets ≤ 1) → counted n tickets ≤ n
-unfolding counted
-counted_most zero tickets once = omega arith
-counted_most (suc n) tickets once = omega (arith, once (suc n), counted_most n tickets once)
-
-pub small_pigeonhole : (n : ℕ) (tickets : List Drawn) → All (λ (d : Drawn). (1 ≤ d.member) × (d.member ≤ n)) tickets
-    → ((member : ℕ) → count_by (λ (d : Drawn). d.member == member) tickets ≤ 1) → length tickets ≤ n
-small_pigeonhole n tickets all once = omega (arith, all_counted n tickets all, counted_most n tickets once)

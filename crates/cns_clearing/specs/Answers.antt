@@ -122,13 +122,18 @@ pub record MayClose (node : ClearNode) (issue : ℕ) (tickets : List Ticket) (se
   pub closes : a ≡ allocation_of lot tickets sealed
   pub lawful : IsAllocation node.log.records a
 
--- what is answered for the allocation that closes the lot of an issue
-abbrev pub ClosingGives : ℕ → List Ticket → Bool → Result Allocation Refusal → ClearNode → Type 0
-ClosingGives issue tickets sealed (Ok a) node = MayClose node issue tickets sealed a
-ClosingGives issue tickets sealed (Err refusal.NoLot) node = lot_of node.lots issue ≡ None
-ClosingGives issue tickets sealed (Err refusal.BadTickets) node = (lot : Lot) × (lot_of node.lots issue ≡ Some lot) × (IsServed lot.plan tickets sealed → ⊥)
-ClosingGives issue tickets sealed (Err refusal.OutOfMemory) node = lot_of node.lots issue ≢ None
-ClosingGives issue tickets sealed (Err _) node = ⊥
+-- a lot closes with these tickets, and there are numbers for its deliveries
+pub record Closes (node : ClearNode) (issue : ℕ) (tickets : List Ticket) (sealed : Bool) (lot : Lot) : Type 0 where
+  pub may : MayClose node issue tickets sealed (allocation_of lot tickets sealed)
+  pub numbers : are_spent (orders_of node.log.records) (deliveries_in (allocation_of lot tickets sealed)) ≡ false
+
+-- what applies to the close of the lot of an issue where it is refused so before it takes memory
+abbrev pub CloseRefused : ℕ → List Ticket → Bool → Refusal → ClearNode → Type 0
+CloseRefused issue tickets sealed refusal.NoLot node = lot_of node.lots issue ≡ None
+CloseRefused issue tickets sealed refusal.BadTickets node = (lot : Lot) × (lot_of node.lots issue ≡ Some lot) × (IsServed lot.plan tickets sealed → ⊥)
+CloseRefused issue tickets sealed refusal.NumbersSpent node =
+    (a : Allocation) × MayClose node issue tickets sealed a × (are_spent (orders_of node.log.records) (deliveries_in a) ≡ true)
+CloseRefused issue tickets sealed _ node = ⊥
 
 -- how many shares a close granted, which its orders ask for in all, and these orders, under the next numbers
 pub record IsClosed (c : List ClearRecord) (tickets : List Ticket) (a : Allocation) (done : Closed) : Type 0 where
@@ -146,7 +151,8 @@ LotCloseLeaves issue tickets sealed (Err refusal.BadTickets) old new =
     (old.log.down ≡ false) × ((lot : Lot) × (lot_of old.lots issue ≡ Some lot) × (IsServed lot.plan tickets sealed → ⊥)) × (new ≡ old)
 LotCloseLeaves issue tickets sealed (Err refusal.NumbersSpent) old new =
     (old.log.down ≡ false) × ((a : Allocation) × MayClose old issue tickets sealed a × (are_spent (orders_of old.log.records) (deliveries_in a) ≡ true)) × (new ≡ old)
-LotCloseLeaves issue tickets sealed (Err refusal.OutOfMemory) old new = (old.log.down ≡ false) × (lot_of old.lots issue ≢ None) × (new ≡ old)
+LotCloseLeaves issue tickets sealed (Err refusal.OutOfMemory) old new =
+    (old.log.down ≡ false) × ((a : Allocation) × MayClose old issue tickets sealed a × (are_spent (orders_of old.log.records) (deliveries_in a) ≡ false)) × (new ≡ old)
 LotCloseLeaves issue tickets sealed (Err refusal.Device) old new =
     (a : Allocation) × MayClose old issue tickets sealed a × IsAllowed old.log.records (entry.Allocate a) × Failed (entry.Allocate a) old new
 LotCloseLeaves issue tickets sealed (Err _) old new = ⊥

@@ -1,6 +1,7 @@
 -- What the records of a clearing node amount to (this project's own rules). All lists of records stand newest first: what was
 -- recorded before a record is the rest of the list.
 use Rattle.std.specs.Prelude.{◌≡◌, ℕ, ◌+◌, ◌&&◌, ◌==◌, nat_lt, not, Bool, true, false, All, List, [], ◌∷◌, count_by, length, map, ◌≤◌, Option, Some, None}
+use Rattle.std.specs.List.Sorted.{IsNonDecreasingBy}
 use Rattle.cns_journal.specs.Replay.{AreAllowed}
 use Rattle.cns_ids.specs.Cycle.{is_after}
 use Rattle.cns_ids.specs.declared.cycle.CycleId.{CycleId}
@@ -106,9 +107,13 @@ abbrev pub is_later : Option CycleId → CycleId → Bool
 is_later None id = true
 is_later (Some last) id = is_after id last
 
--- whether orders are more than the numbers that are left; no orders never are
+-- whether so many orders are more than the numbers that are left; no orders never are
+abbrev pub are_spent_by : Orders → ℕ → Bool
+are_spent_by book count = not (count == 0) && nat_lt 1000000 (length book.orders + count)
+
+-- the same of these orders
 abbrev pub are_spent : Orders → List Ask → Bool
-are_spent book asks = not (length asks == 0) && nat_lt 1000000 (length book.orders + length asks)
+are_spent book asks = are_spent_by book (length asks)
 
 -- an allocation may follow: its lot was opened not after its last pour; its tickets tile, each is of another member and asks for
 -- no more than that is long of, less its open deliveries; the shares poured are there, and there are numbers for its deliveries
@@ -185,11 +190,13 @@ due_by b (Cycle id) = becoming_due b.history id.day
 due_by b (Allocate a) = 0
 due_by b (Confirm r) = 0
 
--- books as those of records that each could stand where it does: their positions are small
+-- books as those of records that each could stand where it does: their positions are small, and those after the cycle before the
+-- latest stand by issue
 pub record AreSound (b : Books) : Type 0 where
   pub netted : IsBook b.history
   pub bounded : AreBounded b.history b.orders
   pub ordered : IsOrderBook b.orders
+  pub listed : IsNonDecreasingBy (λ (row : PositionRow). row.issue) b.previous
 
 -- the books, and how many more entries of each kind they take with no more memory
 pub record BooksRoom : Type 0 where

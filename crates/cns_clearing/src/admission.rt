@@ -31,7 +31,7 @@ pub(crate) fn may_allocate(
     }
     let poured = allocation.poured.count();
     let asks = deliveries(alloc, allocation.issue, tickets, poured)?;
-    if books.are_spent(asks.as_slice()) {
+    if books.are_spent(asks.len()) {
         return Ok(None);
     }
     Ok(Some(Effects::of_asks(alloc, asks)))

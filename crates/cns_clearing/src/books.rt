@@ -7,7 +7,7 @@ ghost use Rattle.cns_movements.specs.Order.{order_of};
 ghost use Rattle.cns_covers.specs.Bounds.{amount_of as amount_in, want_in};
 ghost use Rattle.cns_netting.specs.Rows.{rows_of};
 ghost use Rattle.cns_allocate.specs.Plan.{plan_of};
-ghost use Rattle.cns_clearing.specs.Books.{AreSound, AreEffects, Allows, asks_of, due_by, with_record, no_books, covers_on, deliveries_in, tickets_of, is_later as is_later_cycle, are_spent as are_numbers_spent};
+ghost use Rattle.cns_clearing.specs.Books.{AreSound, AreEffects, Allows, asks_of, due_by, with_record, no_books, covers_on, deliveries_in, tickets_of, is_later as is_later_cycle, are_spent_by};
 ghost use Rattle.cns_clearing.specs.Lots.{longs_among, long_member as long_member_of};
 ghost use Rattle.cns_clearing.specs.Pools.{avail_of as avail_in};
 ghost use Rattle.cns_clearing.specs.Room.{HasRoom};
@@ -18,7 +18,7 @@ use cns_allocate::Plan;
 use cns_covers::{Exemptions, Priorities, covers_of_rows};
 use cns_ids::{Cusip, CycleId, MemberNo, Shares};
 use cns_movements::{Ask, Confirm, MoveKind, MoveNo, Order, OrderBook, Reply};
-use cns_netting::{NetBook, PositionRow};
+use cns_netting::{NetBook, PositionRow, rows_of_issue};
 use cns_records::ClearRecord;
 use cns_trades::{Trade, TradeList, Verdict};
 use std::alloc::{AllocError, Global};
@@ -116,12 +116,10 @@ impl Books {
 
     /// The members that were long in an issue directly after the cycle before the latest.
     fn were_long(&self, alloc: Global, issue: Cusip) -> Result<Vec<MemberNo>, AllocError>
+        requires { AreSound self.now.books }
         ensures { IfOk result (λ members. members.items ≡ longs_among issue self.now.books.previous) }
     {
-        self.previous
-            .iter()
-            .filter_map(|row| long_member(issue, row))
-            .collect(alloc)
+        longs_in(alloc, rows_of_issue(&self.previous, issue), issue)
     }
 
     /// The members that are to receive shares of an issue, in the order in which they are served.
@@ -161,11 +159,11 @@ impl Books {
         long.saturating_sub(self.orders().open_of(MoveKind::Delivery, member, issue))
     }
 
-    /// Whether orders are more than the numbers that are left.
-    pub(crate) fn are_spent(&self, asks: &[Ask]) -> bool
-        ensures { result ≡ are_numbers_spent self.now.books.orders asks.now }
+    /// Whether so many orders are more than the numbers that are left.
+    pub(crate) fn are_spent(&self, count: usize) -> bool
+        ensures { result ≡ are_spent_by self.now.books.orders count }
     {
-        self.orders.are_spent(asks)
+        self.orders.are_spent(count)
     }
 
     /// The answer to a confirmation.
@@ -357,6 +355,15 @@ fn amount_of(order: &Order, reply: &Reply) -> i128
         MoveKind::Cover => moved,
         MoveKind::Delivery => -moved,
     }
+}
+
+// The members that are long in an issue by these positions.
+fn longs_in(alloc: Global, rows: &[PositionRow], issue: Cusip) -> Result<Vec<MemberNo>, AllocError>
+    ensures { IfOk result (λ members. members.items ≡ longs_among issue rows.now) }
+{
+    rows.iter()
+        .filter_map(|row| long_member(issue, row))
+        .collect(alloc)
 }
 
 // The member of a position, where it is long in the issue.

@@ -1,14 +1,15 @@
-ghost use Rattle.std.specs.Prelude.{◌≡◌, ℕ, ◌≤◌, ◌^◌, ◌+◌, true, false, [], length, option_map, IfOk, IfErr, OnOk};
+ghost use Rattle.std.specs.Prelude.{◌≡◌, ℕ, ◌≤◌, ◌^◌, ◌+◌, ◌++◌, ◌∷◌, true, false, [], length, option_map, IfOk, IfErr, None, OnErr, OnOk};
 ghost use Rattle.cns_records.specs.declared.clear_record.ClearRecord.TheVariants.{Exempt, Priority};
 ghost use Rattle.cns_records.specs.Clear.{AreWritable, spelling};
 ghost use Rattle.cns_movements.specs.Order.{numbered};
 ghost use Rattle.cns_netting.specs.Book.{IsBook};
 ghost use Rattle.cns_netting.specs.History.{due, longs_of, shorts_of};
 ghost use Rattle.cns_clearing.specs.Books.{AreEffects, AreSound, IsAllowed, IsLawful, are_spent, asks_of, books_of, history_of, latest_of, orders_of, rows_after};
-ghost use Rattle.cns_clearing.specs.Lots.{AreLots, DoesNotDisturb, avail_in, plan_in};
+ghost use Rattle.cns_clearing.specs.Closing.{AreRecordable};
+ghost use Rattle.cns_clearing.specs.Lots.{AreLots, DoesNotDisturb, avail_in, new_lot, plan_in};
 ghost use Rattle.cns_clearing.specs.Position.{IsBetween, due_in, position_in};
 ghost use Rattle.cns_clearing.specs.Pools.{covered_of as covered_in, delivered_of as delivered_in, free_of as free_in, lent_of as lent_in, lot_of, out_of as out_in, rows_of};
-ghost use Rattle.cns_clearing.specs.Answers.{ClosingGives, CycleLeaves, LotCloseLeaves, LotOpenLeaves, LotPourLeaves, OrderGives, ReplyLeaves, SettingLeaves, TradeLeaves};
+ghost use Rattle.cns_clearing.specs.Answers.{CloseRefused, Closes, CycleLeaves, LotCloseLeaves, LotOpenLeaves, LotPourLeaves, OrderGives, ReplyLeaves, SettingLeaves, TradeLeaves};
 ghost use Rattle.cns_clearing.specs.Node.{AddLeaves, IsOpened, IsUnread, NodePlanned, RestartLeaves};
 ghost use Rattle.cns_journal.specs.RecordLog.{Keeps};
 
@@ -18,13 +19,13 @@ use crate::closing::{allocation_of, asked_in_all};
 use crate::effects::Effects;
 use crate::lot::{Lot, Lots};
 use crate::pools::{PoolRows, free_of, lent_of, pool_rows};
-use cns_allocate::{Plan, are_served, deliveries};
+use cns_allocate::{Plan, are_served, deliveries, delivery_count};
 use cns_ids::{Cusip, CycleId, MemberNo, Shares};
 use cns_journal::{CommitFault, Keeper, NotPlanned, RecordLog, Refused, ReplayFault, Restarted};
 use cns_movements::{Ask, Confirm as Confirmed, MoveNo, Order, OrderBook, Reply};
 use cns_netting::NetBook;
 use cns_pool::Ticket;
-use cns_records::{Allocation, ClearRecord, Refusal};
+use cns_records::{ClearRecord, Refusal};
 use cns_trades::{Trade, Verdict};
 use std::alloc::{AllocError, Global};
 use std::marker::Model;
@@ -164,7 +165,7 @@ impl<K: Keeper> Clearing<K> {
         }
         let effects = books.cycle_effects(alloc, &id)?;
         let asks = effects.asks.as_slice();
-        if books.are_spent(asks) {
+        if books.are_spent(asks.len()) {
             return Err(Refusal::NumbersSpent);
         }
         let orders = numbered_orders(alloc, books, asks)?;
@@ -176,8 +177,8 @@ impl<K: Keeper> Clearing<K> {
     ///
     /// Refuses `Down`, then `LotAlready`. It adds no record. (This project's own rule.)
     ///
-    /// Costs one pass over all holdings and over the positions after the cycle before the latest, and
-    /// look-ups: of the issue's lot, and for each member that is long in the issue.
+    /// Costs the positions of the issue (`NetBook::rows_in`), a search by halves in those after the cycle
+    /// before the latest, and look-ups: of the issue's lot, and for each member that is long in the issue.
     pub fn lot_open(&mut self, issue: Cusip) -> Result<Plan, Refusal>
         ensures { LotOpenLeaves issue result self.old self.new }
     {
@@ -185,9 +186,23 @@ impl<K: Keeper> Clearing<K> {
         if self.lot(issue).is_some() {
             return Err(Refusal::LotAlready);
         }
-        let alloc = self.alloc;
-        let plan = self.books().plan(alloc, issue)?;
-        let answer = plan.copy(alloc)?;
+        let plan = self.lot_plan(issue)?;
+        let answer = plan.copy(self.alloc)?;
+        self.lot_open_with(issue, plan)?;
+        Ok(answer)
+    }
+
+    /// Opens a lot as `lot_open` does, with the plan that `lot_plan` gives now, of an issue that has no open
+    /// lot, at a node that is up. So who has the plan need not have it made once more.
+    ///
+    /// Costs look-ups.
+    pub fn lot_open_with(&mut self, issue: Cusip, plan: Plan) -> Result<(), AllocError>
+        requires up { self.old.log.down ≡ false }
+        requires first { lot_of self.old.lots issue ≡ None }
+        requires plan { plan ≡ plan_in self.old.log.records issue }
+        ensures ok { OnOk result (self.new ≡ record self.old { lots = self.old.lots ++ new_lot self.old.log.records issue ∷ [] }) }
+        ensures err { OnErr result (self.new ≡ self.old) }
+    {
         let records = self.record_count();
         let poured = self.avail(issue);
         self.lots.room()?;
@@ -198,7 +213,7 @@ impl<K: Keeper> Clearing<K> {
             poured,
             plan,
         });
-        Ok(answer)
+        Ok(())
     }
 
     /// Pours the shares of an issue into its lot that have become free, and answers how many.
@@ -226,11 +241,11 @@ impl<K: Keeper> Clearing<K> {
     /// granted is free again.
     ///
     /// Refuses `Down`, then `NoLot`, then `BadTickets` where the tickets do not serve the lot's plan,
-    /// then `NumbersSpent`, which never comes where nothing is granted. After `Device` the lot is open
-    /// and nothing is ordered, and the node is down until it is restarted. (This project's own rule.)
+    /// then `NumbersSpent`, which never comes where nothing is granted. These are found without memory,
+    /// so `OutOfMemory` is told only where none of them applies. After `Device` the lot is open and
+    /// nothing is ordered, and the node is down until it is restarted. (This project's own rule.)
     ///
-    /// Costs its plan and its tickets, where these were drawn in the plan's order or nearly so, a walk
-    /// over the open lots, and one commit.
+    /// Costs its plan and its tickets, a walk over the open lots, and one commit.
     pub fn lot_close(
         &mut self,
         issue: Cusip,
@@ -241,14 +256,11 @@ impl<K: Keeper> Clearing<K> {
     {
         self.up()?;
         let alloc = self.alloc;
-        let allocation = self.closing(issue, tickets, sealed)?;
-        let poured = allocation.poured.count();
+        let lot = self.closing(issue, tickets, sealed)?;
+        let poured = lot.poured.count();
+        let allocation = allocation_of(alloc, lot, tickets, sealed)?;
         let asks = deliveries(alloc, issue, tickets, poured)?;
-        let books = self.books();
-        if books.are_spent(asks.as_slice()) {
-            return Err(Refusal::NumbersSpent);
-        }
-        let orders = numbered_orders(alloc, books, asks.as_slice())?;
+        let orders = numbered_orders(alloc, self.books(), asks.as_slice())?;
         let granted = poured.min(asked_in_all(tickets));
         let effects = Effects::of_asks(alloc, asks);
         self.add(ClearRecord::Allocate(allocation), effects)?;
@@ -529,19 +541,24 @@ impl<K: Keeper> Clearing<K> {
         self.books().pooled().going_out(issue)
     }
 
-    // The allocation that closes the lot of an issue with these tickets.
-    fn closing(&self, issue: Cusip, tickets: &[Ticket], sealed: bool) -> Result<Allocation, Refusal>
-        ensures { ClosingGives issue tickets.now sealed result self.now }
+    // The lot of an issue, which closes with these tickets. It takes no memory.
+    fn closing(&self, issue: Cusip, tickets: &[Ticket], sealed: bool) -> Result<&Lot, Refusal>
+        ensures closes { IfOk result (λ lot. Closes self.now issue tickets.now sealed lot.now) }
+        ensures recordable { OnOk result (AreRecordable tickets.now) }
+        ensures refused { IfErr result (λ refusal. CloseRefused issue tickets.now sealed refusal self.now) }
     {
-        let alloc = self.alloc;
         let lots = self.lots();
         let Some(lot) = lots.get(issue) else {
             return Err(Refusal::NoLot);
         };
-        if !are_served(alloc, lot.plan.as_slice(), tickets, sealed)? {
+        if !are_served(lot.plan.as_slice(), tickets, sealed) {
             return Err(Refusal::BadTickets);
         }
-        Ok(allocation_of(alloc, lot, tickets, sealed)?)
+        let count = delivery_count(tickets, lot.poured.count());
+        if self.books().are_spent(count) {
+            return Err(Refusal::NumbersSpent);
+        }
+        Ok(lot)
     }
 
     // Adds a record that may stand after the others and makes this besides itself: commits it, and

@@ -53,7 +53,7 @@ fn admitted(
                 return Ok(None);
             }
             let effects = books.cycle_effects(alloc, id)?;
-            return Ok(if books.are_spent(effects.asks.as_slice()) {
+            return Ok(if books.are_spent(effects.asks.len()) {
                 None
             } else {
                 Some(effects)

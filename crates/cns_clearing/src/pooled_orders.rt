@@ -1,7 +1,7 @@
 ghost use Rattle.std.specs.Prelude.{◌≡◌, ◌+◌, ◌^◌, ◌≤◌, false, [], length, OnOk};
 ghost use Rattle.cns_movements.specs.Book.{IsOrderBook, with_asks, with_reply};
 ghost use Rattle.cns_movements.specs.Confirm.{confirm_answer};
-ghost use Rattle.cns_clearing.specs.Books.{are_spent as are_numbers_spent};
+ghost use Rattle.cns_clearing.specs.Books.{are_spent as are_numbers_spent, are_spent_by};
 ghost use Rattle.cns_clearing.specs.Pools.{avail_of, covered_of, delivered_of, out_of};
 
 use crate::pool_sums::{PoolSums, ask_all, settle, sums_of};
@@ -102,11 +102,11 @@ impl PooledOrders {
         settle(&mut self.pools, &order, reply.moved);
     }
 
-    /// Whether orders are more than the numbers that are left.
-    pub(crate) fn are_spent(&self, asks: &[Ask]) -> bool
-        ensures { result ≡ are_numbers_spent self.now.book asks.now }
+    /// Whether so many orders are more than the numbers that are left.
+    pub(crate) fn are_spent(&self, count: usize) -> bool
+        ensures { result ≡ are_spent_by self.now.book count }
     {
-        !asks.is_empty() && asks.len() > MAX_ORDERS - self.orders.len()
+        count != 0 && count > MAX_ORDERS - self.orders.len()
     }
 
     /// The answer to a confirmation.

@@ -12,7 +12,7 @@ use Rattle.cns_trades.specs.declared.trade.Trade.{Trade}
 use Rattle.cns_netting.specs.Book.{IsBook, IsKept}
 use Rattle.cns_netting.specs.History.{becoming_due, bought, credit_part, debit_part, due, settled_in, settled_out, sold}
 use Rattle.cns_ids.specs.Holding.{holding_at, holding_eq}
-use Rattle.cns_netting.specs.Sides.{AreSidesOf, bought_by, credit_at, credit_in, debit_at, debit_in, IsNamed, sold_by}
+use Rattle.cns_netting.specs.Sides.{AreOfMembers, AreSidesOf, bought_by, credit_at, credit_in, debit_at, debit_in, IsNamed, sold_by}
 use Rattle.cns_netting.specs.Undue.{earlier, if_left, if_settled, undue}
 use Rattle.cns_netting.specs.declared.entry.NetEntry.{NetEntry}
 use Rattle.cns_netting.specs.declared.entry.NetEntry.TheVariants.{Accepted, Netted, Settled}
@@ -22,6 +22,12 @@ use Rattle.cns_netting.proofs.BookLemmas.{AreSmall, book_empty, long-most, short
 use Rattle.cns_netting.proofs.TradeLemmas.{due-netting, length-sum, settled-left, undue-netting}
 
 module _ {S : Type 0} where
+  -- where nothing is named
+  members_none : (sides : HashMap Holding Sides S) → sides.entries ≡ [] → AreOfMembers sides
+  members_none sides none k some =
+      let no : get holding_eq sides k ≡ None = Prim.rw none refl in
+      let it = subst IsSome no some in cc it
+
   pub kept_empty : (sides : HashMap Holding Sides S) (waiting : List Trade) → sides.entries ≡ [] → waiting ≡ [] → IsHeap earlier waiting → IsKept [] sides waiting
   unfolding bought sold settled_in settled_out
   kept_empty sides waiting none empty heap = record {
@@ -29,6 +35,7 @@ module _ {S : Type 0} where
     sides = record { credit = λ m i. Prim.rw none refl; debit = λ m i. Prim.rw none refl };
     undue = λ f. Prim.rw empty refl;
     named = Prim.rw empty (All-nil (IsNamed sides));
+    members = members_none sides none;
     heap = heap;
   }
 
@@ -40,12 +47,14 @@ module _ {S : Type 0} where
     sides = record { credit = λ m i. ap credit_at (same (holding_at i m)) ∙ kept.sides.credit m i; debit = λ m i. ap debit_at (same (holding_at i m)) ∙ kept.sides.debit m i };
     undue = kept.undue;
     named = All-weaker (IsNamed old) (IsNamed new) (λ t both. (subst IsSome (sym (same _)) both.0, subst IsSome (sym (same _)) both.1)) waiting kept.named;
+    members = λ k some. kept.members k (subst IsSome (same k) some);
     heap = kept.heap;
   })
 
-  -- what the next sides have, where nothing is lost
+  -- what the next sides have, where nothing is lost, and nothing is named but a member's holding
   pub record KeepNames (old new : HashMap Holding Sides S) : Type 0 where
     pub still : (k : Holding) → IsSome (get holding_eq old k) → IsSome (get holding_eq new k)
+    pub members : AreOfMembers old → AreOfMembers new
 
   names_stay : (old new : HashMap Holding Sides S) (waiting : List Trade) → KeepNames old new → All (IsNamed old) waiting → All (IsNamed new) waiting
   names_stay old new waiting keep named = All-weaker (IsNamed old) (IsNamed new) (λ t both. (keep.still _ both.0, keep.still _ both.1)) waiting named
@@ -59,6 +68,7 @@ module _ {S : Type 0} where
     sides = record { credit = λ m i. credit m i ∙ kept.sides.credit m i; debit = λ m i. debit m i ∙ kept.sides.debit m i };
     undue = λ f. omega (arith, sum_by_pushed f t waiting queue perm, kept.undue f, sum_by-cons f t (undue h));
     named = All-permutation (IsNamed new) (t ∷ waiting) queue perm (All-cons (IsNamed new) t waiting named (names_stay old new waiting keep kept.named));
+    members = keep.members kept.members;
     heap = heap;
   }
 
@@ -75,6 +85,7 @@ module _ {S : Type 0} where
     };
     undue = kept.undue;
     named = names_stay old new waiting keep kept.named;
+    members = keep.members kept.members;
     heap = kept.heap;
   }
 
@@ -87,9 +98,9 @@ module _ {S : Type 0} where
       → ((f : Trade → ℕ) → sum_by f queue ≡ sum_by (if_left day f) waiting)
       → ((m i : ℕ) → credit_in new m i + sum_by (bought_by m i) queue ≡ credit_in old m i + sum_by (bought_by m i) waiting)
       → ((m i : ℕ) → debit_in new m i + sum_by (sold_by m i) queue ≡ debit_in old m i + sum_by (sold_by m i) waiting)
-      → All (IsNamed new) queue → IsHeap earlier queue → IsKept (Netted day ∷ h) new queue
+      → All (IsNamed new) queue → (AreOfMembers old → AreOfMembers new) → IsHeap earlier queue → IsKept (Netted day ∷ h) new queue
   unfolding bought sold settled_in settled_out
-  kept_netted h day old new waiting queue kept book left credit debit named heap = record {
+  kept_netted h day old new waiting queue kept book left credit debit named members heap = record {
     book = book;
     sides = record {
       credit = λ m i. omega (arith, credit m i, kept.sides.credit m i, left (bought_by m i), settled-left day (bought_by m i) waiting, due_then h day old waiting kept (bought_by m i));
@@ -97,6 +108,7 @@ module _ {S : Type 0} where
     };
     undue = λ f. left f ∙ kept.undue (if_left day f) ∙ sym (undue-netting f None day h);
     named = named;
+    members = members kept.members;
     heap = heap;
   }
 

@@ -6,5 +6,7 @@ pub mod HoldingLemmas
 pub mod OrderLemmas
 pub mod SumLemmas
 pub mod RowLemmas
+pub mod MemberLemmas
+pub mod IssueLemmas
 pub mod BalanceLemmas
 pub mod KeptLemmas

@@ -4,7 +4,7 @@ use Rattle.std.specs.BinaryHeap.{IsHeap}
 use Rattle.std.specs.HashMap.{HashMap}
 use Rattle.cns_trades.specs.declared.trade.Trade.{Trade}
 use Rattle.cns_netting.specs.History.{accepted, credit_part, debit_part, settled_in, settled_out}
-use Rattle.cns_netting.specs.Sides.{AreSidesOf, IsNamed}
+use Rattle.cns_netting.specs.Sides.{AreOfMembers, AreSidesOf, IsNamed}
 use Rattle.cns_netting.specs.Undue.{earlier, undue}
 use Rattle.cns_netting.specs.declared.entry.NetEntry.{NetEntry}
 use Rattle.cns_netting.specs.declared.entry.NetEntry.TheVariants.{Accepted, Netted, Settled}
@@ -48,12 +48,13 @@ pub record IsBook (h : List NetEntry) : Type 0 where
   pub settled : (member issue : ℕ) → IsSettled h member issue
 
 -- what a book keeps beside its history: the sides of each holding, and the trades that are not due, in a heap; each holding of
--- such a trade is named
+-- such a trade is named, and each that is named is one of a member
 pub record IsKept {S : Type 0} (h : List NetEntry) (holdings : HashMap Holding Sides S) (waiting : List Trade) : Type 0 where
   pub book : IsBook h
   pub sides : AreSidesOf holdings h
   pub undue : (f : Trade → ℕ) → sum_by f waiting ≡ sum_by f (undue h)
   pub named : All (IsNamed holdings) waiting
+  pub members : AreOfMembers holdings
   pub heap : IsHeap earlier waiting
 
 -- for how many more entries there is room: for none where two more holdings, or one more trade that is not due, may not fit

@@ -1,10 +1,11 @@
 -- What stands for each holding and against it, by look-up.
-use Rattle.std.specs.Prelude.{◌≡◌, ℕ, ◌&&◌, ◌==◌, ◌-ℤ◌, pos, List, [], ◌∷◌, All, Option, Some, None, IsSome, filter, if◌then◌else◌}
+use Rattle.std.specs.Prelude.{◌≡◌, ℕ, zero, suc, ◌&&◌, ◌==◌, ◌-ℤ◌, pos, List, [], ◌∷◌, All, Option, Some, None, IsSome, filter, if◌then◌else◌}
 use Rattle.std.specs.declared.cmp.Ordering.TheVariants.{Less}
 use Rattle.std.specs.HashMap.{HashMap, get}
 use Rattle.cns_trades.specs.declared.trade.Trade.{Trade}
 use Rattle.cns_netting.specs.History.{credit, debit}
 use Rattle.cns_ids.specs.Holding.{holding_at, holding_cmp, holding_eq}
+use Rattle.cns_ids.specs.Member.{IsMember}
 use Rattle.cns_netting.specs.Rows.{is_row_in}
 use Rattle.cns_netting.specs.declared.entry.NetEntry.{NetEntry}
 use Rattle.cns_ids.specs.declared.holding.Holding.{Holding}
@@ -39,6 +40,10 @@ module _ {S : Type 0} where
   abbrev pub IsNamed : HashMap Holding Sides S → Trade → Type 0
   IsNamed sides t = IsSome (get holding_eq sides (holding_at t.issue t.buyer)) × IsSome (get holding_eq sides (holding_at t.issue t.seller))
 
+  -- each holding that is named is one of a member
+  abbrev pub AreOfMembers : HashMap Holding Sides S → Type 0
+  AreOfMembers sides = (k : Holding) → IsSome (get holding_eq sides k) → IsMember k.member
+
 -- what stands for each holding and against it is its credit and debit in a history
 pub record AreSidesOf {S : Type 0} (sides : HashMap Holding Sides S) (h : List NetEntry) : Type 0 where
   pub credit : (member issue : ℕ) → credit_in sides member issue ≡ credit h member issue
@@ -63,6 +68,11 @@ rows_if (Some issue) rows = filter (is_row_in issue) rows
 abbrev pub row_part : (PositionRow → ℕ) → Option PositionRow → ℕ
 row_part f None = 0
 row_part f (Some row) = f row
+
+-- the holdings of the members 1 to n in an issue
+unfoldable pub holdings_up_to : ℕ → ℕ → List Holding
+holdings_up_to zero issue = []
+holdings_up_to (suc n) issue = holding_at issue (suc n) ∷ holdings_up_to n issue
 
 -- the holding of a row
 abbrev pub holding_of : PositionRow → Holding

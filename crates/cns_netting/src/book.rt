@@ -16,7 +16,7 @@ ghost use Rattle.cns_ids.specs.declared.holding.Holding.{Holding};
 use crate::due::{make_due, sides_after};
 use crate::entry::NetEntry;
 use crate::position::PositionRow;
-use crate::rows::position_rows;
+use crate::rows::{position_rows, position_rows_in};
 use crate::sides::{Sides, add, name, name_trade, sides_of};
 use crate::undue::Undue;
 use cns_ids::{Cusip, Day, Holding, MemberNo};
@@ -273,7 +273,7 @@ impl NetBook {
     pub fn rows_in(&self, issue: Cusip) -> Result<Vec<PositionRow>, AllocError>
         ensures { IfOk result (λ rows. rows.items ≡ filter (is_row_in issue) (rows_of self.now.history)) }
     {
-        position_rows(*self.entries.allocator(), &self.sides, Some(issue))
+        position_rows_in(*self.entries.allocator(), &self.sides, issue)
     }
 
     /// The positions other than 0 that `net` of a date would leave, by issue, then member.

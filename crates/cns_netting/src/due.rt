@@ -2,7 +2,7 @@ ghost use Rattle.std.specs.Prelude.{◌≡◌, ℕ, ◌+◌, ◌^◌, ◌<◌, �
 ghost use Rattle.std.specs.BinaryHeap.{heap_items, heap_len, IsHeap};
 ghost use Rattle.std.specs.List.Sorted.{IsPermutation};
 ghost use Rattle.cns_trades.specs.declared.trade.Trade.{Trade};
-ghost use Rattle.cns_netting.specs.Sides.{bought_by, credit_in, debit_in, IsNamed, sold_by};
+ghost use Rattle.cns_netting.specs.Sides.{bought_by, credit_in, debit_in, AreOfMembers, IsNamed, sold_by};
 ghost use Rattle.cns_netting.specs.Undue.{earlier, if_left, if_settled};
 
 use crate::sides::{Sides, add_trade};
@@ -46,6 +46,7 @@ pub(crate) fn make_due(
     ensures credit { (m i : ℕ) → credit_in sides.new m i + sum_by (bought_by m i) (heap_items undue.new) ≡ credit_in sides.old m i + sum_by (bought_by m i) (heap_items undue.old) }
     ensures debit { (m i : ℕ) → debit_in sides.new m i + sum_by (sold_by m i) (heap_items undue.new) ≡ debit_in sides.old m i + sum_by (sold_by m i) (heap_items undue.old) }
     ensures named { All (IsNamed sides.new) (heap_items undue.new) }
+    ensures members { AreOfMembers sides.old → AreOfMembers sides.new }
 {
     let mut count = 0;
     while let Some(trade) = next_due(undue, day) {

@@ -12,3 +12,4 @@ mod undue;
 pub use book::NetBook;
 pub use entry::NetEntry;
 pub use position::PositionRow;
+pub use rows::rows_of_issue;

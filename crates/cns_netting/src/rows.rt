@@ -1,16 +1,20 @@
-ghost use Rattle.std.specs.Prelude.{◌≡◌, ℕ, ◌+◌, ◌^◌, ◌<◌, IfOk, List, OnOk, Some, sum_by};
-ghost use Rattle.std.specs.HashMap.{IsUnique};
+ghost use Rattle.std.specs.Prelude.{◌≡◌, ℕ, ◌+◌, ◌^◌, ◌<◌, filter, IfOk, List, OnOk, Some, sum_by};
+ghost use Rattle.std.specs.HashMap.{get, IsUnique};
+ghost use Rattle.std.specs.List.Sorted.{IsNonDecreasingBy};
 ghost use Rattle.cns_ids.specs.Holding.{holding_eq};
-ghost use Rattle.cns_netting.specs.Rows.{rows_of};
-ghost use Rattle.cns_netting.specs.Sides.{AreInOrder, AreSidesOf, credit_in, debit_in, row_if, row_part, rows_if};
+ghost use Rattle.cns_netting.specs.Rows.{is_row_in, rows_of};
+ghost use Rattle.cns_netting.specs.Sides.{AreInOrder, AreOfMembers, AreSidesOf, credit_in, debit_in, holdings_up_to, row_if, row_part, rows_if};
 ghost use Rattle.cns_netting.specs.declared.entry.NetEntry.{NetEntry};
 ghost use Rattle.cns_netting.specs.declared.position.PositionRow.{PositionRow};
 
 use crate::position::PositionRow;
-use crate::sides::Sides;
-use cns_ids::{Cusip, Holding};
+use crate::sides::{Sides, sides_of};
+use cns_ids::{Cusip, Holding, MemberNo};
 use std::alloc::{AllocError, Global};
 use std::collections::HashMap;
+
+// How many members there may be.
+const MEMBERS: u16 = 9999;
 
 // The row of a holding, where its position is not 0; of one issue, where it is given.
 fn row_of(holding: &Holding, sides: &Sides, issue: Option<Cusip>) -> Option<PositionRow>
@@ -65,6 +69,51 @@ fn rows_found(
     Ok(rows)
 }
 
+// The member after some number of members.
+fn member_after(number: u16) -> MemberNo
+    requires { number < 9999 }
+    ensures { result ≡ number + 1 }
+{
+    match MemberNo::new(number + 1) {
+        Some(member) => member,
+        None => unreachable!(),
+    }
+}
+
+// The rows of an issue, in any order, by a look-up of each member.
+#[tactic(auto, unfolding(crate::specs::Sides::holdings_up_to))]
+fn rows_of_members(
+    alloc: Global,
+    all: &HashMap<Holding, Sides>,
+    issue: Cusip,
+) -> Result<Vec<PositionRow>, AllocError>
+    requires { (m i : ℕ) → (credit_in all.now m i < 2 ^ 127) × (debit_in all.now m i < 2 ^ 127) }
+    ensures { IfOk result (λ rows. (f : PositionRow → ℕ) → sum_by f rows.items
+        ≡ sum_by (λ k. row_part f (row_if (Some issue) k (get holding_eq all.now k))) (holdings_up_to 9999 issue)) }
+{
+    let mut rows = Vec::new(alloc);
+    for number in 0..MEMBERS {
+        let member = member_after(number);
+        let holding = Holding { issue, member };
+        let sides = sides_of(all, member, issue);
+        put_row(&mut rows, &holding, &sides, Some(issue))?;
+    }
+    Ok(rows)
+}
+
+/// The rows of an issue among rows that stand by issue, as those of a book do.
+///
+/// Costs two searches by halves.
+pub fn rows_of_issue(rows: &[PositionRow], issue: Cusip) -> &[PositionRow]
+    requires { IsNonDecreasingBy (λ (row : PositionRow). row.issue) rows.now }
+    ensures { result.now ≡ filter (is_row_in issue) rows.now }
+{
+    let first = rows.partition_point(|row| row.issue < issue);
+    let rows = &rows[first..];
+    let count = rows.partition_point(|row| row.issue <= issue);
+    &rows[..count]
+}
+
 // Puts rows into order, by issue, then member.
 fn put_in_order(rows: &mut Vec<PositionRow>)
     ensures sums { (f : PositionRow → ℕ) → sum_by f rows.new.items ≡ sum_by f rows.old.items }
@@ -88,4 +137,37 @@ pub(crate) fn position_rows(
     let mut rows = rows_found(alloc, sides, &issue)?;
     put_in_order(&mut rows);
     Ok(rows)
+}
+
+// The positions other than 0 in an issue, by member, by a look-up of each member.
+fn rows_by_member(
+    alloc: Global,
+    sides: &HashMap<Holding, Sides>,
+    issue: Cusip,
+) -> Result<Vec<PositionRow>, AllocError>
+    requires small { (m i : ℕ) → (credit_in sides.now m i < 2 ^ 127) × (debit_in sides.now m i < 2 ^ 127) }
+    requires members { AreOfMembers sides.now }
+    ensures { IfOk result (λ rows. (h : List NetEntry) → AreSidesOf sides.now h → rows.items ≡ filter (is_row_in issue) (rows_of h)) }
+{
+    let mut rows = rows_of_members(alloc, sides, issue)?;
+    put_in_order(&mut rows);
+    Ok(rows)
+}
+
+/// The positions other than 0 in an issue, by member. Where there are more holdings than members it
+/// looks up each member, so that it costs no more than that.
+pub(crate) fn position_rows_in(
+    alloc: Global,
+    sides: &HashMap<Holding, Sides>,
+    issue: Cusip,
+) -> Result<Vec<PositionRow>, AllocError>
+    requires small { (m i : ℕ) → (credit_in sides.now m i < 2 ^ 127) × (debit_in sides.now m i < 2 ^ 127) }
+    requires members { AreOfMembers sides.now }
+    ensures { IfOk result (λ rows. (h : List NetEntry) → AreSidesOf sides.now h → rows.items ≡ filter (is_row_in issue) (rows_of h)) }
+{
+    if sides.len() > usize::from(MEMBERS) {
+        rows_by_member(alloc, sides, issue)
+    } else {
+        position_rows(alloc, sides, Some(issue))
+    }
 }

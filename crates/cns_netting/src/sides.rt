@@ -1,7 +1,7 @@
 ghost use Rattle.std.specs.Prelude.{◌≡◌, ℕ, ◌+◌, ◌^◌, ◌<◌, ◌≤◌, ◌&&◌, ◌==◌, IsSome, if◌then◌else◌, ◌-ℤ◌, pos};
 ghost use Rattle.std.specs.HashMap.{get, spare};
 ghost use Rattle.cns_ids.specs.Holding.{holding_at, holding_eq};
-ghost use Rattle.cns_netting.specs.Sides.{bought_by, credit_in, debit_in, IsNamed, sold_by};
+ghost use Rattle.cns_netting.specs.Sides.{bought_by, credit_in, debit_in, AreOfMembers, IsNamed, sold_by};
 
 use cns_ids::{Cusip, Holding, MemberNo};
 use cns_trades::Trade;
@@ -45,6 +45,7 @@ pub(crate) fn name(sides: &mut HashMap<Holding, Sides>, member: MemberNo, issue:
     ensures debit { (m i : ℕ) → debit_in sides.new m i ≡ debit_in sides.old m i }
     ensures named { IsSome (get holding_eq sides.new (holding_at issue member)) }
     ensures still { (k : Holding) → IsSome (get holding_eq sides.old k) → IsSome (get holding_eq sides.new k) }
+    ensures members { AreOfMembers sides.old → AreOfMembers sides.new }
     ensures left { spare sides.old ≤ spare sides.new + 1 }
 {
     let holding = Holding { issue, member };
@@ -67,6 +68,7 @@ pub(crate) fn name_trade(sides: &mut HashMap<Holding, Sides>, trade: &Trade)
     ensures debit { (m i : ℕ) → debit_in sides.new m i ≡ debit_in sides.old m i }
     ensures named { IsNamed sides.new trade.now }
     ensures still { (k : Holding) → IsSome (get holding_eq sides.old k) → IsSome (get holding_eq sides.new k) }
+    ensures members { AreOfMembers sides.old → AreOfMembers sides.new }
 {
     name(sides, trade.buyer, trade.issue);
     name(sides, trade.seller, trade.issue);
@@ -86,6 +88,7 @@ pub(crate) fn add(
     ensures credit { (m i : ℕ) → credit_in sides.new m i ≡ credit_in sides.old m i + (if (member == m) && (issue == i) then credit else 0) }
     ensures debit { (m i : ℕ) → debit_in sides.new m i ≡ debit_in sides.old m i + (if (member == m) && (issue == i) then debit else 0) }
     ensures named { (k : Holding) → IsSome (get holding_eq sides.old k) → IsSome (get holding_eq sides.new k) }
+    ensures members { AreOfMembers sides.old → AreOfMembers sides.new }
 {
     let Some(sides) = sides.get_mut(&Holding { issue, member }) else {
         unreachable!()
@@ -102,6 +105,7 @@ pub(crate) fn add_trade(sides: &mut HashMap<Holding, Sides>, trade: &Trade)
     ensures credit { (m i : ℕ) → credit_in sides.new m i ≡ credit_in sides.old m i + bought_by m i trade.now }
     ensures debit { (m i : ℕ) → debit_in sides.new m i ≡ debit_in sides.old m i + sold_by m i trade.now }
     ensures named { (k : Holding) → IsSome (get holding_eq sides.old k) → IsSome (get holding_eq sides.new k) }
+    ensures members { AreOfMembers sides.old → AreOfMembers sides.new }
 {
     let shares = u128::from(trade.quantity.shares());
     add(sides, trade.buyer, trade.issue, shares, 0);

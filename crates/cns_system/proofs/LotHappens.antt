@@ -33,7 +33,7 @@ use Rattle.cns_system.specs.declared.outcome.Outcome.{Outcome}
 use Rattle.cns_system.specs.declared.outcome.Outcome.TheVariants as outcomes
 use Rattle.cns_system.proofs.Decided.{Fits}
 use Rattle.cns_system.proofs.LotsLemmas.{open-parts}
-use Rattle.cns_system.proofs.ShownLemmas.{IsAtClear, came, clear_same, clear_when_failed, commit_fails, commit_goes, fails_not_short, not_short, with_room, without_room}
+use Rattle.cns_system.proofs.ShownLemmas.{IsAtClear, came, clear_same, clear_when_failed, commit_fails, commit_goes, commit_short, with_room, without_room}
 
 -- ---- what a number finds
 
@@ -240,10 +240,9 @@ close_met d n w lot found going up met = by met
     by (inr none) = served lot.sealed refl none
 
 -- what the node's open lot makes of a close
-close_of : (d : Decision) (n : ℕ) (w : Shown) (lot : LotState) (twin : Lot) (a : Allocation) → d ≢ NoMemory → lot_of w.clear.open_lots lot.issue ≡ Some twin
+close_of : (d : Decision) (n : ℕ) (w : Shown) (lot : LotState) (twin : Lot) (a : Allocation) → lot_of w.clear.open_lots lot.issue ≡ Some twin
     → a ≡ allocation_of twin lot.tickets lot.sealed → lot_closed_met d n w lot ≡ lot_allocated d n a w lot
-close_of d n w lot twin a room found is =
-    with_room d _ w room ∙ ap (λ (o : Option Lot). lot_closed_of o d n w lot) found ∙ ap (λ (x : Allocation). lot_allocated d n x w lot) (sym is)
+close_of d n w lot twin a found is = ap (λ (o : Option Lot). lot_closed_of o d n w lot) found ∙ ap (λ (x : Allocation). lot_allocated d n x w lot) (sym is)
 
 close_spent : (d : Decision) (n : ℕ) (a : Allocation) (w : Shown) (lot : LotState) → are_spent (orders_of w.clear.records) (deliveries_in a) ≡ true
     → lot_allocated d n a w lot ≡ refuse refusal.NumbersSpent w
@@ -267,23 +266,31 @@ closed_done : (d : Decision) (n : ℕ) (lot : LotState) (done : Closed) (old new
     → d ≡ Goes → close_happens d n (shown_of old) ≡ (outcomes.Closed done, shown_of new)
 closed_done d n lot done old new at found going met (a, may, allowed, made, added) lots goes =
     let w : Shown = shown_of old in
-    close_met d n w lot found going added.0 met ∙ close_of d n w lot may.lot a (not_short d goes) may.found may.closes ∙ close_numbered d n a w lot allowed.numbers
+    close_met d n w lot found going added.0 met ∙ close_of d n w lot may.lot a may.found may.closes ∙ close_numbered d n a w lot allowed.numbers
     ∙ commit_goes d (entry.Allocate a) (closed w lot a) w _ _ goes (closed_world n lot a old new at added lots)
     ∙ ap (λ (o : Outcome). (o, shown_of new)) (sym (closed_is w lot a done made))
 
 closed_spent : (d : Decision) (n : ℕ) (lot : LotState) (old new : World) → IsAtClear old new → lot_at old.clear.lots n ≡ Some lot → lot.ended ≡ false → IsMet lot
-    → LotCloseLeaves lot.issue lot.tickets lot.sealed (Err refusal.NumbersSpent) old.clear.clear new.clear.clear → new.clear ≡ old.clear → d ≢ NoMemory
+    → LotCloseLeaves lot.issue lot.tickets lot.sealed (Err refusal.NumbersSpent) old.clear.clear new.clear.clear → new.clear ≡ old.clear
     → close_happens d n (shown_of old) ≡ (outcomes.Refused refusal.NumbersSpent, shown_of new)
-closed_spent d n lot old new at found going met (up, (a, may, spent), left) same room =
+closed_spent d n lot old new at found going met (up, (a, may, spent), left) same =
     let w : Shown = shown_of old in
-    came _ _ _ _ (close_met d n w lot found going up met ∙ close_of d n w lot may.lot a room may.found may.closes ∙ close_spent d n a w lot spent) (node_same old new at same)
+    came _ _ _ _ (close_met d n w lot found going up met ∙ close_of d n w lot may.lot a may.found may.closes ∙ close_spent d n a w lot spent) (node_same old new at same)
+
+closed_short : (d : Decision) (n : ℕ) (lot : LotState) (old new : World) → IsAtClear old new → lot_at old.clear.lots n ≡ Some lot → lot.ended ≡ false → IsMet lot
+    → LotCloseLeaves lot.issue lot.tickets lot.sealed (Err refusal.OutOfMemory) old.clear.clear new.clear.clear → new.clear ≡ old.clear → d ≡ NoMemory
+    → close_happens d n (shown_of old) ≡ (outcomes.Refused refusal.OutOfMemory, shown_of new)
+closed_short d n lot old new at found going met (up, (a, may, enough), left) same short =
+    let w : Shown = shown_of old in
+    close_met d n w lot found going up met ∙ close_of d n w lot may.lot a may.found may.closes ∙ close_numbered d n a w lot enough
+    ∙ commit_short d (entry.Allocate a) _ _ _ short (node_same old new at same)
 
 closed_failed : (d : Decision) (n : ℕ) (lot : LotState) (old new : World) → IsAtClear old new → lot_at old.clear.lots n ≡ Some lot → lot.ended ≡ false → IsMet lot
     → LotCloseLeaves lot.issue lot.tickets lot.sealed (Err refusal.Device) old.clear.clear new.clear.clear → new.clear.lots ≡ old.clear.lots → d ≡ DeviceFails
     → close_happens d n (shown_of old) ≡ (outcomes.Refused refusal.Device, shown_of new)
 closed_failed d n lot old new at found going met (a, may, allowed, failed) lots fails =
     let w : Shown = shown_of old in
-    close_met d n w lot found going failed.0 met ∙ close_of d n w lot may.lot a (fails_not_short d fails) may.found may.closes ∙ close_numbered d n a w lot allowed.numbers
+    close_met d n w lot found going failed.0 met ∙ close_of d n w lot may.lot a may.found may.closes ∙ close_numbered d n a w lot allowed.numbers
     ∙ commit_fails d (entry.Allocate a) _ w _ fails (clear_when_failed (entry.Allocate a) old new at failed lots)
 
 pub close_by : (d : Decision) (n : ℕ) (result : Result Closed Refusal) (old new : World) → IsAtClear old new → CloseLeaves n result old.clear new.clear
@@ -301,10 +308,10 @@ close_by d n (Err refusal.Unserved) old new at (is, same) fits =
     came _ _ _ _ (close_early d n (shown_of old) lot.lot lot.found lot.going lot.holds.0 lot.holds.1 lot.holds.2) (node_same old new at same)
 close_by d n (Err refusal.NumbersSpent) old new at (is, same) fits =
     let lot = open-parts old.clear.lots n _ is in
-    closed_spent d n lot.lot old new at lot.found lot.going lot.holds.0 lot.holds.1 same fits
+    closed_spent d n lot.lot old new at lot.found lot.going lot.holds.0 lot.holds.1 same
 close_by d n (Err refusal.OutOfMemory) old new at (is, same) fits =
     let lot = open-parts old.clear.lots n _ is in
-    close_met d n (shown_of old) lot.lot lot.found lot.going lot.holds.1 lot.holds.0 ∙ without_room d _ _ _ fits (node_same old new at same)
+    closed_short d n lot.lot old new at lot.found lot.going lot.holds.0 lot.holds.1 same fits
 close_by d n (Err refusal.Device) old new at (is, lots) fits =
     let lot = open-parts old.clear.lots n _ is in
     closed_failed d n lot.lot old new at lot.found lot.going lot.holds.0 lot.holds.1 lots fits

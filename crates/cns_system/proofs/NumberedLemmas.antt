@@ -79,14 +79,14 @@ pub all_free : (c : List ClearRecord) (open_lots : List Lot) (issue : ℕ) → l
 all_free c open_lots issue none =
     let lent : lent_of open_lots issue ≡ 0 = ap (λ (o : Option Lot). unwrap_or (option_map (λ (l : Lot). l.poured) o) 0) none in omega (arith, lent)
 
-pub open_tied : (old new : ClearNode) (lots after : List LotState) (issue poured : ℕ) (plan answer : List Planned) → AreTied old.lots lots
-    → LotOpenLeaves issue (Ok answer) old new → plan ≡ plan_in old.log.records issue → poured ≡ free_of (orders_of old.log.records) old.lots issue
+pub open_tied : (old new : ClearNode) (lots after : List LotState) (issue poured : ℕ) (plan : List Planned) → AreTied old.lots lots → lot_of old.lots issue ≡ None
+    → new ≡ record old { lots = old.lots ++ node.new_lot old.log.records issue ∷ [] } → plan ≡ plan_in old.log.records issue → poured ≡ free_of (orders_of old.log.records) old.lots issue
     → after ≡ lots ++ new_lot issue plan poured ∷ [] → AreTied new.lots after
-open_tied old new lots after issue poured plan answer are h is_plan free is =
-    let there : poured ≡ avail_in old.log.records issue = free ∙ all_free old.log.records old.lots issue h.1 in
-    subst (λ (l : List Lot). AreTied l after) (sym (ap (λ (n : ClearNode). n.lots) h.3))
+open_tied old new lots after issue poured plan are none opened is_plan free is =
+    let there : poured ≡ avail_in old.log.records issue = free ∙ all_free old.log.records old.lots issue none in
+    subst (λ (l : List Lot). AreTied l after) (sym (ap (λ (n : ClearNode). n.lots) opened))
     (subst (AreTied (old.lots ++ node.new_lot old.log.records issue ∷ [])) (sym is)
-    (tied_more old.lots lots (node.new_lot old.log.records issue) (new_lot issue plan poured) are h.1 refl (sym is_plan) (sym there)))
+    (tied_more old.lots lots (node.new_lot old.log.records issue) (new_lot issue plan poured) are none refl (sym is_plan) (sym there)))
 
 -- a refused opening leaves the node
 pub open_refused : (issue : ℕ) (f : Refusal) (old new : ClearNode) → LotOpenLeaves issue (Err f) old new → new ≡ old
@@ -261,6 +261,6 @@ close_refused n f old new issue tickets sealed l are lawful has is drawn seal me
     by refusal.NoLot left = absurd (close_no_lot old.clear.lots old.lots n issue l are has is left.1)
     by refusal.BadTickets left = absurd (close_no_bad old.clear.lots old.lots n issue tickets sealed l are lawful has is drawn seal met left.1)
     by refusal.NumbersSpent left = (open-from old.lots n _ l found going (met, its refusal.NumbersSpent left), whole left.2)
-    by refusal.OutOfMemory left = (open-from old.lots n _ l found going (met, up), whole left.2)
+    by refusal.OutOfMemory left = (open-from old.lots n _ l found going (met, its refusal.OutOfMemory left), whole left.2)
     by refusal.Device left = (open-from old.lots n _ l found going (met, its refusal.Device left), same)
     by _ left = absurd left

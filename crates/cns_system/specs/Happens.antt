@@ -193,9 +193,9 @@ abbrev pub lot_closed_of : Option Lot → Decision → ℕ → Shown → LotStat
 lot_closed_of None d number w lot = refuse refusal.NoLot w
 lot_closed_of (Some twin) d number w lot = lot_allocated d number (allocation_of twin lot.tickets lot.sealed) w lot
 
--- the lot is closed as the node has it open; for want of memory nothing happens
+-- the lot is closed as the node has it open
 abbrev pub lot_closed_met : Decision → ℕ → Shown → LotState → Happening
-lot_closed_met d number w lot = with_memory d (lot_closed_of (lot_of w.clear.open_lots lot.issue) d number w lot) w
+lot_closed_met d number w lot = lot_closed_of (lot_of w.clear.open_lots lot.issue) d number w lot
 
 -- a lot that is not sealed is closed where nobody waits for a ticket
 abbrev pub lot_closed_beside : List Planned → Decision → ℕ → Shown → LotState → Happening

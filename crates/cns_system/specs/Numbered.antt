@@ -79,7 +79,8 @@ CloseLeaves number (Err refusal.NumbersSpent) old new =
     HasOpenLot old.lots number
     (λ (lot : LotState). IsMet lot × LotCloseLeaves lot.issue lot.tickets lot.sealed (Err refusal.NumbersSpent) old.clear new.clear) × (new ≡ old)
 CloseLeaves number (Err refusal.OutOfMemory) old new =
-    HasOpenLot old.lots number (λ (lot : LotState). IsMet lot × (old.clear.log.down ≡ false)) × (new ≡ old)
+    HasOpenLot old.lots number
+    (λ (lot : LotState). IsMet lot × LotCloseLeaves lot.issue lot.tickets lot.sealed (Err refusal.OutOfMemory) old.clear new.clear) × (new ≡ old)
 CloseLeaves number (Err refusal.Device) old new =
     HasOpenLot old.lots number
     (λ (lot : LotState). IsMet lot × LotCloseLeaves lot.issue lot.tickets lot.sealed (Err refusal.Device) old.clear new.clear) × (new.lots ≡ old.lots)

@@ -213,6 +213,11 @@ impl LotBook {
         Ok(&self.lots[index])
     }
 
+    // Where the book takes its memory.
+    pub(crate) fn allocator(&self) -> Global {
+        *self.lots.allocator()
+    }
+
     // Takes back the lot that was opened last, whose number was given to nobody yet.
     pub(crate) fn withdraw(&mut self)
         ensures after { self.new ≡ take (length self.old - 1) self.old }

@@ -128,13 +128,14 @@ impl<K: Keeper> NumberedClearing<K> {
             return Err(Refusal::LotsSpent);
         }
         let plan = plan_of(&self.node, issue)?;
+        let answer = plan.copy(self.lots.allocator())?;
         let poured = self.node.free(issue) as u64;
         let number = self.lots.open(issue, &plan, poured)?;
-        match self.node.lot_open(issue) {
-            Ok(plan) => Ok(Opened {
+        match self.node.lot_open_with(issue, plan) {
+            Ok(()) => Ok(Opened {
                 number,
                 poured,
-                plan,
+                plan: answer,
             }),
             Err(_) => {
                 self.lots.withdraw();

@@ -4,7 +4,9 @@ use crate::common::{
     AskedIn, DealtIn, Drawn, asks_of, assert_same, book_of, day_of, high_issue, low_issue,
     member_of, ticket_of, tickets_of,
 };
-use cns_allocate::{Grants, Group, Plan, Planned, Turn, Turns, are_served, by_start, deliveries};
+use cns_allocate::{
+    Grants, Group, Plan, Planned, Turn, Turns, are_served, by_start, deliveries, delivery_count,
+};
 use cns_covers::Priorities;
 use cns_movements::{Ask, MoveKind, OrderBook};
 use cns_netting::NetBook;
@@ -238,8 +240,8 @@ fn tickets_that_a_lot_may_close_with(rt: HostRuntime) {
     let plan = plan_without_orders(&rt, rt.alloc());
     for (place, (rows, sealed, wanted)) in CLOSES.iter().enumerate() {
         let tickets = tickets_of(&rt, rt.alloc(), rows);
-        let served = are_served(rt.alloc(), plan.as_slice(), &tickets, *sealed);
-        assert!(rt; served == Ok(*wanted), "tickets {place}");
+        let served = are_served(plan.as_slice(), &tickets, *sealed);
+        assert!(rt; served == *wanted, "tickets {place}");
         drop(tickets);
     }
     drop(plan);
@@ -261,6 +263,7 @@ static DELIVERIES: [(u64, &[AskedIn]); 2] = [
 fn deliveries_are_of_the_grants(rt: HostRuntime) {
     let tickets = [ticket_of(&rt, FIRST_TICKET), ticket_of(&rt, SECOND_TICKET)];
     for (poured, wanted) in &DELIVERIES {
+        assert!(rt; delivery_count(&tickets, *poured) == wanted.len());
         let wanted = asks_of(&rt, rt.alloc(), wanted);
         let asks = deliveries(rt.alloc(), low_issue(&rt), &tickets, *poured);
         let asks = asks.expect(&rt, "memory");

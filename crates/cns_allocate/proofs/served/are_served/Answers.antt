@@ -5,7 +5,6 @@ use Rattle.cns_pool.specs.declared.ticket.Ticket.{Ticket}
 use Rattle.cns_allocate.specs.declared.planned.Planned.{Planned}
 use Rattle.cns_allocate.proofs.ServedLemmas.{IsUnderway, rest-cons, underway-last, underway-more, underway-refused, underway-waits}
 use Rattle.cns_allocate.proofs.served.are_served.Goals as goal
-use Rattle.cns_allocate.proofs.served.are_served.Goals.{then-sealed, else-sealed}
 
 pub returns-then-not-is_in_turn : goal.returns-then-not-is_in_turn
 returns-then-not-is_in_turn c =
@@ -14,7 +13,7 @@ returns-then-not-is_in_turn c =
       λ e. absurd (false≢true e),
       λ s.
           absurd
-          (underway-refused c.args.plan.now tickets c.args.sealed c.loop-ticket.turns c.loop-ticket.start c.ticket-item.result (drop (c.loop-ticket.ticket-index + 1) tickets)
+          (underway-refused c.args.plan.now tickets c.args.sealed c.loop-ticket.waiting c.loop-ticket.start c.ticket-item.result (drop (c.loop-ticket.ticket-index + 1) tickets)
           c.requires.plan (rw split at c.loop-ticket.invariant.underway) (iff_false c.is_in_turn.ensures c.if-not-is_in_turn.true) s),
     )
 
@@ -25,28 +24,30 @@ loop-ticket-preserved c =
     let turn = c.is_in_turn.ensures.0 c.if-not-is_in_turn.false in
     record {
       underway =
-          rw (c.serve.ensures, c.from.ensures)
-          (underway-more c.args.plan.now tickets c.loop-ticket.turns c.loop-ticket.start c.ticket-item.result (drop (c.loop-ticket.ticket-index + 1) tickets)
+          rw (c.serve.ensures, c.from-start.ensures)
+          (underway-more c.args.plan.now tickets c.loop-ticket.waiting c.loop-ticket.start c.ticket-item.result (drop (c.loop-ticket.ticket-index + 1) tickets)
           (rw split at c.loop-ticket.invariant.underway) turn.0 turn.1);
       small = omega arith;
     }
 
-pub returns : goal.returns
-returns c =
+pub returns-then-sealed : goal.returns-then-sealed
+returns-then-sealed c =
     let plan : List Planned = c.args.plan.now in
     let tickets : List Ticket = c.args.tickets.now in
-    let waiting : List Planned = c.loop-ticket.turns in
+    let waiting : List Planned = c.loop-ticket.waiting in
     let n : ℕ = c.loop-ticket.start in
-    let last : IsUnderway plan tickets waiting n [] = rw (drop_all c.loop-ticket.ticket-index tickets c.loop-ticket-test.false) at c.loop-ticket.invariant.underway in
-    elim c.if-sealed.branch [
-      | then-sealed w ↦ (
-        λ e. underway-last plan tickets c.args.sealed waiting n c.requires.plan last (λ f. absurd (false≢true (sym f ∙ w.if-sealed.true))),
-        λ s.
-            w.result-is ∙ w.if-sealed.true,
-      )
-      | else-sealed w ↦ (
-        λ e. underway-last plan tickets c.args.sealed waiting n c.requires.plan last (λ f. w.is_empty.ensures.0 (sym w.result-is ∙ e)),
-        λ s.
-            w.result-is ∙ w.is_empty.ensures.1 (underway-waits plan tickets waiting n c.requires.plan last (rw w.if-sealed.false at s)),
-      )
-    ]
+    let last : IsUnderway plan tickets waiting n [] = rw (drop_all c.loop-ticket.ticket-index tickets c.loop-ticket-test.false) at c.loop-ticket.invariant.underway in (
+      λ e. underway-last plan tickets c.args.sealed waiting n c.requires.plan last (λ f. absurd (false≢true (sym f ∙ c.if-sealed.true))),
+      λ s. c.if-sealed.true,
+    )
+
+pub returns-else-sealed : goal.returns-else-sealed
+returns-else-sealed c =
+    let plan : List Planned = c.args.plan.now in
+    let tickets : List Ticket = c.args.tickets.now in
+    let waiting : List Planned = c.loop-ticket.waiting in
+    let n : ℕ = c.loop-ticket.start in
+    let last : IsUnderway plan tickets waiting n [] = rw (drop_all c.loop-ticket.ticket-index tickets c.loop-ticket-test.false) at c.loop-ticket.invariant.underway in (
+      λ e. underway-last plan tickets c.args.sealed waiting n c.requires.plan last (λ f. c.is_empty.ensures.0 e),
+      λ s. c.is_empty.ensures.1 (underway-waits plan tickets waiting n c.requires.plan last (rw c.if-sealed.false at s)),
+    )

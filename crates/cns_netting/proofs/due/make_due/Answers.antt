@@ -13,6 +13,7 @@ pub loop-trade-init : goal.loop-trade-init
 loop-trade-init c = record {
   heap = c.requires.heap;
   named = c.requires.named;
+  members = λ are. are;
   left = λ f. refl;
   count = omega arith;
   fits = omega arith;
@@ -39,6 +40,7 @@ loop-trade-preserved c =
       named =
           All-weaker (IsNamed c.loop-trade.sides) (IsNamed c.add_trade.new.sides) (λ t both. (c.add_trade.ensures.named _ both.0, c.add_trade.ensures.named _ both.1)) is
           (popped-tail (IsNamed c.loop-trade.sides) c.in-Some.trade was is taken c.loop-trade.invariant.named);
+      members = λ are. c.add_trade.ensures.members (c.loop-trade.invariant.members are);
       left = λ f. left-popped c.args.day f c.in-Some.trade was is taken c.in-Some.ensures.due ∙ c.loop-trade.invariant.left f;
       count = let one = sum_by_popped (λ (t : Trade). 1) c.in-Some.trade was is taken in omega (arith, one, c.loop-trade.invariant.count);
       fits = let less = c.in-Some.ensures.len in let all = c.loop-trade.invariant.fits in omega arith;

@@ -3,7 +3,7 @@ use Rattle.std.specs.HashMap.{get}
 use Rattle.cns_ids.specs.Holding.{holding_eq}
 use Rattle.cns_netting.specs.Sides.{credit_at, debit_at}
 use Rattle.cns_ids.proofs.HoldingLemmas.{put-named, put-same}
-use Rattle.cns_netting.proofs.SidesLemmas.{sides_by}
+use Rattle.cns_netting.proofs.SidesLemmas.{put-members, sides_by}
 use Rattle.cns_netting.proofs.sides.name.Goals as goal
 
 pub returns-clause-credit : goal.returns-clause-credit
@@ -17,3 +17,7 @@ returns-clause-debit c =
 pub returns-clause-still : goal.returns-clause-still
 returns-clause-still c =
     put-named c.args.member c.args.issue (sides_by 0 0) (get holding_eq c.args.sides.now) (get holding_eq c.insert.new.self) c.in-Ok.ensures.updates.0
+
+pub returns-clause-members : goal.returns-clause-members
+returns-clause-members c =
+    put-members c.args.member c.args.issue (sides_by 0 0) (get holding_eq c.args.sides.now) (get holding_eq c.insert.new.self) c.in-Ok.ensures.updates.0 (search rules)

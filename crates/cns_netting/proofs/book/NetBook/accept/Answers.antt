@@ -15,4 +15,4 @@ invariant_of-self-2 c =
     let names = c.name_trade.ensures in
     rw (c.write.ensures, c.in_ok-make_room.ensures.entries, reverse-last)
     (kept_accepted h c.args.trade c.make_room.new.sides c.name_trade.new.sides waiting (heap_items c.enter.new.undue) kept
-    (book_accepted h c.args.trade c.self.invariant.book few quantity) names.credit names.debit (record { still = names.still }) names.named c.enter.ensures.entered c.enter.ensures.heap)
+    (book_accepted h c.args.trade c.self.invariant.book few quantity) names.credit names.debit (record { still = names.still; members = names.members }) names.named c.enter.ensures.entered c.enter.ensures.heap)

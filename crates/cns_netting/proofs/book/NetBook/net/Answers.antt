@@ -26,7 +26,7 @@ invariant_of-self-2 c =
     let due = c.make_due-becoming.ensures in
     rw (c.write.ensures, c.in_ok-make_room.ensures.entries, reverse-last)
     (kept_netted h c.args.day c.make_room.new.sides c.make_due-becoming.new.sides waiting (heap_items c.make_due-becoming.new.undue) kept (book_netted h c.args.day c.self.invariant.book)
-    due.left due.credit due.debit due.named due.heap)
+    due.left due.credit due.debit due.named due.members due.heap)
 
 pub returns-clause-count : goal.returns-clause-count
 returns-clause-count c =

@@ -45,4 +45,7 @@ invariant_of-self-2 c =
     ∙ ap (λ n. credit_in c.self.inside.sides m i + (if (c.args.member == m) && (c.args.issue == i) then n else 0)) (c.brought.ensures ∙ ap credit_part amount))
     (λ m i. c.add.ensures.debit m i ∙ ap (λ n. n + (if (c.args.member == m) && (c.args.issue == i) then c.taken.result else 0)) (c.name.ensures.debit m i ∙ ap debit_at (c.in_ok-make_room.ensures.sides (holding_at i m)))
     ∙ ap (λ n. debit_in c.self.inside.sides m i + (if (c.args.member == m) && (c.args.issue == i) then n else 0)) (c.taken.ensures ∙ ap debit_part amount))
-    (record { still = λ k some. c.add.ensures.named k (c.name.ensures.still k (subst IsSome (sym (c.in_ok-make_room.ensures.sides k)) some)) }))
+    (record {
+      still = λ k some. c.add.ensures.named k (c.name.ensures.still k (subst IsSome (sym (c.in_ok-make_room.ensures.sides k)) some));
+      members = λ are. c.add.ensures.members (c.name.ensures.members (λ k some. are k (subst IsSome (c.in_ok-make_room.ensures.sides k) some)));
+    }))

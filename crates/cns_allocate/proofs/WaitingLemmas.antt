@@ -1,0 +1,248 @@
+-- Those of a plan who wait, by a table of their places.
+use Rattle.std.proofs.Common.{◌≡◌, ◌≤◌, ◌<◌, ◌+◌, ◌-◌, ℕ, zero, suc, take, drop, get_or, slice_set, replicate, List, [], ◌∷◌, ◌++◌, length, Bool, true, false, not, Some, None, cond, ap, refl, sym, subst, arith, inl, inr, ◌⊎◌, ◌∙◌}
+use Rattle.std.specs.Prelude.{◌==◌, ◌&&◌, nat_lt, slice_get, All, count_by, filter, find}
+use Rattle.std.proofs.lemmas.Bool.{cases_lt, cond-false, cond-true, eq-eqb, eqb-true, ne_eqb}
+use Rattle.std.proofs.lemmas.List.{drop_all, drop_more, get_or_default, get_or-set_other, get_or-set_same, length-take-le, take_all, take_more}
+use Rattle.std.proofs.lemmas.List.Elements.{All-append, All-cons, All-get_or, All-head, All-nil, All-tail, All-weaker}
+use Rattle.std.proofs.lemmas.List.Kept.{AllPairs-filter}
+use Rattle.std.proofs.lemmas.List.Sums.{sum_by-cons, sum_by-take-le}
+use Rattle.cns_allocate.specs.Group.{rank}
+use Rattle.cns_allocate.specs.Plan.{IsPlan}
+use Rattle.cns_allocate.specs.Served.{is_after_others, without}
+use Rattle.cns_allocate.specs.Waiting.{ArePlaces, AreWaiting, IsPlaceOf, is_placed, placed}
+use Rattle.cns_allocate.specs.declared.planned.Planned.{Planned}
+use Rattle.cns_allocate.proofs.NumberLemmas.{pigeonhole}
+use Rattle.cns_allocate.proofs.PlanLemmas.{is_planned_as}
+use Rattle.cns_allocate.proofs.TurnLemmas.{after-head, count_none, filter_twice}
+
+-- ---- a table of places
+
+abbrev pub HasMember : Planned → Type 0
+HasMember p = (1 ≤ p.member) × (p.member ≤ 9999)
+
+-- so the first members of a plan are at most 9,999
+pub first_few : (plan : List Planned) (i : ℕ) → IsPlan plan → i ≤ length plan → All HasMember (take i plan) → i ≤ 9999
+first_few plan i is within members =
+    let few : length (take i plan) ≤ 9999 =
+    pigeonhole (λ (p : Planned). p.member) 9999 (take i plan) members
+    (λ m. omega (arith, sum_by-take-le (λ (p : Planned). cond (p.member == m) 1 0) plan i, is.once m)) in
+    omega (arith, few, length-take-le i plan within)
+
+-- one more of them
+pub members_more : (plan : List Planned) (i : ℕ) (p : Planned) → i < length plan → p ≡ get_or plan i p → HasMember p → All HasMember (take i plan) → All HasMember (take (i + 1) plan)
+members_more plan i p within is member members =
+    subst (All HasMember) (sym (take_more plan i p within ∙ ap (λ (q : Planned). take i plan ++ q ∷ []) (sym is)))
+    (All-append HasMember (take i plan) (p ∷ []) members (All-cons HasMember p [] member (All-nil HasMember)))
+
+-- what is at a place of a table, once one is written
+pub place_set : (places : List ℕ) (at value m : ℕ) → at < length places
+    → get_or (slice_set places at value) m 0 ≡ cond (m == at) value (get_or places m 0)
+place_set places at value m within = by (m == at) refl
+  where
+    apart : false ≡ true → ⊥
+    apart h = cc
+
+    by : (b : Bool) → (m == at) ≡ b → get_or (slice_set places at value) m 0 ≡ cond b value (get_or places m 0)
+    by true e = ap (λ (n : ℕ). get_or (slice_set places at value) n 0) (eqb-true m at e) ∙ get_or-set_same places at value 0 within
+    by false e = get_or-set_other places at m value 0 (λ same. apart (sym e ∙ eq-eqb m at same))
+
+-- a table of no places
+pub no_places : (n m : ℕ) → ◌≡◌ {A = ℕ} (get_or (replicate n 0) m 0) 0
+no_places zero m = refl
+no_places (suc n) zero = refl
+no_places (suc n) (suc m) = no_places n m
+
+pub no_places-are : (plan : List Planned) (n : ℕ) → ArePlaces plan (replicate n 0)
+no_places-are plan n m some = absurd (omega (arith, no_places n m))
+
+-- once one more place is written
+pub places_more : (plan : List Planned) (places : List ℕ) (i member : ℕ) (p : Planned) → i < length plan → p ≡ get_or plan i p → member ≡ p.member → member < length places
+    → ArePlaces plan places → ArePlaces plan (slice_set places member (i + 1))
+places_more plan places i member p within is named small are m some = by (m == member) refl (place_set places member (i + 1) m small)
+  where
+    placed_here : ℕ → Type 0
+    placed_here k = IsPlaceOf plan m k
+
+    at : (q : Planned) → get_or plan i q ≡ p
+    at q = get_or_default plan i q p within ∙ sym is
+
+    by : (b : Bool) → (m == member) ≡ b → get_or (slice_set places member (i + 1)) m 0 ≡ cond b (i + 1) (get_or places m 0)
+        → IsPlaceOf plan m (get_or (slice_set places member (i + 1)) m 0)
+    by true e now =
+        subst (IsPlaceOf plan m) (sym now)
+        (record {
+          within = omega arith;
+          named = λ q. (let first : (i + 1) - 1 ≡ i = omega arith in
+              ap (λ (k : ℕ). (get_or plan k q).member) first ∙ ap (λ (x : Planned). x.member) (at q) ∙ sym named ∙ sym (eqb-true m member e));
+        })
+    by false e now = subst (IsPlaceOf plan m) (sym now) (are m (omega arith))
+
+-- what is placed stays so
+pub placed_more : (plan : List Planned) (places : List ℕ) (i member : ℕ) (p : Planned) → i < length plan → p ≡ get_or plan i p → member ≡ p.member → member < length places
+    → All (λ (q : Planned). is_placed places q ≡ true) (take i plan) → All (λ (q : Planned). is_placed (slice_set places member (i + 1)) q ≡ true) (take (i + 1) plan)
+placed_more plan places i member p within is named small all =
+    subst (All (λ (q : Planned). is_placed new q ≡ true)) (sym (take_more plan i p within ∙ ap (λ (q : Planned). take i plan ++ q ∷ []) (sym is)))
+    (All-append (λ (q : Planned). is_placed new q ≡ true) (take i plan) (p ∷ [])
+    (All-weaker (λ (q : Planned). is_placed places q ≡ true) (λ (q : Planned). is_placed new q ≡ true) (λ q e. stays q e) (take i plan) all)
+    (All-cons (λ (q : Planned). is_placed new q ≡ true) p [] here (All-nil (λ (q : Planned). is_placed new q ≡ true))))
+  where
+    new : List ℕ
+    new = slice_set places member (i + 1)
+
+    not_zero : not (i + 1 == 0) ≡ true
+    not_zero = ap not (ne_eqb (i + 1) 0 (λ e. omega arith))
+
+    stays : (q : Planned) → is_placed places q ≡ true → is_placed new q ≡ true
+    stays q e = by (q.member == member) (place_set places member (i + 1) q.member small)
+      where
+        by : (b : Bool) → get_or new q.member 0 ≡ cond b (i + 1) (get_or places q.member 0) → is_placed new q ≡ true
+        by true now = ap (λ (k : ℕ). not (k == 0)) now ∙ not_zero
+        by false now = ap (λ (k : ℕ). not (k == 0)) now ∙ e
+
+    here : is_placed new p ≡ true
+    here =
+        ap (λ (k : ℕ). not (k == 0)) (place_set places member (i + 1) p.member small ∙ cond-true (p.member == member) (i + 1) (get_or places p.member 0) (eq-eqb p.member member (sym named)))
+        ∙ not_zero
+
+-- where each is placed, all are
+filter_whole : {X : Type 0} (test : X → Bool) (xs : List X) → All (λ x. test x ≡ true) xs → filter test xs ≡ xs
+filter_whole test [] all = refl
+filter_whole test (x ∷ xs) all =
+    cond-true (test x) _ _ (All-head (λ y. test y ≡ true) x xs all) ∙ ap (λ ys. x ∷ ys) (filter_whole test xs (All-tail (λ y. test y ≡ true) x xs all))
+
+pub placed_whole : (plan : List Planned) (places : List ℕ) (i : ℕ) → length plan ≤ i → All (λ (q : Planned). is_placed places q ≡ true) (take i plan) → placed places plan ≡ plan
+placed_whole plan places i all placed_all =
+    filter_whole (is_placed places) plan (subst (All (λ (q : Planned). is_placed places q ≡ true)) (take_all i plan all) placed_all)
+
+-- ---- the first one
+
+-- one that is not placed is passed over
+pub placed_skip : (plan : List Planned) (places : List ℕ) (i : ℕ) (p : Planned) → i < length plan → get_or places (get_or plan i p).member 0 ≡ 0
+    → placed places (drop (i + 1) plan) ≡ placed places (drop i plan)
+placed_skip plan places i p within none =
+    let fails : is_placed places (get_or plan i p) ≡ false = ap (λ (k : ℕ). not (k == 0)) none in
+    sym (ap (placed places) (drop_more plan i p within) ∙ cond-false (is_placed places (get_or plan i p)) _ _ fails)
+
+-- one that is placed is the first of those left
+pub placed_first : (plan : List Planned) (places : List ℕ) (i : ℕ) (p : Planned) → i < length plan → is_placed places (get_or plan i p) ≡ true
+    → placed places (drop i plan) ≡ get_or plan i p ∷ placed places (drop (i + 1) plan)
+placed_first plan places i p within here =
+    ap (placed places) (drop_more plan i p within) ∙ cond-true (is_placed places (get_or plan i p)) _ _ here
+
+-- nobody waits where the first place is past the plan
+pub waits_none : (plan : List Planned) (places : List ℕ) (first : ℕ) → AreWaiting plan places first → first ≡ length plan → placed places plan ≡ []
+waits_none plan places first are e = sym are.left ∙ ap (placed places) (drop_all first plan (omega arith))
+
+pub waits_some : (plan : List Planned) (places : List ℕ) (first : ℕ) → AreWaiting plan places first → placed places plan ≡ [] → first ≡ length plan
+waits_some [] places first are none = omega (arith, are.within)
+waits_some (p ∷ plan) places first are none = by (cases_lt first (length (p ∷ plan)))
+  where
+    by : (first < length (p ∷ plan)) ⊎ (length (p ∷ plan) ≤ first) → first ≡ length (p ∷ plan)
+    by (inl below) =
+        let some = placed_first (p ∷ plan) places first p below (are.waits p below) in
+        let no : get_or (p ∷ plan) first p ∷ placed places (drop (first + 1) (p ∷ plan)) ≡ [] = sym some ∙ are.left ∙ none in
+        absurd cc
+    by (inr past) = omega (arith, are.within)
+
+-- the first one decides whether one of an earlier group waits
+pub waits_after : (plan : List Planned) (places : List ℕ) (first : ℕ) (p q : Planned) → AreWaiting plan places first → first < length plan → q ≡ get_or plan first q
+    → nat_lt (rank q.group) (rank p.group) ≡ is_after_others (placed places plan) p
+waits_after plan places first p q are below is =
+    let list : placed places plan ≡ q ∷ placed places (drop (first + 1) plan) =
+    sym are.left ∙ placed_first plan places first q below (are.waits q below) ∙ ap (λ (x : Planned). x ∷ placed places (drop (first + 1) plan)) (sym is) in
+    after-head p q (placed places plan) (AllPairs-filter (λ (x y : Planned). rank x.group ≤ rank y.group) (is_placed places) plan are.lawful.groups)
+    (ap (λ (xs : List Planned). slice_get xs 0) list)
+
+-- ---- the one that is a member
+
+pub find_unplaced : (plan : List Planned) (places : List ℕ) (member : ℕ) → get_or places member 0 ≡ 0 → find (is_planned_as member) (placed places plan) ≡ None
+find_unplaced [] places member none = refl
+find_unplaced (p ∷ plan) places member none = by (is_placed places p) refl (find_unplaced plan places member none)
+  where
+    other : is_placed places p ≡ true → is_planned_as member p ≡ false
+    other e = ne_eqb p.member member (λ same. (let no : true ≡ false = sym e ∙ ap (λ (m : ℕ). not (get_or places m 0 == 0)) same ∙ ap (λ (k : ℕ). not (k == 0)) none in absurd cc))
+
+    by : (b : Bool) → is_placed places p ≡ b → find (is_planned_as member) (placed places plan) ≡ None
+        → find (is_planned_as member) (cond b (p ∷ placed places plan) (placed places plan)) ≡ None
+    by true e rest = cond-false (is_planned_as member p) _ _ (other e) ∙ rest
+    by false e rest = rest
+
+find_kept : (plan : List Planned) (places : List ℕ) (member : ℕ) → 0 < get_or places member 0 → find (is_planned_as member) (placed places plan) ≡ find (is_planned_as member) plan
+find_kept [] places member some = refl
+find_kept (p ∷ plan) places member some = by (is_placed places p) (is_planned_as member p) refl refl (find_kept plan places member some)
+  where
+    mine : is_planned_as member p ≡ true → is_placed places p ≡ true
+    mine e = ap not (ne_eqb (get_or places p.member 0) 0 (λ none. (let k : get_or places member 0 ≡ 0 = ap (λ (m : ℕ). get_or places m 0) (sym (eqb-true p.member member e)) ∙ none in omega arith)))
+
+    by : (b a : Bool) → is_placed places p ≡ b → is_planned_as member p ≡ a → find (is_planned_as member) (placed places plan) ≡ find (is_planned_as member) plan
+        → find (is_planned_as member) (cond b (p ∷ placed places plan) (placed places plan)) ≡ cond a (Some p) (find (is_planned_as member) plan)
+    by true true e f rest = cond-true (is_planned_as member p) _ _ f
+    by true false e f rest = cond-false (is_planned_as member p) _ _ f ∙ rest
+    by false true e f rest = let no : true ≡ false = sym (mine f) ∙ e in absurd cc
+    by false false e f rest = rest
+
+-- the one that stands at a place is found by its member
+find_at : (plan : List Planned) (member i : ℕ) (p : Planned) → count_by (is_planned_as member) plan ≤ 1 → i < length plan → (get_or plan i p).member ≡ member
+    → find (is_planned_as member) plan ≡ Some (get_or plan i p)
+find_at [] member i p once within named = absurd (omega arith)
+find_at (q ∷ plan) member zero p once within named = cond-true (is_planned_as member q) _ _ (eq-eqb q.member member named)
+find_at (q ∷ plan) member (suc i) p once within named = by (is_planned_as member q) refl (find_at plan member i p)
+  where
+    counted_head : count_by (is_planned_as member) (q ∷ plan) ≡ cond (is_planned_as member q) 1 0 + count_by (is_planned_as member) plan
+    counted_head = sum_by-cons (λ (r : Planned). cond (is_planned_as member r) 1 0) q plan
+
+    by : (b : Bool) → is_planned_as member q ≡ b
+        → (count_by (is_planned_as member) plan ≤ 1 → i < length plan → (get_or plan i p).member ≡ member → find (is_planned_as member) plan ≡ Some (get_or plan i p))
+        → cond b (Some q) (find (is_planned_as member) plan) ≡ Some (get_or plan i p)
+    by true e rest =
+        let one : ◌≡◌ {A = ℕ} (cond (is_planned_as member q) 1 0) 1 = cond-true _ 1 0 e in
+        let none : count_by (is_planned_as member) plan ≡ 0 = omega (arith, counted_head, one, once) in
+        let here = All-get_or (λ (r : Planned). is_planned_as member r ≡ false) plan i p (omega arith) (count_none (is_planned_as member) plan none) in
+        let no : true ≡ false = sym (eq-eqb (get_or plan i p).member member named) ∙ here in
+        absurd cc
+    by false e rest = rest (omega (arith, counted_head, once)) (omega arith) named
+
+pub find_placed : (plan : List Planned) (places : List ℕ) (member : ℕ) (p : Planned) → IsPlan plan → ArePlaces plan places → 0 < get_or places member 0
+    → find (is_planned_as member) (placed places plan) ≡ Some (get_or plan (get_or places member 0 - 1) p)
+find_placed plan places member p is are some =
+    let place = are member some in
+    find_kept plan places member some ∙ find_at plan member (get_or places member 0 - 1) p (is.once member) (omega (arith, place.within)) (place.named p)
+
+-- ---- one that waits no longer
+
+pub placed_without : (plan : List Planned) (places : List ℕ) (member : ℕ) → member < length places → placed (slice_set places member 0) plan ≡ without member (placed places plan)
+placed_without plan places member within =
+    sym (filter_twice (λ (p : Planned). not (p.member == member)) (is_placed places) (is_placed (slice_set places member 0)) each plan)
+  where
+    law : (b : Bool) (k : ℕ) → not (cond b 0 k == 0) ≡ (not (k == 0) && not b)
+    law true k = sym (and_none (not (k == 0)))
+      where
+        and_none : (a : Bool) → (a && false) ≡ false
+        and_none true = refl
+        and_none false = refl
+    law false k = sym (and_all (not (k == 0)))
+      where
+        and_all : (a : Bool) → (a && true) ≡ a
+        and_all true = refl
+        and_all false = refl
+
+    each : (p : Planned) → is_placed (slice_set places member 0) p ≡ (is_placed places p && not (p.member == member))
+    each p = ap (λ (k : ℕ). not (k == 0)) (place_set places member 0 p.member within) ∙ law (p.member == member) (get_or places p.member 0)
+
+places_fewer : (plan : List Planned) (places : List ℕ) (member : ℕ) → member < length places → ArePlaces plan places → ArePlaces plan (slice_set places member 0)
+places_fewer plan places member within are m some = by (m == member) (place_set places member 0 m within)
+  where
+    by : (b : Bool) → get_or (slice_set places member 0) m 0 ≡ cond b 0 (get_or places m 0) → IsPlaceOf plan m (get_or (slice_set places member 0) m 0)
+    by true now = absurd (omega (arith, now))
+    by false now = subst (IsPlaceOf plan m) (sym now) (are m (omega (arith, now)))
+
+pub waiting_fewer : (plan : List Planned) (places : List ℕ) (member first first' : ℕ) → member < length places → AreWaiting plan places first → first' ≤ length plan
+    → placed (slice_set places member 0) (drop first' plan) ≡ placed (slice_set places member 0) (drop first plan)
+    → ((p : Planned) → first' < length plan → is_placed (slice_set places member 0) (get_or plan first' p) ≡ true) → AreWaiting plan (slice_set places member 0) first'
+waiting_fewer plan places member first first' small are within left waits = record {
+  lawful = are.lawful;
+  places_are = places_fewer plan places member small are.places_are;
+  within = within;
+  left = left ∙ placed_without (drop first plan) places member small ∙ ap (without member) are.left ∙ sym (placed_without plan places member small);
+  waits = waits;
+}

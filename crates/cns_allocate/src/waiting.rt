@@ -1,0 +1,128 @@
+ghost use Rattle.std.specs.Prelude.{◌≡◌, ◌↔◌, ◌<◌, ◌≤◌, ◌==◌, [], drop, find, length, slice_index_or, true, IsTrue};
+ghost use Rattle.cns_allocate.specs.Plan.{IsPlan};
+ghost use Rattle.cns_allocate.specs.Served.{is_after_others, turn_of, without};
+ghost use Rattle.cns_allocate.specs.Waiting.{ArePlaces, is_placed, placed};
+ghost use Rattle.cns_allocate.specs.declared.planned.Planned.{Planned};
+
+use crate::planned::Planned;
+use crate::turns::{Turn, is_before};
+use cns_ids::MemberNo;
+use std::marker::Model;
+
+// The numbers of members are below this.
+const MEMBERS: usize = 10_000;
+
+// The members of a plan that have no ticket yet, in the plan's order. It takes no memory, and answers
+// as `Turns` does. Contracts see the members that wait, in their order.
+#[derive(Drop)]
+pub(crate) struct Waiting<'a> {
+    plan: &'a [Planned],
+    // By member number the place in the plan, counted from 1, of each member that waits; 0 for others.
+    places: [u16; MEMBERS],
+    // The place of the first one that waits, counted from 0; the plan's length where none does.
+    first: usize,
+}
+
+impl<'a> Model for Waiting<'a> {
+    ghost use Rattle.std.specs.Prelude.{List};
+    ghost use Rattle.cns_allocate.specs.Waiting.{AreWaiting, placed};
+    ghost use Rattle.cns_allocate.specs.declared.planned.Planned.{Planned};
+
+    ghost Value = { List Planned };
+
+    ghost view = { λ w. placed w.places w.plan.now };
+
+    ghost invariant = { λ w. AreWaiting w.plan.now w.places w.first };
+}
+
+impl<'a> Waiting<'a> {
+    // Those of a plan of which no member has a ticket.
+    pub(crate) fn of(plan: &'a [Planned]) -> Waiting<'a>
+        requires plan { IsPlan plan.now }
+        ensures { result ≡ plan.now }
+    {
+        let places = places_of(plan);
+        let first = first_placed(plan, &places, 0);
+        Waiting {
+            plan,
+            places,
+            first,
+        }
+    }
+
+    // What a member is answered that asks for a ticket now.
+    pub(crate) fn turn(&self, member: MemberNo) -> Turn
+        ensures { result ≡ turn_of self.now member }
+    {
+        match self.planned_as(member) {
+            None => Turn::NotLong,
+            Some(planned) if self.is_after_others(&planned) => Turn::EarlierGroup,
+            Some(planned) => Turn::Next {
+                asked: planned.asked,
+            },
+        }
+    }
+
+    // Notes that a member has its ticket: it waits no longer.
+    pub(crate) fn serve(&mut self, member: MemberNo)
+        ensures { self.new ≡ without member self.old }
+    {
+        self.places[usize::from(member.number())] = 0;
+        self.first = first_placed(self.plan, &self.places, self.first);
+    }
+
+    // Whether no member waits.
+    pub(crate) fn is_empty(&self) -> bool
+        ensures { IsTrue result ↔ (self.now ≡ []) }
+    {
+        self.first == self.plan.len()
+    }
+
+    // What is planned for a member that waits.
+    fn planned_as(&self, member: MemberNo) -> Option<Planned>
+        ensures { result ≡ find (λ (p : Planned). p.member == member) self.now }
+    {
+        match usize::from(self.places[usize::from(member.number())]) {
+            0 => None,
+            place => Some(self.plan[place - 1]),
+        }
+    }
+
+    // Whether a member of an earlier group waits: then the first one is of such a group.
+    fn is_after_others(&self, planned: &Planned) -> bool
+        ensures { result ≡ is_after_others self.now planned.now }
+    {
+        match self.plan.get(self.first) {
+            Some(first) => is_before(first, planned),
+            None => false,
+        }
+    }
+}
+
+// By member number the place of each one in the plan, counted from 1.
+fn places_of(plan: &[Planned]) -> [u16; MEMBERS]
+    requires plan { IsPlan plan.now }
+    ensures places { ArePlaces plan.now result }
+    ensures all { placed result plan.now ≡ plan.now }
+{
+    let mut places = [0; MEMBERS];
+    for (place, planned) in plan.iter().enumerate() {
+        places[usize::from(planned.member.number())] = place as u16 + 1;
+    }
+    places
+}
+
+// The place of the first one that has a place in the table, from `start` on; the plan's length where
+// none has.
+fn first_placed(plan: &[Planned], places: &[u16; MEMBERS], start: usize) -> usize
+    requires start { start ≤ length plan.now }
+    ensures within { result ≤ length plan.now }
+    ensures left { placed places.now (drop result plan.now) ≡ placed places.now (drop start plan.now) }
+    ensures placed { (p : Planned) → result < length plan.now → is_placed places.now (slice_index_or plan.now result p) ≡ true }
+{
+    let mut place = start;
+    while place < plan.len() && places[usize::from(plan[place].member.number())] == 0 {
+        place += 1;
+    }
+    place
+}

@@ -1,0 +1,89 @@
+-- The rows of an issue, by a look-up of each member.
+use Rattle.std.proofs.Common.{◌≡◌, ◌≤◌, ◌<◌, ◌+◌, ℕ, zero, suc, List, [], ◌∷◌, Option, Some, None, Bool, true, false, refl, sym, ap, ◌∙◌, arith, subst}
+use Rattle.std.specs.Prelude.{◌||◌, ◌&&◌, ◌==◌, filter, if◌then◌else◌, sum_by}
+use Rattle.std.specs.HashMap.{HashMap, get}
+use Rattle.std.specs.List.{AllByRecursion, IsDistinct, list_any}
+use Rattle.std.proofs.lemmas.Bool.Decides.{nat_tests}
+use Rattle.std.proofs.lemmas.Bool.{eqb-true}
+use Rattle.std.proofs.lemmas.List.Sums.{sum_by-cons}
+use Rattle.cns_ids.specs.Holding.{holding_at, holding_eq}
+use Rattle.cns_ids.specs.declared.holding.Holding.{Holding}
+use Rattle.cns_netting.specs.Rows.{is_row_in, rows_of}
+use Rattle.cns_netting.specs.Sides.{AreInOrder, AreOfMembers, AreSidesOf, credit_at, debit_at, holdings_up_to, row_by, row_if, row_part}
+use Rattle.cns_netting.specs.declared.entry.NetEntry.{NetEntry}
+use Rattle.cns_netting.specs.declared.position.PositionRow.{PositionRow}
+use Rattle.cns_netting.specs.declared.sides.Sides.{Sides}
+use Rattle.cns_netting.proofs.RowLemmas.{rows_by_holdings}
+
+-- the row by a look-up that found nothing is that of no shares
+row_of_none : (s : Sides) (k : Holding) → s.credit ≡ 0 → s.debit ≡ 0 → row_by k (Some s) ≡ None
+row_of_none s k credit debit = rw (credit, debit) refl
+
+row_looked_up : (o : Option Sides) (s : Sides) (k : Holding) → s.credit ≡ credit_at o → s.debit ≡ debit_at o → row_by k (Some s) ≡ row_by k o
+row_looked_up None s k credit debit = row_of_none s k credit debit
+row_looked_up (Some t) s k credit debit = rw (credit, debit) refl
+
+pub looked_up : (issue : ℕ) (o : Option Sides) (s : Sides) (k : Holding) → s.credit ≡ credit_at o → s.debit ≡ debit_at o → row_if (Some issue) k (Some s) ≡ row_if (Some issue) k o
+looked_up issue o s k credit debit = ap (λ (r : Option PositionRow). if k.issue == issue then r else None) (row_looked_up o s k credit debit)
+
+-- a sum over the members 1 to n, with one member more
+pub member_more : (weight : Holding → ℕ) (n issue m part old new : ℕ) → m ≡ n + 1 → part ≡ weight (holding_at issue m) → new ≡ old + part
+    → old ≡ sum_by weight (holdings_up_to n issue) → new ≡ sum_by weight (holdings_up_to (n + 1) issue)
+unfolding holdings_up_to
+member_more weight n issue m part old new is here grows before =
+    let next : n + 1 ≡ suc n = omega arith in
+    let part_is : part ≡ weight (holding_at issue (suc n)) = here ∙ ap (λ (k : ℕ). weight (holding_at issue k)) (is ∙ next) in
+    rw next (omega (arith, grows, before, part_is, sum_by-cons weight (holding_at issue (suc n)) (holdings_up_to n issue)))
+
+-- ---- the holdings of the members 1 to n
+
+differ : (issue k m : ℕ) → m < k → holding_eq (holding_at issue k) (holding_at issue m) ≡ false
+differ issue k m less = grind (arith, nat_tests)
+
+later_apart : (n issue k : ℕ) → n < k → AllByRecursion (λ (q : Holding). holding_eq (holding_at issue k) q ≡ false) (holdings_up_to n issue)
+unfolding holdings_up_to
+later_apart zero issue k less = tt
+later_apart (suc n) issue k less = (differ issue k (suc n) less, later_apart n issue k (omega (arith, less)))
+
+distinct : (n issue : ℕ) → IsDistinct holding_eq (holdings_up_to n issue)
+unfolding holdings_up_to IsDistinct
+distinct zero issue = tt
+distinct (suc n) issue = (later_apart n issue (suc n) (omega arith), distinct n issue)
+
+same_member : (issue m : ℕ) → holding_eq (holding_at issue m) (holding_at issue m) ≡ true
+same_member issue m = grind (arith, nat_tests)
+
+there : (n issue m : ℕ) → 1 ≤ m → m ≤ n → list_any (holding_eq (holding_at issue m)) (holdings_up_to n issue) ≡ true
+unfolding holdings_up_to
+there zero issue m some most = absurd (omega (arith, some, most))
+there (suc n) issue m some most = by (holding_eq (holding_at issue m) (holding_at issue (suc n))) refl (λ most. there n issue m some most)
+  where
+    below : holding_eq (holding_at issue m) (holding_at issue (suc n)) ≡ false → m ≤ n
+    below e = grind (arith, nat_tests)
+
+    by : (b : Bool) → holding_eq (holding_at issue m) (holding_at issue (suc n)) ≡ b → (m ≤ n → list_any (holding_eq (holding_at issue m)) (holdings_up_to n issue) ≡ true)
+        → (b || list_any (holding_eq (holding_at issue m)) (holdings_up_to n issue)) ≡ true
+    by true e rest = refl
+    by false e rest = rest (below e)
+
+-- ---- the rows
+
+pub rows_by_members : {S : Type 0} (issue : ℕ) (sides : HashMap Holding Sides S) (h : List NetEntry) (xs : List PositionRow) → AreOfMembers sides → AreSidesOf sides h
+    → ((f : PositionRow → ℕ) → sum_by f xs ≡ sum_by (λ (k : Holding). row_part f (row_if (Some issue) k (get holding_eq sides k))) (holdings_up_to 9999 issue))
+    → AreInOrder xs → xs ≡ filter (is_row_in issue) (rows_of h)
+rows_by_members issue sides h xs members are sums order = rows_by_holdings (Some issue) sides h xs (holdings_up_to 9999 issue) (distinct 9999 issue) are others sums order
+  where
+    others : (q : Holding) → list_any (holding_eq q) (holdings_up_to 9999 issue) ≡ false → row_if (Some issue) q (get holding_eq sides q) ≡ None
+    others q none = by (q.issue == issue) refl
+      where
+        nobody : q.issue ≡ issue → (o : Option Sides) → get holding_eq sides q ≡ o → row_by q o ≡ None
+        nobody is None e = refl
+        nobody is (Some s) e =
+            let one = members q (rw e refl) in
+            let here : list_any (holding_eq (holding_at q.issue q.member)) (holdings_up_to 9999 issue) ≡ true =
+            subst (λ (i : ℕ). list_any (holding_eq (holding_at i q.member)) (holdings_up_to 9999 issue) ≡ true) (sym is) (there 9999 issue q.member one.from one.to) in
+            let no : true ≡ false = sym here ∙ none in cc
+
+        by : (b : Bool) → (q.issue == issue) ≡ b → ◌≡◌ {A = Option PositionRow} (if b then row_by q (get holding_eq sides q) else None) None
+        by true e = nobody (eqb-true q.issue issue e) (get holding_eq sides q) refl
+        by false e = refl
