@@ -8,26 +8,22 @@ use Rattle.cns_netting.specs.History.{bought, credit, debit, due, due_since, is_
 use Rattle.cns_netting.specs.declared.entry.NetEntry.{NetEntry}
 use Rattle.cns_netting.specs.declared.entry.NetEntry.TheVariants.{Accepted, Netted, Settled}
 use Rattle.cns_netting.specs.Sides.{bought_by, sold_by}
+unfoldable pub use Rattle.cns_netting.specs.Totals.{total}
 use Rattle.cns_netting.proofs.TradeLemmas.{either-sum}
 
 -- ---- sums over the members 1 to n
-
--- the sum of a number for each member 1 to n
-pub total : ℕ → (ℕ → ℕ) → ℕ
-total zero g = 0
-total (suc n) g = total n g + g (suc n)
 
 pub total-same : (n : ℕ) (f g : ℕ → ℕ) → ((k : ℕ) → f k ≡ g k) → total n f ≡ total n g
 unfolding total
 total-same zero f g each = refl
 total-same (suc n) f g each = omega (arith, each (suc n), total-same n f g each)
 
-total-plus : (n : ℕ) (f g s : ℕ → ℕ) → ((k : ℕ) → s k ≡ f k + g k) → total n s ≡ total n f + total n g
+pub total-plus : (n : ℕ) (f g s : ℕ → ℕ) → ((k : ℕ) → s k ≡ f k + g k) → total n s ≡ total n f + total n g
 unfolding total
 total-plus zero f g s each = refl
 total-plus (suc n) f g s each = omega (arith, each (suc n), total-plus n f g s each)
 
-total-nothing : (n : ℕ) (f : ℕ → ℕ) → ((k : ℕ) → f k ≡ 0) → total n f ≡ 0
+pub total-nothing : (n : ℕ) (f : ℕ → ℕ) → ((k : ℕ) → f k ≡ 0) → total n f ≡ 0
 unfolding total
 total-nothing zero f each = refl
 total-nothing (suc n) f each = omega (arith, each (suc n), total-nothing n f each)
@@ -38,7 +34,7 @@ unfolding total
 total-above zero m q above = refl
 total-above (suc n) m q above = rw (ne_eqb m (suc n) (λ e. omega arith)) (omega (arith, total-above n m q (omega arith)))
 
-total-one : (n m q : ℕ) → 1 ≤ m → m ≤ n → total n (λ k. if m == k then q else 0) ≡ q
+pub total-one : (n m q : ℕ) → 1 ≤ m → m ≤ n → total n (λ k. if m == k then q else 0) ≡ q
 unfolding total
 total-one zero m q from to = absurd (omega arith)
 total-one (suc n) m q from to =

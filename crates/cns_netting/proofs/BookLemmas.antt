@@ -1,5 +1,5 @@
 -- What a book keeps as it grows.
-use Rattle.std.proofs.Common.{◌≡◌, ◌≤◌, ◌<◌, ◌+◌, ◌-◌, ◌*◌, ◌^◌, ℕ, List, [], ◌∷◌, length, length-append, Option, None, Bool, true, false, refl, arith}
+use Rattle.std.proofs.Common.{◌≡◌, ◌≤◌, ◌<◌, ◌+◌, ◌*◌, ◌^◌, ℕ, List, [], ◌∷◌, length, length-append, Option, None, Bool, true, false, refl, arith}
 use Rattle.std.specs.Prelude.{◌&&◌, ◌==◌, ℤ, pos, negsuc, ◌-ℤ◌, ◌+ℤ◌, sum_by, if◌then◌else◌}
 use Rattle.std.proofs.lemmas.Int.{ints}
 use Rattle.std.proofs.lemmas.Bool.{eqb-true}
@@ -92,6 +92,11 @@ pub moved_near : (c d : ℕ) (z : ℤ) → IsWithin ((pos c -ℤ pos d) +ℤ z) 
 moved_near c d (pos n) w = record { above = omega (arith, ints, w.high); below = omega (arith, ints, w.low) }
 moved_near c d (negsuc n) w = record { above = omega (arith, ints, w.high); below = omega (arith, ints, w.low) }
 
+parts_fit : (c d : ℕ) (z : ℤ) → AreNear c d → AreNear (c + credit_part z) (d + debit_part z)
+    → (credit_part z ≤ 2000000000000000000) × (debit_part z ≤ 2000000000000000000)
+parts_fit c d (pos n) a b = (omega (arith, a.below, b.above), omega arith)
+parts_fit c d (negsuc n) a b = (omega arith, omega (arith, a.above, b.below))
+
 same_place : (k m j i : ℕ) → ((k == m) && (j == i)) ≡ true → (k ≡ m) × (j ≡ i)
 same_place k m j i h = by (k == m) refl h
   where
@@ -119,11 +124,6 @@ book_settled h m i z book before after =
           });
     }
   where
-    parts_fit : (c d : ℕ) (z : ℤ) → AreNear c d → AreNear (c + credit_part z) (d + debit_part z)
-        → (credit_part z ≤ 2000000000000000000) × (debit_part z ≤ 2000000000000000000)
-    parts_fit c d (pos n) a b = (omega (arith, a.below, b.above), omega arith)
-    parts_fit c d (negsuc n) a b = (omega arith, omega (arith, a.above, b.below))
-
     by : (k j : ℕ) (b : Bool) → ((m == k) && (i == j)) ≡ b → AreSettled (credit_part z + settled_in h m i) (debit_part z + settled_out h m i)
         → IsSettled (Settled m i z ∷ h) k j
     by k j true e s =
@@ -137,9 +137,27 @@ book_settled h m i z book before after =
       out_most = rw e (omega (arith, (book.settled k j).out_most));
     }
 
--- a position of a book lies within 3 * 10^18 of 0
-pub long-most : (h : List NetEntry) (m i : ℕ) → IsBook h → credit h m i - debit h m i ≤ 3000000000000000000
-long-most h m i book = omega (arith, bought-most None h m i book.quantities, (book.settled m i).in_most, book.few)
+-- a position of a book stays within 3 * 10^18 of 0 while the trades become due that wait
+pub long-most : (h : List NetEntry) (m i : ℕ) → IsBook h → credit h m i + sum_by (bought_by m i) (undue h) ≤ debit h m i + 3 * 10 ^ 18
+unfolding bought
+long-most h m i book = omega (arith, accepted-most (bought_by m i) (bought_by-most m i) None h book.quantities, (book.settled m i).in_most, book.few)
 
-pub short-most : (h : List NetEntry) (m i : ℕ) → IsBook h → debit h m i - credit h m i ≤ 3000000000000000000
-short-most h m i book = omega (arith, sold-most None h m i book.quantities, (book.settled m i).out_most, book.few)
+pub short-most : (h : List NetEntry) (m i : ℕ) → IsBook h → debit h m i + sum_by (sold_by m i) (undue h) ≤ credit h m i + 3 * 10 ^ 18
+unfolding sold
+short-most h m i book = omega (arith, accepted-most (sold_by m i) (sold_by-most m i) None h book.quantities, (book.settled m i).out_most, book.few)
+
+-- nor does a position go further by the shares alone that come by a settlement, or by those alone that go
+pub settled-near : (h : List NetEntry) (member issue : ℕ) (z : ℤ) (m i : ℕ) → IsBook h → IsWithin (position_of h member issue) → IsWithin (position_of h member issue +ℤ z)
+    → (credit h m i + (if (member == m) && (issue == i) then credit_part z else 0) ≤ debit h m i + 3 * 10 ^ 18)
+    × (debit h m i + (if (member == m) && (issue == i) then debit_part z else 0) ≤ credit h m i + 3 * 10 ^ 18)
+settled-near h member issue z m i book before after =
+    let was = sides_near (credit h member issue) (debit h member issue) before in
+    let is = moved_near (credit h member issue) (debit h member issue) z after in
+    let fits = parts_fit (credit h member issue) (debit h member issue) z was is in
+    by ((member == m) && (issue == i)) refl (omega (arith, is.above, fits.1)) (omega (arith, is.below, fits.0))
+  where
+    by : (b : Bool) → ((member == m) && (issue == i)) ≡ b → credit h member issue + credit_part z ≤ debit h member issue + 3 * 10 ^ 18
+        → debit h member issue + debit_part z ≤ credit h member issue + 3 * 10 ^ 18
+        → (credit h m i + (if b then credit_part z else 0) ≤ debit h m i + 3 * 10 ^ 18) × (debit h m i + (if b then debit_part z else 0) ≤ credit h m i + 3 * 10 ^ 18)
+    by true e above below = let same = same_place member m issue i e in rw (← same.0, ← same.1) (above, below)
+    by false e above below = (omega (arith, long-most h m i book), omega (arith, short-most h m i book))

@@ -9,4 +9,5 @@ pub mod RowLemmas
 pub mod MemberLemmas
 pub mod IssueLemmas
 pub mod BalanceLemmas
+pub mod TotalLemmas
 pub mod KeptLemmas

@@ -1,5 +1,5 @@
--- The sides of a holding.
-use Rattle.std.proofs.Common.{◌≡◌, ◌∙◌, ◌+◌, ◌-◌, ℕ, suc, Option, Some, Bool, true, false, cond, ap, arith, refl, subst}
+-- The sides of a holding, and the holdings that are named.
+use Rattle.std.proofs.Common.{◌≡◌, ℕ, Option, Some, Bool, true, false, cond, refl, subst}
 use Rattle.std.specs.Prelude.{IsSome}
 use Rattle.cns_ids.specs.Holding.{holding_at, holding_eq}
 use Rattle.cns_ids.specs.Member.{IsMember}
@@ -19,10 +19,3 @@ put-members member issue w old new puts is are k some = by (holding_eq (holding_
     by : (b : Bool) → holding_eq (holding_at issue member) k ≡ b → new k ≡ cond b (Some w) (old k) → IsMember k.member
     by true e put = subst (λ (q : Holding). IsMember q.member) (equal_holdings (holding_at issue member) k e) is
     by false e put = are k (subst IsSome put some)
-
--- a sum of what one side of each member has above the other, with one member more
-pub next_member : (up_to more less : ℕ → ℕ) → ((k : ℕ) → up_to (suc k) ≡ up_to k + (more (suc k) - less (suc k))) → (n m mine its now total : ℕ)
-    → m ≡ n + 1 → mine ≡ more m → its ≡ less m → now ≡ mine - its → total ≡ up_to n → total + now ≡ up_to (n + 1)
-next_member up_to more less step n m mine its now total is has owes above before =
-    let next : n + 1 ≡ suc n = omega arith in
-    rw next (omega (arith, step n, has ∙ ap more (is ∙ next), owes ∙ ap less (is ∙ next), above, before))

@@ -5,11 +5,13 @@ use Rattle.std.specs.HashMap.{HashMap}
 use Rattle.cns_trades.specs.declared.trade.Trade.{Trade}
 use Rattle.cns_netting.specs.History.{accepted, credit_part, debit_part, settled_in, settled_out}
 use Rattle.cns_netting.specs.Sides.{AreOfMembers, AreSidesOf, IsNamed}
+use Rattle.cns_netting.specs.Totals.{AreTotalsOf, HasIssue}
 use Rattle.cns_netting.specs.Undue.{earlier, undue}
 use Rattle.cns_netting.specs.declared.entry.NetEntry.{NetEntry}
 use Rattle.cns_netting.specs.declared.entry.NetEntry.TheVariants.{Accepted, Netted, Settled}
 use Rattle.cns_ids.specs.declared.holding.Holding.{Holding}
 use Rattle.cns_netting.specs.declared.sides.Sides.{Sides}
+use Rattle.cns_netting.specs.declared.totals.Totals.{Totals}
 
 -- the history, the newest entry first, and for how many more entries there is room
 pub record NetRoom : Type 0 where
@@ -47,16 +49,19 @@ pub record IsBook (h : List NetEntry) : Type 0 where
   pub amounts : AmountsFit h
   pub settled : (member issue : ℕ) → IsSettled h member issue
 
--- what a book keeps beside its history: the sides of each holding, and the trades that are not due, in a heap; each holding of
--- such a trade is named, and each that is named is one of a member
-pub record IsKept {S : Type 0} (h : List NetEntry) (holdings : HashMap Holding Sides S) (waiting : List Trade) : Type 0 where
+-- what a book keeps beside its history: the sides of each holding, the totals of each issue, and the trades that are not due,
+-- in a heap; the holdings and the issue of each such trade are named, and each holding that is named is one of a member
+pub record IsKept {S T : Type 0} (h : List NetEntry) (holdings : HashMap Holding Sides S) (issues : HashMap ℕ Totals T) (waiting : List Trade) : Type 0 where
   pub book : IsBook h
   pub sides : AreSidesOf holdings h
+  pub totals : AreTotalsOf issues holdings
   pub undue : (f : Trade → ℕ) → sum_by f waiting ≡ sum_by f (undue h)
   pub named : All (IsNamed holdings) waiting
+  pub named_issues : All (HasIssue issues) waiting
   pub members : AreOfMembers holdings
   pub heap : IsHeap earlier waiting
 
--- for how many more entries there is room: for none where two more holdings, or one more trade that is not due, may not fit
-abbrev pub room_of : ℕ → ℕ → ℕ → ℕ
-room_of entries holdings waiting = if nat_le 2 holdings && nat_le 1 waiting then entries else 0
+-- for how many more entries there is room: for none where two more holdings, one more issue, or one more trade that is not due,
+-- may not fit
+abbrev pub room_of : ℕ → ℕ → ℕ → ℕ → ℕ
+room_of entries holdings issues waiting = if nat_le 2 holdings && nat_le 1 issues && nat_le 1 waiting then entries else 0

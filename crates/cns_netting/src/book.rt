@@ -1,4 +1,4 @@
-ghost use Rattle.std.specs.Prelude.{◌≡◌, ◌++◌, ◌+◌, ◌-◌, ◌^◌, ◌<◌, ◌≤◌, ℕ, List, [], ◌∷◌, None, reverse, length, filter, ◌+ℤ◌, IfOk, OnOk, OnErr, IsOk, vec_capacity, if◌then◌else◌};
+ghost use Rattle.std.specs.Prelude.{◌≡◌, ◌++◌, ◌+◌, ◌-◌, ◌<◌, ◌≤◌, ℕ, nat_eq, [], ◌∷◌, None, reverse, length, filter, ◌+ℤ◌, IfOk, OnOk, OnErr, IsOk, vec_capacity, if◌then◌else◌};
 ghost use Rattle.std.specs.BinaryHeap.{heap_capacity, heap_items, heap_len, IsHeap};
 ghost use Rattle.std.specs.HashMap.{get, spare};
 ghost use Rattle.std.specs.List.Sorted.{IsPermutation};
@@ -7,9 +7,7 @@ ghost use Rattle.cns_netting.specs.Book.{IsBook, IsWithin, room_of};
 ghost use Rattle.cns_netting.specs.History.{accepted, becoming_due, credit_part, debit_part, position_of, longs_of, shorts_of};
 ghost use Rattle.cns_netting.specs.Rows.{is_row_in, rows_of};
 ghost use Rattle.cns_ids.specs.Holding.{holding_eq};
-ghost use Rattle.cns_netting.specs.Sides.{AreSidesOf, credit_in, debit_in};
 ghost use Rattle.cns_netting.specs.Undue.{earlier};
-ghost use Rattle.cns_netting.specs.declared.entry.NetEntry.{NetEntry};
 ghost use Rattle.cns_netting.specs.declared.entry.NetEntry.TheVariants.{Accepted, Netted, Settled};
 ghost use Rattle.cns_ids.specs.declared.holding.Holding.{Holding};
 
@@ -17,7 +15,8 @@ use crate::due::{make_due, sides_after};
 use crate::entry::NetEntry;
 use crate::position::PositionRow;
 use crate::rows::{position_rows, position_rows_in};
-use crate::sides::{Sides, add, name, name_trade, sides_of};
+use crate::sides::{Sides, name, name_trade, sides_of};
+use crate::totals::{Totals, add_counted, name_issue, totals_of};
 use crate::undue::Undue;
 use cns_ids::{Cusip, Day, Holding, MemberNo};
 use cns_trades::Trade;
@@ -28,12 +27,13 @@ use std::marker::Model;
 /// Accepted trades, due or not, with the nettings and settlements since.
 ///
 /// Contracts see the history of entries, the newest first, and for how many more there is room. Beside
-/// the history the book keeps what stands for each holding and against it, and the trades that are not
-/// due, the earliest settlement first.
+/// the history the book keeps what stands for each holding and against it, the totals of each issue's
+/// positions, and the trades that are not due, the earliest settlement first.
 #[derive(Drop)]
 pub struct NetBook {
     entries: Vec<NetEntry>,
     sides: HashMap<Holding, Sides>,
+    totals: HashMap<Cusip, Totals>,
     undue: BinaryHeap<Undue>,
 }
 
@@ -47,29 +47,33 @@ impl Model for NetBook {
 
     ghost view = { λ b. record {
       history = reverse b.entries.items;
-      room = room_of (vec_capacity b.entries - length b.entries.items) (spare b.sides) (heap_capacity b.undue - heap_len b.undue);
+      room = room_of (vec_capacity b.entries - length b.entries.items) (spare b.sides) (spare b.totals) (heap_capacity b.undue - heap_len b.undue);
     } };
 
-    ghost invariant = { λ b. IsKept (reverse b.entries.items) b.sides (heap_items b.undue) };
+    ghost invariant = { λ b. IsKept (reverse b.entries.items) b.sides b.totals (heap_items b.undue) };
 }
 
 // Takes the memory that any entry needs.
-fn make_room(
+fn reserve(
     entries: &mut Vec<NetEntry>,
     sides: &mut HashMap<Holding, Sides>,
+    totals: &mut HashMap<Cusip, Totals>,
     undue: &mut BinaryHeap<Undue>,
 ) -> Result<(), AllocError>
     ensures entries { entries.new.items ≡ entries.old.items }
     ensures sides { (k : Holding) → get holding_eq sides.new k ≡ get holding_eq sides.old k }
+    ensures totals { (i : ℕ) → get nat_eq totals.new i ≡ get nat_eq totals.old i }
     ensures undue { heap_items undue.new ≡ heap_items undue.old }
     ensures entry_room { OnOk result (length entries.new.items < vec_capacity entries.new) }
     ensures side_room { OnOk result (2 ≤ spare sides.new) }
+    ensures issue_room { OnOk result (1 ≤ spare totals.new) }
     ensures undue_room { OnOk result (heap_len undue.new < heap_capacity undue.new) }
-    ensures none { OnErr result (room_of (vec_capacity entries.old - length entries.old.items) (spare sides.old) (heap_capacity undue.old - heap_len undue.old) ≡ 0) }
-    ensures left { room_of (vec_capacity entries.old - length entries.old.items) (spare sides.old) (heap_capacity undue.old - heap_len undue.old) ≤ room_of (vec_capacity entries.new - length entries.new.items) (spare sides.new) (heap_capacity undue.new - heap_len undue.new) }
+    ensures none { OnErr result (room_of (vec_capacity entries.old - length entries.old.items) (spare sides.old) (spare totals.old) (heap_capacity undue.old - heap_len undue.old) ≡ 0) }
+    ensures left { room_of (vec_capacity entries.old - length entries.old.items) (spare sides.old) (spare totals.old) (heap_capacity undue.old - heap_len undue.old) ≤ room_of (vec_capacity entries.new - length entries.new.items) (spare sides.new) (spare totals.new) (heap_capacity undue.new - heap_len undue.new) }
 {
     entries.reserve(1)?;
     sides.reserve(2)?;
+    totals.reserve(1)?;
     undue.reserve(1)
 }
 
@@ -109,45 +113,6 @@ fn taken(amount: i128) -> u128
     if amount < 0 { amount.unsigned_abs() } else { 0 }
 }
 
-// The member after some number of members.
-fn member_after(number: u16) -> MemberNo
-    requires { number < 9999 }
-    ensures { result ≡ number + 1 }
-{
-    match MemberNo::new(number + 1) {
-        Some(member) => member,
-        None => unreachable!(),
-    }
-}
-
-// The shares of all positions above 0 in an issue.
-#[tactic(auto, unfolding(crate::specs::History::long_up_to))]
-fn long_shares(sides: &HashMap<Holding, Sides>, issue: Cusip) -> u128
-    requires { (m : ℕ) → credit_in sides.now m issue - debit_in sides.now m issue ≤ 3000000000000000000 }
-    ensures { (h : List NetEntry) → AreSidesOf sides.now h → result ≡ longs_of h issue }
-{
-    let mut total = 0;
-    for number in 0..9999u16 {
-        let sides = sides_of(sides, member_after(number), issue);
-        total += sides.credit.saturating_sub(sides.debit);
-    }
-    total
-}
-
-// The shares of all positions below 0 in an issue.
-#[tactic(auto, unfolding(crate::specs::History::short_up_to))]
-fn short_shares(sides: &HashMap<Holding, Sides>, issue: Cusip) -> u128
-    requires { (m : ℕ) → debit_in sides.now m issue - credit_in sides.now m issue ≤ 3000000000000000000 }
-    ensures { (h : List NetEntry) → AreSidesOf sides.now h → result ≡ shorts_of h issue }
-{
-    let mut total = 0;
-    for number in 0..9999u16 {
-        let sides = sides_of(sides, member_after(number), issue);
-        total += sides.debit.saturating_sub(sides.credit);
-    }
-    total
-}
-
 impl NetBook {
     /// An empty book, with room for no entry.
     pub fn new(alloc: Global) -> NetBook
@@ -157,8 +122,25 @@ impl NetBook {
         NetBook {
             entries: Vec::new(alloc),
             sides: HashMap::new(alloc),
+            totals: HashMap::new(alloc),
             undue: BinaryHeap::new(alloc),
         }
+    }
+
+    // Takes the memory that any entry needs.
+    fn make_room(&mut self) -> Result<(), AllocError>
+        ensures same { self.new.history ≡ self.old.history }
+        ensures room { OnOk result (0 < self.new.room) }
+        ensures err { OnErr result (self.old.room ≡ 0) }
+        ensures left { self.old.room ≤ self.new.room }
+        ensures lawful { IsBook self.new.history }
+    {
+        reserve(
+            &mut self.entries,
+            &mut self.sides,
+            &mut self.totals,
+            &mut self.undue,
+        )
     }
 
     /// Takes the memory that `accept` of a trade needs: as the next change, it then succeeds.
@@ -168,7 +150,7 @@ impl NetBook {
         ensures err { OnErr result (self.old.room ≡ 0) }
         ensures left { self.old.room ≤ self.new.room }
     {
-        make_room(&mut self.entries, &mut self.sides, &mut self.undue)
+        self.make_room()
     }
 
     /// Takes in an accepted trade. Its id is new, and fewer than a million trades are held.
@@ -180,8 +162,9 @@ impl NetBook {
         ensures room { 0 < self.old.room → IsOk result }
     {
         let _quantity = trade.quantity.shares();
-        make_room(&mut self.entries, &mut self.sides, &mut self.undue)?;
+        self.make_room()?;
         name_trade(&mut self.sides, &trade);
+        name_issue(&mut self.totals, trade.issue);
         enter(&mut self.undue, trade);
         write(&mut self.entries, NetEntry::Accepted(trade));
         Ok(())
@@ -195,7 +178,7 @@ impl NetBook {
         ensures left { self.old.room ≤ self.new.room }
         ensures lawful { IsBook self.new.history }
     {
-        make_room(&mut self.entries, &mut self.sides, &mut self.undue)
+        self.make_room()
     }
 
     /// Makes the trades due that settle by a date, and answers how many became so.
@@ -205,8 +188,8 @@ impl NetBook {
         ensures err { OnErr result (self.new.history ≡ self.old.history) }
         ensures room { 0 < self.old.room → IsOk result }
     {
-        make_room(&mut self.entries, &mut self.sides, &mut self.undue)?;
-        let becoming = make_due(&mut self.undue, &mut self.sides, day);
+        self.make_room()?;
+        let becoming = make_due(&mut self.undue, &mut self.sides, &mut self.totals, day);
         write(&mut self.entries, NetEntry::Netted(day));
         Ok(becoming as u64)
     }
@@ -224,7 +207,7 @@ impl NetBook {
         ensures left { self.old.room ≤ self.new.room }
         ensures lawful { IsBook self.new.history }
     {
-        make_room(&mut self.entries, &mut self.sides, &mut self.undue)
+        self.make_room()
     }
 
     /// Adds the shares of a confirmed movement to a position, or takes them from it where negative.
@@ -236,10 +219,12 @@ impl NetBook {
         ensures err { OnErr result (self.new.history ≡ self.old.history) }
         ensures room { 0 < self.old.room → IsOk result }
     {
-        make_room(&mut self.entries, &mut self.sides, &mut self.undue)?;
+        self.make_room()?;
         name(&mut self.sides, member, issue);
-        add(
+        name_issue(&mut self.totals, issue);
+        add_counted(
             &mut self.sides,
+            &mut self.totals,
             member,
             issue,
             brought(amount),
@@ -284,17 +269,17 @@ impl NetBook {
         position_rows(*self.entries.allocator(), &after, None)
     }
 
-    /// The shares of all positions above 0 in an issue.
+    /// The shares of all positions above 0 in an issue. Costs a look-up.
     pub fn longs(&self, issue: Cusip) -> u128
         ensures { result ≡ longs_of self.now.history issue }
     {
-        long_shares(&self.sides, issue)
+        totals_of(&self.totals, issue).longs
     }
 
-    /// The shares of all positions below 0 in an issue, as a size.
+    /// The shares of all positions below 0 in an issue, as a size. Costs a look-up.
     pub fn shorts(&self, issue: Cusip) -> u128
         ensures { result ≡ shorts_of self.now.history issue }
     {
-        short_shares(&self.sides, issue)
+        totals_of(&self.totals, issue).shorts
     }
 }

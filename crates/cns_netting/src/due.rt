@@ -1,13 +1,15 @@
-ghost use Rattle.std.specs.Prelude.{◌≡◌, ℕ, ◌+◌, ◌^◌, ◌<◌, ◌≤◌, ◌∷◌, All, IfNone, IfOk, IfSome, sum_by};
+ghost use Rattle.std.specs.Prelude.{◌≡◌, ℕ, ◌+◌, ◌*◌, ◌^◌, ◌<◌, ◌≤◌, ◌∷◌, All, IfNone, IfOk, IfSome, sum_by};
 ghost use Rattle.std.specs.BinaryHeap.{heap_items, heap_len, IsHeap};
 ghost use Rattle.std.specs.List.Sorted.{IsPermutation};
 ghost use Rattle.cns_trades.specs.declared.trade.Trade.{Trade};
 ghost use Rattle.cns_netting.specs.Sides.{bought_by, credit_in, debit_in, AreOfMembers, IsNamed, sold_by};
+ghost use Rattle.cns_netting.specs.Totals.{AreTotalsOf, HasIssue};
 ghost use Rattle.cns_netting.specs.Undue.{earlier, if_left, if_settled};
 
 use crate::sides::{Sides, add_trade};
+use crate::totals::{Totals, add_trade_counted};
 use crate::undue::Undue;
-use cns_ids::{Day, Holding};
+use cns_ids::{Cusip, Day, Holding};
 use cns_trades::Trade;
 use std::alloc::AllocError;
 use std::collections::{BinaryHeap, HashMap};
@@ -30,27 +32,35 @@ fn next_due(undue: &mut BinaryHeap<Undue>, day: Day) -> Option<Trade>
     Some(undue.trade)
 }
 
-/// Makes the trades due that settle by a day, and answers how many.
+/// Makes the trades due that settle by a day, and answers how many. Whichever of them are due, no
+/// position is further than 3 * 10^18 shares from 0.
 pub(crate) fn make_due(
     undue: &mut BinaryHeap<Undue>,
     sides: &mut HashMap<Holding, Sides>,
+    totals: &mut HashMap<Cusip, Totals>,
     day: Day,
 ) -> usize
     requires heap { IsHeap earlier (heap_items undue.old) }
     requires named { All (IsNamed sides.old) (heap_items undue.old) }
+    requires issues { All (HasIssue totals.old) (heap_items undue.old) }
     requires credit { (m i : ℕ) → credit_in sides.old m i + sum_by (bought_by m i) (heap_items undue.old) < 2 ^ 128 }
     requires debit { (m i : ℕ) → debit_in sides.old m i + sum_by (sold_by m i) (heap_items undue.old) < 2 ^ 128 }
+    requires long { (m i : ℕ) → credit_in sides.old m i + sum_by (bought_by m i) (heap_items undue.old) ≤ debit_in sides.old m i + 3 * 10 ^ 18 }
+    requires short { (m i : ℕ) → debit_in sides.old m i + sum_by (sold_by m i) (heap_items undue.old) ≤ credit_in sides.old m i + 3 * 10 ^ 18 }
+    requires totals { AreTotalsOf totals.old sides.old }
     ensures heap { IsHeap earlier (heap_items undue.new) }
     ensures left { (f : Trade → ℕ) → sum_by f (heap_items undue.new) ≡ sum_by (if_left day f) (heap_items undue.old) }
     ensures count { result + sum_by (λ _. 1) (heap_items undue.new) ≡ sum_by (λ _. 1) (heap_items undue.old) }
     ensures credit { (m i : ℕ) → credit_in sides.new m i + sum_by (bought_by m i) (heap_items undue.new) ≡ credit_in sides.old m i + sum_by (bought_by m i) (heap_items undue.old) }
     ensures debit { (m i : ℕ) → debit_in sides.new m i + sum_by (sold_by m i) (heap_items undue.new) ≡ debit_in sides.old m i + sum_by (sold_by m i) (heap_items undue.old) }
     ensures named { All (IsNamed sides.new) (heap_items undue.new) }
+    ensures issues { All (HasIssue totals.new) (heap_items undue.new) }
+    ensures totals { AreTotalsOf totals.new sides.new }
     ensures members { AreOfMembers sides.old → AreOfMembers sides.new }
 {
     let mut count = 0;
     while let Some(trade) = next_due(undue, day) {
-        add_trade(sides, &trade);
+        add_trade_counted(sides, totals, &trade);
         count += 1;
     }
     count

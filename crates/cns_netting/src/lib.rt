@@ -7,6 +7,7 @@ mod entry;
 mod position;
 mod rows;
 mod sides;
+mod totals;
 mod undue;
 
 pub use book::NetBook;

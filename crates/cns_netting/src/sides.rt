@@ -1,4 +1,4 @@
-ghost use Rattle.std.specs.Prelude.{◌≡◌, ℕ, ◌+◌, ◌^◌, ◌<◌, ◌≤◌, ◌&&◌, ◌==◌, IsSome, if◌then◌else◌, ◌-ℤ◌, pos};
+ghost use Rattle.std.specs.Prelude.{◌≡◌, ℕ, ◌+◌, ◌-◌, ◌^◌, ◌<◌, ◌≤◌, ◌&&◌, ◌==◌, IsSome, if◌then◌else◌, ◌-ℤ◌, pos};
 ghost use Rattle.std.specs.HashMap.{get, spare};
 ghost use Rattle.cns_ids.specs.Holding.{holding_at, holding_eq};
 ghost use Rattle.cns_netting.specs.Sides.{bought_by, credit_in, debit_in, AreOfMembers, IsNamed, sold_by};
@@ -21,6 +21,33 @@ impl Sides {
         ensures { result ≡ pos self.credit -ℤ pos self.debit }
     {
         self.credit as i128 - self.debit as i128
+    }
+
+    /// The shares of the position where it is above 0.
+    pub(crate) fn long(self) -> u128
+        ensures { result ≡ self.credit - self.debit }
+    {
+        self.credit.saturating_sub(self.debit)
+    }
+
+    /// The shares of the position where it is below 0, as a size.
+    pub(crate) fn short(self) -> u128
+        ensures { result ≡ self.debit - self.credit }
+    {
+        self.debit.saturating_sub(self.credit)
+    }
+
+    /// The sides with more shares for the holding, and against it.
+    pub(crate) fn with(self, credit: u128, debit: u128) -> Sides
+        requires credit { self.credit + credit < 2 ^ 128 }
+        requires debit { self.debit + debit < 2 ^ 128 }
+        ensures credit { result.credit ≡ self.credit + credit }
+        ensures debit { result.debit ≡ self.debit + debit }
+    {
+        Sides {
+            credit: self.credit + credit,
+            debit: self.debit + debit,
+        }
     }
 }
 
@@ -74,14 +101,14 @@ pub(crate) fn name_trade(sides: &mut HashMap<Holding, Sides>, trade: &Trade)
     name(sides, trade.seller, trade.issue);
 }
 
-/// Adds shares for a named holding, and against it.
+/// Adds shares for a named holding, and against it. Answers its sides as they were.
 pub(crate) fn add(
     sides: &mut HashMap<Holding, Sides>,
     member: MemberNo,
     issue: Cusip,
     credit: u128,
     debit: u128,
-)
+) -> Sides
     requires named { IsSome (get holding_eq sides.old (holding_at issue member)) }
     requires credit { credit_in sides.old member issue + credit < 2 ^ 128 }
     requires debit { debit_in sides.old member issue + debit < 2 ^ 128 }
@@ -89,12 +116,16 @@ pub(crate) fn add(
     ensures debit { (m i : ℕ) → debit_in sides.new m i ≡ debit_in sides.old m i + (if (member == m) && (issue == i) then debit else 0) }
     ensures named { (k : Holding) → IsSome (get holding_eq sides.old k) → IsSome (get holding_eq sides.new k) }
     ensures members { AreOfMembers sides.old → AreOfMembers sides.new }
+    ensures credit_was { result.credit ≡ credit_in sides.old member issue }
+    ensures debit_was { result.debit ≡ debit_in sides.old member issue }
 {
     let Some(sides) = sides.get_mut(&Holding { issue, member }) else {
         unreachable!()
     };
+    let was = *sides;
     sides.credit += credit;
     sides.debit += debit;
+    was
 }
 
 /// Adds what a trade brings its buyer and takes from its seller.

@@ -6,6 +6,7 @@ use Rattle.std.proofs.lemmas.List.Elements.{All-weaker}
 use Rattle.std.proofs.lemmas.List.Sorted.{sum_by_popped}
 use Rattle.cns_trades.specs.declared.trade.Trade.{Trade}
 use Rattle.cns_netting.specs.Sides.{bought_by, IsNamed, sold_by}
+use Rattle.cns_netting.specs.Totals.{HasIssue}
 use Rattle.cns_netting.proofs.QueueLemmas.{left-popped, none-settled, popped-head, popped-tail}
 use Rattle.cns_netting.proofs.due.make_due.Goals as goal
 
@@ -13,43 +14,60 @@ pub loop-trade-init : goal.loop-trade-init
 loop-trade-init c = record {
   heap = c.requires.heap;
   named = c.requires.named;
+  issues = c.requires.issues;
   members = λ are. are;
+  totals = c.requires.totals;
   left = λ f. refl;
   count = omega arith;
   fits = omega arith;
   credit = λ m i. refl;
   debit = λ m i. refl;
+  long = c.requires.long;
+  short = c.requires.short;
 }
 
-pub add_trade-requires : goal.add_trade-requires
-add_trade-requires c =
+pub add_trade_counted-requires : goal.add_trade_counted-requires
+add_trade_counted-requires c =
+    let t = c.in-Some.trade in
     let taken = c.in-Some.ensures.taken in
+    let was = heap_items c.loop-trade.undue in
+    let is = heap_items c.next_due.new.undue in
+    let before = c.loop-trade.invariant in
     record {
-      named = popped-head (IsNamed c.loop-trade.sides) c.in-Some.trade (heap_items c.loop-trade.undue) (heap_items c.next_due.new.undue) taken c.loop-trade.invariant.named;
-      credit = λ m i. omega (arith, c.loop-trade.invariant.credit m i, c.requires.credit m i, sum_by_popped (bought_by m i) c.in-Some.trade (heap_items c.loop-trade.undue) (heap_items c.next_due.new.undue) taken);
-      debit = λ m i. omega (arith, c.loop-trade.invariant.debit m i, c.requires.debit m i, sum_by_popped (sold_by m i) c.in-Some.trade (heap_items c.loop-trade.undue) (heap_items c.next_due.new.undue) taken);
+      named = popped-head (IsNamed c.loop-trade.sides) t was is taken before.named;
+      issue = popped-head (HasIssue c.loop-trade.totals) t was is taken before.issues;
+      credit = λ m i. omega (arith, before.credit m i, c.requires.credit m i, sum_by_popped (bought_by m i) t was is taken);
+      debit = λ m i. omega (arith, before.debit m i, c.requires.debit m i, sum_by_popped (sold_by m i) t was is taken);
+      long = λ m i. omega (arith, before.long m i, sum_by_popped (bought_by m i) t was is taken);
+      short = λ m i. omega (arith, before.short m i, sum_by_popped (sold_by m i) t was is taken);
+      totals = before.totals;
     }
 
 pub loop-trade-preserved : goal.loop-trade-preserved
 loop-trade-preserved c =
+    let t = c.in-Some.trade in
     let taken = c.in-Some.ensures.taken in
     let was = heap_items c.loop-trade.undue in
     let is = heap_items c.next_due.new.undue in
+    let before = c.loop-trade.invariant in
+    let added = c.add_trade_counted.ensures in
     record {
       heap = c.next_due.ensures.heap;
       named =
-          All-weaker (IsNamed c.loop-trade.sides) (IsNamed c.add_trade.new.sides) (λ t both. (c.add_trade.ensures.named _ both.0, c.add_trade.ensures.named _ both.1)) is
-          (popped-tail (IsNamed c.loop-trade.sides) c.in-Some.trade was is taken c.loop-trade.invariant.named);
-      members = λ are. c.add_trade.ensures.members (c.loop-trade.invariant.members are);
-      left = λ f. left-popped c.args.day f c.in-Some.trade was is taken c.in-Some.ensures.due ∙ c.loop-trade.invariant.left f;
-      count = let one = sum_by_popped (λ (t : Trade). 1) c.in-Some.trade was is taken in omega (arith, one, c.loop-trade.invariant.count);
-      fits = let less = c.in-Some.ensures.len in let all = c.loop-trade.invariant.fits in omega arith;
-      credit = λ m i.
-          let one = sum_by_popped (bought_by m i) c.in-Some.trade was is taken in
-          omega (arith, c.loop-trade.invariant.credit m i, c.add_trade.ensures.credit m i, one);
-      debit = λ m i.
-          let one = sum_by_popped (sold_by m i) c.in-Some.trade was is taken in
-          omega (arith, c.loop-trade.invariant.debit m i, c.add_trade.ensures.debit m i, one);
+          All-weaker (IsNamed c.loop-trade.sides) (IsNamed c.add_trade_counted.new.sides) (λ u both. (added.named _ both.0, added.named _ both.1)) is
+          (popped-tail (IsNamed c.loop-trade.sides) t was is taken before.named);
+      issues =
+          All-weaker (HasIssue c.loop-trade.totals) (HasIssue c.add_trade_counted.new.totals) (λ u one. added.issues _ one) is
+          (popped-tail (HasIssue c.loop-trade.totals) t was is taken before.issues);
+      members = λ are. added.members (before.members are);
+      totals = added.totals;
+      left = λ f. left-popped c.args.day f t was is taken c.in-Some.ensures.due ∙ before.left f;
+      count = let one = sum_by_popped (λ (u : Trade). 1) t was is taken in omega (arith, one, before.count);
+      fits = let less = c.in-Some.ensures.len in let all = before.fits in omega arith;
+      credit = λ m i. omega (arith, before.credit m i, added.credit m i, sum_by_popped (bought_by m i) t was is taken);
+      debit = λ m i. omega (arith, before.debit m i, added.debit m i, sum_by_popped (sold_by m i) t was is taken);
+      long = λ m i. omega (arith, before.long m i, added.credit m i, added.debit m i, sum_by_popped (bought_by m i) t was is taken);
+      short = λ m i. omega (arith, before.short m i, added.credit m i, added.debit m i, sum_by_popped (sold_by m i) t was is taken);
     }
 
 pub returns-clause-left : goal.returns-clause-left

@@ -1,7 +1,10 @@
-use Rattle.std.proofs.Common.{reverse}
+use Rattle.std.proofs.Common.{◌∙◌, ap, reverse}
 use Rattle.std.specs.BinaryHeap.{heap_items}
-use Rattle.cns_netting.proofs.KeptLemmas.{kept_long}
+use Rattle.cns_netting.specs.History.{longs_of}
+use Rattle.cns_netting.proofs.KeptLemmas.{kept_longs}
 use Rattle.cns_netting.proofs.book.NetBook.longs.Goals as goal
 
-pub long_shares-requires : goal.long_shares-requires
-long_shares-requires c = λ m. kept_long (reverse c.self.inside.entries.items) c.self.inside.sides (heap_items c.self.inside.undue) m c.args.issue c.self.invariant
+pub returns : goal.returns
+returns c =
+    c.totals_of.ensures.longs ∙ kept_longs (reverse c.self.inside.entries.items) c.self.inside.sides c.self.inside.totals (heap_items c.self.inside.undue) c.args.issue c.self.invariant
+    ∙ ap (λ b. longs_of b.history c.args.issue) c.self.view_is

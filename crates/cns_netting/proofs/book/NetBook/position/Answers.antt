@@ -9,7 +9,7 @@ use Rattle.cns_netting.proofs.book.NetBook.position.Goals as goal
 
 pub position-requires : goal.position-requires
 position-requires c =
-    let fit = kept_fit c.self.inside.entries.items c.self.inside.sides (heap_items c.self.inside.undue) c.self.invariant (omega (arith, c.self.inside.entries.ok.0, c.self.inside.entries.ok.1, c.self.inside.entries.small)) in
+    let fit = kept_fit c.self.inside.entries.items c.self.inside.sides c.self.inside.totals (heap_items c.self.inside.undue) c.self.invariant (omega (arith, c.self.inside.entries.ok.0, c.self.inside.entries.ok.1, c.self.inside.entries.small)) in
     let credit = fit.credit c.args.member c.args.issue in
     let debit = fit.debit c.args.member c.args.issue in
     (omega (arith, credit, c.sides_of.ensures.credit), omega (arith, debit, c.sides_of.ensures.debit))

@@ -6,4 +6,4 @@ use Rattle.cns_netting.proofs.book.NetBook.rows.Goals as goal
 pub position_rows-requires : goal.position_rows-requires
 position_rows-requires c =
     let waiting = heap_items c.self.inside.undue in
-    fit_rows c.self.inside.sides waiting (kept_fit c.self.inside.entries.items c.self.inside.sides waiting c.self.invariant (omega (arith, c.self.inside.entries.ok.0, c.self.inside.entries.ok.1, c.self.inside.entries.small)))
+    fit_rows c.self.inside.sides waiting (kept_fit c.self.inside.entries.items c.self.inside.sides c.self.inside.totals waiting c.self.invariant (omega (arith, c.self.inside.entries.ok.0, c.self.inside.entries.ok.1, c.self.inside.entries.small)))

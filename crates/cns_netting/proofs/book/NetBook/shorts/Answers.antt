@@ -1,7 +1,10 @@
-use Rattle.std.proofs.Common.{reverse}
+use Rattle.std.proofs.Common.{◌∙◌, ap, reverse}
 use Rattle.std.specs.BinaryHeap.{heap_items}
-use Rattle.cns_netting.proofs.KeptLemmas.{kept_short}
+use Rattle.cns_netting.specs.History.{shorts_of}
+use Rattle.cns_netting.proofs.KeptLemmas.{kept_shorts}
 use Rattle.cns_netting.proofs.book.NetBook.shorts.Goals as goal
 
-pub short_shares-requires : goal.short_shares-requires
-short_shares-requires c = λ m. kept_short (reverse c.self.inside.entries.items) c.self.inside.sides (heap_items c.self.inside.undue) m c.args.issue c.self.invariant
+pub returns : goal.returns
+returns c =
+    c.totals_of.ensures.shorts ∙ kept_shorts (reverse c.self.inside.entries.items) c.self.inside.sides c.self.inside.totals (heap_items c.self.inside.undue) c.args.issue c.self.invariant
+    ∙ ap (λ b. shorts_of b.history c.args.issue) c.self.view_is

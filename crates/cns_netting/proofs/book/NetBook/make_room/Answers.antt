@@ -1,0 +1,11 @@
+use Rattle.std.proofs.Common.{reverse}
+use Rattle.std.specs.BinaryHeap.{heap_items}
+use Rattle.cns_netting.proofs.KeptLemmas.{kept_room}
+use Rattle.cns_netting.proofs.book.NetBook.make_room.Goals as goal
+
+pub invariant_of-self : goal.invariant_of-self
+invariant_of-self c =
+    let reserved = c.reserve.ensures in
+    rw reserved.entries
+    (kept_room (reverse c.self.inside.entries.items) c.self.inside.sides c.reserve.new.sides c.self.inside.totals c.reserve.new.totals (heap_items c.self.inside.undue) (heap_items c.reserve.new.undue)
+    reserved.sides reserved.totals reserved.undue c.self.invariant)

@@ -1,0 +1,39 @@
+-- The shares of an issue's positions above 0 and of those below 0, by look-up.
+use Rattle.std.specs.Prelude.{◌≡◌, ℕ, zero, suc, ◌+◌, ◌-◌, nat_eq, Option, Some, None, IsSome}
+use Rattle.std.specs.HashMap.{HashMap, get}
+use Rattle.cns_trades.specs.declared.trade.Trade.{Trade}
+use Rattle.cns_netting.specs.Sides.{credit_in, debit_in}
+use Rattle.cns_ids.specs.declared.holding.Holding.{Holding}
+use Rattle.cns_netting.specs.declared.sides.Sides.{Sides}
+use Rattle.cns_netting.specs.declared.totals.Totals.{Totals}
+
+-- the sum of a number for each member 1 to n
+unfoldable pub total : ℕ → (ℕ → ℕ) → ℕ
+total zero g = 0
+total (suc n) g = total n g + g (suc n)
+
+-- the shares of the positions above 0 and of those below 0; there are none where the issue is not named
+abbrev pub longs_at : Option Totals → ℕ
+longs_at None = 0
+longs_at (Some t) = t.longs
+
+abbrev pub shorts_at : Option Totals → ℕ
+shorts_at None = 0
+shorts_at (Some t) = t.shorts
+
+module _ {T : Type 0} where
+  -- the shares of the positions above 0 in an issue, and of those below 0
+  abbrev pub longs_in : HashMap ℕ Totals T → ℕ → ℕ
+  longs_in totals issue = longs_at (get nat_eq totals issue)
+
+  abbrev pub shorts_in : HashMap ℕ Totals T → ℕ → ℕ
+  shorts_in totals issue = shorts_at (get nat_eq totals issue)
+
+  -- the issue of a trade is named
+  abbrev pub HasIssue : HashMap ℕ Totals T → Trade → Type 0
+  HasIssue totals t = IsSome (get nat_eq totals t.issue)
+
+-- the totals of each issue are those of the positions that the members have by their sides
+pub record AreTotalsOf {S T : Type 0} (totals : HashMap ℕ Totals T) (sides : HashMap Holding Sides S) : Type 0 where
+  pub longs : (issue : ℕ) → longs_in totals issue ≡ total 9999 (λ member. credit_in sides member issue - debit_in sides member issue)
+  pub shorts : (issue : ℕ) → shorts_in totals issue ≡ total 9999 (λ member. debit_in sides member issue - credit_in sides member issue)
