@@ -7,6 +7,7 @@ pub mod DeliveryLemmas
 pub mod TurnLemmas
 pub mod NumberLemmas
 pub mod WaitingLemmas
+pub mod TableLemmas
 pub mod ServedLemmas
 pub mod DealLemmas
 pub mod DrawnLemmas

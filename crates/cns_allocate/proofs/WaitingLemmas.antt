@@ -17,10 +17,11 @@ use Rattle.cns_allocate.proofs.TurnLemmas.{after-head, count_none, filter_twice}
 
 -- ---- a table of places
 
+-- its member's number is one
 abbrev pub HasMember : Planned → Type 0
 HasMember p = (1 ≤ p.member) × (p.member ≤ 9999)
 
--- so the first members of a plan are at most 9,999
+-- the members of a plan have different numbers, so they are at most 9,999
 pub first_few : (plan : List Planned) (i : ℕ) → IsPlan plan → i ≤ length plan → All HasMember (take i plan) → i ≤ 9999
 first_few plan i is within members =
     let few : length (take i plan) ≤ 9999 =
@@ -34,8 +35,8 @@ members_more plan i p within is member members =
     subst (All HasMember) (sym (take_more plan i p within ∙ ap (λ (q : Planned). take i plan ++ q ∷ []) (sym is)))
     (All-append HasMember (take i plan) (p ∷ []) members (All-cons HasMember p [] member (All-nil HasMember)))
 
--- what is at a place of a table, once one is written
-pub place_set : (places : List ℕ) (at value m : ℕ) → at < length places
+-- what a table has, once one place is written
+place_set : (places : List ℕ) (at value m : ℕ) → at < length places
     → get_or (slice_set places at value) m 0 ≡ cond (m == at) value (get_or places m 0)
 place_set places at value m within = by (m == at) refl
   where
@@ -47,7 +48,7 @@ place_set places at value m within = by (m == at) refl
     by false e = get_or-set_other places at m value 0 (λ same. apart (sym e ∙ eq-eqb m at same))
 
 -- a table of no places
-pub no_places : (n m : ℕ) → ◌≡◌ {A = ℕ} (get_or (replicate n 0) m 0) 0
+no_places : (n m : ℕ) → ◌≡◌ {A = ℕ} (get_or (replicate n 0) m 0) 0
 no_places zero m = refl
 no_places (suc n) zero = refl
 no_places (suc n) (suc m) = no_places n m
@@ -60,9 +61,6 @@ pub places_more : (plan : List Planned) (places : List ℕ) (i member : ℕ) (p 
     → ArePlaces plan places → ArePlaces plan (slice_set places member (i + 1))
 places_more plan places i member p within is named small are m some = by (m == member) refl (place_set places member (i + 1) m small)
   where
-    placed_here : ℕ → Type 0
-    placed_here k = IsPlaceOf plan m k
-
     at : (q : Planned) → get_or plan i q ≡ p
     at q = get_or_default plan i q p within ∙ sym is
 
@@ -115,13 +113,6 @@ placed_whole plan places i all placed_all =
     filter_whole (is_placed places) plan (subst (All (λ (q : Planned). is_placed places q ≡ true)) (take_all i plan all) placed_all)
 
 -- ---- the first one
-
--- one that is not placed is passed over
-pub placed_skip : (plan : List Planned) (places : List ℕ) (i : ℕ) (p : Planned) → i < length plan → get_or places (get_or plan i p).member 0 ≡ 0
-    → placed places (drop (i + 1) plan) ≡ placed places (drop i plan)
-placed_skip plan places i p within none =
-    let fails : is_placed places (get_or plan i p) ≡ false = ap (λ (k : ℕ). not (k == 0)) none in
-    sym (ap (placed places) (drop_more plan i p within) ∙ cond-false (is_placed places (get_or plan i p)) _ _ fails)
 
 -- one that is placed is the first of those left
 pub placed_first : (plan : List Planned) (places : List ℕ) (i : ℕ) (p : Planned) → i < length plan → is_placed places (get_or plan i p) ≡ true

@@ -5,3 +5,4 @@ pub mod Served
 pub mod Deliveries
 pub mod Serving
 pub mod Waiting
+pub mod WereLong

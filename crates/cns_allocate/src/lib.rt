@@ -17,6 +17,7 @@ mod serving;
 mod ticket_order;
 mod turns;
 mod waiting;
+mod were_long;
 
 pub use delivery::{deliveries, delivery_count};
 pub use gate::{Gate, OpenGate};

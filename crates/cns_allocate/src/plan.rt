@@ -6,6 +6,7 @@ ghost use Rattle.cns_allocate.specs.Plan.{IsPlan, LongsFit, long_of, plan_of, pl
 
 use crate::group::Group;
 use crate::planned::Planned;
+use crate::were_long::WereLong;
 use cns_covers::Priorities;
 use cns_ids::{Cusip, MemberNo};
 use cns_movements::OrderBook;
@@ -56,6 +57,7 @@ impl Plan {
             plan ≡ plan_of issue history orders.now.book settings were_long.now) }
     {
         let rows = book.rows_in(issue)?;
+        let were_long = &WereLong::of(were_long);
         let planned = planned_rows(alloc, &rows, issue, orders, priorities, were_long)?;
         let mut list = Vec::new(alloc);
         add_group(&mut list, &planned, Group::Priority)?;
@@ -102,7 +104,7 @@ fn planned_rows(
     issue: Cusip,
     orders: &OrderBook,
     priorities: &Priorities,
-    were_long: &[MemberNo],
+    were_long: &WereLong,
 ) -> Result<Vec<Planned>, AllocError>
     requires { All (λ (row : PositionRow). long_of row ≤ 10 ^ 18) rows.now }
     ensures { let settings = priorities.now.settings in

@@ -3,6 +3,7 @@ ghost use Rattle.cns_allocate.specs.Group.{is_in};
 ghost use Rattle.cns_allocate.specs.Plan.{long_of, planned_of, want_of};
 
 use crate::group::Group;
+use crate::were_long::WereLong;
 use cns_covers::Priorities;
 use cns_ids::{Cusip, MemberNo};
 use cns_movements::{MoveKind, OrderBook};
@@ -26,7 +27,7 @@ impl Planned {
         issue: Cusip,
         orders: &OrderBook,
         priorities: &Priorities,
-        were_long: &[MemberNo],
+        were_long: &WereLong,
     ) -> Option<Planned>
         requires { long_of row.now ≤ 10 ^ 18 }
         ensures { let settings = priorities.now.settings in
@@ -40,7 +41,7 @@ impl Planned {
             return None;
         }
         let on = priorities.get(row.member, issue);
-        let was_long = were_long.contains(&row.member);
+        let was_long = were_long.contains(row.member);
         Some(Planned {
             member: row.member,
             asked,

@@ -10,7 +10,7 @@ use cns_ids::MemberNo;
 use std::marker::Model;
 
 // The numbers of members are below this.
-const MEMBERS: usize = 10_000;
+pub(crate) const MEMBERS: usize = 10_000;
 
 // The members of a plan that have no ticket yet, in the plan's order. It takes no memory, and answers
 // as `Turns` does. Contracts see the members that wait, in their order.

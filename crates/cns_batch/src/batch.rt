@@ -38,11 +38,12 @@ pub(crate) struct Rows {
     pub(crate) trades: Vec<Row>,
 }
 
-// What an input holds: its rows and its script.
+// What an input holds: its rows and its script. They own what they hold, so that the text of the input can
+// be let go before the script runs.
 #[derive(Drop)]
-pub(crate) struct Parts<'a> {
+pub(crate) struct Parts {
     pub(crate) rows: Rows,
-    pub(crate) script: &'a [u8],
+    pub(crate) script: Vec<u8>,
 }
 
 // The fault of a batch whose rows cannot be read.
@@ -92,20 +93,21 @@ fn read_rows(alloc: Global, openings: &[u8], trades: &[u8]) -> Result<Rows, Batc
 }
 
 // What the text of an input holds.
-pub(crate) fn read_parts(alloc: Global, text: &[u8]) -> Result<Parts<'_>, BatchFault>
+pub(crate) fn read_parts(alloc: Global, text: &[u8]) -> Result<Parts, BatchFault>
     ensures { MatchResult result
         (λ parts. input_of text.now
-        ≡ Ok (record { openings = parts.rows.openings; told = string_bytes parts.rows.told; rows = parts.rows.trades.items; script = parts.script.now }))
+        ≡ Ok (record { openings = parts.rows.openings; told = string_bytes parts.rows.told; rows = parts.rows.trades.items; script = parts.script.items }))
         (λ e. Tells e (input_of text.now)) }
 {
     let Some(sections) = split_input(text) else {
         return Err(BatchFault::Sections);
     };
     let rows = read_rows(alloc, sections.openings, sections.trades)?;
-    Ok(Parts {
-        rows,
-        script: sections.script,
-    })
+    let Ok(script) = sections.script.to_vec(alloc) else {
+        drop(rows);
+        return Err(BatchFault::Memory);
+    };
+    Ok(Parts { rows, script })
 }
 
 // What a run comes to, as a batch.
@@ -208,8 +210,12 @@ pub fn run_batch_kept<R: Read, W: Write, L: Ledger, C: Keeper + Drop, D: Keeper 
             };
         }
     };
-    match read_parts(alloc, bytes.as_slice()) {
-        Ok(Parts { rows, script }) => { run_input(alloc, rows, script, clear, depot, writer) }
+    let parts = read_parts(alloc, bytes.as_slice());
+    drop(bytes);
+    match parts {
+        Ok(Parts { rows, script }) => {
+            run_input(alloc, rows, script.as_slice(), clear, depot, writer)
+        }
         Err(fault) => Kept {
             result: Err(fault),
             clear,

@@ -13,6 +13,7 @@ use crate::commands::{reply_packet, sent_packet};
 use crate::fault::OutputFault;
 use crate::lines::Lines;
 use crate::page::Page;
+use crate::untaken::Untaken;
 use cns_allocate::Gate;
 use cns_ids::Cusip;
 use cns_input::{BatchFault, Command, Steps, read_input};
@@ -31,22 +32,6 @@ use std::thread::{Threads, join};
 struct Busy {
     lot: u64,
     sealed: bool,
-}
-
-// The rows of trades, and how many of them were taken.
-#[derive(Drop)]
-struct Untaken {
-    rows: Vec<Row>,
-    taken: usize,
-}
-
-impl Untaken {
-    // Takes the next row, where one is left.
-    fn take_next(&mut self) -> Option<Row> {
-        let row = self.rows.get(self.taken).copied()?;
-        self.taken += 1;
-        Some(row)
-    }
 }
 
 // Runs the commands of a script at a desk: the rows of trades that are not taken, the lot that is busy,
@@ -95,7 +80,7 @@ impl<'a, C: Keeper, D: Keeper, G: Gate + Sync, R: Threads + Wait + Sync> DeskRun
     // Takes so many of the rows that are left.
     fn take<W: Write>(&mut self, rows: u64, writer: &mut W) -> Result<(), OutputFault> {
         for _turn in 0..rows {
-            let Some(row) = self.trades.take_next() else {
+            let Some(row) = self.trades.next() else {
                 return Ok(());
             };
             self.take_row(row, writer)?;
@@ -370,6 +355,8 @@ pub fn run_desk<
         return kept.result;
     }
     let bytes = read_input(alloc, reader, steps)?;
+    let parts = read_parts(alloc, bytes.as_slice());
+    drop(bytes);
     let Parts {
         rows: Rows {
             openings,
@@ -377,17 +364,14 @@ pub fn run_desk<
             trades,
         },
         script,
-    } = read_parts(alloc, bytes.as_slice())?;
+    } = parts?;
     let system = match System::open(alloc, clear, depot, openings) {
         Ok(system) => system,
         Err(refused) => return Err(start_fault(refused.fault)),
     };
     let mut run = DeskRun {
         desk: Desk::new(alloc, system),
-        trades: Untaken {
-            rows: trades,
-            taken: 0,
-        },
+        trades: Untaken::of(trades),
         busy: None,
         page: Page::new(told),
         alloc,
@@ -395,5 +379,5 @@ pub fn run_desk<
         workers,
         gate,
     };
-    batch_result(run.run_script(script, writer))
+    batch_result(run.run_script(script.as_slice(), writer))
 }

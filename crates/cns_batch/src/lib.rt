@@ -18,6 +18,7 @@ mod output;
 mod page;
 mod runner;
 mod script;
+mod untaken;
 
 pub use batch::{Kept, run_batch, run_batch_kept};
 pub use check::check_cusip;

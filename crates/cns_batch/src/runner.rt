@@ -10,6 +10,7 @@ ghost use Rattle.cns_batch.specs.Runs.{IsNextRow, IsPlanned, Runs};
 
 use crate::fault::OutputFault;
 use crate::output::write_text;
+use crate::untaken::Untaken;
 use cns_journal::Keeper;
 use cns_report::{
     Line, outcome_line, write_balance_report, write_cycle_report, write_line, write_report_end,
@@ -36,22 +37,21 @@ pub(crate) struct Beside {
 #[derive(Drop)]
 pub(crate) struct Runner<C: Keeper, D: Keeper> {
     pub(crate) system: System<C, D>,
-    trades: Vec<Row>,
-    taken: usize,
+    trades: Untaken,
     pub(crate) beside: Option<Beside>,
     pub(crate) text: String,
     pub(crate) alloc: Global,
 }
 
 impl<C: Keeper, D: Keeper> Model for Runner<C, D> {
-    ghost use Rattle.std.specs.Prelude.{drop, string_bytes};
+    ghost use Rattle.std.specs.Prelude.{string_bytes};
     ghost use Rattle.cns_batch.specs.Runs.{RunState};
 
     ghost Value = { RunState };
 
     ghost view = { λ r. record {
       world = r.system;
-      rows = drop r.taken r.trades.items;
+      rows = r.trades;
       beside = r.beside;
       held = string_bytes r.text;
     } };
@@ -81,8 +81,7 @@ impl<C: Keeper, D: Keeper> Runner<C, D> {
     {
         Runner {
             system,
-            trades,
-            taken: 0,
+            trades: Untaken::of(trades),
             beside: None,
             text,
             alloc,
@@ -147,16 +146,14 @@ impl<C: Keeper, D: Keeper> Runner<C, D> {
     pub(crate) fn next_row(&mut self) -> Option<Row>
         ensures { IsNextRow result self.old self.new }
     {
-        let row = self.trades.get(self.taken).copied()?;
-        self.taken += 1;
-        Some(row)
+        self.trades.next()
     }
 
     /// How many rows are left.
     pub(crate) fn rows_left(&self) -> usize
         ensures { result ≡ length self.now.rows }
     {
-        self.trades.len().saturating_sub(self.taken)
+        self.trades.len()
     }
 
     /// Makes the next commit of a node fail, and answers whether its keeper plans failures.

@@ -1,11 +1,11 @@
 -- Tickets that are tested one after another for a member that was seen before.
-use Rattle.std.proofs.Common.{◌≡◌, ℕ, zero, suc, ◌+◌, ◌<◌, Bool, true, false, List, [], ◌∷◌, length, drop, get_or, replicate, slice_set, refl, sym, ap, ◌∙◌}
+use Rattle.std.proofs.Common.{◌≡◌, ℕ, ◌+◌, ◌<◌, Bool, true, false, List, [], ◌∷◌, length, drop, get_or, slice_set, refl, sym, ap, ◌∙◌}
 use Rattle.std.specs.Prelude.{◌==◌, ◌&&◌, ◌||◌, not}
 use Rattle.std.specs.List.{list_all}
-use Rattle.std.proofs.lemmas.Bool.{eq-eqb, eqb-true}
-use Rattle.std.proofs.lemmas.List.{drop_more, get_or-set_other, get_or-set_same}
+use Rattle.std.proofs.lemmas.List.{drop_more}
 use Rattle.cns_pool.specs.declared.ticket.Ticket.{Ticket}
 use Rattle.cns_allocate.specs.Served.{has_ticket}
+use Rattle.cns_allocate.proofs.TableLemmas.{table_more}
 use Rattle.cns_clearing.specs.Closing.{is_apart}
 
 -- whether the tickets are of members that were not seen, and different ones
@@ -48,23 +48,6 @@ apart_from_next seen new t ts e more =
     law true true a = refl
     law true false a = refl
     law false n a = refl
-
--- a table of the members that were seen, once one more is
-pub table_more : (table : List Bool) (member : ℕ) → member < length table → (m : ℕ) → get_or (slice_set table member true) m false ≡ ((m == member) || get_or table m false)
-table_more table member within m = by (m == member) refl
-  where
-    by : (b : Bool) → (m == member) ≡ b → get_or (slice_set table member true) m false ≡ (b || get_or table m false)
-    by true e = ap (λ (n : ℕ). get_or (slice_set table member true) n false) (eqb-true m member e) ∙ get_or-set_same table member true false within
-    by false e = get_or-set_other table member m true false (λ same. apart (sym e ∙ ap (λ (n : ℕ). n == member) same ∙ eq-eqb member member refl))
-      where
-        apart : false ≡ true → ⊥
-        apart h = cc
-
--- a table in which none is
-pub table_none : (n m : ℕ) → get_or (replicate n false) m false ≡ false
-table_none zero m = refl
-table_none (suc n) zero = refl
-table_none (suc n) (suc m) = table_none n m
 
 -- one more ticket was tested, whose member was not seen before
 pub apart_step : (tickets : List Ticket) (i : ℕ) (t : Ticket) (table : List Bool) (member : ℕ) → i < length tickets → t ≡ get_or tickets i t → member ≡ t.member → member < length table

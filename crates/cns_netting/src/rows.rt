@@ -149,9 +149,9 @@ fn rows_by_member(
     requires members { AreOfMembers sides.now }
     ensures { IfOk result (λ rows. (h : List NetEntry) → AreSidesOf sides.now h → rows.items ≡ filter (is_row_in issue) (rows_of h)) }
 {
-    let mut rows = rows_of_members(alloc, sides, issue)?;
-    put_in_order(&mut rows);
-    Ok(rows)
+    let mut found = rows_of_members(alloc, sides, issue)?;
+    put_in_order(&mut found);
+    Ok(found)
 }
 
 /// The positions other than 0 in an issue, by member. Where there are more holdings than members it
