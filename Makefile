@@ -30,6 +30,7 @@ bench: build
 	bench/cell.sh
 	bench/workers.sh $(program)
 	bench/journal.sh $(program)
+	bench/collisions.sh $(program)
 
 # Instructions on works that grow, and on hostile ones, beside those of plain Rust (needs valgrind); FULL=1 also runs them whole.
 works: build
