@@ -36,7 +36,8 @@ impl<'a> Model for Waiting<'a> {
 }
 
 impl<'a> Waiting<'a> {
-    // Those of a plan of which no member has a ticket.
+    // Those of a plan of which no member has a ticket. (In line, so that the table is made where it stays.)
+    #[inline(always)]
     pub(crate) fn of(plan: &'a [Planned]) -> Waiting<'a>
         requires plan { IsPlan plan.now }
         ensures { result ≡ plan.now }
@@ -100,6 +101,7 @@ impl<'a> Waiting<'a> {
 }
 
 // By member number the place of each one in the plan, counted from 1.
+#[inline(always)]
 fn places_of(plan: &[Planned]) -> [u16; MEMBERS]
     requires plan { IsPlan plan.now }
     ensures places { ArePlaces plan.now result }

@@ -28,7 +28,8 @@ impl<'a> Model for WereLong<'a> {
 }
 
 impl<'a> WereLong<'a> {
-    // These members.
+    // These members. (In line, so that the table is made where it stays.)
+    #[inline(always)]
     pub(crate) fn of(members: &'a [MemberNo]) -> WereLong<'a>
         ensures { result ≡ members.now }
     {
@@ -45,6 +46,7 @@ impl<'a> WereLong<'a> {
 }
 
 // By member number whether it is one of these members.
+#[inline(always)]
 fn table_of(members: &[MemberNo]) -> [bool; MEMBERS]
     ensures { AreAmong members.now result }
 {
