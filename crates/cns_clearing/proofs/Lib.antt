@@ -8,6 +8,7 @@ pub mod LotLemmas
 pub mod OpenLotLemmas
 pub mod PoolLemmas
 pub mod PoolSumLemmas
+pub mod IssueLemmas
 pub mod WantLemmas
 pub mod TotalLemmas
 pub mod DrawnLemmas

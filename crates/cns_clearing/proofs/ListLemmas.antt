@@ -1,12 +1,10 @@
 -- The place of the first element that passes a test, in a list where at most one element does.
-use Rattle.std.proofs.Common.{◌≡◌, ℕ, suc, ◌+◌, ◌<◌, ◌≤◌, Bool, true, false, cond, not, List, [], ◌∷◌, ◌++◌, length, map, slice_set, get_or, Some, None, refl, sym, ap, ◌∙◌, arith}
-use Rattle.std.proofs.lemmas.Bool.Decides.{nat_tests}
-use Rattle.std.specs.Prelude.{Option, find, filter, count_by, MatchOption, option_map}
-use Rattle.std.specs.List.{position, position_from, remove}
+use Rattle.std.proofs.Common.{◌≡◌, ℕ, suc, ◌+◌, ◌<◌, ◌≤◌, Bool, true, false, cond, List, [], ◌∷◌, ◌++◌, length, map, slice_set, get_or, Some, None, refl, sym, ap, ◌∙◌, arith}
+use Rattle.std.specs.Prelude.{Option, find, count_by, MatchOption, option_map}
+use Rattle.std.specs.List.{position, position_from}
 use Rattle.std.proofs.lemmas.List.Sums.{sum_by-cons}
 use Rattle.std.proofs.lemmas.Iterator.Adapters.{position_from-zero}
 use Rattle.std.proofs.lemmas.Bool.{cond-false, cond-true}
-use Rattle.cns_clearing.specs.OpenLots.{place_without}
 
 -- ---- the place by cases on the list
 
@@ -73,17 +71,6 @@ map_none {X = X} p f fixed (x ∷ xs) none = by (p x) refl (map_none p f fixed x
     by true e h c = absurd (omega (arith, c))
     by false e h c = ap (λ y. y ∷ map f xs) (fixed x e) ∙ ap (λ ys. x ∷ ys) (h (omega (arith, c)))
 
-filter_none : {X : Type 0} (p : X → Bool) (xs : List X) → count_by p xs ≡ 0 → filter (λ x. not (p x)) xs ≡ xs
-filter_none p [] none = refl
-filter_none {X = X} p (x ∷ xs) none = by (p x) (filter_none p xs) (omega (arith, none, sum_by-cons (λ (x : X). cond (p x) 1 0) x xs))
-  where
-    rest : List X
-    rest = filter (λ x. not (p x)) xs
-
-    by : (b : Bool) → (count_by p xs ≡ 0 → rest ≡ xs) → cond b 1 0 + count_by p xs ≡ 0 → cond (not b) (x ∷ rest) rest ≡ x ∷ xs
-    by true h c = absurd (omega (arith, c))
-    by false h c = ap (λ ys. x ∷ ys) (h (omega (arith, c)))
-
 -- the only one that passes is changed
 pub map_once : {X : Type 0} (p : X → Bool) (f : X → X) → ((x : X) → p x ≡ false → f x ≡ x) → (xs : List X) → count_by p xs ≤ 1
     → MatchOption (place p xs) (map f xs ≡ xs) (λ k. (d : X) → slice_set xs k (f (get_or xs k d)) ≡ map f xs)
@@ -96,70 +83,7 @@ map_once {X = X} p f fixed (x ∷ xs) once = by (p x) refl (place p xs) (map_onc
     by false e None h c = ap (λ y. y ∷ map f xs) (fixed x e) ∙ ap (λ ys. x ∷ ys) (h (omega (arith, c)))
     by false e (Some k) h c = λ d. ap (λ ys. x ∷ ys) (h (omega (arith, c)) d) ∙ ap (λ y. y ∷ map f xs) (sym (fixed x e))
 
--- ---- the only one that passes is taken out
-
-pub filter_once : {X : Type 0} (p : X → Bool) (xs : List X) → count_by p xs ≤ 1 → MatchOption (place p xs) (filter (λ x. not (p x)) xs ≡ xs) (λ k. remove xs k ≡ filter (λ x. not (p x)) xs)
-filter_once p [] once = refl
-filter_once {X = X} p (x ∷ xs) once = by (p x) (place p xs) (filter_once p xs) (omega (arith, once, sum_by-cons (λ (x : X). cond (p x) 1 0) x xs))
-  where
-    rest : List X
-    rest = filter (λ x. not (p x)) xs
-
-    by : (b : Bool) (o : Option ℕ) → (count_by p xs ≤ 1 → MatchOption o (rest ≡ xs) (λ k. remove xs k ≡ rest)) → cond b 1 0 + count_by p xs ≤ 1
-        → MatchOption (cond b (Some 0) (option_map (λ k. suc k) o)) (cond (not b) (x ∷ rest) rest ≡ x ∷ xs) (λ k. remove (x ∷ xs) k ≡ cond (not b) (x ∷ rest) rest)
-    by true o h c = sym (filter_none p xs (omega (arith, c)))
-    by false None h c = ap (λ ys. x ∷ ys) (h (omega (arith, c)))
-    by false (Some k) h c = ap (λ ys. x ∷ ys) (h (omega (arith, c)))
-
--- the places of the others
-first_gone : (k : ℕ) → k ≡ place_without 0 (suc k)
-first_gone k = grind (arith, nat_tests)
-
-first_stays : (k : ℕ) → 0 ≡ place_without (suc k) 0
-first_stays k = grind (arith, nat_tests)
-
-one_later : (k n : ℕ) → suc (place_without k n) ≡ place_without (suc k) (suc n)
-one_later k n = grind (arith, nat_tests)
-
-pub place_filter : {X : Type 0} (p q : X → Bool) → ((x : X) → p x ≡ true → q x ≡ false) → (xs : List X) → count_by p xs ≤ 1
-    → MatchOption (place p xs) (Unit {0}) (λ k. place q (filter (λ x. not (p x)) xs) ≡ option_map (place_without k) (place q xs))
-place_filter p q other [] once = tt
-place_filter {X = X} p q other (x ∷ xs) once =
-    by (p x) refl (q x) refl (place p xs) (place q xs) refl (place_filter p q other xs) (omega (arith, once, sum_by-cons (λ (x : X). cond (p x) 1 0) x xs))
-  where
-    rest : List X
-    rest = filter (λ x. not (p x)) xs
-
-    later : (o : Option ℕ) → o ≡ option_map (place_without 0) (option_map (λ k. suc k) o)
-    later None = refl
-    later (Some k) = ap (λ (n : ℕ). Some n) (first_gone k)
-
-    both : (k : ℕ) (o : Option ℕ) → option_map (λ n. suc n) (option_map (place_without k) o) ≡ option_map (place_without (suc k)) (option_map (λ n. suc n) o)
-    both k None = refl
-    both k (Some n) = ap (λ (n : ℕ). Some n) (one_later k n)
-
-    by : (b : Bool) → p x ≡ b → (c : Bool) → q x ≡ c → (o r : Option ℕ) → place q xs ≡ r
-        → (count_by p xs ≤ 1 → MatchOption o (Unit {0}) (λ k. place q rest ≡ option_map (place_without k) (place q xs))) → cond b 1 0 + count_by p xs ≤ 1
-        → MatchOption (cond b (Some 0) (option_map (λ k. suc k) o)) (Unit {0})
-        (λ k. place q (cond (not b) (x ∷ rest) rest) ≡ option_map (place_without k) (cond c (Some 0) (option_map (λ k. suc k) (place q xs))))
-    by true e true f o r is h n = absurd (differ (sym f ∙ other x e))
-      where
-        differ : true ≡ false → ⊥
-        differ z = cc
-    by true e false f o r is h n = ap (place q) (filter_none p xs (omega (arith, n))) ∙ later (place q xs)
-    by false e c f None r is h n = tt
-    by false e true f (Some k) r is h n = ap (λ b. cond b (Some 0) (option_map (λ k. suc k) (place q rest))) f ∙ ap (λ (n : ℕ). Some n) (first_stays k)
-    by false e false f (Some k) r is h n =
-        ap (λ b. cond b (Some 0) (option_map (λ k. suc k) (place q rest))) f ∙ ap (option_map (λ k. suc k)) (h (omega (arith, n))) ∙ both k (place q xs)
-
--- none of those that are left passes
-pub place_gone : {X : Type 0} (p : X → Bool) (xs : List X) → place p (filter (λ x. not (p x)) xs) ≡ None
-place_gone p [] = refl
-place_gone {X = X} p (x ∷ xs) = by (p x) refl (place_gone p xs)
-  where
-    rest : List X
-    rest = filter (λ x. not (p x)) xs
-
-    by : (b : Bool) → p x ≡ b → place p rest ≡ None → place p (cond (not b) (x ∷ rest) rest) ≡ None
-    by true e h = h
-    by false e h = ap (λ b. cond b (Some 0) (option_map (λ k. suc k) (place p rest))) e ∙ ap (option_map (λ k. suc k)) h
+-- none passes once each is changed
+pub place_none : {X : Type 0} (p : X → Bool) (f : X → X) → ((x : X) → p (f x) ≡ false) → (xs : List X) → place p (map f xs) ≡ None
+place_none p f fails [] = refl
+place_none p f fails (x ∷ xs) = ap (λ b. cond b (Some 0) (option_map (λ k. suc k) (place p (map f xs)))) (fails x) ∙ ap (option_map (λ k. suc k)) (place_none p f fails xs)

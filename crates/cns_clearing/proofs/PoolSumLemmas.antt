@@ -1,23 +1,23 @@
 -- What the orders of each issue come to, as orders are issued and confirmed.
 use Rattle.std.proofs.Common.{◌≡◌, ℕ, suc, ◌+◌, ◌*◌, ◌^◌, ◌≤◌, Bool, true, false, List, [], ◌∷◌, length, length-append, Some, refl, sym, ap, ◌∙◌, arith, subst}
-use Rattle.std.specs.Prelude.{◌==◌, ◌&&◌, sum_by, if◌then◌else◌}
+use Rattle.std.specs.Prelude.{◌==◌, ◌&&◌, ◌||◌, Option, None, is_some, sum_by, if◌then◌else◌}
 use Rattle.std.proofs.lemmas.Bool.{eq-eqb}
 use Rattle.std.proofs.lemmas.List.Sums.{sum_by-append, sum_by-cons}
 use Rattle.cns_movements.specs.Book.{IsOrderBook, Orders, with_asks, with_reply}
 use Rattle.cns_movements.specs.Order.{is_cover, is_delivery, moved_part, numbered, open_part, order_of}
 use Rattle.cns_movements.specs.declared.order.Ask.{Ask}
-use Rattle.cns_movements.specs.declared.order.MoveKind.TheVariants.{Cover, Delivery}
 use Rattle.cns_movements.specs.declared.order.Order.{Order}
 use Rattle.cns_movements.specs.declared.order.Reply.{Reply}
 use Rattle.cns_movements.proofs.ConfirmLemmas.{IsTaken}
 use Rattle.cns_movements.proofs.OrderLemmas.{length-numbered, sum_le_found}
 use Rattle.cns_movements.proofs.ReplyLemmas.{moved_of_above, moved_with_reply, open_new, open_with_reply, parts_le_asked}
 use Rattle.cns_clearing.specs.Pools.{asked_of_pool, covered_of, delivered_of, out_by_order, out_of}
-use Rattle.cns_clearing.specs.PoolSums.{AreSumsOf}
+use Rattle.cns_clearing.specs.PoolSums.{ArePools, AreSumsOf, is_asked, is_named, sums_at}
 use Rattle.cns_clearing.specs.declared.pool_sums.PoolSums.{PoolSums}
 use Rattle.cns_movements.proofs.BookLemmas.{with_asks_lawful, with_reply_lawful}
 use Rattle.cns_clearing.specs.Books.{are_spent}
 use Rattle.cns_clearing.proofs.BooksLemmas.{numbers_suffice}
+use Rattle.cns_clearing.proofs.IssueLemmas.{named_ordered, order_named}
 use Rattle.cns_clearing.proofs.PoolLemmas.{covered_ordered, moved_with_asks}
 
 -- ---- as they are
@@ -60,20 +60,32 @@ numbered_out n (a ∷ asks) issue =
     let o : Order = record { number = n; kind = a.kind; member = a.member; issue = a.issue; asked = a.asked } in
     omega (arith, sum_by-cons (λ (x : Order). if is_delivery x.kind && (x.issue == issue) then x.asked else 0) o (numbered (suc n) asks), numbered_out (suc n) asks issue)
 
--- an ask that is a delivery, and one that is a cover, at the head of others
-pub delivery_first : (a : Ask) (asks : List Ask) (issue : ℕ) → a.kind ≡ Delivery → asked_of_pool issue (a ∷ asks) ≡ (if a.issue == issue then a.asked else 0) + asked_of_pool issue asks
+-- an ask at the head of others
+pub ask_first : (a : Ask) (asks : List Ask) (issue : ℕ) → asked_of_pool issue (a ∷ asks) ≡ (if a.issue == issue then (if is_delivery a.kind then a.asked else 0) else 0) + asked_of_pool issue asks
 unfolding asked_of_pool
-delivery_first a asks issue kind = rw kind refl
-
-pub cover_first : (a : Ask) (asks : List Ask) (issue : ℕ) → a.kind ≡ Cover → asked_of_pool issue (a ∷ asks) ≡ asked_of_pool issue asks
-unfolding asked_of_pool
-cover_first a asks issue kind = rw kind (omega arith)
+ask_first a asks issue = ap (λ n. n + asked_of_pool issue asks) (by (is_delivery a.kind) (a.issue == issue))
+  where
+    by : (d b : Bool) → (if d && b then a.asked else 0) ≡ (if b then (if d then a.asked else 0) else 0)
+    by true b = refl
+    by false true = refl
+    by false false = refl
 
 -- no asks ask for nothing
 pub nothing_asked : (asks : List Ask) (issue : ℕ) → length asks ≡ 0 → asked_of_pool issue asks ≡ 0
 unfolding asked_of_pool
 nothing_asked [] issue none = refl
 nothing_asked (a ∷ asks) issue none = absurd (omega arith)
+
+pub none_asked : (asks : List Ask) (issue : ℕ) (b : Bool) → length asks ≡ 0 → (b || is_asked issue asks) ≡ b
+none_asked [] issue true none = refl
+none_asked [] issue false none = refl
+none_asked (a ∷ asks) issue b none = absurd (omega arith)
+
+-- an issue that an ask names is named by more
+pub ask_named : (a s r : Bool) (some : Bool) → some ≡ (a || s) → (some || r) ≡ (s || (a || r))
+ask_named true true r some e = ap (λ b. b || r) e
+ask_named true false r some e = ap (λ b. b || r) e
+ask_named false s r some e = ap (λ b. b || r) e
 
 delivered_ordered : (book : Orders) (asks : List Ask) (issue : ℕ) → IsOrderBook book → delivered_of (with_asks book asks) issue ≡ delivered_of book issue
 unfolding delivered_of
@@ -176,3 +188,27 @@ out_has sums book r o are taken same delivery =
     open_with_reply (λ (x : Order). is_delivery x.kind && (x.issue == o.issue)) book.orders book.replies r o are.lawful.numbered found taken.first in
     let here : (if is_delivery o.kind && (o.issue == o.issue) then o.asked else 0) ≡ o.asked = rw (delivery, eq-eqb o.issue o.issue refl) refl in
     omega (arith, with, here, are.out o.issue)
+
+-- ---- with the issues that they are of
+
+pub pools_none : (pools : ℕ → Option PoolSums) (book : Orders) → book ≡ record { orders = []; replies = [] } → ((i : ℕ) → pools i ≡ None) → ArePools pools book
+pools_none pools book none are = record {
+  sums = sums_none (λ i. sums_at (pools i)) book none (λ i. ap sums_at (are i));
+  named = λ i. ap (λ (o : Option PoolSums). is_some o) (are i) ∙ ap (λ (b : Orders). is_named i b.orders) (sym none);
+}
+
+pub pools_kept : (old new : ℕ → Option PoolSums) (book now : Orders) → ArePools old book → ((i : ℕ) → new i ≡ old i) → now ≡ book → ArePools new now
+pools_kept old new book now are same is = record {
+  sums = sums_kept (λ i. sums_at (old i)) (λ i. sums_at (new i)) book now are.sums (λ i. ap sums_at (same i)) is;
+  named = λ i. ap (λ (o : Option PoolSums). is_some o) (same i) ∙ are.named i ∙ ap (λ (b : Orders). is_named i b.orders) (sym is);
+}
+
+pub named_with_asks : (old new : ℕ → Option PoolSums) (book : Orders) (asks : List Ask) → ArePools old book → ((i : ℕ) → is_some (new i) ≡ (is_some (old i) || is_asked i asks))
+    → (i : ℕ) → is_some (new i) ≡ is_named i (with_asks book asks).orders
+named_with_asks old new book asks are named i = named i ∙ ap (λ b. b || is_asked i asks) (are.named i) ∙ sym (named_ordered book asks i)
+
+pub named_with_reply : (old new : ℕ → Option PoolSums) (book : Orders) (r : Reply) (o : Order) → ArePools old book → (taken : IsTaken book r) → taken.order ≡ o
+    → ((i : ℕ) → is_some (new i) ≡ ((o.issue == i) || is_some (old i))) → (i : ℕ) → is_some (new i) ≡ is_named i (with_reply book r).orders
+named_with_reply old new book r o are taken same named i =
+    let found : order_of book.orders r.number ≡ Some o = taken.found ∙ ap (λ (x : Order). Some x) same in
+    named i ∙ ap (λ b. (o.issue == i) || b) (are.named i) ∙ order_named book.orders r.number i o found

@@ -1,5 +1,5 @@
--- The list of open lots, and the place of each issue's lot in it.
-use Rattle.std.specs.Prelude.{◌≡◌, ℕ, ◌-◌, ◌≤◌, ◌==◌, nat_lt, List, count_by, Option, if◌then◌else◌}
+-- The slots of the open lots, and the place of each issue's lot among them.
+use Rattle.std.specs.Prelude.{◌≡◌, ℕ, ◌≤◌, ◌==◌, Bool, false, List, [], ◌∷◌, count_by, Option, Some, None, if◌then◌else◌}
 use Rattle.std.specs.List.{position}
 use Rattle.cns_clearing.specs.declared.lot.Lot.{Lot}
 
@@ -8,14 +8,26 @@ pub record LotRoom : Type 0 where
   pub lots : List Lot
   pub room : ℕ
 
--- each issue's place is that of its first lot in the list, where it has one; and it has at most one
-pub record ArePlaces (lots : List Lot) (places : ℕ → Option ℕ) : Type 0 where
-  pub first : (issue : ℕ) → places issue ≡ position (λ (lot : Lot). lot.issue == issue) lots
-  pub once : (issue : ℕ) → count_by (λ (lot : Lot). lot.issue == issue) lots ≤ 1
+-- the lots of some slots, in their order; a lot that was closed leaves an empty slot
+abbrev pub filled : List (Option Lot) → List Lot
+filled [] = []
+filled (None ∷ slots) = filled slots
+filled (Some lot ∷ slots) = lot ∷ filled slots
 
--- the place of a lot once the one at another place is closed
-abbrev pub place_without : ℕ → ℕ → ℕ
-place_without closed place = if nat_lt closed place then place - 1 else place
+-- whether a slot has the lot of an issue
+abbrev pub is_slot_of : ℕ → Option Lot → Bool
+is_slot_of issue None = false
+is_slot_of issue (Some lot) = lot.issue == issue
+
+-- each issue's place is that of the first slot with its lot, where it has one; and it has at most one
+pub record ArePlaces (slots : List (Option Lot)) (places : ℕ → Option ℕ) : Type 0 where
+  pub first : (issue : ℕ) → places issue ≡ position (is_slot_of issue) slots
+  pub once : (issue : ℕ) → count_by (λ (lot : Lot). lot.issue == issue) (filled slots) ≤ 1
+
+-- these are the places, and no slot is left where no lot is open
+pub record AreSlots (slots : List (Option Lot)) (places : ℕ → Option ℕ) : Type 0 where
+  pub placed : ArePlaces slots places
+  pub cleared : filled slots ≡ [] → slots ≡ []
 
 -- a lot once that of an issue has these shares after so many records
 abbrev pub refilled : ℕ → ℕ → ℕ → Lot → Lot

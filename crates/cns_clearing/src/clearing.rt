@@ -1,4 +1,4 @@
-ghost use Rattle.std.specs.Prelude.{◌≡◌, ℕ, ◌≤◌, ◌^◌, ◌+◌, ◌++◌, ◌∷◌, true, false, [], length, option_map, IfOk, IfErr, None, OnErr, OnOk};
+ghost use Rattle.std.specs.Prelude.{◌≡◌, ◌≢◌, ◌↔◌, ℕ, ◌≤◌, ◌^◌, ◌+◌, ◌++◌, ◌∷◌, IsTrue, true, false, [], length, option_map, IfOk, IfErr, None, OnErr, OnOk};
 ghost use Rattle.cns_records.specs.declared.clear_record.ClearRecord.TheVariants.{Exempt, Priority};
 ghost use Rattle.cns_records.specs.Clear.{AreWritable, spelling};
 ghost use Rattle.cns_movements.specs.Order.{numbered};
@@ -245,7 +245,7 @@ impl<K: Keeper> Clearing<K> {
     /// so `OutOfMemory` is told only where none of them applies. After `Device` the lot is open and
     /// nothing is ordered, and the node is down until it is restarted. (This project's own rule.)
     ///
-    /// Costs its plan and its tickets, a walk over the open lots, and one commit.
+    /// Costs its plan and its tickets, look-ups, and one commit.
     pub fn lot_close(
         &mut self,
         issue: Cusip,
@@ -404,7 +404,7 @@ impl<K: Keeper> Clearing<K> {
 
     /// The pools that have shares, by issue.
     ///
-    /// Costs one pass over all orders, and two look-ups for each issue that they name.
+    /// Costs a look-up and a sort's share for each issue that an order names.
     pub fn pools(&self, alloc: Global) -> Result<PoolRows, AllocError>
         ensures { IfOk result (λ rows. rows ≡ rows_of (orders_of self.now.log.records) self.now.lots) }
     {
@@ -430,13 +430,15 @@ impl<K: Keeper> Clearing<K> {
         self.lots().get(issue)
     }
 
-    /// The open lots, at most one of an issue, in the order in which they were opened. Each has the plan that
-    /// its issue had then, and all shares that were there when it was last poured into.
-    pub fn open_lots(&self) -> &[Lot]
-        ensures lots { result.now ≡ self.now.lots }
+    /// Whether some lot is open. At most one is of an issue; each has the plan that its issue had when it was
+    /// opened, and all shares that were there when it was last poured into.
+    ///
+    /// Costs no look-up.
+    pub fn has_open_lots(&self) -> bool
+        ensures value { IsTrue result ↔ (self.now.lots ≢ []) }
         ensures lawful { AreLots self.now.log.records self.now.lots }
     {
-        self.lots().as_slice()
+        !self.lots().is_empty()
     }
 
     /// The latest cycle.

@@ -1,9 +1,8 @@
 ghost use Rattle.std.specs.Prelude.{◌≡◌, ℕ, ◌<◌, ◌==◌, ◌++◌, ◌∷◌, [], nat_eq, IsTrue, ◌↔◌, map, option_map, None, Some, OnOk, if◌then◌else◌};
 ghost use Rattle.std.specs.HashMap.{get, spare};
-ghost use Rattle.std.specs.List.{position};
 ghost use Rattle.cns_clearing.specs.Pools.{lot_of};
 ghost use Rattle.cns_clearing.specs.Lots.{lots_after, without_lot};
-ghost use Rattle.cns_clearing.specs.OpenLots.{place_without, refilled};
+ghost use Rattle.cns_clearing.specs.OpenLots.{refilled};
 ghost use Rattle.cns_clearing.specs.declared.lot.Lot.{Lot};
 
 use cns_allocate::Plan;
@@ -35,24 +34,26 @@ pub struct Lot {
 // there is room.
 #[derive(Drop)]
 pub(crate) struct Lots {
-    list: Vec<Lot>,
-    // The place of each issue's lot in the list.
+    // In the order in which the lots were opened. A lot that is closed leaves an empty slot, until no lot is
+    // open any more.
+    slots: Vec<Option<Lot>>,
+    // The place of the slot of each issue's lot.
     places: HashMap<Cusip, usize>,
 }
 
 impl Model for Lots {
     ghost use Rattle.std.specs.Prelude.{◌-◌, length, min, nat_eq, vec_capacity};
     ghost use Rattle.std.specs.HashMap.{get, spare};
-    ghost use Rattle.cns_clearing.specs.OpenLots.{ArePlaces, LotRoom};
+    ghost use Rattle.cns_clearing.specs.OpenLots.{AreSlots, LotRoom, filled};
 
     ghost Value = { LotRoom };
 
     ghost view = { λ l. record {
-      lots = l.list.items;
-      room = min (vec_capacity l.list - length l.list.items) (spare l.places);
+      lots = filled l.slots.items;
+      room = min (vec_capacity l.slots - length l.slots.items) (spare l.places);
     } };
 
-    ghost invariant = { λ l. ArePlaces l.list.items (λ issue. get nat_eq l.places issue) };
+    ghost invariant = { λ l. AreSlots l.slots.items (λ issue. get nat_eq l.places issue) };
 }
 
 impl Lots {
@@ -61,7 +62,7 @@ impl Lots {
         ensures { result.lots ≡ [] }
     {
         Lots {
-            list: Vec::new(alloc),
+            slots: Vec::new(alloc),
             places: HashMap::new(alloc),
         }
     }
@@ -70,31 +71,17 @@ impl Lots {
     pub(crate) fn is_empty(&self) -> bool
         ensures { IsTrue result ↔ (self.now.lots ≡ []) }
     {
-        self.list.is_empty()
-    }
-
-    // The open lots.
-    pub(crate) fn as_slice(&self) -> &[Lot]
-        ensures { result.now ≡ self.now.lots }
-    {
-        self.list.as_slice()
+        self.slots.is_empty()
     }
 
     // The open lot of an issue.
     pub(crate) fn get(&self, issue: Cusip) -> Option<&Lot>
         ensures { option_map (λ lot. lot.now) result ≡ lot_of self.now.lots issue }
     {
-        match self.place(issue) {
-            Some(place) => Some(&self.list[place]),
+        match place_of(&self.places, issue) {
+            Some(place) => self.slots[place].as_ref(),
             None => None,
         }
-    }
-
-    // The place of the lot of an issue.
-    fn place(&self, issue: Cusip) -> Option<usize>
-        ensures { result ≡ position (λ (lot : Lot). lot.issue == issue) self.now.lots }
-    {
-        self.places.get(&issue).copied()
     }
 
     // Takes the memory that one more lot needs.
@@ -102,7 +89,7 @@ impl Lots {
         ensures same { self.new.lots ≡ self.old.lots }
         ensures room { OnOk result (0 < self.new.room) }
     {
-        self.list.reserve(1)?;
+        self.slots.reserve(1)?;
         self.places.reserve(1)
     }
 
@@ -112,18 +99,16 @@ impl Lots {
         requires first { lot_of self.old.lots lot.issue ≡ None }
         ensures { self.new.lots ≡ self.old.lots ++ lot ∷ [] }
     {
-        put(&mut self.places, lot.issue, self.list.len());
-        self.list.push_reserved(lot);
+        put(&mut self.places, lot.issue, self.slots.len());
+        self.slots.push_reserved(Some(lot));
     }
 
     // Sets what the lot of an issue has, and after how many records.
     pub(crate) fn refill(&mut self, issue: Cusip, upto: u64, poured: Shares)
         ensures { self.new.lots ≡ map (refilled issue upto poured) self.old.lots }
     {
-        if let Some(place) = self.place(issue) {
-            let lot = &mut self.list[place];
-            lot.upto = upto;
-            lot.poured = poured;
+        if let Some(place) = place_of(&self.places, issue) {
+            pour(&mut self.slots[place], upto, poured);
         }
     }
 
@@ -141,13 +126,15 @@ impl Lots {
         }
     }
 
-    // Closes the lot of an issue.
+    // Closes the lot of an issue. Costs look-ups; that of the last lot drops the empty slots as well.
     fn close(&mut self, issue: Cusip)
         ensures { self.new.lots ≡ without_lot issue self.old.lots }
     {
-        if let Some(place) = self.places.remove(&issue) {
-            drop(self.list.remove(place));
-            take_out(&mut self.places, place);
+        if let Some(place) = take_out(&mut self.places, issue) {
+            self.slots[place] = None;
+            if self.places.is_empty() {
+                self.slots.clear();
+            }
         }
     }
 
@@ -155,8 +142,33 @@ impl Lots {
     pub(crate) fn clear(&mut self)
         ensures { self.new.lots ≡ [] }
     {
-        self.list.clear();
+        self.slots.clear();
         self.places.clear();
+    }
+}
+
+// The place of the lot of an issue.
+fn place_of(places: &HashMap<Cusip, usize>, issue: Cusip) -> Option<usize>
+    ensures { result ≡ get nat_eq places.now issue }
+{
+    places.get(&issue).copied()
+}
+
+// Takes out the place of an issue's lot, where it has one, and answers it.
+fn take_out(places: &mut HashMap<Cusip, usize>, issue: Cusip) -> Option<usize>
+    ensures place { result ≡ get nat_eq places.old issue }
+    ensures left { (i : ℕ) → get nat_eq places.new i ≡ (if issue == i then None else get nat_eq places.old i) }
+{
+    places.remove(&issue)
+}
+
+// Sets what the lot of a slot has, and after how many records.
+fn pour(slot: &mut Option<Lot>, upto: u64, poured: Shares)
+    ensures { slot.new ≡ option_map (λ (lot : Lot). record lot { upto = upto; poured = poured }) slot.old }
+{
+    if let Some(lot) = slot {
+        lot.upto = upto;
+        lot.poured = poured;
     }
 }
 
@@ -168,21 +180,4 @@ fn put(places: &mut HashMap<Cusip, usize>, issue: Cusip, place: usize)
     let Ok(_) = places.insert(issue, place) else {
         unreachable!()
     };
-}
-
-// Renews the places of the other lots once the one at a place is closed.
-fn take_out(places: &mut HashMap<Cusip, usize>, closed: usize)
-    ensures { (i : ℕ) → get nat_eq places.new i ≡ option_map (place_without closed) (get nat_eq places.old i) }
-{
-    places.retain(|_, place| {
-        *place = moved(*place, closed);
-        true
-    });
-}
-
-// The place of a lot once the one at another place is closed.
-fn moved(place: usize, closed: usize) -> usize
-    ensures { result ≡ place_without closed place }
-{
-    if place > closed { place - 1 } else { place }
 }

@@ -1,12 +1,14 @@
-ghost use Rattle.std.specs.Prelude.{◌≡◌, ℕ, ◌+◌, ◌*◌, ◌^◌, ◌<◌, ◌≤◌, ◌&&◌, ◌==◌, nat_eq, true, length, sum_by, if◌then◌else◌};
+ghost use Rattle.std.specs.Prelude.{◌≡◌, ℕ, ◌+◌, ◌*◌, ◌^◌, ◌<◌, ◌≤◌, ◌&&◌, ◌||◌, ◌==◌, nat_eq, true, is_some, length, sum_by, IfOk, if◌then◌else◌};
 ghost use Rattle.std.specs.HashMap.{get, spare};
+ghost use Rattle.std.specs.List.{IsDistinct, list_any};
 ghost use Rattle.cns_movements.specs.Order.{is_cover, is_delivery};
 ghost use Rattle.cns_movements.specs.declared.order.Ask.{Ask};
 ghost use Rattle.cns_clearing.specs.Pools.{asked_of_pool};
-ghost use Rattle.cns_clearing.specs.PoolSums.{sums_at};
+ghost use Rattle.cns_clearing.specs.PoolSums.{is_asked, sums_at};
 
 use cns_ids::{Cusip, Shares};
 use cns_movements::{Ask, MoveKind, Order};
+use std::alloc::{AllocError, Global};
 use std::collections::HashMap;
 
 /// What the orders of an issue come to, in shares.
@@ -34,11 +36,23 @@ pub(crate) fn sums_of(pools: &HashMap<Cusip, PoolSums>, issue: Cusip) -> PoolSum
     }
 }
 
+/// The issues that have sums, in any order.
+pub(crate) fn issues_in(
+    alloc: Global,
+    pools: &HashMap<Cusip, PoolSums>,
+) -> Result<Vec<Cusip>, AllocError>
+    ensures once { IfOk result (λ v. IsDistinct nat_eq v.items) }
+    ensures named { IfOk result (λ v. (i : ℕ) → list_any (nat_eq i) v.items ≡ is_some (get nat_eq pools.now i)) }
+{
+    pools.keys().copied().collect(alloc)
+}
+
 // Sets the sums of an issue, for which there is room.
 fn put(pools: &mut HashMap<Cusip, PoolSums>, issue: Cusip, sums: PoolSums)
     requires { 0 < spare pools.old }
     ensures sums { (i : ℕ) → sums_at (get nat_eq pools.new i)
         ≡ (if issue == i then sums else sums_at (get nat_eq pools.old i)) }
+    ensures named { (i : ℕ) → is_some (get nat_eq pools.new i) ≡ ((issue == i) || is_some (get nat_eq pools.old i)) }
     ensures left { spare pools.old ≤ spare pools.new + 1 }
 {
     let Ok(_) = pools.insert(issue, sums) else {
@@ -46,7 +60,18 @@ fn put(pools: &mut HashMap<Cusip, PoolSums>, issue: Cusip, sums: PoolSums)
     };
 }
 
-// Adds what a new delivery asks for, where there is room for its issue.
+// What a new order asks of the pool: what a delivery asks for, and a cover nothing.
+fn asked_of(kind: MoveKind, asked: u64) -> u64
+    ensures { result ≡ (if is_delivery kind then asked else 0) }
+{
+    match kind {
+        MoveKind::Delivery => asked,
+        MoveKind::Cover => 0,
+    }
+}
+
+// Adds what a new order asks of the pool, where there is room for its issue. From then on the issue has
+// sums, also where that is nothing.
 fn ask(pools: &mut HashMap<Cusip, PoolSums>, issue: Cusip, asked: u64)
     requires room { 0 < spare pools.old }
     requires small { (sums_at (get nat_eq pools.old issue)).out + asked < 2 ^ 128 }
@@ -54,6 +79,7 @@ fn ask(pools: &mut HashMap<Cusip, PoolSums>, issue: Cusip, asked: u64)
     ensures delivered { (i : ℕ) → (sums_at (get nat_eq pools.new i)).delivered ≡ (sums_at (get nat_eq pools.old i)).delivered }
     ensures out { (i : ℕ) → (sums_at (get nat_eq pools.new i)).out
         ≡ (sums_at (get nat_eq pools.old i)).out + (if issue == i then asked else 0) }
+    ensures named { (i : ℕ) → is_some (get nat_eq pools.new i) ≡ ((issue == i) || is_some (get nat_eq pools.old i)) }
     ensures left { spare pools.old ≤ spare pools.new + 1 }
 {
     let sums = sums_of(pools, issue);
@@ -64,7 +90,8 @@ fn ask(pools: &mut HashMap<Cusip, PoolSums>, issue: Cusip, asked: u64)
     put(pools, issue, asked_more);
 }
 
-/// Adds what new orders ask of the pools, where there is room for their issues.
+/// Adds what new orders ask of the pools, where there is room for their issues. Each of these has sums from
+/// then on.
 pub(crate) fn ask_all(pools: &mut HashMap<Cusip, PoolSums>, asks: &[Ask])
     requires room { length asks.now ≤ spare pools.old }
     requires small { (i : ℕ) → (sums_at (get nat_eq pools.old i)).out + 10 ^ 18 * length asks.now < 2 ^ 128 }
@@ -72,15 +99,14 @@ pub(crate) fn ask_all(pools: &mut HashMap<Cusip, PoolSums>, asks: &[Ask])
     ensures delivered { (i : ℕ) → (sums_at (get nat_eq pools.new i)).delivered ≡ (sums_at (get nat_eq pools.old i)).delivered }
     ensures out { (i : ℕ) → (sums_at (get nat_eq pools.new i)).out
         ≡ (sums_at (get nat_eq pools.old i)).out + asked_of_pool i asks.now }
+    ensures named { (i : ℕ) → is_some (get nat_eq pools.new i) ≡ (is_some (get nat_eq pools.old i) || is_asked i asks.now) }
     ensures most { sum_by (λ (a : Ask). a.asked) asks.now ≤ 10 ^ 18 * length asks.now }
 {
     let mut left = asks;
     while let Some((first, rest)) = left.split_first() {
         let asked = first.asked.shares();
-        match first.kind {
-            MoveKind::Delivery => ask(pools, first.issue, asked),
-            MoveKind::Cover => {}
-        }
+        let asked_of_pool = asked_of(first.kind, asked);
+        ask(pools, first.issue, asked_of_pool);
         left = rest;
     }
 }
@@ -98,6 +124,7 @@ pub(crate) fn settle(pools: &mut HashMap<Cusip, PoolSums>, order: &Order, moved:
         ≡ (sums_at (get nat_eq pools.old i)).delivered + (if is_delivery order.now.kind && (order.now.issue == i) then moved else 0) }
     ensures out { (i : ℕ) → (sums_at (get nat_eq pools.new i)).out + (if is_delivery order.now.kind && (order.now.issue == i) then order.now.asked else 0)
         ≡ (sums_at (get nat_eq pools.old i)).out }
+    ensures named { (i : ℕ) → is_some (get nat_eq pools.new i) ≡ ((order.now.issue == i) || is_some (get nat_eq pools.old i)) }
 {
     let sums = sums_of(pools, order.issue);
     let settled = settled(sums, order, moved);

@@ -1,10 +1,10 @@
-ghost use Rattle.std.specs.Prelude.{◌≡◌, ◌+◌, ◌^◌, ◌≤◌, false, [], length, OnOk};
+ghost use Rattle.std.specs.Prelude.{◌≡◌, ◌+◌, ◌^◌, ◌≤◌, false, [], length, IfOk, OnOk};
 ghost use Rattle.cns_movements.specs.Book.{IsOrderBook, with_asks, with_reply};
 ghost use Rattle.cns_movements.specs.Confirm.{confirm_answer};
 ghost use Rattle.cns_clearing.specs.Books.{are_spent as are_numbers_spent, are_spent_by};
-ghost use Rattle.cns_clearing.specs.Pools.{avail_of, covered_of, delivered_of, out_of};
+ghost use Rattle.cns_clearing.specs.Pools.{avail_of, covered_of, delivered_of, issues_of, out_of};
 
-use crate::pool_sums::{PoolSums, ask_all, settle, sums_of};
+use crate::pool_sums::{PoolSums, ask_all, issues_in, settle, sums_of};
 use cns_ids::Cusip;
 use cns_movements::{Ask, Confirm, MoveNo, OrderBook, Reply};
 use std::alloc::{AllocError, Global};
@@ -20,6 +20,7 @@ const MAX_ORDERS: usize = MoveNo::MAX as usize;
 #[derive(Drop)]
 pub(crate) struct PooledOrders {
     orders: OrderBook,
+    // Of each issue that an order names, and of no other.
     pools: HashMap<Cusip, PoolSums>,
 }
 
@@ -27,7 +28,7 @@ impl Model for PooledOrders {
     ghost use Rattle.std.specs.Prelude.{min, nat_eq};
     ghost use Rattle.std.specs.HashMap.{get, spare};
     ghost use Rattle.cns_movements.specs.Book.{OrderRoom};
-    ghost use Rattle.cns_clearing.specs.PoolSums.{AreSumsOf, sums_at};
+    ghost use Rattle.cns_clearing.specs.PoolSums.{ArePools};
 
     ghost Value = { OrderRoom };
 
@@ -37,7 +38,7 @@ impl Model for PooledOrders {
       reply_room = min p.orders.reply_room (spare p.pools);
     } };
 
-    ghost invariant = { λ p. AreSumsOf (λ issue. sums_at (get nat_eq p.pools issue)) p.orders.book };
+    ghost invariant = { λ p. ArePools (λ issue. get nat_eq p.pools issue) p.orders.book };
 }
 
 impl PooledOrders {
@@ -56,6 +57,17 @@ impl PooledOrders {
         ensures { result.now.book ≡ self.now.book }
     {
         &self.orders
+    }
+
+    /// The issues that some order names, each once, in order.
+    ///
+    /// Costs a sort of them.
+    pub(crate) fn issues(&self, alloc: Global) -> Result<Vec<Cusip>, AllocError>
+        ensures { IfOk result (λ v. v.items ≡ issues_of self.now.book.orders) }
+    {
+        let mut issues = issues_in(alloc, &self.pools)?;
+        issues.sort_unstable();
+        Ok(issues)
     }
 
     /// Takes the memory that `issue` of these asks needs.

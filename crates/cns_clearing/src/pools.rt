@@ -1,13 +1,11 @@
 ghost use Rattle.std.specs.Prelude.{◌≡◌, IfOk};
 ghost use Rattle.std.specs.List.{filter_map};
-ghost use Rattle.cns_clearing.specs.Pools.{lent_of as lent_in, free_of as free_in, issues_of, pool_row as pool_row_of, rows_of};
+ghost use Rattle.cns_clearing.specs.Pools.{lent_of as lent_in, free_of as free_in, pool_row as pool_row_of, rows_of};
 
 use crate::lot::Lots;
 use crate::pooled_orders::PooledOrders;
 use cns_ids::Cusip;
-use cns_movements::Order;
 use std::alloc::{AllocError, Global};
-use std::collections::BTreeSet;
 use std::marker::Model;
 
 /// The pool of an issue: the shares of it in account 0.
@@ -64,26 +62,6 @@ pub(crate) fn free_of(orders: &PooledOrders, lots: &Lots, issue: Cusip) -> u128
     orders.avail(issue).saturating_sub(lent_of(lots, issue))
 }
 
-// The issues that some order names, each once, in order.
-#[tactic(auto, unfolding(crate::specs::Pools::with_issues))]
-fn issues(alloc: Global, orders: &[Order]) -> Result<BTreeSet<Cusip>, AllocError>
-    ensures { IfOk result (λ s. s.keys ≡ issues_of orders.now) }
-{
-    let mut issues = BTreeSet::new(alloc);
-    for order in orders {
-        issues.insert(order.issue)?;
-    }
-    Ok(issues)
-}
-
-// The same as a list.
-fn issues_in_order(alloc: Global, orders: &[Order]) -> Result<Vec<Cusip>, AllocError>
-    ensures { IfOk result (λ v. v.items ≡ issues_of orders.now) }
-{
-    let issues = issues(alloc, orders)?;
-    issues.iter().copied().collect(alloc)
-}
-
 // The pool of an issue, where it has shares.
 #[tactic(auto, unfolding(crate::specs::Pools::pool_row))]
 fn pool_row(orders: &PooledOrders, lots: &Lots, issue: Cusip) -> Option<PoolRow>
@@ -111,7 +89,7 @@ pub(crate) fn pool_rows(
 ) -> Result<PoolRows, AllocError>
     ensures { IfOk result (λ rows. rows ≡ rows_of orders.now.book lots.now.lots) }
 {
-    let issues = issues_in_order(alloc, orders.book().orders())?;
+    let issues = orders.issues(alloc)?;
     let rows = rows_of_issues(alloc, orders, lots, issues.as_slice())?;
     Ok(PoolRows { rows })
 }

@@ -200,7 +200,7 @@ impl<C: Keeper, D: Keeper> Pair<C, D> {
         ensures tied { AreTied self.now.clear.clear.lots self.now.clear.lots }
         ensures planned { ArePlanned self.now.clear.clear.log.records self.now.clear.lots }
     {
-        let _open = self.clear.node().open_lots();
+        let _open = self.clear.node().has_open_lots();
         let _lots = self.clear.book();
         let _book = self.clear.node().book();
         let _records = self.depot.records();

@@ -106,12 +106,12 @@ fn restarts(node: &mut Node, wanted: Restarted) -> bool {
     node.restart() == Ok(wanted) && !node.is_down()
 }
 
-// Whether a node has one lot, and this one.
+// Whether a node has this lot of an issue open.
 fn holds(node: &Node, issue: Cusip, wanted: (u64, u64, u64)) -> bool {
     let Some(lot) = node.lot(issue) else {
         return false;
     };
-    (lot.opened, lot.upto, lot.poured.count()) == wanted && node.open_lots().len() == 1
+    (lot.opened, lot.upto, lot.poured.count()) == wanted && node.has_open_lots()
 }
 
 fn is_row(row: &PoolRow, issue: Cusip, wanted: (u128, u128, u128)) -> bool {
@@ -147,7 +147,7 @@ fn shows(rt: &impl Abort, alloc: Global, node: &Node, step: &Step) -> bool {
     let issue = apple(rt);
     match step {
         Step::Holds(opened, upto, poured) => holds(node, issue, (*opened, *upto, *poured)),
-        Step::NoLot => node.lot(issue).is_none() && node.open_lots().is_empty(),
+        Step::NoLot => node.lot(issue).is_none() && !node.has_open_lots(),
         Step::Shows(position, free) => {
             node.position(member_of(rt, 1), issue) == *position && node.free(issue) == *free
         }

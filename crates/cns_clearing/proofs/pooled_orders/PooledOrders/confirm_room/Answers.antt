@@ -1,7 +1,5 @@
-use Rattle.std.proofs.Common.{ap}
-use Rattle.cns_clearing.specs.PoolSums.{sums_at}
-use Rattle.cns_clearing.proofs.PoolSumLemmas.{sums_kept}
+use Rattle.cns_clearing.proofs.PoolSumLemmas.{pools_kept}
 use Rattle.cns_clearing.proofs.pooled_orders.PooledOrders.confirm_room.Goals as goal
 
 pub invariant_of-self-2 : goal.invariant_of-self-2
-invariant_of-self-2 c = sums_kept _ _ _ _ c.self.invariant (λ i. ap sums_at (c.reserve.ensures.entries.2 i)) c.confirm_room.ensures.same
+invariant_of-self-2 c = pools_kept _ _ _ _ c.self.invariant c.reserve.ensures.entries.2 c.confirm_room.ensures.same
