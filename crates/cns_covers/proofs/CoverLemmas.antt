@@ -1,9 +1,10 @@
 -- Covers of a history, by its positions; and what keeps shorts small.
-use Rattle.std.proofs.Common.{◌≡◌, ◌≤◌, ◌-◌, ℕ, List, [], ◌∷◌, length, Option, Some, None, Bool, true, false, refl, ap, arith}
-use Rattle.std.specs.Prelude.{◌==◌, All, option_and_then, ℤ, pos, negsuc, ◌-ℤ◌, if◌then◌else◌}
+use Rattle.std.proofs.Common.{◌≡◌, ◌≤◌, ◌+◌, ◌-◌, ℕ, List, [], ◌∷◌, length, Option, Some, None, Bool, true, false, cond, refl, ap, ◌∙◌, arith}
+use Rattle.std.specs.Prelude.{◌==◌, All, count_by, not, option_and_then, ℤ, pos, negsuc, ◌-ℤ◌, if◌then◌else◌}
 use Rattle.std.specs.List.{filter_map, cons_option}
 use Rattle.std.proofs.lemmas.Bool.{eqb-true}
 use Rattle.std.proofs.lemmas.Int.{ints}
+use Rattle.std.proofs.lemmas.List.Sums.{sum_by-cons}
 use Rattle.cns_netting.specs.History.{accepted, credit, debit, debit_part, position_of, settled_out}
 use Rattle.cns_netting.specs.Rows.{holdings_of, open_row, rows_of}
 use Rattle.cns_netting.specs.Book.{IsBook, QuantitiesFit}
@@ -13,7 +14,8 @@ use Rattle.cns_ids.specs.declared.holding.Holding.{Holding}
 use Rattle.cns_netting.specs.declared.position.PositionRow.{PositionRow}
 use Rattle.cns_netting.proofs.BookLemmas.{sold-most}
 use Rattle.cns_movements.specs.Book.{Orders}
-use Rattle.cns_covers.specs.Covers.{IsUnsettled, ShortsFit, ask_for, cover_ask, covers_of, row_ask, short_of}
+use Rattle.cns_movements.specs.declared.order.MoveKind.TheVariants.{Cover}
+use Rattle.cns_covers.specs.Covers.{IsUnsettled, ShortsFit, ask_for, cover_ask, covers_of, has_ask, left_of, row_ask, short_of}
 use Rattle.cns_covers.specs.declared.exemptions.Exempted.{Exempted}
 use Rattle.cns_covers.proofs.RowLemmas.{All-rows_of}
 
@@ -56,6 +58,21 @@ filter_map-rows h book settings (k ∷ ks) =
 
 pub covers_of-rows : (h : List NetEntry) (book : Orders) (settings : List Exempted) → filter_map (row_ask book settings) (rows_of h) ≡ covers_of h book settings
 covers_of-rows h book settings = filter_map-rows h book settings (holdings_of h)
+
+-- as many rows have a cover as there are covers of rows
+has_ask-count : (book : Orders) (settings : List Exempted) (rows : List PositionRow) → count_by (has_ask book settings) rows ≡ length (filter_map (row_ask book settings) rows)
+unfolding row_ask has_ask
+has_ask-count book settings [] = refl
+has_ask-count book settings (row ∷ rows) = sum_by-cons (λ r. cond (has_ask book settings r) 1 0) row rows ∙ by (left_of book settings row == 0) (has_ask-count book settings rows)
+  where
+    by : (b : Bool) → count_by (has_ask book settings) rows ≡ length (filter_map (row_ask book settings) rows)
+        → cond (not b) 1 0 + count_by (has_ask book settings) rows
+        ≡ length (cons_option (if b then None else Some (record { kind = Cover; member = row.member; issue = row.issue; asked = left_of book settings row })) (filter_map (row_ask book settings) rows))
+    by true rest = omega (arith, rest)
+    by false rest = omega (arith, rest)
+
+pub covers_of-count : (h : List NetEntry) (book : Orders) (settings : List Exempted) → count_by (has_ask book settings) (rows_of h) ≡ length (covers_of h book settings)
+covers_of-count h book settings = has_ask-count book settings (rows_of h) ∙ ap length (covers_of-rows h book settings)
 
 -- all rows are short of at most 10^18 shares where all shorts are
 pub rows_of-fit : (h : List NetEntry) → ShortsFit h → All (λ (row : PositionRow). short_of row ≤ 1000000000000000000) (rows_of h)

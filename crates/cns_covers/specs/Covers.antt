@@ -1,5 +1,5 @@
 -- The covers that a cycle orders (this project's own rule). Histories stand newest first.
-use Rattle.std.specs.Prelude.{ℕ, ◌+◌, ◌-◌, ◌≤◌, ◌==◌, List, [], ◌∷◌, Option, Some, None, if◌then◌else◌}
+use Rattle.std.specs.Prelude.{ℕ, ◌+◌, ◌-◌, ◌≤◌, ◌==◌, Bool, not, List, [], ◌∷◌, Option, Some, None, if◌then◌else◌}
 use Rattle.std.specs.List.{filter_map}
 use Rattle.cns_netting.specs.History.{credit, debit, debit_part}
 use Rattle.cns_netting.specs.Rows.{holdings_of}
@@ -48,8 +48,15 @@ IsUnsettled (Settled m i z ∷ h) = ⊥
 abbrev pub short_of : PositionRow → ℕ
 short_of row = debit_part row.position
 
+-- the shares of a position that are left to cover: what it is short of, less open covers and the exemption
+abbrev pub left_of : Orders → List Exempted → PositionRow → ℕ
+left_of book settings row =
+    short_of row - (open_sum book.orders book.replies Cover row.member row.issue + exempt_of settings row.member row.issue)
+
 -- the cover of a position as a row, where something is left to cover
 unfoldable pub row_ask : Orders → List Exempted → PositionRow → Option Ask
-row_ask book settings row =
-    ask_for row.member row.issue
-    (short_of row - (open_sum book.orders book.replies Cover row.member row.issue + exempt_of settings row.member row.issue))
+row_ask book settings row = ask_for row.member row.issue (left_of book settings row)
+
+-- whether a position has a cover
+unfoldable pub has_ask : Orders → List Exempted → PositionRow → Bool
+has_ask book settings row = not (left_of book settings row == 0)

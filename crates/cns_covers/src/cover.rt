@@ -1,13 +1,13 @@
-ghost use Rattle.std.specs.Prelude.{◌≡◌, ◌^◌, ◌≤◌, ◌∷◌, All, IfOk};
+ghost use Rattle.std.specs.Prelude.{◌≡◌, ◌^◌, ◌≤◌, ◌∷◌, All, IfOk, length};
 ghost use Rattle.std.specs.List.{filter_map};
 ghost use Rattle.cns_netting.specs.declared.entry.NetEntry.TheVariants.{Netted};
 ghost use Rattle.cns_netting.specs.declared.position.PositionRow.{PositionRow};
-ghost use Rattle.cns_covers.specs.Covers.{ShortsFit, covers_of, short_of as short_shares, row_ask};
+ghost use Rattle.cns_covers.specs.Covers.{ShortsFit, covers_of, left_of, short_of as short_shares, row_ask};
 
 use crate::exemptions::Exemptions;
 use cns_ids::Day;
 use cns_movements::{Ask, Asked, MoveKind, OrderBook};
-use cns_netting::{NetBook, PositionRow};
+use cns_netting::{NetBook, PositionRow, RowTest};
 use std::alloc::{AllocError, Global};
 
 /// The covers that a cycle of this date orders, by issue, then member: for each the shares that the
@@ -51,24 +51,65 @@ pub fn covers_of_rows(
         .collect(alloc)
 }
 
+/// How many covers `covers` of a date gives. It takes no memory, and leaves the book as it was.
+///
+/// Costs one pass over the trades that are not due and one over all holdings, with look-ups for the
+/// trades that would become due and two for each position below 0.
+pub fn cover_count(
+    book: &mut NetBook,
+    day: Day,
+    orders: &OrderBook,
+    exemptions: &Exemptions,
+) -> usize
+    ensures count { let history = Netted day ∷ book.old.history in
+        result ≡ length (covers_of history orders.now.book exemptions.now.settings) }
+    ensures same { book.new ≡ book.old }
+{
+    book.count_at(day, &CoverTest { orders, exemptions })
+}
+
+// The test whether a position has a cover.
+#[derive(Drop)]
+struct CoverTest<'a> {
+    orders: &'a OrderBook,
+    exemptions: &'a Exemptions,
+}
+
+impl<'a> RowTest for CoverTest<'a> {
+    ghost use Rattle.cns_covers.specs.Covers.{has_ask};
+
+    ghost passing = { λ test row. has_ask test.orders.now.book test.exemptions.now.settings row };
+
+    #[tactic(auto, unfolding(crate::specs::Covers::has_ask))]
+    fn passes(&self, row: &PositionRow) -> bool {
+        short_of(row) != 0 && left_to_cover(row, self.orders, self.exemptions) != 0
+    }
+}
+
 // The cover of a position, where one is left.
 #[tactic(auto, unfolding(crate::specs::Covers::row_ask))]
 fn cover_of_row(row: &PositionRow, orders: &OrderBook, exemptions: &Exemptions) -> Option<Ask>
     requires { short_shares row.now ≤ 10 ^ 18 }
     ensures { result ≡ row_ask orders.now.book exemptions.now.settings row.now }
 {
+    let asked = Asked::new(left_to_cover(row, orders, exemptions) as u64)?;
+    Some(Ask {
+        kind: MoveKind::Cover,
+        member: row.member,
+        issue: row.issue,
+        asked,
+    })
+}
+
+// The shares of a position that are left to cover.
+fn left_to_cover(row: &PositionRow, orders: &OrderBook, exemptions: &Exemptions) -> u128
+    ensures { result ≡ left_of orders.now.book exemptions.now.settings row.now }
+{
     let member = row.member;
     let issue = row.issue;
     let open = orders.open_of(MoveKind::Cover, member, issue);
     let exempt = u128::from(exemptions.get(member, issue).count());
-    let shares = short_of(row).saturating_sub(open + exempt);
-    let asked = Asked::new(shares as u64)?;
-    Some(Ask {
-        kind: MoveKind::Cover,
-        member,
-        issue,
-        asked,
-    })
+    short_of(row).saturating_sub(open + exempt)
 }
 
 // The shares that a position is below 0.

@@ -9,6 +9,6 @@ mod exemptions;
 mod latest;
 mod priorities;
 
-pub use cover::{covers, covers_of_rows};
+pub use cover::{cover_count, covers, covers_of_rows};
 pub use exemptions::{Exempted, Exemptions};
 pub use priorities::{Priorities, Prioritized};

@@ -101,6 +101,21 @@ module _ {S T : Type 0} where
       → All (HasIssue next) waiting
   issues_stay old new totals next waiting keep named = All-weaker (HasIssue totals) (HasIssue next) (λ t one. keep.issues _ one) waiting named
 
+  -- sides that are what they were
+  pub kept_same : (h : List NetEntry) (old new : HashMap Holding Sides S) (totals : HashMap ℕ Totals T) (waiting : List Trade) → IsKept h old totals waiting
+      → ((m i : ℕ) → credit_in new m i ≡ credit_in old m i) → ((m i : ℕ) → debit_in new m i ≡ debit_in old m i)
+      → KeepNames old new totals totals → IsKept h new totals waiting
+  kept_same h old new totals waiting kept credit debit keep = record {
+    book = kept.book;
+    sides = record { credit = λ m i. credit m i ∙ kept.sides.credit m i; debit = λ m i. debit m i ∙ kept.sides.debit m i };
+    totals = totals_kept old new totals totals credit debit (λ i. refl) (λ i. refl) kept.totals;
+    undue = kept.undue;
+    named = names_stay old new totals totals waiting keep kept.named;
+    named_issues = kept.named_issues;
+    members = keep.members kept.members;
+    heap = kept.heap;
+  }
+
   pub kept_accepted : (h : List NetEntry) (t : Trade) (old new : HashMap Holding Sides S) (totals next : HashMap ℕ Totals T) (waiting queue : List Trade)
       → IsKept h old totals waiting → IsBook (Accepted t ∷ h)
       → ((m i : ℕ) → credit_in new m i ≡ credit_in old m i) → ((m i : ℕ) → debit_in new m i ≡ debit_in old m i)

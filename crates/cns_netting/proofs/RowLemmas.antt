@@ -220,47 +220,64 @@ rows_for (Some i) h = rows_in_issue i h (holdings_of h)
 pub rising : (h : List NetEntry) → AreRising (rows_of h)
 rising h = rows-rising (open_row h) (open_row-holding h) (holdings_of h) (holdings-ascending h)
 
+-- a sum over the rows of some holdings is the one over those of the history, where no other holding has a row
+sum_by_holdings : {S : Type 0} (issue : Option ℕ) (sides : HashMap Holding Sides S) (h : List NetEntry) (f : PositionRow → ℕ) (ks : List Holding) → IsDistinct holding_eq ks → AreSidesOf sides h
+    → ((q : Holding) → list_any (holding_eq q) ks ≡ false → row_if issue q (hash.get holding_eq sides q) ≡ None)
+    → sum_by (λ q. row_part f (row_if issue q (hash.get holding_eq sides q))) ks ≡ sum_by f (filter_map (row_for issue h) (holdings_of h))
+sum_by_holdings issue sides h f ks distinct are others =
+    agree (λ q. row_part f (row_if issue q (hash.get holding_eq sides q))) (λ q. row_part f (row_for issue h q)) theirs ks
+    ∙ same_sums (λ q. row_part f (row_for issue h q)) ks (holdings_of h) distinct (apart (holding_at 0 0) (holdings_of h) (holdings-ascending h)) (λ q none. ap (row_part f) (unnamed q none))
+    (λ q none. ap (row_part f) (no_row_for issue h q (no_row h q (there_by_order q (holdings_of h) ∙ none))))
+    ∙ sym (filter_map-sum f (row_for issue h) (holdings_of h))
+  where
+    theirs : (q : Holding) → row_part f (row_if issue q (hash.get holding_eq sides q)) ≡ row_part f (row_for issue h q)
+    theirs q = ap (row_part f) (row_if-history issue sides h are q)
+
+    unnamed : (q : Holding) → list_any (holding_eq q) ks ≡ false → row_for issue h q ≡ None
+    unnamed q none = sym (row_if-history issue sides h are q) ∙ others q none
+
 -- rows in order that have the sums of the rows of some holdings are those of the history, where no other holding has a row
 pub rows_by_holdings : {S : Type 0} (issue : Option ℕ) (sides : HashMap Holding Sides S) (h : List NetEntry) (xs : List PositionRow) (ks : List Holding) → IsDistinct holding_eq ks → AreSidesOf sides h
     → ((q : Holding) → list_any (holding_eq q) ks ≡ false → row_if issue q (hash.get holding_eq sides q) ≡ None)
     → ((f : PositionRow → ℕ) → sum_by f xs ≡ sum_by (λ q. row_part f (row_if issue q (hash.get holding_eq sides q))) ks)
     → AreInOrder xs → xs ≡ rows_if issue (rows_of h)
 rows_by_holdings issue sides h xs ks distinct are others sums order =
-    same_rows xs (filter_map (row_for issue h) (holdings_of h)) order (rows-rising (row_for issue h) (row_for-holding issue h) (holdings_of h) (holdings-ascending h)) same ∙ rows_for issue h
+    same_rows xs (filter_map (row_for issue h) (holdings_of h)) order (rows-rising (row_for issue h) (row_for-holding issue h) (holdings_of h) (holdings-ascending h))
+    (λ f. sums f ∙ sum_by_holdings issue sides h f ks distinct are others)
+    ∙ rows_for issue h
+
+-- a holding that is not named has no row by its sides
+no_row_by : {S : Type 0} (issue : Option ℕ) (sides : HashMap Holding Sides S) (q : Holding) → list_any (holding_eq q) (keys_of sides.entries) ≡ false
+    → row_if issue q (hash.get holding_eq sides q) ≡ None
+no_row_by issue sides q none = ap (row_if issue q) (lookup_none sides.entries none) ∙ nothing issue
   where
-    theirs : (f : PositionRow → ℕ) → (q : Holding) → row_part f (row_if issue q (hash.get holding_eq sides q)) ≡ row_part f (row_for issue h q)
-    theirs f q = ap (row_part f) (row_if-history issue sides h are q)
+    lookup_none : (es : List (Holding × Sides)) → list_any (holding_eq q) (keys_of es) ≡ false → lookup (holding_eq q) es ≡ None
+    lookup_none [] e = refl
+    lookup_none (x ∷ es) e = here (holding_eq q x.0) (or_parts (holding_eq q x.0) (list_any (holding_eq q) (keys_of es)) e).0 (lookup_none es (or_parts (holding_eq q x.0) (list_any (holding_eq q) (keys_of es)) e).1)
+      where
+        here : (b : Bool) → b ≡ false → lookup (holding_eq q) es ≡ None → cond b (Some x.1) (lookup (holding_eq q) es) ≡ None
+        here true e rest = cc e
+        here false e rest = rest
 
-    unnamed : (q : Holding) → list_any (holding_eq q) ks ≡ false → row_for issue h q ≡ None
-    unnamed q none = sym (row_if-history issue sides h are q) ∙ others q none
-
-    same : (f : PositionRow → ℕ) → sum_by f xs ≡ sum_by f (filter_map (row_for issue h) (holdings_of h))
-    same f =
-        sums f ∙ agree (λ q. row_part f (row_if issue q (hash.get holding_eq sides q))) (λ q. row_part f (row_for issue h q)) (theirs f) ks
-        ∙ same_sums (λ q. row_part f (row_for issue h q)) ks (holdings_of h) distinct (apart (holding_at 0 0) (holdings_of h) (holdings-ascending h)) (λ q none. ap (row_part f) (unnamed q none))
-        (λ q none. ap (row_part f) (no_row_for issue h q (no_row h q (there_by_order q (holdings_of h) ∙ none))))
-        ∙ sym (filter_map-sum f (row_for issue h) (holdings_of h))
+    nothing : (issue : Option ℕ) → row_if issue q None ≡ None
+    nothing None = refl
+    nothing (Some i) = by (q.issue == i)
+      where
+        by : (b : Bool) → ◌≡◌ {A = Option PositionRow} (if b then None else None) None
+        by true = refl
+        by false = refl
 
 -- so are those of all holdings that are named
 pub rows_by_sums : {S : Type 0} (issue : Option ℕ) (sides : HashMap Holding Sides S) (h : List NetEntry) (xs : List PositionRow) → hash.IsUnique holding_eq sides → AreSidesOf sides h
     → ((f : PositionRow → ℕ) → sum_by f xs ≡ sum_by (λ (e : Holding × Sides). row_part f (row_if issue e.0 (Some e.1))) sides.entries)
     → AreInOrder xs → xs ≡ rows_if issue (rows_of h)
 rows_by_sums issue sides h xs unique are sums order =
-    rows_by_holdings issue sides h xs (keys_of sides.entries) unique are (λ q none. ap (row_if issue q) (lookup_none q sides.entries none) ∙ nothing issue q)
+    rows_by_holdings issue sides h xs (keys_of sides.entries) unique are (no_row_by issue sides)
     (λ f. sums f ∙ entries-sum (λ q o. row_part f (row_if issue q o)) sides.entries unique) order
-  where
-    lookup_none : (q : Holding) (es : List (Holding × Sides)) → list_any (holding_eq q) (keys_of es) ≡ false → lookup (holding_eq q) es ≡ None
-    lookup_none q [] e = refl
-    lookup_none q (x ∷ es) e = here (holding_eq q x.0) (or_parts (holding_eq q x.0) (list_any (holding_eq q) (keys_of es)) e).0 (lookup_none q es (or_parts (holding_eq q x.0) (list_any (holding_eq q) (keys_of es)) e).1)
-      where
-        here : (b : Bool) → b ≡ false → lookup (holding_eq q) es ≡ None → cond b (Some x.1) (lookup (holding_eq q) es) ≡ None
-        here true e rest = cc e
-        here false e rest = rest
 
-    nothing : (issue : Option ℕ) (q : Holding) → row_if issue q None ≡ None
-    nothing None q = refl
-    nothing (Some i) q = by (q.issue == i)
-      where
-        by : (b : Bool) → ◌≡◌ {A = Option PositionRow} (if b then None else None) None
-        by true = refl
-        by false = refl
+-- the sum over the rows of all holdings that are named is the one over those of the history
+pub sum_by_entries : {S : Type 0} (sides : HashMap Holding Sides S) (h : List NetEntry) (f : PositionRow → ℕ) → hash.IsUnique holding_eq sides → AreSidesOf sides h
+    → sum_by (λ (e : Holding × Sides). row_part f (row_if None e.0 (Some e.1))) sides.entries ≡ sum_by f (rows_of h)
+sum_by_entries sides h f unique are =
+    entries-sum (λ q o. row_part f (row_if None q o)) sides.entries unique
+    ∙ sum_by_holdings None sides h f (keys_of sides.entries) unique are (no_row_by None sides)

@@ -1,5 +1,5 @@
 -- What stands for each holding and against it, by look-up.
-use Rattle.std.specs.Prelude.{◌≡◌, ℕ, zero, suc, ◌&&◌, ◌==◌, ◌-ℤ◌, pos, List, [], ◌∷◌, All, Option, Some, None, IsSome, filter, if◌then◌else◌}
+use Rattle.std.specs.Prelude.{◌≡◌, ℕ, zero, suc, ◌&&◌, ◌==◌, ◌-ℤ◌, pos, Bool, false, List, [], ◌∷◌, All, Option, Some, None, IsSome, filter, if◌then◌else◌}
 use Rattle.std.specs.declared.cmp.Ordering.TheVariants.{Less}
 use Rattle.std.specs.HashMap.{HashMap, get}
 use Rattle.cns_trades.specs.declared.trade.Trade.{Trade}
@@ -68,6 +68,11 @@ rows_if (Some issue) rows = filter (is_row_in issue) rows
 abbrev pub row_part : (PositionRow → ℕ) → Option PositionRow → ℕ
 row_part f None = 0
 row_part f (Some row) = f row
+
+-- whether a row passes a test, where there is one
+abbrev pub row_passes : (PositionRow → Bool) → Option PositionRow → Bool
+row_passes p None = false
+row_passes p (Some row) = p row
 
 -- the holdings of the members 1 to n in an issue
 unfoldable pub holdings_up_to : ℕ → ℕ → List Holding

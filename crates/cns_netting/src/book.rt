@@ -1,4 +1,4 @@
-ghost use Rattle.std.specs.Prelude.{◌≡◌, ◌++◌, ◌+◌, ◌-◌, ◌<◌, ◌≤◌, ℕ, nat_eq, [], ◌∷◌, None, reverse, length, filter, ◌+ℤ◌, IfOk, OnOk, OnErr, IsOk, vec_capacity, if◌then◌else◌};
+ghost use Rattle.std.specs.Prelude.{◌≡◌, ◌++◌, ◌+◌, ◌-◌, ◌<◌, ◌≤◌, ℕ, nat_eq, [], ◌∷◌, None, reverse, length, count_by, filter, ◌+ℤ◌, IfOk, OnOk, OnErr, IsOk, vec_capacity, if◌then◌else◌};
 ghost use Rattle.std.specs.BinaryHeap.{heap_capacity, heap_items, heap_len, IsHeap};
 ghost use Rattle.std.specs.HashMap.{get, spare};
 ghost use Rattle.std.specs.List.Sorted.{IsPermutation};
@@ -11,7 +11,8 @@ ghost use Rattle.cns_netting.specs.Undue.{earlier};
 ghost use Rattle.cns_netting.specs.declared.entry.NetEntry.TheVariants.{Accepted, Netted, Settled};
 ghost use Rattle.cns_ids.specs.declared.holding.Holding.{Holding};
 
-use crate::due::{make_due, sides_after};
+use crate::count::{RowTest, count_rows};
+use crate::due::{add_due, make_due, sides_after, take_due};
 use crate::entry::NetEntry;
 use crate::position::PositionRow;
 use crate::rows::{position_rows, position_rows_in};
@@ -267,6 +268,21 @@ impl NetBook {
     {
         let after = sides_after(&self.sides, self.undue.as_slice(), day)?;
         position_rows(*self.entries.allocator(), &after, None)
+    }
+
+    /// How many of the positions other than 0 that `net` of a date would leave pass a test. It takes no
+    /// memory, and leaves the book as it was.
+    ///
+    /// Costs one pass over the trades that are not due and one over all holdings, with look-ups for the
+    /// trades that would become due, and the test of each position.
+    pub fn count_at<T: RowTest>(&mut self, day: Day, test: &T) -> usize
+        ensures count { result ≡ count_by (T.passing test.now) (rows_of (Netted day ∷ self.old.history)) }
+        ensures same { self.new ≡ self.old }
+    {
+        add_due(&mut self.sides, self.undue.as_slice(), day);
+        let count = count_rows(&self.sides, test);
+        take_due(&mut self.sides, self.undue.as_slice(), day);
+        count
     }
 
     /// The shares of all positions above 0 in an issue. Costs a look-up.

@@ -1,4 +1,6 @@
-ghost use Rattle.std.specs.Prelude.{◌≡◌, ℕ, ◌+◌, ◌*◌, ◌^◌, ◌<◌, ◌≤◌, ◌∷◌, All, IfNone, IfOk, IfSome, sum_by};
+ghost use Rattle.std.specs.Prelude.{◌≡◌, ℕ, ◌+◌, ◌*◌, ◌^◌, ◌<◌, ◌≤◌, ◌∷◌, All, IfNone, IfOk, IfSome, IsSome, sum_by};
+ghost use Rattle.std.specs.HashMap.{get, spare};
+ghost use Rattle.cns_ids.specs.Holding.{holding_eq};
 ghost use Rattle.std.specs.BinaryHeap.{heap_items, heap_len, IsHeap};
 ghost use Rattle.std.specs.List.Sorted.{IsPermutation};
 ghost use Rattle.cns_trades.specs.declared.trade.Trade.{Trade};
@@ -6,7 +8,7 @@ ghost use Rattle.cns_netting.specs.Sides.{bought_by, credit_in, debit_in, AreOfM
 ghost use Rattle.cns_netting.specs.Totals.{AreTotalsOf, HasIssue};
 ghost use Rattle.cns_netting.specs.Undue.{earlier, if_left, if_settled};
 
-use crate::sides::{Sides, add_trade};
+use crate::sides::{Sides, add_trade, take_trade};
 use crate::totals::{Totals, add_trade_counted};
 use crate::undue::Undue;
 use cns_ids::{Cusip, Day, Holding};
@@ -73,6 +75,46 @@ fn copy_of(sides: &HashMap<Holding, Sides>) -> Result<HashMap<Holding, Sides>, A
     sides.clone()
 }
 
+/// Adds to the sides what those of the trades bring and take that settle by a day. It takes no memory.
+pub(crate) fn add_due(sides: &mut HashMap<Holding, Sides>, undue: &[Undue], day: Day)
+    requires named { All (IsNamed sides.old) undue.now }
+    requires credit { (m i : ℕ) → credit_in sides.old m i + sum_by (bought_by m i) undue.now < 2 ^ 128 }
+    requires debit { (m i : ℕ) → debit_in sides.old m i + sum_by (sold_by m i) undue.now < 2 ^ 128 }
+    ensures credit { (m i : ℕ) → credit_in sides.new m i ≡ credit_in sides.old m i + sum_by (if_settled day (bought_by m i)) undue.now }
+    ensures debit { (m i : ℕ) → debit_in sides.new m i ≡ debit_in sides.old m i + sum_by (if_settled day (sold_by m i)) undue.now }
+    ensures named { (k : Holding) → IsSome (get holding_eq sides.old k) → IsSome (get holding_eq sides.new k) }
+    ensures members { AreOfMembers sides.old → AreOfMembers sides.new }
+    ensures spare { spare sides.new ≡ spare sides.old }
+{
+    let mut left = undue;
+    while let Some((first, rest)) = left.split_first() {
+        if first.trade.settle <= day {
+            add_trade(sides, &first.trade);
+        }
+        left = rest;
+    }
+}
+
+/// Takes back what `add_due` of the same trades and day adds.
+pub(crate) fn take_due(sides: &mut HashMap<Holding, Sides>, undue: &[Undue], day: Day)
+    requires named { All (IsNamed sides.old) undue.now }
+    requires credit { (m i : ℕ) → sum_by (if_settled day (bought_by m i)) undue.now ≤ credit_in sides.old m i }
+    requires debit { (m i : ℕ) → sum_by (if_settled day (sold_by m i)) undue.now ≤ debit_in sides.old m i }
+    ensures credit { (m i : ℕ) → credit_in sides.new m i + sum_by (if_settled day (bought_by m i)) undue.now ≡ credit_in sides.old m i }
+    ensures debit { (m i : ℕ) → debit_in sides.new m i + sum_by (if_settled day (sold_by m i)) undue.now ≡ debit_in sides.old m i }
+    ensures named { (k : Holding) → IsSome (get holding_eq sides.old k) → IsSome (get holding_eq sides.new k) }
+    ensures members { AreOfMembers sides.old → AreOfMembers sides.new }
+    ensures spare { spare sides.new ≡ spare sides.old }
+{
+    let mut left = undue;
+    while let Some((one, rest)) = left.split_first() {
+        if one.trade.settle <= day {
+            take_trade(sides, &one.trade);
+        }
+        left = rest;
+    }
+}
+
 /// The sides as after a netting of a day.
 pub(crate) fn sides_after(
     sides: &HashMap<Holding, Sides>,
@@ -86,12 +128,6 @@ pub(crate) fn sides_after(
     ensures debit { IfOk result (λ after. (m i : ℕ) → debit_in after m i ≡ debit_in sides.now m i + sum_by (if_settled day (sold_by m i)) undue.now) }
 {
     let mut after = copy_of(sides)?;
-    let mut left = undue;
-    while let Some((first, rest)) = left.split_first() {
-        if first.trade.settle <= day {
-            add_trade(&mut after, &first.trade);
-        }
-        left = rest;
-    }
+    add_due(&mut after, undue, day);
     Ok(after)
 }

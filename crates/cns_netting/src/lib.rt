@@ -2,6 +2,7 @@
 #![tactic(auto)]
 
 mod book;
+mod count;
 mod due;
 mod entry;
 mod position;
@@ -11,6 +12,7 @@ mod totals;
 mod undue;
 
 pub use book::NetBook;
+pub use count::RowTest;
 pub use entry::NetEntry;
 pub use position::PositionRow;
 pub use rows::rows_of_issue;

@@ -16,8 +16,8 @@ use std::collections::HashMap;
 // How many members there may be.
 const MEMBERS: u16 = 9999;
 
-// The row of a holding, where its position is not 0; of one issue, where it is given.
-fn row_of(holding: &Holding, sides: &Sides, issue: Option<Cusip>) -> Option<PositionRow>
+/// The row of a holding, where its position is not 0; of one issue, where it is given.
+pub(crate) fn row_of(holding: &Holding, sides: &Sides, issue: Option<Cusip>) -> Option<PositionRow>
     requires { (sides.now.credit < 2 ^ 127) × (sides.now.debit < 2 ^ 127) }
     ensures { result ≡ row_if issue holding.now (Some sides.now) }
 {

@@ -116,6 +116,7 @@ pub(crate) fn add(
     ensures debit { (m i : ℕ) → debit_in sides.new m i ≡ debit_in sides.old m i + (if (member == m) && (issue == i) then debit else 0) }
     ensures named { (k : Holding) → IsSome (get holding_eq sides.old k) → IsSome (get holding_eq sides.new k) }
     ensures members { AreOfMembers sides.old → AreOfMembers sides.new }
+    ensures spare { spare sides.new ≡ spare sides.old }
     ensures credit_was { result.credit ≡ credit_in sides.old member issue }
     ensures debit_was { result.debit ≡ debit_in sides.old member issue }
 {
@@ -137,8 +138,49 @@ pub(crate) fn add_trade(sides: &mut HashMap<Holding, Sides>, trade: &Trade)
     ensures debit { (m i : ℕ) → debit_in sides.new m i ≡ debit_in sides.old m i + sold_by m i trade.now }
     ensures named { (k : Holding) → IsSome (get holding_eq sides.old k) → IsSome (get holding_eq sides.new k) }
     ensures members { AreOfMembers sides.old → AreOfMembers sides.new }
+    ensures spare { spare sides.new ≡ spare sides.old }
 {
     let shares = u128::from(trade.quantity.shares());
     add(sides, trade.buyer, trade.issue, shares, 0);
     add(sides, trade.seller, trade.issue, 0, shares);
+}
+
+// Takes away shares that stand for a named holding, and against it.
+fn take(
+    sides: &mut HashMap<Holding, Sides>,
+    member: MemberNo,
+    issue: Cusip,
+    credit: u128,
+    debit: u128,
+)
+    requires named { IsSome (get holding_eq sides.old (holding_at issue member)) }
+    requires credit { credit ≤ credit_in sides.old member issue }
+    requires debit { debit ≤ debit_in sides.old member issue }
+    ensures credit { (m i : ℕ) → credit_in sides.new m i + (if (member == m) && (issue == i) then credit else 0) ≡ credit_in sides.old m i }
+    ensures debit { (m i : ℕ) → debit_in sides.new m i + (if (member == m) && (issue == i) then debit else 0) ≡ debit_in sides.old m i }
+    ensures named { (k : Holding) → IsSome (get holding_eq sides.old k) → IsSome (get holding_eq sides.new k) }
+    ensures members { AreOfMembers sides.old → AreOfMembers sides.new }
+    ensures spare { spare sides.new ≡ spare sides.old }
+{
+    let Some(sides) = sides.get_mut(&Holding { issue, member }) else {
+        unreachable!()
+    };
+    sides.credit -= credit;
+    sides.debit -= debit;
+}
+
+/// Takes back what `add_trade` of a trade adds.
+pub(crate) fn take_trade(sides: &mut HashMap<Holding, Sides>, trade: &Trade)
+    requires named { IsNamed sides.old trade.now }
+    requires credit { (m i : ℕ) → bought_by m i trade.now ≤ credit_in sides.old m i }
+    requires debit { (m i : ℕ) → sold_by m i trade.now ≤ debit_in sides.old m i }
+    ensures credit { (m i : ℕ) → credit_in sides.new m i + bought_by m i trade.now ≡ credit_in sides.old m i }
+    ensures debit { (m i : ℕ) → debit_in sides.new m i + sold_by m i trade.now ≡ debit_in sides.old m i }
+    ensures named { (k : Holding) → IsSome (get holding_eq sides.old k) → IsSome (get holding_eq sides.new k) }
+    ensures members { AreOfMembers sides.old → AreOfMembers sides.new }
+    ensures spare { spare sides.new ≡ spare sides.old }
+{
+    let shares = u128::from(trade.quantity.shares());
+    take(sides, trade.buyer, trade.issue, shares, 0);
+    take(sides, trade.seller, trade.issue, 0, shares);
 }

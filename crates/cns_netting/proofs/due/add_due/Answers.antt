@@ -1,11 +1,11 @@
-use Rattle.std.proofs.Common.{◌≡◌, ◌≤◌, ◌<◌, ◌∷◌, arith, rules, subst}
+use Rattle.std.proofs.Common.{◌≡◌, ◌≤◌, ◌<◌, ◌∷◌, ◌∙◌, arith, rules, subst}
 use Rattle.std.specs.Prelude.{All}
 use borrow.Author.Tests.{tests}
 use Rattle.std.proofs.lemmas.List.Elements.{All-head, All-tail, All-weaker}
 use Rattle.cns_netting.specs.Sides.{bought_by, IsNamed, sold_by}
 use Rattle.cns_netting.proofs.QueueLemmas.{later-first, settled-first}
 use Rattle.cns_netting.proofs.TradeLemmas.{settled-left}
-use Rattle.cns_netting.proofs.due.sides_after.Goals as goal
+use Rattle.cns_netting.proofs.due.add_due.Goals as goal
 
 pub add_trade-requires : goal.add_trade-requires
 add_trade-requires c =
@@ -14,7 +14,7 @@ add_trade-requires c =
     let list : c.loop-first.left.now ≡ t ∷ rest = search (rules, tests) in
     let due : t.settle ≤ c.args.day = search (rules, tests) in
     record {
-      named = All-head (IsNamed c.loop-first.after) t rest (subst (All (IsNamed c.loop-first.after)) list c.loop-first.invariant.named);
+      named = All-head (IsNamed c.loop-first.sides) t rest (subst (All (IsNamed c.loop-first.sides)) list c.loop-first.invariant.named);
       credit = λ m i. omega (arith, c.loop-first.invariant.credit m i, settled-first c.args.day (bought_by m i) _ t rest list due, settled-left c.args.day (bought_by m i) c.args.undue.now, c.requires.credit m i);
       debit = λ m i. omega (arith, c.loop-first.invariant.debit m i, settled-first c.args.day (sold_by m i) _ t rest list due, settled-left c.args.day (sold_by m i) c.args.undue.now, c.requires.debit m i);
     }
@@ -25,12 +25,17 @@ loop-first-preserved-then-le c =
     let rest = c.in-Some.rest.now in
     let list : c.loop-first.left.now ≡ t ∷ rest = search (rules, tests) in
     let due : t.settle ≤ c.args.day = search (rules, tests) in
+    let before = c.loop-first.invariant in
+    let done = c.add_trade.ensures in
     record {
       named =
-          All-weaker (IsNamed c.loop-first.after) (IsNamed c.add_trade.new.sides) (λ u both. (c.add_trade.ensures.named _ both.0, c.add_trade.ensures.named _ both.1)) rest
-          (All-tail (IsNamed c.loop-first.after) t rest (subst (All (IsNamed c.loop-first.after)) list c.loop-first.invariant.named));
-      credit = λ m i. omega (arith, c.loop-first.invariant.credit m i, c.add_trade.ensures.credit m i, settled-first c.args.day (bought_by m i) _ t rest list due);
-      debit = λ m i. omega (arith, c.loop-first.invariant.debit m i, c.add_trade.ensures.debit m i, settled-first c.args.day (sold_by m i) _ t rest list due);
+          All-weaker (IsNamed c.loop-first.sides) (IsNamed c.add_trade.new.sides) (λ u both. (done.named _ both.0, done.named _ both.1)) rest
+          (All-tail (IsNamed c.loop-first.sides) t rest (subst (All (IsNamed c.loop-first.sides)) list before.named));
+      credit = λ m i. omega (arith, before.credit m i, done.credit m i, settled-first c.args.day (bought_by m i) _ t rest list due);
+      debit = λ m i. omega (arith, before.debit m i, done.debit m i, settled-first c.args.day (sold_by m i) _ t rest list due);
+      still = λ k some. done.named k (before.still k some);
+      members = λ are. done.members (before.members are);
+      spare = done.spare ∙ before.spare;
     }
 
 pub loop-first-preserved : goal.loop-first-preserved
@@ -39,8 +44,12 @@ loop-first-preserved c =
     let rest = c.in-Some.rest.now in
     let list : c.loop-first.left.now ≡ t ∷ rest = search (rules, tests) in
     let later : c.args.day < t.settle = search (rules, tests) in
+    let before = c.loop-first.invariant in
     record {
-      named = All-tail (IsNamed c.loop-first.after) t rest (subst (All (IsNamed c.loop-first.after)) list c.loop-first.invariant.named);
-      credit = λ m i. omega (arith, c.loop-first.invariant.credit m i, later-first c.args.day (bought_by m i) _ t rest list later);
-      debit = λ m i. omega (arith, c.loop-first.invariant.debit m i, later-first c.args.day (sold_by m i) _ t rest list later);
+      named = All-tail (IsNamed c.loop-first.sides) t rest (subst (All (IsNamed c.loop-first.sides)) list before.named);
+      credit = λ m i. omega (arith, before.credit m i, later-first c.args.day (bought_by m i) _ t rest list later);
+      debit = λ m i. omega (arith, before.debit m i, later-first c.args.day (sold_by m i) _ t rest list later);
+      still = before.still;
+      members = before.members;
+      spare = before.spare;
     }

@@ -1,0 +1,21 @@
+use Rattle.std.proofs.Common.{◌≡◌, ℕ, ◌+◌, length}
+use Rattle.std.specs.Prelude.{All, IsSome, sum_by}
+use Rattle.std.specs.HashMap.{get, spare}
+use Rattle.cns_ids.specs.Holding.{holding_eq}
+use Rattle.cns_ids.specs.declared.holding.Holding.{Holding}
+use Rattle.cns_netting.specs.Sides.{bought_by, credit_in, debit_in, AreOfMembers, IsNamed, sold_by}
+use Rattle.cns_netting.specs.Undue.{if_settled}
+use Rattle.cns_netting.proofs.due.take_due.Given as goal
+
+abbrev pub invariant-loop-one : goal.invariant-loop-one
+invariant-loop-one l = record {
+  named : All (IsNamed l.sides) l.left;
+  credit : (m i : ℕ) → credit_in l.sides m i + sum_by (if_settled l.fn.day (bought_by m i)) l.fn.undue ≡ credit_in l.fn.sides m i + sum_by (if_settled l.fn.day (bought_by m i)) l.left;
+  debit : (m i : ℕ) → debit_in l.sides m i + sum_by (if_settled l.fn.day (sold_by m i)) l.fn.undue ≡ debit_in l.fn.sides m i + sum_by (if_settled l.fn.day (sold_by m i)) l.left;
+  still : (k : Holding) → IsSome (get holding_eq l.fn.sides k) → IsSome (get holding_eq l.sides k);
+  members : AreOfMembers l.fn.sides → AreOfMembers l.sides;
+  spare : spare l.sides ≡ spare l.fn.sides;
+}
+
+abbrev pub decreases-loop-one : goal.decreases-loop-one
+decreases-loop-one l = length l.left
