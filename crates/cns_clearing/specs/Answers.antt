@@ -73,7 +73,8 @@ CycleLeaves id (Err refusal.CycleOrder) old new = (old.log.down ≡ false) × (i
 CycleLeaves id (Err refusal.LotsOpen) old new = (old.log.down ≡ false) × (is_later (latest_of old.log.records) id ≡ true) × (old.lots ≢ []) × (new ≡ old)
 CycleLeaves id (Err refusal.NumbersSpent) old new =
     (old.log.down ≡ false) × (is_later (latest_of old.log.records) id ≡ true) × (old.lots ≡ []) × (are_spent (orders_of old.log.records) (covers_in old.log.records id.day) ≡ true) × (new ≡ old)
-CycleLeaves id (Err refusal.OutOfMemory) old new = (old.log.down ≡ false) × (is_later (latest_of old.log.records) id ≡ true) × (old.lots ≡ []) × (new ≡ old)
+CycleLeaves id (Err refusal.OutOfMemory) old new =
+    (old.log.down ≡ false) × (is_later (latest_of old.log.records) id ≡ true) × (old.lots ≡ []) × (are_spent (orders_of old.log.records) (covers_in old.log.records id.day) ≡ false) × (new ≡ old)
 CycleLeaves id (Err refusal.Device) old new = IsAllowed old.log.records (entry.Cycle id) × (old.lots ≡ []) × Failed (entry.Cycle id) old new
 CycleLeaves id (Err _) old new = ⊥
 

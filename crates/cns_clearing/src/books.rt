@@ -15,8 +15,8 @@ ghost use Rattle.cns_clearing.specs.Room.{HasRoom};
 use crate::effects::Effects;
 use crate::pooled_orders::PooledOrders;
 use cns_allocate::Plan;
-use cns_covers::{Exemptions, Priorities, covers_of_rows};
-use cns_ids::{Cusip, CycleId, MemberNo, Shares};
+use cns_covers::{Exemptions, Priorities, cover_count, covers_of_rows};
+use cns_ids::{Cusip, CycleId, Day, MemberNo, Shares};
 use cns_movements::{Ask, Confirm, MoveKind, MoveNo, Order, OrderBook, Reply};
 use cns_netting::{NetBook, PositionRow, rows_of_issue};
 use cns_records::ClearRecord;
@@ -112,6 +112,14 @@ impl Books {
         let rows = self.book.rows_at(id.day)?;
         let asks = covers_of_rows(alloc, &rows, self.orders(), &self.exemptions)?;
         Ok(Effects { asks, rows })
+    }
+
+    /// How many covers a cycle of this date orders. It takes no memory, and leaves the books as they were.
+    pub(crate) fn cover_count(&mut self, day: Day) -> usize
+        ensures count { result ≡ length (covers_on self.old.books day) }
+        ensures same { self.new ≡ self.old }
+    {
+        cover_count(&mut self.book, day, self.orders.book(), &self.exemptions)
     }
 
     /// The members that were long in an issue directly after the cycle before the latest.

@@ -1,4 +1,4 @@
-ghost use Rattle.std.specs.Prelude.{◌≡◌, ◌≢◌, ◌↔◌, ℕ, ◌≤◌, ◌^◌, ◌+◌, ◌++◌, ◌∷◌, IsTrue, true, false, [], length, option_map, IfOk, IfErr, None, OnErr, OnOk};
+ghost use Rattle.std.specs.Prelude.{◌≡◌, ◌≢◌, ◌↔◌, ℕ, ◌≤◌, ◌^◌, ◌+◌, ◌++◌, ◌∷◌, IsTrue, true, false, [], length, option_map, IfOk, IfErr, None, OnErr, OnOk, if◌then◌else◌};
 ghost use Rattle.cns_records.specs.declared.clear_record.ClearRecord.TheVariants.{Exempt, Priority};
 ghost use Rattle.cns_records.specs.Clear.{AreWritable, spelling};
 ghost use Rattle.cns_movements.specs.Order.{numbered};
@@ -9,7 +9,7 @@ ghost use Rattle.cns_clearing.specs.Closing.{AreRecordable};
 ghost use Rattle.cns_clearing.specs.Lots.{AreLots, DoesNotDisturb, avail_in, new_lot, plan_in};
 ghost use Rattle.cns_clearing.specs.Position.{IsBetween, due_in, position_in};
 ghost use Rattle.cns_clearing.specs.Pools.{covered_of as covered_in, delivered_of as delivered_in, free_of as free_in, lent_of as lent_in, lot_of, out_of as out_in, rows_of};
-ghost use Rattle.cns_clearing.specs.Answers.{CloseRefused, Closes, CycleLeaves, LotCloseLeaves, LotOpenLeaves, LotPourLeaves, OrderGives, ReplyLeaves, SettingLeaves, TradeLeaves};
+ghost use Rattle.cns_clearing.specs.Answers.{covers_in, CloseRefused, Closes, CycleLeaves, LotCloseLeaves, LotOpenLeaves, LotPourLeaves, OrderGives, ReplyLeaves, SettingLeaves, TradeLeaves};
 ghost use Rattle.cns_clearing.specs.Node.{AddLeaves, IsOpened, IsUnread, NodePlanned, RestartLeaves};
 ghost use Rattle.cns_journal.specs.RecordLog.{Keeps};
 
@@ -20,7 +20,7 @@ use crate::effects::Effects;
 use crate::lot::{Lot, Lots};
 use crate::pools::{PoolRows, free_of, lent_of, pool_rows};
 use cns_allocate::{Plan, are_served, deliveries, delivery_count};
-use cns_ids::{Cusip, CycleId, MemberNo, Shares};
+use cns_ids::{Cusip, CycleId, Day, MemberNo, Shares};
 use cns_journal::{CommitFault, Keeper, NotPlanned, RecordLog, Refused, ReplayFault, Restarted};
 use cns_movements::{Ask, Confirm as Confirmed, MoveNo, Order, OrderBook, Reply};
 use cns_netting::NetBook;
@@ -150,6 +150,9 @@ impl<K: Keeper> Clearing<K> {
     /// there is nothing to cover. After `Device` the cycle was not run and nothing is ordered, and the
     /// node is down until it is restarted. (This project's own rule.)
     ///
+    /// Want of memory is told only where none of these refusals applies: where the covers cannot be listed
+    /// they are counted, which takes none.
+    ///
     /// Costs one pass over all holdings that trades or movements named, the trades that become due, a
     /// sort of the positions, a look-up for each short one, and one commit.
     pub fn cycle(&mut self, id: CycleId) -> Result<Cycled, Refusal>
@@ -163,7 +166,10 @@ impl<K: Keeper> Clearing<K> {
         if !self.lots().is_empty() {
             return Err(Refusal::LotsOpen);
         }
-        let effects = books.cycle_effects(alloc, &id)?;
+        let Ok(effects) = books.cycle_effects(alloc, &id) else {
+            return Err(self.refusal_without_memory(id.day));
+        };
+        let books = self.books();
         let asks = effects.asks.as_slice();
         if books.are_spent(asks.len()) {
             return Err(Refusal::NumbersSpent);
@@ -504,6 +510,21 @@ impl<K: Keeper> Clearing<K> {
             return Err(Refusal::Down);
         }
         Ok(self.books())
+    }
+
+    // Why a cycle of this date is refused whose covers there is no memory to list: for want of numbers, and
+    // else for want of memory.
+    fn refusal_without_memory(&mut self, day: Day) -> Refusal
+        ensures refusal { let c = self.old.log.records in
+            result ≡ (if are_spent (orders_of c) (covers_in c day) then Refusal.NumbersSpent else Refusal.OutOfMemory) }
+        ensures same { self.new ≡ self.old }
+    {
+        let count = self.books.cover_count(day);
+        if self.books.are_spent(count) {
+            Refusal::NumbersSpent
+        } else {
+            Refusal::OutOfMemory
+        }
     }
 
     // The open lots.

@@ -81,7 +81,7 @@ module _ (P : LogState ClearRecord → Type 0) (Fits : List ClearRecord → Clea
   cycle_keeps id (Err refusal.CycleOrder) old new fits h = by_same old new h.2
   cycle_keeps id (Err refusal.LotsOpen) old new fits h = by_same old new h.3
   cycle_keeps id (Err refusal.NumbersSpent) old new fits h = by_same old new h.4
-  cycle_keeps id (Err refusal.OutOfMemory) old new fits h = by_same old new h.3
+  cycle_keeps id (Err refusal.OutOfMemory) old new fits h = by_same old new h.4
   cycle_keeps id (Err refusal.Device) old new fits h = failed old new (entry.Cycle id) fits h.2
   cycle_keeps id (Err _) old new fits h = absurd h
 

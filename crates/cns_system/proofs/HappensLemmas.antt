@@ -22,7 +22,7 @@ use Rattle.cns_clearing.specs.Books.{are_spent, is_later, latest_of, orders_of}
 use Rattle.cns_clearing.specs.declared.answer.Cycled.{Cycled}
 use Rattle.cns_clearing.specs.declared.lot.Lot.{Lot}
 use Rattle.cns_depository.specs.Node.{RestartLeaves as DepotRestartLeaves}
-use Rattle.cns_system.specs.Happens.{Decision, Goes, Happening, reply_taken, clear_commits, clear_restarts, cycle_happens, cycle_ordered, cycled, depot_restarts, happens, refuse, setting_happens, trade_happens, with_memory}
+use Rattle.cns_system.specs.Happens.{Decision, Goes, Happening, reply_taken, clear_commits, clear_restarts, cycle_happens, cycle_ordered, cycled, depot_restarts, happens, refuse, setting_happens, trade_happens}
 use Rattle.cns_system.specs.Lot.{with_end, with_seal}
 use Rattle.cns_system.specs.Lots.{LotLeaves, ReserveLeaves}
 use Rattle.cns_system.specs.Numbered.{NumberedNode, CloseLeaves, OpenLeaves, PourLeaves}
@@ -38,7 +38,7 @@ use Rattle.cns_system.specs.declared.outcome.Outcome.TheVariants as outcomes
 use Rattle.cns_system.proofs.Decided.{Fits, FitsDone}
 use Rattle.cns_system.proofs.LinkHappens.{order_in_by, reply_by, send_by}
 use Rattle.cns_system.proofs.LotHappens.{close_by, look_asked_by, look_poured_by, open_by, pour_by, reserve_by, seal_by}
-use Rattle.cns_system.proofs.ShownLemmas.{IsAtClear, IsAtDepot, came, clear_same, clear_when_added, clear_when_failed, commit_fails, commit_goes, commit_short, fails_not_short, not_short, with_room, without_room}
+use Rattle.cns_system.proofs.ShownLemmas.{IsAtClear, IsAtDepot, came, clear_same, clear_when_added, clear_when_failed, commit_fails, commit_goes, commit_short}
 
 -- ---- trades
 
@@ -107,7 +107,7 @@ cycle_beside_lots d id w up later some = by w.clear.open_lots refl
     by (lot ∷ lots) e = rw (up, later, e) refl
 
 cycle_alone : (d : Decision) (id : CycleId) (w : Shown) → w.clear.down ≡ false → is_later (latest_of w.clear.records) id ≡ true → w.clear.open_lots ≡ []
-    → cycle_happens d id w ≡ with_memory d (cycle_ordered d id (covers_in w.clear.records id.day) w) w
+    → cycle_happens d id w ≡ cycle_ordered d id (covers_in w.clear.records id.day) w
 cycle_alone d id w up later none = rw (up, later, none) refl
 
 cycle_spent : (d : Decision) (id : CycleId) (asks : List Ask) (w : Shown) → are_spent (orders_of w.clear.records) asks ≡ true
@@ -127,7 +127,7 @@ cycle_by : (d : Decision) (id : CycleId) (result : Result Cycled Refusal) (old n
 cycle_by d id (Ok done) old new at ((allowed, none, made, added), lots) fits =
     let w : Shown = shown_of old in
     let asks : List Ask = covers_in w.clear.records id.day in
-    cycle_alone d id w added.0 allowed.0 none ∙ with_room d (cycle_ordered d id asks w) w (not_short d fits) ∙ cycle_numbered d id asks w allowed.1
+    cycle_alone d id w added.0 allowed.0 none ∙ cycle_numbered d id asks w allowed.1
     ∙ commit_goes d (entry.Cycle id) (cycled w id asks) w _ _ fits (clear_when_added (entry.Cycle id) old new at added lots)
     ∙ ap (λ (o : Outcome). (o, shown_of new)) (sym (cycled_is w id done made))
 cycle_by d id (Err refusal.Down) old new at ((down, same), lots) fits = came _ _ _ _ (cycle_down d id (shown_of old) down) (clear_same old new at same lots)
@@ -138,13 +138,14 @@ cycle_by d id (Err refusal.LotsOpen) old new at ((up, later, some, same), lots) 
 cycle_by d id (Err refusal.NumbersSpent) old new at ((up, later, none, spent, same), lots) fits =
     let w : Shown = shown_of old in
     let asks : List Ask = covers_in w.clear.records id.day in
-    came _ _ _ _ (cycle_alone d id w up later none ∙ with_room d (cycle_ordered d id asks w) w fits ∙ cycle_spent d id asks w spent) (clear_same old new at same lots)
-cycle_by d id (Err refusal.OutOfMemory) old new at ((up, later, none, same), lots) fits =
-    cycle_alone d id (shown_of old) up later none ∙ without_room d _ _ _ fits (clear_same old new at same lots)
+    came _ _ _ _ (cycle_alone d id w up later none ∙ cycle_spent d id asks w spent) (clear_same old new at same lots)
+cycle_by d id (Err refusal.OutOfMemory) old new at ((up, later, none, enough, same), lots) fits =
+    let w : Shown = shown_of old in
+    cycle_alone d id w up later none ∙ cycle_numbered d id (covers_in w.clear.records id.day) w enough ∙ commit_short d (entry.Cycle id) _ _ _ fits (clear_same old new at same lots)
 cycle_by d id (Err refusal.Device) old new at ((allowed, none, failed), lots) fits =
     let w : Shown = shown_of old in
     let asks : List Ask = covers_in w.clear.records id.day in
-    cycle_alone d id w failed.0 allowed.0 none ∙ with_room d (cycle_ordered d id asks w) w (fails_not_short d fits) ∙ cycle_numbered d id asks w allowed.1
+    cycle_alone d id w failed.0 allowed.0 none ∙ cycle_numbered d id asks w allowed.1
     ∙ commit_fails d (entry.Cycle id) _ w _ fits (clear_when_failed (entry.Cycle id) old new at failed lots)
 cycle_by d id (Err _) old new at left fits = absurd left.0
 

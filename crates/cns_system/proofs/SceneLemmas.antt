@@ -193,7 +193,7 @@ cycle_commits id (Err refusal.Down) w old new left = clear_refused (event.Cycle 
 cycle_commits id (Err refusal.CycleOrder) w old new left = clear_refused (event.Cycle id) refusal.CycleOrder w old new tt left.2
 cycle_commits id (Err refusal.LotsOpen) w old new left = clear_refused (event.Cycle id) refusal.LotsOpen w old new tt left.3
 cycle_commits id (Err refusal.NumbersSpent) w old new left = clear_refused (event.Cycle id) refusal.NumbersSpent w old new tt left.4
-cycle_commits id (Err refusal.OutOfMemory) w old new left = clear_refused (event.Cycle id) refusal.OutOfMemory w old new tt left.3
+cycle_commits id (Err refusal.OutOfMemory) w old new left = clear_refused (event.Cycle id) refusal.OutOfMemory w old new tt left.4
 cycle_commits id (Err refusal.Device) w old new left = fails (event.Cycle id) w (entry.Cycle id) old.log new.log left.2.1
 cycle_commits id (Err _) w old new left = absurd left
 

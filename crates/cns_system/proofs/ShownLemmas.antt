@@ -63,13 +63,6 @@ depot_when_failed e old new at (up, (log, risen, failed), openings) replies =
 pub came : (happening : Happening) (outcome : Outcome) (w w' : Shown) → happening ≡ (outcome, w) → w' ≡ w → happening ≡ (outcome, w')
 came happening outcome w w' is same = rw same is
 
--- these decisions leave memory
-pub not_short : (d : Decision) → d ≡ Goes → d ≢ NoMemory
-not_short d goes = λ short. absurd (cc (sym goes ∙ short))
-
-pub fails_not_short : (d : Decision) → d ≡ DeviceFails → d ≢ NoMemory
-fails_not_short d fails = λ short. absurd (cc (sym fails ∙ short))
-
 -- there is memory, and there is none
 pub with_room : (d : Decision) (happening : Happening) (w : Shown) → d ≢ NoMemory → with_memory d happening w ≡ happening
 with_room NoMemory happening w room = absurd (room refl)

@@ -107,7 +107,7 @@ cycle_ordered d id asks w =
 
 -- and no lot is open
 abbrev pub cycle_beside : List Lot → Decision → CycleId → Shown → Happening
-cycle_beside [] d id w = with_memory d (cycle_ordered d id (covers_in w.clear.records id.day) w) w
+cycle_beside [] d id w = cycle_ordered d id (covers_in w.clear.records id.day) w
 cycle_beside (lot ∷ lots) d id w = refuse refusal.LotsOpen w
 
 -- and it is later than the last one
