@@ -19,8 +19,9 @@ import subprocess
 import sys
 import tempfile
 
-from make_works import WORKS, text_of_work
+from make_works import WORKS
 
+MAKE_WORKS = os.path.join(os.path.dirname(os.path.abspath(__file__)), 'make_works.py')
 SCALES = [fractions.Fraction(1, parts) for parts in (64, 32, 16)]
 # Of plain Rust: millions of instructions at these scales, and MiB at full size, where they were taken.
 PLAIN = {
@@ -63,8 +64,9 @@ def instructions(program, work):
 
 
 def write_work(name, scale, path):
-    with open(path, 'w', encoding='ascii') as out:
-        out.write(text_of_work(name, scale))
+    """Writes a work, in a process of its own: what this one ever held counts for the peak memory of all that it starts."""
+    with open(path, 'wb') as out:
+        subprocess.run([sys.executable, MAKE_WORKS, name, '--scale', str(scale)], stdout=out, check=True)
 
 
 def row_of(program, name, full, path):
