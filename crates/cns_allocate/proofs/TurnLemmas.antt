@@ -192,6 +192,13 @@ same_rest = same_others same_planned same_planned-true same_planned-itself
 
 -- ---- a plan without a member
 
+-- nobody is planned
+pub no_pairs : {X : Type 0} (R : X → X → Type 0) → AllPairs R []
+no_pairs R i j d less below = absurd (omega (arith, below))
+
+pub IsPlan-none : IsPlan []
+IsPlan-none = record { asked = All-nil _; once = λ m. omega arith; groups = no_pairs (λ (p q : Planned). rank p.group ≤ rank q.group) }
+
 -- what is left of a plan is one
 pub IsPlan-without : (member : ℕ) (plan : List Planned) → IsPlan plan → IsPlan (without member plan)
 IsPlan-without member plan is = record {

@@ -46,6 +46,15 @@ impl Model for Turns {
 }
 
 impl Turns {
+    /// Nobody's turns. They take no memory.
+    pub fn new(alloc: Global) -> Turns
+        ensures { result ≡ [] }
+    {
+        Turns {
+            list: Vec::new(alloc),
+        }
+    }
+
     /// The turns of a plan of which no member has a ticket.
     pub fn of(alloc: Global, plan: &[Planned]) -> Result<Turns, AllocError>
         requires plan { IsPlan plan.now }

@@ -2,7 +2,7 @@
 use Rattle.std.proofs.Common.{◌≡◌, ℕ, suc, ◌≤◌, Bool, true, false, cond, not, List, [], ◌∷◌, ◌++◌, length, map, slice_set, get_or, Some, None, nat_eq, refl, sym, ap, ◌∙◌, subst, arith}
 use Rattle.std.specs.Prelude.{IsTrue, ◌↔◌, Option, ◌==◌, MatchOption, count_by, find, option_map}
 use Rattle.std.specs.HashMap.{HashMap, get, hash_map_len}
-use Rattle.std.specs.List.{position}
+use Rattle.std.specs.List.{filter_map, position}
 use Rattle.std.specs.Map.{lookup}
 use Rattle.std.proofs.lemmas.Bool.{cond-false, cond-true, eq-eqb, eqb-true}
 use Rattle.std.proofs.lemmas.List.Sums.{sum_by-cons}
@@ -37,6 +37,12 @@ pub filled_map : (f : Lot → Lot) (slots : List (Option Lot)) → filled (map (
 filled_map f [] = refl
 filled_map f (None ∷ slots) = filled_map f slots
 filled_map f (Some lot ∷ slots) = ap (λ lots. f lot ∷ lots) (filled_map f slots)
+
+-- the issues of the slots' lots
+pub filled_issues : (slots : List (Option Lot)) → filter_map (option_map (λ (l : Lot). l.issue)) slots ≡ map (λ (l : Lot). l.issue) (filled slots)
+filled_issues [] = refl
+filled_issues (None ∷ slots) = filled_issues slots
+filled_issues (Some lot ∷ slots) = ap (λ issues. lot.issue ∷ issues) (filled_issues slots)
 
 -- a slot once the lot of an issue is closed
 abbrev emptied : ℕ → Option Lot → Option Lot

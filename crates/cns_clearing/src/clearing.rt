@@ -1,4 +1,4 @@
-ghost use Rattle.std.specs.Prelude.{◌≡◌, ◌≢◌, ◌↔◌, ℕ, ◌≤◌, ◌^◌, ◌+◌, ◌++◌, ◌∷◌, IsTrue, true, false, [], length, option_map, IfOk, IfErr, None, OnErr, OnOk, if◌then◌else◌};
+ghost use Rattle.std.specs.Prelude.{◌≡◌, ◌≢◌, ◌↔◌, ℕ, ◌≤◌, ◌^◌, ◌+◌, ◌++◌, ◌∷◌, IsTrue, true, false, [], length, map, option_map, IfOk, IfErr, None, OnErr, OnOk, if◌then◌else◌};
 ghost use Rattle.cns_records.specs.declared.clear_record.ClearRecord.TheVariants.{Exempt, Priority};
 ghost use Rattle.cns_records.specs.Clear.{AreWritable, spelling};
 ghost use Rattle.cns_movements.specs.Order.{numbered};
@@ -11,6 +11,7 @@ ghost use Rattle.cns_clearing.specs.Position.{IsBetween, due_in, position_in};
 ghost use Rattle.cns_clearing.specs.Pools.{covered_of as covered_in, delivered_of as delivered_in, free_of as free_in, lent_of as lent_in, lot_of, out_of as out_in, rows_of};
 ghost use Rattle.cns_clearing.specs.Answers.{covers_in, CloseRefused, Closes, CycleLeaves, LotCloseLeaves, LotOpenLeaves, LotPourLeaves, OrderGives, ReplyLeaves, SettingLeaves, TradeLeaves};
 ghost use Rattle.cns_clearing.specs.Node.{AddLeaves, IsOpened, IsUnread, NodePlanned, RestartLeaves};
+ghost use Rattle.cns_clearing.specs.declared.lot.Lot.{Lot};
 ghost use Rattle.cns_journal.specs.RecordLog.{Keeps};
 
 use crate::answer::{Closed, Cycled, Orders, Taken};
@@ -434,6 +435,15 @@ impl<K: Keeper> Clearing<K> {
         ensures { option_map (λ lot. lot.now) result ≡ lot_of self.now.lots issue }
     {
         self.lots().get(issue)
+    }
+
+    /// The issues of the open lots, in the order in which the lots were opened; `lot` gives the lot of each.
+    ///
+    /// Costs a walk over the lots that were opened since no lot was open.
+    pub fn open_lots(&self, alloc: Global) -> Result<Vec<Cusip>, AllocError>
+        ensures { IfOk result (λ issues. issues.items ≡ map (λ (lot : Lot). lot.issue) self.now.lots) }
+    {
+        self.lots().issues(alloc)
     }
 
     /// Whether some lot is open. At most one is of an issue; each has the plan that its issue had when it was

@@ -1,5 +1,6 @@
-ghost use Rattle.std.specs.Prelude.{◌≡◌, ℕ, ◌<◌, ◌==◌, ◌++◌, ◌∷◌, [], nat_eq, IsTrue, ◌↔◌, map, option_map, None, Some, OnOk, if◌then◌else◌};
+ghost use Rattle.std.specs.Prelude.{◌≡◌, ℕ, ◌<◌, ◌==◌, ◌++◌, ◌∷◌, [], nat_eq, IsTrue, ◌↔◌, map, option_map, None, Some, IfOk, OnOk, if◌then◌else◌};
 ghost use Rattle.std.specs.HashMap.{get, spare};
+ghost use Rattle.std.specs.List.{filter_map};
 ghost use Rattle.cns_clearing.specs.Pools.{lot_of};
 ghost use Rattle.cns_clearing.specs.Lots.{lots_after, without_lot};
 ghost use Rattle.cns_clearing.specs.OpenLots.{refilled};
@@ -74,6 +75,14 @@ impl Lots {
         self.slots.is_empty()
     }
 
+    // The issues of the lots, in the order in which the lots were opened.
+    pub(crate) fn issues(&self, alloc: Global) -> Result<Vec<Cusip>, AllocError>
+        ensures { IfOk result (λ issues. issues.items ≡ map (λ (lot : Lot). lot.issue) self.now.lots) }
+    {
+        let issues = issues_of(alloc, self.slots.as_slice())?;
+        Ok(issues)
+    }
+
     // The open lot of an issue.
     pub(crate) fn get(&self, issue: Cusip) -> Option<&Lot>
         ensures { option_map (λ lot. lot.now) result ≡ lot_of self.now.lots issue }
@@ -145,6 +154,24 @@ impl Lots {
         self.slots.clear();
         self.places.clear();
     }
+}
+
+// The issues of the lots of some slots, in their order.
+fn issues_of(alloc: Global, slots: &[Option<Lot>]) -> Result<Vec<Cusip>, AllocError>
+    ensures { IfOk result (λ issues. issues.items ≡ filter_map (option_map (λ (lot : Lot). lot.issue)) slots.now) }
+{
+    slots
+        .iter()
+        .filter_map(|slot| issue_of(slot))
+        .collect(alloc)
+}
+
+// The issue of the lot of a slot, where it has one.
+fn issue_of(slot: &Option<Lot>) -> Option<Cusip>
+    ensures { result ≡ option_map (λ (lot : Lot). lot.issue) slot.now }
+{
+    let lot = slot.as_ref()?;
+    Some(lot.issue)
 }
 
 // The place of the lot of an issue.

@@ -8,10 +8,9 @@ use cns_covers::Priorities;
 use cns_movements::OrderBook;
 use cns_netting::NetBook;
 use cns_records::Refusal;
-use cns_system::{Look, LotBook};
+use cns_system::LotBook;
 use std::alloc::{AllocError, Global};
 use std::process::Abort;
-use std::test::Fail;
 
 mod both;
 mod desk;
@@ -90,16 +89,16 @@ enum Step {
     Count(u64),
     // Whether the lot is of the issue.
     Issue(u64, Result<(), Refusal>),
-    // The lot has the plan of the two groups.
-    Planned(u64),
+    // All of the two groups wait for a ticket of the lot.
+    Waiting(u64),
     // The member of a ticket of the lot draws it.
     Draw(u64, Draw),
     // Why a member draws no ticket of it.
     NoDraw(u64, u16, Refusal),
     // The tickets of the lot.
     Tickets(u64, &'static [Draw]),
-    // The shares that were poured into the lot and those that are asked for, and whether it is sealed.
-    Look(u64, u64, u64, bool),
+    // The shares of the lot's tickets.
+    Asked(u64, u64),
     Seal(u64),
     Sealed(u64, bool),
     Served(u64, bool),
@@ -109,12 +108,12 @@ enum Step {
 
 fn opens(rt: &impl Abort, alloc: Global, book: &mut LotBook, number: u64) -> bool {
     let plan = two_groups(rt, alloc);
-    book.open(apple(rt), &plan, 0) == Ok(number)
+    book.open(apple(rt), &plan) == Ok(number)
 }
 
-fn is_planned(rt: &impl Abort, alloc: Global, book: &LotBook, number: u64) -> bool {
+fn all_wait(rt: &impl Abort, alloc: Global, book: &LotBook, number: u64) -> bool {
     let plan = two_groups(rt, alloc);
-    book.planned(number) == Ok(plan.as_slice())
+    book.waiting(number) == Ok(plan.as_slice())
 }
 
 fn are_drawn(rt: &impl Abort, book: &LotBook, number: u64, wanted: &[Draw]) -> bool {
@@ -132,7 +131,7 @@ fn answers(rt: &impl Abort, alloc: Global, book: &mut LotBook, step: &Step) -> b
         Step::Open(number) => opens(rt, alloc, book, *number),
         Step::Count(wanted) => book.len() == *wanted && book.is_empty() == (*wanted == 0),
         Step::Issue(number, wanted) => book.issue(*number) == wanted.map(|()| apple(rt)),
-        Step::Planned(number) => is_planned(rt, alloc, book, *number),
+        Step::Waiting(number) => all_wait(rt, alloc, book, *number),
         Step::Draw(number, draw) => {
             book.reserve(*number, member_of(rt, draw.0)) == Ok(ticket_of(rt, draw))
         }
@@ -140,15 +139,7 @@ fn answers(rt: &impl Abort, alloc: Global, book: &mut LotBook, step: &Step) -> b
             book.reserve(*number, member_of(rt, *member)) == Err(*fault)
         }
         Step::Tickets(number, wanted) => are_drawn(rt, book, *number, wanted),
-        Step::Look(number, poured, asked, sealed) => {
-            let (poured, asked, sealed) = (*poured, *asked, *sealed);
-            book.look(*number)
-                == Ok(Look {
-                    poured,
-                    asked,
-                    sealed,
-                })
-        }
+        Step::Asked(number, wanted) => book.asked(*number) == Ok(*wanted),
         Step::Seal(number) => book.seal(*number) == Ok(()),
         Step::Sealed(number, wanted) => book.is_sealed(*number) == Ok(*wanted),
         Step::Served(number, wanted) => book.is_served(*number) == Ok(*wanted),
@@ -177,6 +168,7 @@ const IN_TURN: &[Step] = &[
     Step::Served(1, false),
     Step::Draw(1, (2, 30, 30)),
     Step::Served(1, true),
+    Step::Asked(1, 60),
     Step::Tickets(1, &[(3, 0, 30), (2, 30, 30)]),
 ];
 
@@ -199,44 +191,28 @@ const ENDED: &[Step] = &[
     Step::Open(2),
     Step::End(1, Ok(())),
     Step::Issue(1, Err(Refusal::StaleLot)),
-    Step::Planned(2),
+    Step::Waiting(2),
     Step::EndAll,
     Step::NoDraw(2, 3, Refusal::StaleLot),
     Step::Open(3),
 ];
 
-#[test]
-fn stories_of_lots(rt: HostRuntime) {
-    for steps in [IN_TURN, NOT_GIVEN, ENDED] {
-        take_steps(&rt, rt.alloc(), LotBook::new(rt.alloc()), steps);
-    }
-}
-
 // A sealed lot draws no ticket.
 const SEALED: &[Step] = &[
-    Step::Look(1, 45, 0, false),
+    Step::Open(1),
     Step::Sealed(1, false),
     Step::Seal(1),
     Step::Seal(1),
-    Step::Look(1, 45, 0, true),
+    Step::Asked(1, 0),
     Step::Sealed(1, true),
     Step::Served(1, true),
     Step::NoDraw(1, 2, Refusal::EarlierGroup),
     Step::NoDraw(1, 3, Refusal::Sealed),
 ];
 
-// A book with one lot: 40 shares were poured into it as it was opened, and 5 after that.
-fn poured(rt: &impl Abort, alloc: Global) -> Result<LotBook, Fail> {
-    let plan = two_groups(rt, alloc);
-    let mut book = LotBook::new(alloc);
-    book.open(apple(rt), &plan, 40)?;
-    book.pour(1, 5);
-    Ok(book)
-}
-
 #[test]
-fn a_lot_that_is_poured_into_and_sealed(rt: HostRuntime) -> Result<(), Fail> {
-    let book = poured(&rt, rt.alloc())?;
-    take_steps(&rt, rt.alloc(), book, SEALED);
-    Ok(())
+fn stories_of_lots(rt: HostRuntime) {
+    for steps in [IN_TURN, NOT_GIVEN, SEALED, ENDED] {
+        take_steps(&rt, rt.alloc(), LotBook::new(rt.alloc()), steps);
+    }
 }

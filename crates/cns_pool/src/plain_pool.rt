@@ -1,4 +1,4 @@
-ghost use Rattle.std.specs.Prelude.{◌≡◌, ◌≤◌, IfOk};
+ghost use Rattle.std.specs.Prelude.{◌≡◌, ◌≤◌, [], IfOk, vec_capacity};
 ghost use Rattle.cns_pool.specs.Tiles.{Tiles};
 ghost use Rattle.cns_pool.specs.Pool.{new_pool, asked_sum, intervals_of, IsPool};
 
@@ -49,15 +49,34 @@ impl PlainPool {
         requires pours { pours ≤ MAX_POOL }
         ensures { IfOk result (λ pool. pool ≡ new_pool budget pours calls) }
     {
-        Ok(PlainPool {
-            tickets: Vec::with_capacity(alloc, calls as usize)?,
+        let tickets = Vec::with_capacity(alloc, calls as usize)?;
+        Ok(PlainPool::of(tickets, budget, pours, calls))
+    }
+
+    /// A pool of which nothing may be asked, and into which nothing may be poured. It takes no memory.
+    pub fn new(alloc: Global) -> PlainPool
+        ensures { result ≡ new_pool 0 0 0 }
+    {
+        PlainPool::of(Vec::new(alloc), 0, 0, 0)
+    }
+
+    // A pool without tickets, which has room for those of all reserves.
+    fn of(tickets: Vec<Ticket>, budget: u64, pours: u64, calls: u64) -> PlainPool
+        requires none { tickets.items ≡ [] }
+        requires room { calls ≤ vec_capacity tickets }
+        requires budget { budget ≤ MAX_POOL }
+        requires pours { pours ≤ MAX_POOL }
+        ensures { result ≡ new_pool budget pours calls }
+    {
+        PlainPool {
+            tickets,
             asked: 0,
             poured: 0,
             sealed: false,
             budget,
             pour_room: pours,
             calls,
-        })
+        }
     }
 
     /// The tickets, in the order in which they were drawn.
@@ -73,6 +92,13 @@ impl PlainPool {
         ensures { result ≡ asked_sum self.now.tickets }
     {
         self.asked
+    }
+
+    /// Whether the pool is sealed.
+    pub fn is_sealed(&self) -> bool
+        ensures { result ≡ self.now.sealed }
+    {
+        self.sealed
     }
 }
 

@@ -110,8 +110,8 @@ module _ (P : LogState ClearRecord → Type 0) (Fits : List ClearRecord → Clea
 
   pour_keeps : (number : ℕ) (result : Result ℕ Refusal) (old new : NumberedNode) → PourLeaves number result old new → Keeps P old.clear.log new.clear.log
   pour_keeps number (Ok shares) old new h =
-      let lot = some_and (lot_at old.lots number) _ h in
-      by_lots old.clear new.clear _ lot.1.1.0.2
+      let lot = some_and (lot_at old.lots number) _ h.0 in
+      by_lots old.clear new.clear _ lot.1.1.2
   pour_keeps number (Err refusal.NoLot) old new h = by_same_lots old new h.1
   pour_keeps number (Err refusal.StaleLot) old new h = by_same_lots old new h.1
   pour_keeps number (Err refusal.Down) old new h = by_same_lots old new h.1

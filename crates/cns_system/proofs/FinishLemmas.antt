@@ -16,6 +16,7 @@ use Rattle.cns_system.specs.Floor.{AreBusy, AreInOrder, BusyLot, FloorState, IsB
 use Rattle.cns_system.specs.Headline.{AreStrict, IsAgreed}
 use Rattle.cns_system.specs.Lot.{LotState, ticket_in, turn_in, with_ticket}
 use Rattle.cns_system.specs.Lots.{DrawLeaves, HasOpenLot, LotGives, ReserveLeaves, WouldDraw, WouldReserve, lot_at, update_at}
+use Rattle.cns_system.specs.Numbered.{NumberedNode}
 use Rattle.cns_system.specs.Outcomes.{done_outcome, reserve_outcome}
 use Rattle.cns_system.specs.Run.{Occurs, Run}
 use Rattle.cns_system.specs.World.{World}
@@ -85,9 +86,9 @@ order_without n (x ∷ busy) order = by (not (x.lot == n)) (order_without n busy
     by true rest = (All-filter (λ (b : BusyLot). not (b.lot == n)) (λ (c : BusyLot). x.lot < c.lot) busy order.0, rest)
     by false rest = rest
 
-pub still_busy : (n : ℕ) (lots : List LotState) (busy : List BusyLot) → AreBusy lots busy → AreBusy lots (without_busy n busy)
-still_busy n lots busy are = record {
-  each = All-filter (λ (b : BusyLot). not (b.lot == n)) (IsBusy lots) busy are.each;
+pub still_busy : (n : ℕ) (node : NumberedNode) (busy : List BusyLot) → AreBusy node busy → AreBusy node (without_busy n busy)
+still_busy n node busy are = record {
+  each = All-filter (λ (b : BusyLot). not (b.lot == n)) (IsBusy node) busy are.each;
   order = order_without n busy are.order;
 }
 

@@ -5,25 +5,35 @@ use Rattle.std.proofs.lemmas.Bool.{eq-eqb, eqb-false, eqb-true, false_from_ne_tr
 use Rattle.std.proofs.lemmas.List.Elements.{All-cons, All-head, All-map, All-nil, All-tail, All-weaker}
 use Rattle.std.proofs.lemmas.List.{set-get_or}
 use Rattle.std.proofs.lemmas.Option.{get_or_from_slice_get, same_Some, slice_get_within}
+use Rattle.cns_allocate.proofs.TurnLemmas.{find-passes}
+use Rattle.cns_clearing.specs.Answers.{LotPourLeaves}
+use Rattle.cns_clearing.specs.Lots.{avail_in, lots_poured, poured_into}
+use Rattle.cns_clearing.specs.Node.{ClearNode}
+use Rattle.cns_clearing.specs.Pools.{lent_of, lot_of}
 use Rattle.cns_clearing.specs.declared.lot.Lot.{Lot}
+use Rattle.cns_records.specs.declared.clear_record.ClearRecord.{ClearRecord}
 use Rattle.cns_records.specs.declared.refusal.Refusal.{Refusal}
 use Rattle.cns_records.specs.declared.refusal.Refusal.TheVariants as refusal
-use Rattle.cns_system.specs.Floor.{AreBusy, AreInOrder, BusyLot, BySystem, FloorState, FloorStep, IsBusy, IsFed, IsLent, IsPlaceOf, LooksAsked, NamesLot, NumbersRise, PourFits, SparesBusy, busy_after_pour, busy_at, busy_with_look, busy_with_pour, busy_with_seal, changed_at, is_open, lot_changed, served_at, with_busy}
+use Rattle.cns_system.specs.Floor.{AreBusy, AreInOrder, BusyLot, BySystem, FloorState, FloorStep, IsBusy, IsFed, IsPlaceOf, LooksAsked, NamesLot, NumbersRise, PourFits, SparesBusy, busy_after_pour, busy_at, busy_with_look, busy_with_pour, busy_with_seal, changed_at, is_open, lot_changed, served_at, with_busy}
 use Rattle.cns_system.specs.Headline.{AreStrict}
-use Rattle.cns_system.specs.Lot.{IsLot, LotState, with_pour}
-use Rattle.cns_system.specs.Lots.{AreLotsLawful, lot_at, update_at}
+use Rattle.cns_system.specs.Lot.{LotState}
+use Rattle.cns_system.specs.Lots.{lot_at}
 use Rattle.cns_system.specs.Numbered.{AreTied, NumberedNode, PourLeaves}
+use Rattle.cns_system.specs.Readers.{PlanStep}
 use Rattle.cns_system.specs.Run.{Occurs}
 use Rattle.cns_system.specs.Step.{Step}
 use Rattle.cns_system.specs.Outcomes.{pour_outcome}
 use Rattle.cns_system.specs.World.{World}
 use Rattle.cns_system.specs.declared.event.Event.{Event}
 use Rattle.cns_system.specs.declared.event.Event.TheVariants as event
+use Rattle.cns_system.specs.declared.event.NodeName.{NodeName}
+use Rattle.cns_system.specs.declared.event.NodeName.TheVariants as node
+use Rattle.cns_journal.specs.declared.keeper.NotPlanned.{NotPlanned}
 use Rattle.cns_system.specs.declared.outcome.Outcome.{Outcome}
 use Rattle.cns_system.specs.declared.outcome.Outcome.TheVariants as outcomes
-use Rattle.cns_system.proofs.LotsLemmas.{open-parts}
-use Rattle.cns_system.proofs.SpareLemmas.{Spares, spares_same, spares_update, step_spares}
-use Rattle.cns_system.proofs.TiedLemmas.{at_changed, at_place, get_set_same}
+use Rattle.cns_system.proofs.LotsLemmas.{IsOpen, open-parts}
+use Rattle.cns_system.proofs.SpareLemmas.{KeepsTwins, Spares, pour_twins, spares_same, step_spares, step_twins, twins_same}
+use Rattle.cns_system.proofs.TiedLemmas.{found_of, found_poured}
 
 -- ---- the busy lot of a number
 
@@ -42,12 +52,7 @@ none_busy (x ∷ busy) n none = by (x.lot == n) refl none (none_busy busy n)
 
 -- what is found has the number
 pub busy_number : (busy : List BusyLot) (n : ℕ) (b : BusyLot) → busy_at busy n ≡ Some b → b.lot ≡ n
-busy_number [] n b found = cc
-busy_number (x ∷ busy) n b found = by (x.lot == n) refl found (busy_number busy n b)
-  where
-    by : (t : Bool) → (x.lot == n) ≡ t → cond t (Some x) (busy_at busy n) ≡ Some b → (busy_at busy n ≡ Some b → b.lot ≡ n) → b.lot ≡ n
-    by true e is rest = subst (λ (c : BusyLot). c.lot ≡ n) (same_Some x b is) (eqb-true x.lot n e)
-    by false e is rest = rest is
+busy_number busy n b found = eqb-true b.lot n (find-passes (λ (c : BusyLot). c.lot == n) busy b found)
 
 -- where none has the number, none is found
 pub none_found : (busy : List BusyLot) (n : ℕ) → All (λ (b : BusyLot). b.lot ≡ n → ⊥) busy → busy_at busy n ≡ None
@@ -93,14 +98,9 @@ pub read_served : (f now : FloorState) (n place : ℕ) (x : BusyLot) → f ≡ n
 read_served f now n place x same is read =
     read_busy f.busy now.busy n place x (ap (λ (g : FloorState). g.busy) (sym same)) (is.0, served_busy now n is.0 is.1, is.2) read
 
--- what was poured into its cell is lent, where each lot that has not ended is the node's
-pub all_lent : (node : NumberedNode) (busy : List BusyLot) → AreTied node.clear.lots node.lots → AreBusy node.lots busy → All (IsLent node) busy
-all_lent node busy tied are =
-    All-weaker (IsBusy node.lots) (IsLent node)
-    (λ b is lot found going.
-    let twin = tied.each b.lot lot found going in
-    let fed = is.fed lot found going in
-    fed.poured ∙ sym twin.poured ∙ sym (ap (λ (o : Option Lot). unwrap_or (option_map (λ (l : Lot). l.poured) o) 0) twin.found)) busy are.each
+-- what is lent, by the node's open lot
+abbrev lent_by : Option Lot → ℕ
+lent_by o = unwrap_or (option_map (λ (l : Lot). l.poured) o) 0
 
 -- ---- a change of the busy lot of a number
 
@@ -156,91 +156,104 @@ order_stays change n same (x ∷ busy) order = (
 
 -- ---- what an event leaves
 
-pub busy_kept : (changed : Option ℕ) (old new : List LotState) (b : BusyLot) → IsBusy old b → Spares changed old new → (changed ≡ Some b.lot → is_open old b.lot ≡ false) → IsBusy new b
-busy_kept changed old new b is spares spared = record {
+pub busy_kept : (changed : Option ℕ) (old new : NumberedNode) (b : BusyLot) → IsBusy old b → Spares changed old.lots new.lots → KeepsTwins changed old new
+    → (changed ≡ Some b.lot → is_open old.lots b.lot ≡ false) → IsBusy new b
+busy_kept changed old new b is spares twins spared = record {
   given = let a = is.given in let l = spares.longer in omega arith;
-  fed = λ lot found going. is.fed lot (spares.same b.lot lot spared is.given found going) going;
+  fed = λ lot found going.
+      let before = spares.same b.lot lot spared is.given found going in
+      let fed = is.fed lot before going in
+      record { poured = fed.poured ∙ ap lent_by (sym (twins b.lot lot spared before found going)); tickets = fed.tickets; unsealed = fed.unsealed };
 }
 
-pub all_kept : (changed : Option ℕ) (old new : List LotState) (busy : List BusyLot) → AreBusy old busy → Spares changed old new
-    → All (λ (b : BusyLot). changed ≡ Some b.lot → is_open old b.lot ≡ false) busy → AreBusy new busy
-all_kept changed old new busy are spares spared = record {
-  each = λ k d below. busy_kept changed old new _ (are.each k d below) spares (spared k d below);
+pub all_kept : (changed : Option ℕ) (old new : NumberedNode) (busy : List BusyLot) → AreBusy old busy → Spares changed old.lots new.lots → KeepsTwins changed old new
+    → All (λ (b : BusyLot). changed ≡ Some b.lot → is_open old.lots b.lot ≡ false) busy → AreBusy new busy
+all_kept changed old new busy are spares twins spared = record {
+  each = λ k d below. busy_kept changed old new _ (are.each k d below) spares twins (spared k d below);
   order = are.order;
 }
 
 -- an event that changes no busy lot, but one that has ended
-pub step_kept : (e : Event) (outcome : Outcome) (old new : World) (f : FloorState) → f.system ≡ old → Step e outcome old new → AreBusy old.clear.lots f.busy → SparesBusy e f
-    → AreBusy new.clear.lots f.busy
-step_kept e outcome old new f is step are spared =
-    all_kept (lot_changed e) old.clear.lots new.clear.lots f.busy are (step_spares e outcome old new step)
+pub step_kept : (e : Event) (outcome : Outcome) (old new : World) (f : FloorState) → f.system ≡ old → AreTied old.clear.clear.lots old.clear.lots → Step e outcome old new
+    → AreBusy old.clear f.busy → SparesBusy e f → AreBusy new.clear f.busy
+step_kept e outcome old new f is tied step are spared =
+    all_kept (lot_changed e) old.clear new.clear f.busy are (step_spares e outcome old new step) (step_twins e outcome old new tied step)
     (subst (λ (w : World). All (λ (b : BusyLot). lot_changed e ≡ Some b.lot → is_open w.clear.lots b.lot ≡ false) f.busy) is spared)
+
+-- a plan of a failure changes no lot
+pub plan_kept : (name : NodeName) (stands : Bool) (result : Result (Unit {0}) NotPlanned) (old new : World) (busy : List BusyLot) → PlanStep name stands result old new
+    → AreBusy old.clear busy → AreBusy new.clear busy
+plan_kept node.Clear stands result old new busy h are =
+    all_kept None old.clear new.clear busy are (spares_same None old.clear.lots new.clear.lots h.1) (twins_same None old.clear new.clear h.0.1) (λ k d below some. let no = some in cc)
+plan_kept node.Depot stands result old new busy h are = subst (λ (n : NumberedNode). AreBusy n busy) (sym h.1) are
 
 -- ---- a pour
 
--- what is poured into the lot of a number is poured into its cell
-poured_busy : (n shares : ℕ) (old new : List LotState) (lot : LotState) (b : BusyLot) → lot_at old n ≡ Some lot → lot.ended ≡ false → new ≡ update_at old n (with_pour shares lot)
-    → IsBusy old b → IsBusy new (changed_at (busy_with_pour shares) n b)
-poured_busy n shares old new lot b found going is busy = by (b.lot == n) refl
-  where
-    spares : Spares (Some n) old new
-    spares = spares_update old new n lot (with_pour shares lot) found going is
+-- the lot of an issue has all shares that are there once it is poured into
+lent_poured : (c : List ClearRecord) (issue : ℕ) (lots : List Lot) (lot : Lot) → lot_of lots issue ≡ Some lot → lent_of (lots_poured c issue lots) issue ≡ avail_in c issue
+lent_poured c issue lots lot found =
+    ap lent_by (found_poured c issue issue lots ∙ ap (option_map (poured_into c issue)) found)
+    ∙ ap (λ (b : Bool). (if b then record lot { upto = length c; poured = avail_in c issue } else lot).poured) (eq-eqb lot.issue issue (found_of lots issue lot found))
 
-    more : b.lot ≡ n → (l : LotState) → ((b.lot ≡ n) × (with_pour shares lot ≡ l)) ⊎ ((b.lot ≡ n → ⊥) × (lot_at old b.lot ≡ Some l)) → IsFed (busy_with_pour shares b) l
-    more same l (inl h) =
-        let before = busy.fed lot (ap (lot_at old) same ∙ found) going in
-        subst (IsFed (busy_with_pour shares b)) h.1
-        (record { poured = ap (λ (m : ℕ). m + shares) before.poured; tickets = before.tickets; unsealed = before.unsealed })
-    more same l (inr h) = absurd (h.0 same)
+-- what is poured into the lot of a number is poured into its cell
+poured_busy : (n shares : ℕ) (old new : NumberedNode) (b : BusyLot) → AreTied old.clear.lots old.lots → PourLeaves n (Ok shares) old new → IsBusy old b
+    → IsOpen old.lots n (λ (lot : LotState). LotPourLeaves lot.issue (Ok shares) old.clear new.clear) → IsBusy new (changed_at (busy_with_pour shares) n b)
+poured_busy n shares old new b tied h busy at = by (b.lot == n) refl
+  where
+    more : b.lot ≡ n → (l : LotState) → lot_at old.lots b.lot ≡ Some l → IsFed new.clear.lots (busy_with_pour shares b) l
+    more same l found =
+        let pour = at.holds.1 in
+        let one : at.lot ≡ l = same_Some at.lot l (sym at.found ∙ ap (lot_at old.lots) (sym same) ∙ found) in
+        let fed = busy.fed at.lot (ap (lot_at old.lots) same ∙ at.found) at.going in
+        let before : b.poured ≡ pour.lot.poured = fed.poured ∙ ap lent_by pour.found in
+        let after : lent_of new.clear.lots at.lot.issue ≡ avail_in old.clear.log.records at.lot.issue =
+        ap (λ (c : ClearNode). lent_of c.lots at.lot.issue) at.holds.2 ∙ lent_poured old.clear.log.records at.lot.issue old.clear.lots pour.lot pour.found in
+        subst (IsFed new.clear.lots (busy_with_pour shares b)) one
+        (record { poured = ap (λ (p : ℕ). p + shares) before ∙ pour.all ∙ sym after; tickets = fed.tickets; unsealed = fed.unsealed })
 
     by : (t : Bool) → (b.lot == n) ≡ t → IsBusy new (if t then busy_with_pour shares b else b)
     by true e = record {
-      given = let a = busy.given in let l = spares.longer in omega arith;
-      fed = λ l here up.
-          more (eqb-true b.lot n e) l (at_changed old n b.lot lot (with_pour shares lot) l found (ap (λ (lots : List LotState). lot_at lots b.lot) (sym is) ∙ here));
+      given = let a = busy.given in let len = ap length h.1 in omega arith;
+      fed = λ l here up. more (eqb-true b.lot n e) l (ap (λ (lots : List LotState). lot_at lots b.lot) (sym h.1) ∙ here);
     }
-    by false e = busy_kept (Some n) old new b busy spares (λ some. absurd (eqb-false b.lot n e (sym (same_Some n b.lot some))))
+    by false e =
+        busy_kept (Some n) old new b busy (spares_same (Some n) old.lots new.lots h.1) (pour_twins n (Ok shares) old new tied h)
+        (λ some. absurd (eqb-false b.lot n e (sym (same_Some n b.lot some))))
 
-pour_leaves : (n : ℕ) (result : Result ℕ Refusal) (old new : NumberedNode) (busy : List BusyLot) → PourLeaves n result old new → AreBusy old.lots busy
-    → AreBusy new.lots (busy_after_pour (pour_outcome result) n busy)
-pour_leaves n (Ok shares) old new busy h are =
-    let at = open-parts old.lots n _ h in
-    record {
-      each =
-          All-map (IsBusy new.lots) (changed_at (busy_with_pour shares) n) busy
-          (All-weaker (IsBusy old.lots) (λ (b : BusyLot). IsBusy new.lots (changed_at (busy_with_pour shares) n b))
-          (λ b is. poured_busy n shares old.lots new.lots at.lot b at.found at.going at.holds.1 is) busy are.each);
-      order = order_stays (busy_with_pour shares) n (λ b. refl) busy are.order;
-    }
-pour_leaves n (Err refusal.NoLot) old new busy h are = subst (λ (m : NumberedNode). AreBusy m.lots busy) (sym h.1) are
-pour_leaves n (Err refusal.StaleLot) old new busy h are = subst (λ (m : NumberedNode). AreBusy m.lots busy) (sym h.1) are
-pour_leaves n (Err refusal.Down) old new busy h are = subst (λ (m : NumberedNode). AreBusy m.lots busy) (sym h.1) are
-pour_leaves n (Err _) old new busy h are = absurd h
+pour_leaves : (n : ℕ) (result : Result ℕ Refusal) (old new : NumberedNode) (busy : List BusyLot) → AreTied old.clear.lots old.lots → PourLeaves n result old new → AreBusy old busy
+    → AreBusy new (busy_after_pour (pour_outcome result) n busy)
+pour_leaves n (Ok shares) old new busy tied h are = record {
+  each =
+      All-map (IsBusy new) (changed_at (busy_with_pour shares) n) busy
+      (All-weaker (IsBusy old) (λ (b : BusyLot). IsBusy new (changed_at (busy_with_pour shares) n b)) (λ b is. poured_busy n shares old new b tied h is (open-parts old.lots n _ h.0)) busy are.each);
+  order = order_stays (busy_with_pour shares) n (λ b. refl) busy are.order;
+}
+pour_leaves n (Err refusal.NoLot) old new busy tied h are = subst (λ (m : NumberedNode). AreBusy m busy) (sym h.1) are
+pour_leaves n (Err refusal.StaleLot) old new busy tied h are = subst (λ (m : NumberedNode). AreBusy m busy) (sym h.1) are
+pour_leaves n (Err refusal.Down) old new busy tied h are = subst (λ (m : NumberedNode). AreBusy m busy) (sym h.1) are
+pour_leaves n (Err _) old new busy tied h are = absurd h
 
-pub pour_kept : (n : ℕ) (outcome : Outcome) (old new : World) (busy : List BusyLot) → Step (event.LotPour n) outcome old new → AreBusy old.clear.lots busy
-    → AreBusy new.clear.lots (busy_after_pour outcome n busy)
-pour_kept n outcome old new busy h are =
-    subst (λ (o : Outcome). AreBusy new.clear.lots (busy_after_pour o n busy)) (sym h.3.1) (pour_leaves n h.3.0 old.clear new.clear busy h.3.2 are)
+pub pour_kept : (n : ℕ) (outcome : Outcome) (old new : World) (busy : List BusyLot) → AreTied old.clear.clear.lots old.clear.lots → Step (event.LotPour n) outcome old new
+    → AreBusy old.clear busy → AreBusy new.clear (busy_after_pour outcome n busy)
+pour_kept n outcome old new busy tied h are =
+    subst (λ (o : Outcome). AreBusy new.clear (busy_after_pour o n busy)) (sym h.3.1) (pour_leaves n h.3.0 old.clear new.clear busy tied h.3.2 are)
 
 -- the cell takes what was poured into the lot
 fits_when : (n shares : ℕ) (result : Result ℕ Refusal) (old new : NumberedNode) (busy : List BusyLot) → PourLeaves n result old new → outcomes.Poured shares ≡ pour_outcome result
-    → AreBusy old.lots busy → AreLotsLawful new.lots → PourFits n shares busy
-fits_when n shares (Ok more) old new busy h told are lawful =
-    let at = open-parts old.lots n _ h in
+    → AreBusy old busy → PourFits n shares busy
+fits_when n shares (Ok more) old new busy h told are =
+    let at = open-parts old.lots n _ h.0 in
     let same : shares ≡ more = cc in
-    let x = with_pour more at.lot in
-    let here = at_place old.lots n at.lot at.found in
-    let there : slice_get new.lots (n - 1) ≡ Some x = ap (λ (lots : List LotState). slice_get lots (n - 1)) at.holds.1 ∙ get_set_same old.lots (n - 1) at.lot x here.1 in
-    let is : IsLot x = subst IsLot (get_or_from_slice_get new.lots (n - 1) x x there) (lawful (n - 1) x (slice_get_within new.lots (n - 1) x there)) in
-    let most = is.poured in
+    let pour = at.holds.1 in
     λ k d below number.
     let fed = (are.each k d below).fed at.lot (ap (lot_at old.lots) number ∙ at.found) at.going in
-    let poured = fed.poured in omega (arith, same, most, poured)
-fits_when n shares (Err r) old new busy h told are lawful = cc
+    let poured = fed.poured ∙ ap lent_by pour.found in
+    let few = pour.few in omega (arith, same, few, poured)
+fits_when n shares (Err r) old new busy h told are = cc
 
 pub pour_fits : (n shares : ℕ) (outcome : Outcome) (old new : World) (busy : List BusyLot) → Step (event.LotPour n) outcome old new → outcome ≡ outcomes.Poured shares
-    → AreBusy old.clear.lots busy → AreLotsLawful new.clear.lots → PourFits n shares busy
-pour_fits n shares outcome old new busy h told are lawful = fits_when n shares h.3.0 old.clear new.clear busy h.3.2 (sym told ∙ h.3.1) are lawful
+    → AreBusy old.clear busy → PourFits n shares busy
+pour_fits n shares outcome old new busy h told are = fits_when n shares h.3.0 old.clear new.clear busy h.3.2 (sym told ∙ h.3.1) are
 
 pub not_poured : (outcome : Outcome) (n : ℕ) (busy : List BusyLot) → ((shares : ℕ) → outcome ≡ outcomes.Poured shares → ⊥) → busy_after_pour outcome n busy ≡ busy
 not_poured (outcomes.Poured shares) n busy other = absurd (other shares refl)
@@ -333,41 +346,41 @@ seal_leaves = record { lot = λ b. refl; poured = λ b. refl }
 pub look_leaves : (asked : ℕ) → LeavesPours (busy_with_look asked)
 look_leaves asked = record { lot = λ b. refl; poured = λ b. refl }
 
-changed_busy : (change : BusyLot → BusyLot) → LeavesPours change → (lots : List LotState) (n : ℕ) (b : BusyLot) → IsBusy lots b → IsBusy lots (changed_at change n b)
-changed_busy change leaves lots n b is = by (b.lot == n)
+changed_busy : (change : BusyLot → BusyLot) → LeavesPours change → (node : NumberedNode) (n : ℕ) (b : BusyLot) → IsBusy node b → IsBusy node (changed_at change n b)
+changed_busy change leaves node n b is = by (b.lot == n)
   where
-    by : (t : Bool) → IsBusy lots (if t then change b else b)
+    by : (t : Bool) → IsBusy node (if t then change b else b)
     by true = record {
-      given = subst (λ (m : ℕ). m ≤ length lots) (sym (leaves.lot b)) is.given;
+      given = subst (λ (m : ℕ). m ≤ length node.lots) (sym (leaves.lot b)) is.given;
       fed = λ l found going.
-          let fed = is.fed l (ap (lot_at lots) (sym (leaves.lot b)) ∙ found) going in
+          let fed = is.fed l (ap (lot_at node.lots) (sym (leaves.lot b)) ∙ found) going in
           record { poured = leaves.poured b ∙ fed.poured; tickets = fed.tickets; unsealed = fed.unsealed };
     }
     by false = is
 
-all_changed : (change : BusyLot → BusyLot) → LeavesPours change → (lots : List LotState) (n : ℕ) (busy : List BusyLot) → AreBusy lots busy → AreBusy lots (with_busy change n busy)
-all_changed change leaves lots n busy are = record {
+all_changed : (change : BusyLot → BusyLot) → LeavesPours change → (node : NumberedNode) (n : ℕ) (busy : List BusyLot) → AreBusy node busy → AreBusy node (with_busy change n busy)
+all_changed change leaves node n busy are = record {
   each =
-      All-map (IsBusy lots) (changed_at change n) busy
-      (All-weaker (IsBusy lots) (λ (b : BusyLot). IsBusy lots (changed_at change n b)) (λ b is. changed_busy change leaves lots n b is) busy are.each);
+      All-map (IsBusy node) (changed_at change n) busy
+      (All-weaker (IsBusy node) (λ (b : BusyLot). IsBusy node (changed_at change n b)) (λ b is. changed_busy change leaves node n b is) busy are.each);
   order = order_stays change n leaves.lot busy are.order;
 }
 
 -- such a change of the one that is served, in its place: it is found, and the floor is the one with that change
 pub record ChangesAt (change : BusyLot → BusyLot) (f now : FloorState) (n place : ℕ) (x new : BusyLot) : Type 0 where
   pub found : served_at now n ≡ Some x
-  pub kept : AreBusy f.system.clear.lots (slice_set f.busy place new)
+  pub kept : AreBusy f.system.clear (slice_set f.busy place new)
   pub changed : record f { busy = slice_set f.busy place new } ≡ record now { busy = with_busy change n now.busy }
 
 pub changes_at : (change : BusyLot → BusyLot) → LeavesPours change → (f now : FloorState) (n place : ℕ) (x new : BusyLot) → f ≡ now
-    → IsPlaceOf (served_at now n) now.busy (Some place) → x ≡ get_or f.busy place x → new ≡ change x → AreBusy f.system.clear.lots f.busy → ChangesAt change f now n place x new
+    → IsPlaceOf (served_at now n) now.busy (Some place) → x ≡ get_or f.busy place x → new ≡ change x → AreBusy f.system.clear f.busy → ChangesAt change f now n place x new
 changes_at change leaves f now n place x new same is read changed are =
     let at = read_served f now n place x same is read in
     let one : is.0 ≡ x = same_Some is.0 x (sym is.2 ∙ ap (λ (g : FloorState). slice_get g.busy place) (sym same) ∙ at.found) in
     let items : slice_set f.busy place new ≡ with_busy change n f.busy = changed_in_place change n place f.busy x new are.order at changed in
     record {
       found = is.1 ∙ ap Some one;
-      kept = subst (AreBusy f.system.clear.lots) (sym items) (all_changed change leaves f.system.clear.lots n f.busy are);
+      kept = subst (AreBusy f.system.clear) (sym items) (all_changed change leaves f.system.clear n f.busy are);
       changed = ap (λ (bs : List BusyLot). record f { busy = bs }) items ∙ ap (λ (g : FloorState). record g { busy = with_busy change n g.busy }) same;
     }
 

@@ -3,7 +3,6 @@ use Rattle.std.proofs.Common.{◌≡◌, ◌≢◌, ◌<◌, ◌≤◌, ℕ, ◌
 use Rattle.std.specs.Prelude.{◌⊎◌, IsSomeAnd}
 use Rattle.std.proofs.lemmas.Bool.{le-ltb, lt-ltb}
 use Rattle.cns_pool.specs.declared.ticket.Ticket.{Ticket}
-use Rattle.cns_allocate.specs.Served.{waiting}
 use Rattle.cns_allocate.specs.declared.planned.Planned.{Planned}
 use Rattle.cns_allocate.specs.declared.turns.Turn.TheVariants as turn
 use Rattle.cns_records.specs.declared.allocation.Allocation.{Allocation}
@@ -12,13 +11,13 @@ use Rattle.cns_records.specs.declared.refusal.Refusal.{Refusal}
 use Rattle.cns_records.specs.declared.refusal.Refusal.TheVariants as refusal
 use Rattle.cns_clearing.specs.Answers.{allocation_of, IsClosed, LotCloseLeaves}
 use Rattle.cns_clearing.specs.Books.{are_spent, deliveries_in, orders_of}
-use Rattle.cns_clearing.specs.Lots.{avail_in, lots_poured, new_lot, plan_in}
+use Rattle.cns_clearing.specs.Lots.{lots_poured, new_lot, plan_in}
 use Rattle.cns_clearing.specs.Node.{Added}
-use Rattle.cns_clearing.specs.Pools.{free_of, lot_of}
+use Rattle.cns_clearing.specs.Pools.{lot_of}
 use Rattle.cns_clearing.specs.declared.answer.Closed.{Closed}
 use Rattle.cns_clearing.specs.declared.lot.Lot.{Lot}
 use Rattle.cns_system.specs.Happens.{Decision, Goes, NoMemory, DeviceFails, Happening, at_lot, clear_commits, close_happens, closed, look_asked_happens, look_poured_happens, lot_added, lot_allocated, lot_closed_met, lot_closed_of, lot_open_happens, lot_poured, pour_happens, refuse, reserve_happens, seal_happens, with_memory}
-use Rattle.cns_system.specs.Lot.{LotState, ticket_in, turn_in, with_end, with_pour, with_seal, with_ticket}
+use Rattle.cns_system.specs.Lot.{LotState, ticket_in, turn_in, with_end, with_seal, with_ticket}
 use Rattle.cns_system.specs.Lot.{new_lot as numbered_lot}
 use Rattle.cns_system.specs.Lots.{HasEndedLot, LotLeaves, ReserveLeaves, lot_at, update_at}
 use Rattle.cns_system.specs.Numbered.{NumberedNode, CloseLeaves, IsMet, IsOpened, OpenLeaves, PourLeaves}
@@ -61,27 +60,27 @@ node_same old new at same = clear_same old new at (ap (λ (n : NumberedNode). n.
 
 -- ---- looks, and a seal
 
-look_poured_open : (n : ℕ) (look : Look) (w : Shown) (lot : LotState) → lot_at w.clear.lots n ≡ Some lot → lot.ended ≡ false → look ≡ shown lot
+look_poured_open : (n : ℕ) (look : Look) (w : Shown) (lot : LotState) → lot_at w.clear.lots n ≡ Some lot → lot.ended ≡ false → look ≡ shown w.clear.open_lots lot
     → look_poured_happens n w ≡ (outcomes.LookedPoured look.poured, w)
 look_poured_open n look w lot found going is = rw (found, going, is) refl
 
 pub look_poured_by : (n : ℕ) (result : Result Look Refusal) (old new : World) → IsAtClear old new → Looks n result old.clear new.clear
     → look_poured_happens n (shown_of old) ≡ (poured_outcome result, shown_of new)
 look_poured_by n (Ok look) old new at (is, same) =
-    let lot = open-parts old.clear.lots n (λ (l : LotState). look ≡ shown l) is in
+    let lot = open-parts old.clear.lots n (λ (l : LotState). look ≡ shown old.clear.clear.lots l) is in
     came _ _ _ _ (look_poured_open n look (shown_of old) lot.lot lot.found lot.going lot.holds) (node_same old new at same)
 look_poured_by n (Err refusal.NoLot) old new at (none, same) = came _ _ _ _ (at_none n _ (shown_of old) none) (node_same old new at same)
 look_poured_by n (Err refusal.StaleLot) old new at (stale, same) = came _ _ _ _ (at_stale n _ (shown_of old) stale) (node_same old new at same)
 look_poured_by n (Err _) old new at left = absurd left.0
 
-look_asked_open : (n : ℕ) (look : Look) (w : Shown) (lot : LotState) → lot_at w.clear.lots n ≡ Some lot → lot.ended ≡ false → look ≡ shown lot
+look_asked_open : (n : ℕ) (look : Look) (w : Shown) (lot : LotState) → lot_at w.clear.lots n ≡ Some lot → lot.ended ≡ false → look ≡ shown w.clear.open_lots lot
     → look_asked_happens n w ≡ (outcomes.LookedAsked look.asked look.sealed, w)
 look_asked_open n look w lot found going is = rw (found, going, is) refl
 
 pub look_asked_by : (n : ℕ) (result : Result Look Refusal) (old new : World) → IsAtClear old new → Looks n result old.clear new.clear
     → look_asked_happens n (shown_of old) ≡ (asked_outcome result, shown_of new)
 look_asked_by n (Ok look) old new at (is, same) =
-    let lot = open-parts old.clear.lots n (λ (l : LotState). look ≡ shown l) is in
+    let lot = open-parts old.clear.lots n (λ (l : LotState). look ≡ shown old.clear.clear.lots l) is in
     came _ _ _ _ (look_asked_open n look (shown_of old) lot.lot lot.found lot.going lot.holds) (node_same old new at same)
 look_asked_by n (Err refusal.NoLot) old new at (none, same) = came _ _ _ _ (at_none n _ (shown_of old) none) (node_same old new at same)
 look_asked_by n (Err refusal.StaleLot) old new at (stale, same) = came _ _ _ _ (at_stale n _ (shown_of old) stale) (node_same old new at same)
@@ -98,24 +97,26 @@ seal_by n (Err _) old new at left = absurd left.0
 
 -- ---- a pour
 
-pour_open : (n shares : ℕ) (w : Shown) (lot : LotState) → lot_at w.clear.lots n ≡ Some lot → lot.ended ≡ false → w.clear.down ≡ false
-    → shares ≡ free_of (orders_of w.clear.records) w.clear.open_lots lot.issue → pour_happens n w ≡ lot_poured n shares w lot
-pour_open n shares w lot found going up free = rw (found, going, up, free) refl
+pour_open : (n : ℕ) (w : Shown) (lot : LotState) → lot_at w.clear.lots n ≡ Some lot → lot.ended ≡ false → w.clear.down ≡ false
+    → pour_happens n w ≡ lot_poured lot.issue w
+pour_open n w lot found going up = rw (found, going, up) refl
 
 pour_down : (n : ℕ) (w : Shown) (lot : LotState) → lot_at w.clear.lots n ≡ Some lot → lot.ended ≡ false → w.clear.down ≡ true → pour_happens n w ≡ refuse refusal.Down w
 pour_down n w lot found going down = rw (found, going, down) refl
 
-poured_world : (n shares : ℕ) (lot : LotState) (old new : World) → IsAtClear old new
-    → new.clear.clear ≡ record old.clear.clear { lots = lots_poured old.clear.clear.log.records lot.issue old.clear.clear.lots }
-    → new.clear.lots ≡ update_at old.clear.lots n (with_pour shares lot) → lot_poured n shares (shown_of old) lot ≡ (outcomes.Poured shares, shown_of new)
-poured_world n shares lot old new at clear lots = rw (clear, lots, at.depot, at.orders, at.replies) refl
+poured_world : (issue : ℕ) (old new : World) → IsAtClear old new
+    → new.clear.clear ≡ record old.clear.clear { lots = lots_poured old.clear.clear.log.records issue old.clear.clear.lots }
+    → new.clear.lots ≡ old.clear.lots → shown_of new ≡ (lot_poured issue (shown_of old)).1
+poured_world issue old new at clear lots = rw (clear, lots, at.depot, at.orders, at.replies) refl
 
 pub pour_by : (n : ℕ) (result : Result ℕ Refusal) (old new : World) → IsAtClear old new → PourLeaves n result old.clear new.clear
     → pour_happens n (shown_of old) ≡ (pour_outcome result, shown_of new)
-pour_by n (Ok shares) old new at is =
+pour_by n (Ok shares) old new at (is, lots) =
     let lot = open-parts old.clear.lots n _ is in
-    let left = lot.holds.0 in
-    pour_open n shares (shown_of old) lot.lot lot.found lot.going left.0 left.1.free ∙ poured_world n shares lot.lot old new at left.2 lot.holds.1
+    let left = lot.holds in
+    came _ _ _ _
+    (pour_open n (shown_of old) lot.lot lot.found lot.going left.0
+    ∙ ap (λ (s : ℕ). (outcomes.Poured s, (lot_poured lot.lot.issue (shown_of old)).1)) (sym left.1.free)) (poured_world lot.lot.issue old new at left.2 lots)
 pour_by n (Err refusal.NoLot) old new at (none, same) = came _ _ _ _ (at_none n _ (shown_of old) none) (node_same old new at same)
 pour_by n (Err refusal.StaleLot) old new at (stale, same) = came _ _ _ _ (at_stale n _ (shown_of old) stale) (node_same old new at same)
 pour_by n (Err refusal.Down) old new at (is, same) =
@@ -127,7 +128,10 @@ pour_by n (Err _) old new at left = absurd left
 
 reserve_next : (n m : ℕ) (t : Ticket) (w : Shown) (lot : LotState) → lot_at w.clear.lots n ≡ Some lot → lot.ended ≡ false → turn_in lot m ≡ turn.Next t.asked
     → lot.sealed ≡ false → t ≡ ticket_in lot m t.asked → reserve_happens n m w ≡ (outcomes.Drawn t, with_lot n (with_ticket t lot) w)
-reserve_next n m t w lot found going turn unsealed is = rw (found, going, turn, unsealed, ← is) refl
+reserve_next n m t w lot found going turn unsealed is =
+    let next : Ticket = ticket_in lot m t.asked in
+    let happens : reserve_happens n m w ≡ (outcomes.Drawn next, with_lot n (with_ticket next lot) w) = rw (found, going, turn, unsealed) refl in
+    happens ∙ ap (λ (u : Ticket). (outcomes.Drawn u, with_lot n (with_ticket u lot) w)) (sym is)
 
 reserve_not_long : (n m : ℕ) (w : Shown) (lot : LotState) → lot_at w.clear.lots n ≡ Some lot → lot.ended ≡ false → turn_in lot m ≡ turn.NotLong
     → reserve_happens n m w ≡ refuse refusal.NotLong w
@@ -190,18 +194,17 @@ opened_is old issue opened is = rw (← is.number, ← is.poured, ← is.plan) r
 
 opened_world : (issue : ℕ) (old new : World) → IsAtClear old new
     → new.clear.clear ≡ record old.clear.clear { lots = old.clear.clear.lots ++ new_lot old.clear.clear.log.records issue ∷ [] }
-    → new.clear.lots ≡ old.clear.lots ++ numbered_lot issue (plan_in old.clear.clear.log.records issue) (avail_in old.clear.clear.log.records issue) ∷ []
+    → new.clear.lots ≡ old.clear.lots ++ numbered_lot issue (plan_in old.clear.clear.log.records issue) ∷ []
     → shown_of new ≡ (lot_added (length old.clear.lots + 1) (new_lot old.clear.clear.log.records issue) (shown_of old)).1
 opened_world issue old new at clear lots = rw (clear, lots, at.depot, at.orders, at.replies) refl
 
 pub open_by : (d : Decision) (issue : ℕ) (result : Result Opened Refusal) (old new : World) → IsAtClear old new → OpenLeaves issue result old.clear new.clear
     → Fits d (event.LotOpen issue) (open_outcome result) (shown_of new) → lot_open_happens d issue (shown_of old) ≡ (open_outcome result, shown_of new)
 open_by d issue (Ok opened) old new at (room, is, (up, none, plan, clear), lots) fits =
-    let added = ap (λ p. old.clear.lots ++ numbered_lot issue (plan_in old.clear.clear.log.records issue) p ∷ []) is.poured in
     came _ _ _ _
     (open_alone d issue (shown_of old) up none room ∙ with_room d _ (shown_of old) fits
     ∙ ap (λ (o : Opened). (outcomes.LotOpened o, (lot_added (length old.clear.lots + 1) (new_lot old.clear.clear.log.records issue) (shown_of old)).1)) (opened_is old.clear issue opened is))
-    (opened_world issue old new at clear (lots ∙ added))
+    (opened_world issue old new at clear lots)
 open_by d issue (Err refusal.Down) old new at (down, same) fits = came _ _ _ _ (open_down d issue (shown_of old) down) (node_same old new at same)
 open_by d issue (Err refusal.LotAlready) old new at (up, some, same) fits = came _ _ _ _ (open_beside d issue (shown_of old) up some) (node_same old new at same)
 open_by d issue (Err refusal.LotsSpent) old new at (up, none, spent, same) fits =
@@ -217,10 +220,10 @@ close_down : (d : Decision) (n : ℕ) (w : Shown) (lot : LotState) → lot_at w.
 close_down d n w lot found going down = rw (found, going, down) refl
 
 close_early : (d : Decision) (n : ℕ) (w : Shown) (lot : LotState) → lot_at w.clear.lots n ≡ Some lot → lot.ended ≡ false → w.clear.down ≡ false → lot.sealed ≡ false
-    → waiting lot.plan lot.tickets ≢ [] → close_happens d n w ≡ refuse refusal.Unserved w
-close_early d n w lot found going up unsealed some = by (waiting lot.plan lot.tickets) refl
+    → lot.turns ≢ [] → close_happens d n w ≡ refuse refusal.Unserved w
+close_early d n w lot found going up unsealed some = by lot.turns refl
   where
-    by : (left : List Planned) → waiting lot.plan lot.tickets ≡ left → close_happens d n w ≡ refuse refusal.Unserved w
+    by : (left : List Planned) → lot.turns ≡ left → close_happens d n w ≡ refuse refusal.Unserved w
     by [] e = absurd (some e)
     by (p ∷ left) e = rw (found, going, up, unsealed, e) refl
 
@@ -231,11 +234,11 @@ close_met d n w lot found going up met = by met
     shut : lot.sealed ≡ true → close_happens d n w ≡ lot_closed_met d n w lot
     shut e = rw (found, going, up, e) refl
 
-    served : (b : Bool) → lot.sealed ≡ b → waiting lot.plan lot.tickets ≡ [] → close_happens d n w ≡ lot_closed_met d n w lot
+    served : (b : Bool) → lot.sealed ≡ b → lot.turns ≡ [] → close_happens d n w ≡ lot_closed_met d n w lot
     served true e none = shut e
     served false e none = rw (found, going, up, e, none) refl
 
-    by : (lot.sealed ≡ true) ⊎ (waiting lot.plan lot.tickets ≡ []) → close_happens d n w ≡ lot_closed_met d n w lot
+    by : (lot.sealed ≡ true) ⊎ (lot.turns ≡ []) → close_happens d n w ≡ lot_closed_met d n w lot
     by (inl e) = shut e
     by (inr none) = served lot.sealed refl none
 

@@ -2,13 +2,12 @@
 use Rattle.std.proofs.Common.{◌≡◌, ◌<◌, ◌-◌, ◌+◌, ℕ, zero, suc, List, [], ◌∷◌, ◌++◌, length, map, take, drop, get_or, Option, Some, None, Result, Ok, Err, Bool, true, false, ap, sym, subst, refl, arith, ◌∙◌}
 use Rattle.std.specs.Prelude.{◌==◌, IsSomeAnd, slice_get, slice_set, if◌then◌else◌}
 use Rattle.std.proofs.lemmas.List.{set-get_or}
-use Rattle.std.proofs.lemmas.List.Elements.{All-map, All-weaker}
 use Rattle.std.proofs.lemmas.Option.{get_or_from_slice_get}
 use Rattle.cns_pool.specs.declared.ticket.Ticket.{Ticket}
 use Rattle.cns_records.specs.declared.refusal.Refusal.{Refusal}
 use Rattle.cns_records.specs.declared.refusal.Refusal.TheVariants.{NotLong, EarlierGroup, Sealed}
-use Rattle.cns_system.specs.Lot.{LotState, IsLot, with_end}
-use Rattle.cns_system.specs.Lots.{lot_at, update_at, AreLotsLawful, DrawLeaves, HasOpenLot, ReserveLeaves}
+use Rattle.cns_system.specs.Lot.{LotState, with_end}
+use Rattle.cns_system.specs.Lots.{lot_at, update_at, DrawLeaves, HasOpenLot, ReserveLeaves}
 
 -- the lot that was opened with a number and has not ended
 pub record IsOpen (lots : List LotState) (number : ℕ) (P : LotState → Type 0) : Type 0 where
@@ -78,12 +77,6 @@ reserve_leaves lots items number place member (Err EarlierGroup) l new is draws 
 reserve_leaves lots items number place member (Err Sealed) l new is draws =
     (open-from lots number _ l is.found is.going (draws.0, draws.1), ap (λ (k : LotState). slice_set items place k) draws.2 ∙ is.stays)
 reserve_leaves lots items number place member (Err _) l new is draws = absurd draws
-
--- lots that have all ended are lawful
-pub lawful_ended : (lots : List LotState) → AreLotsLawful lots → AreLotsLawful (map with_end lots)
-lawful_ended lots is =
-    All-map IsLot with_end lots
-    (All-weaker IsLot (λ (l : LotState). IsLot (with_end l)) (λ l h. record { plan = h.plan; served = h.served; planned = h.planned; poured = h.poured }) lots is)
 
 ended_next : (lots : List LotState) (i : ℕ) (l new : LotState) → i < length lots → l ≡ get_or (map with_end (take i lots) ++ drop i lots) i l → new ≡ with_end l
     → slice_set (map with_end (take i lots) ++ drop i lots) i new ≡ map with_end (take (suc i) lots) ++ drop (suc i) lots

@@ -2,16 +2,16 @@
 use Rattle.std.proofs.Common.{◌≡◌, ◌≤◌, ◌-◌, ◌+◌, ℕ, zero, suc, List, [], ◌∷◌, ◌++◌, length, take, Option, Some, None, Result, Ok, Err, Bool, true, false, ap, sym, subst, refl, arith, ◌∙◌, inl, inr, length-append}
 use Rattle.std.specs.Prelude.{◌==◌, ◌⊎◌, All, IsSomeAnd, option_map, slice_get, unwrap_or, if◌then◌else◌}
 use Rattle.std.proofs.lemmas.Bool.{eq-eqb, eqb-true, false_from_ne_true}
-use Rattle.std.proofs.lemmas.List.Elements.{All-head, All-tail}
 use Rattle.std.proofs.lemmas.Option.{same_Some}
-use Rattle.std.proofs.Math.Seq.{take-append_seam}
 use Rattle.cns_netting.specs.Book.{IsBook}
 use Rattle.cns_netting.specs.declared.entry.NetEntry.{NetEntry}
 use Rattle.cns_covers.proofs.BoundLemmas.{settled_most}
 use Rattle.cns_pool.specs.declared.ticket.Ticket.{Ticket}
-use Rattle.cns_allocate.specs.Served.{IsServed, waiting}
+use Rattle.cns_allocate.specs.Plan.{IsPlan}
+use Rattle.cns_allocate.specs.Served.{IsServed, turn_of, without}
 use Rattle.cns_allocate.specs.declared.planned.Planned.{Planned}
-use Rattle.cns_allocate.proofs.ServedLemmas.{served_whole}
+use Rattle.cns_allocate.proofs.PlanLemmas.{IsPlan-plan_of, bounded_longs}
+use Rattle.cns_allocate.proofs.ServedLemmas.{served_more, served_none, served_whole, waiting-none, waiting_more}
 use Rattle.cns_allocate.proofs.TotalLemmas.{plan_of-total}
 use Rattle.cns_records.specs.declared.clear_record.ClearRecord.{ClearRecord}
 use Rattle.cns_clearing.specs.Answers.{LotCloseLeaves, LotOpenLeaves, LotPourLeaves}
@@ -25,28 +25,39 @@ use Rattle.cns_clearing.specs.declared.answer.Closed.{Closed}
 use Rattle.cns_records.specs.declared.refusal.Refusal.{Refusal}
 use Rattle.cns_records.specs.declared.refusal.Refusal.TheVariants as refusal
 use Rattle.cns_clearing.specs.declared.lot.Lot.{Lot}
-use Rattle.cns_system.specs.Lot.{LotState, IsLot, new_lot, planned_sum, with_end, with_pour, with_seal, with_ticket}
-use Rattle.cns_system.specs.Lots.{lot_at, update_at, AreLotsLawful, HasOpenLot, LotLeaves, ReserveLeaves}
+use Rattle.cns_system.specs.Lot.{LotState, IsOfPlan, new_lot, planned_sum, ticket_in, with_end, with_seal, with_ticket}
+use Rattle.cns_system.specs.Lots.{lot_at, update_at, HasOpenLot, IsTurnFor, LotLeaves, ReserveLeaves}
 use Rattle.cns_system.specs.Numbered.{AreTied, CloseLeaves, IsMet, NumberedNode}
 use Rattle.cns_system.proofs.LotsLemmas.{open-from, open-parts}
-use Rattle.cns_system.proofs.TiedLemmas.{at_place, found_of, found_poured, found_without, tied_changed, tied_more}
+use Rattle.cns_system.proofs.TiedLemmas.{found_of, found_poured, found_without, poured_keeps, tied_changed, tied_more}
 
 -- ---- changes of the lots by number alone
 
--- a lot that keeps its issue, its plan and what was poured
+-- a lot that stays of its issue and its plan
 stays_tied : (open_lots : List Lot) (lots : List LotState) (n : ℕ) (l x : LotState) → AreTied open_lots lots → lot_at lots n ≡ Some l → l.ended ≡ false
-    → x.issue ≡ l.issue → x.plan ≡ l.plan → x.poured ≡ l.poured → AreTied open_lots (update_at lots n x)
-stays_tied open_lots lots n l x are found going issue plan poured =
+    → x.issue ≡ l.issue → ((plan : List Planned) → IsOfPlan plan l → IsOfPlan plan x) → AreTied open_lots (update_at lots n x)
+stays_tied open_lots lots n l x are found going issue stays =
     let tied = are.each n l found going in
     tied_changed open_lots open_lots lots n l x are found going issue
-    (λ up. record { twin = tied.twin; found = ap (lot_of open_lots) issue ∙ tied.found; plan = tied.plan ∙ sym plan; poured = tied.poured ∙ sym poured })
+    (λ up. record { twin = tied.twin; found = ap (lot_of open_lots) issue ∙ tied.found; is = stays tied.twin.plan tied.is })
     (λ other differ. refl)
+
+-- a lot whose next ticket was drawn
+drawn_stays : (plan : List Planned) (l : LotState) (member : ℕ) (t : Ticket) → IsTurnFor member l t.asked → t ≡ ticket_in l member t.asked → IsOfPlan plan l
+    → IsOfPlan plan (with_ticket t l)
+drawn_stays plan l member t turn next is = record {
+  is = is.is;
+  served =
+      subst (λ (u : Ticket). IsServed plan (l.tickets ++ u ∷ []) true) (sym next)
+      (served_more plan l.tickets member t.asked is.is is.served (ap (λ (left : List Planned). turn_of left member) (sym is.turns) ∙ turn));
+  turns = ap (without t.member) is.turns ∙ sym (waiting_more plan l.tickets t);
+}
 
 pub seal_tied : (open_lots : List Lot) (n : ℕ) (r : Result (Unit {0}) Refusal) (lots after : List LotState) → AreTied open_lots lots → LotLeaves with_seal n r lots after
     → AreTied open_lots after
 seal_tied open_lots n (Ok u) lots after are h =
     let at = open-parts lots n (λ (l : LotState). after ≡ update_at lots n (with_seal l)) h in
-    subst (AreTied open_lots) (sym at.holds) (stays_tied open_lots lots n at.lot (with_seal at.lot) are at.found at.going refl refl refl)
+    subst (AreTied open_lots) (sym at.holds) (stays_tied open_lots lots n at.lot (with_seal at.lot) are at.found at.going refl (λ plan is. record { is = is.is; served = is.served; turns = is.turns }))
 seal_tied open_lots n (Err refusal.NoLot) lots after are h = subst (AreTied open_lots) (sym h.1) are
 seal_tied open_lots n (Err refusal.StaleLot) lots after are h = subst (AreTied open_lots) (sym h.1) are
 seal_tied open_lots n (Err _) lots after are h = absurd h
@@ -55,7 +66,8 @@ pub reserve_tied : (open_lots : List Lot) (n member : ℕ) (r : Result Ticket Re
     → ReserveLeaves n member r lots after → AreTied open_lots after
 reserve_tied open_lots n member (Ok ticket) lots after are h =
     let at = open-parts lots n _ h in
-    subst (AreTied open_lots) (sym at.holds.3) (stays_tied open_lots lots n at.lot (with_ticket ticket at.lot) are at.found at.going refl refl refl)
+    subst (AreTied open_lots) (sym at.holds.3) (stays_tied open_lots lots n at.lot (with_ticket ticket at.lot) are at.found at.going refl
+    (λ plan is. drawn_stays plan at.lot member ticket at.holds.1 at.holds.2 is))
 reserve_tied open_lots n member (Err refusal.NoLot) lots after are h = subst (AreTied open_lots) (sym h.1) are
 reserve_tied open_lots n member (Err refusal.StaleLot) lots after are h = subst (AreTied open_lots) (sym h.1) are
 reserve_tied open_lots n member (Err refusal.NotLong) lots after are h = subst (AreTied open_lots) (sym h.1) are
@@ -74,19 +86,30 @@ small_plan c issue h plan lawful is fits is_plan =
     (plan_of-total issue (history_of c) (orders_of c) (books_of c).priorities (were_long c issue) (subst IsBook is fits)
     (λ m i. settled_most (history_of c) (orders_of c) bounded m i))
 
+-- and is one
+pub lawful_plan : (c : List ClearRecord) (issue : ℕ) (h : List NetEntry) (plan : List Planned) → IsLawful c → h ≡ history_of c → IsBook h → plan ≡ plan_in c issue → IsPlan plan
+lawful_plan c issue h plan lawful is fits is_plan =
+    let longs = bounded_longs (history_of c) (orders_of c) (subst IsBook is fits) (lawful_bounded c lawful).bounded in
+    subst IsPlan (sym is_plan) (IsPlan-plan_of issue (history_of c) (orders_of c) (books_of c).priorities (were_long c issue) longs)
+
 -- where no lot is open, all shares that are there are free
 pub all_free : (c : List ClearRecord) (open_lots : List Lot) (issue : ℕ) → lot_of open_lots issue ≡ None → free_of (orders_of c) open_lots issue ≡ avail_in c issue
 all_free c open_lots issue none =
     let lent : lent_of open_lots issue ≡ 0 = ap (λ (o : Option Lot). unwrap_or (option_map (λ (l : Lot). l.poured) o) 0) none in omega (arith, lent)
 
-pub open_tied : (old new : ClearNode) (lots after : List LotState) (issue poured : ℕ) (plan : List Planned) → AreTied old.lots lots → lot_of old.lots issue ≡ None
-    → new ≡ record old { lots = old.lots ++ node.new_lot old.log.records issue ∷ [] } → plan ≡ plan_in old.log.records issue → poured ≡ free_of (orders_of old.log.records) old.lots issue
-    → after ≡ lots ++ new_lot issue plan poured ∷ [] → AreTied new.lots after
-open_tied old new lots after issue poured plan are none opened is_plan free is =
-    let there : poured ≡ avail_in old.log.records issue = free ∙ all_free old.log.records old.lots issue none in
+-- a lot as it is opened is of its plan
+new_stays : (issue : ℕ) (plan : List Planned) → IsPlan plan → IsOfPlan plan (new_lot issue plan)
+new_stays issue plan is = record { is = is; served = served_none plan is; turns = sym (waiting-none plan) }
+
+pub open_tied : (old new : ClearNode) (lots after : List LotState) (issue : ℕ) (plan : List Planned) (lot : LotState) → AreTied old.lots lots → lot_of old.lots issue ≡ None
+    → new ≡ record old { lots = old.lots ++ node.new_lot old.log.records issue ∷ [] } → plan ≡ plan_in old.log.records issue → IsPlan plan → lot ≡ new_lot issue plan
+    → after ≡ lots ++ lot ∷ [] → AreTied new.lots after
+open_tied old new lots after issue plan lot are none opened is_plan lawful is_lot is =
+    let one : IsOfPlan (plan_in old.log.records issue) lot =
+    subst (IsOfPlan (plan_in old.log.records issue)) (sym is_lot) (subst (λ (ps : List Planned). IsOfPlan ps (new_lot issue plan)) is_plan (new_stays issue plan lawful)) in
     subst (λ (l : List Lot). AreTied l after) (sym (ap (λ (n : ClearNode). n.lots) opened))
     (subst (AreTied (old.lots ++ node.new_lot old.log.records issue ∷ [])) (sym is)
-    (tied_more old.lots lots (node.new_lot old.log.records issue) (new_lot issue plan poured) are none refl (sym is_plan) (sym there)))
+    (tied_more old.lots lots (node.new_lot old.log.records issue) lot are (ap (λ (l : LotState). lot_of old.lots l.issue) is_lot ∙ none) (ap (λ (l : LotState). l.issue) (sym is_lot)) one))
 
 -- a refused opening leaves the node
 pub open_refused : (issue : ℕ) (f : Refusal) (old new : ClearNode) → LotOpenLeaves issue (Err f) old new → new ≡ old
@@ -94,12 +117,6 @@ open_refused issue refusal.Down old new h = h.1
 open_refused issue refusal.LotAlready old new h = h.2
 open_refused issue refusal.OutOfMemory old new h = h.2
 open_refused issue _ old new h = absurd h
-
--- the lots without the one that was opened last
-pub taken_back : (lots more after : List LotState) (x : LotState) → more ≡ lots ++ x ∷ [] → after ≡ take (length more - 1) more → after ≡ lots
-taken_back lots more after x is_more is =
-    let count : length (lots ++ x ∷ []) - 1 ≡ length lots = omega (arith, length-append lots (x ∷ [])) in
-    is ∙ ap (λ (l : List LotState). take (length l - 1) l) is_more ∙ ap (λ n. take n (lots ++ x ∷ [])) count ∙ take-append_seam lots (x ∷ [])
 
 -- ---- a lot that is open
 
@@ -120,56 +137,31 @@ pour_never old new lots n issue refusal.NoLot are has up h =
     no_twin old.lots lots n issue at.lot are at.found at.going at.holds h.1
 pour_never old new lots n issue _ are has up h = absurd h
 
--- what is poured into a lot stays small
-pub pour_small : (old new : ClearNode) (lots : List LotState) (n issue shares : ℕ) → AreTied old.lots lots → HasOpenLot lots n (λ (l : LotState). issue ≡ l.issue)
-    → LotPourLeaves issue (Ok shares) old new → HasOpenLot lots n (λ (l : LotState). l.poured + shares ≤ 1000000000000000000)
-pour_small old new lots n issue shares are has h =
-    let at = open-parts lots n (λ (l : LotState). issue ≡ l.issue) has in
-    let tied = are.each n at.lot at.found at.going in
-    let same : h.1.lot ≡ tied.twin = same_Some h.1.lot tied.twin (sym h.1.found ∙ ap (lot_of old.lots) at.holds ∙ tied.found) in
-    let poured : h.1.lot.poured ≡ at.lot.poured = ap (λ (l : Lot). l.poured) same ∙ tied.poured in
-    open-from lots n (λ (l : LotState). l.poured + shares ≤ 1000000000000000000) at.lot at.found at.going (omega (arith, h.1.few, poured))
-
-poured_same : (c : List ClearRecord) (issue : ℕ) (l : Lot) → l.issue ≡ issue → poured_into c issue l ≡ record l { upto = length c; poured = avail_in c issue }
-poured_same c issue l is = ap (λ b. if b then record l { upto = length c; poured = avail_in c issue } else l) (eq-eqb l.issue issue is)
-
 poured_other : (c : List ClearRecord) (issue : ℕ) (l : Lot) → (l.issue ≡ issue → ⊥) → poured_into c issue l ≡ l
 poured_other c issue l differ =
     ap (λ b. if b then record l { upto = length c; poured = avail_in c issue } else l) (false_from_ne_true (l.issue == issue) (λ e. differ (eqb-true l.issue issue e)))
 
-others_poured : (c : List ClearRecord) (issue other : ℕ) (lots : List Lot) → (other ≡ issue → ⊥) → lot_of (lots_poured c issue lots) other ≡ lot_of lots other
+pub others_poured : (c : List ClearRecord) (issue other : ℕ) (lots : List Lot) → (other ≡ issue → ⊥) → lot_of (lots_poured c issue lots) other ≡ lot_of lots other
 others_poured c issue other lots differ = found_poured c issue other lots ∙ by (lot_of lots other) refl
   where
     by : (o : Option Lot) → lot_of lots other ≡ o → option_map (poured_into c issue) o ≡ o
     by None e = refl
     by (Some l) e = ap Some (poured_other c issue l (λ is. differ (sym (found_of lots other l e) ∙ is)))
 
-pub pour_tied : (old new : ClearNode) (lots after : List LotState) (n issue shares : ℕ) → AreTied old.lots lots → HasOpenLot lots n (λ (l : LotState). issue ≡ l.issue)
-    → LotPourLeaves issue (Ok shares) old new → HasOpenLot lots n (λ (l : LotState). after ≡ update_at lots n (with_pour shares l)) → AreTied new.lots after
-pour_tied old new lots after n issue shares are has h pours =
-    let at = open-parts lots n (λ (l : LotState). issue ≡ l.issue) has in
-    let last = open-parts lots n (λ (l : LotState). after ≡ update_at lots n (with_pour shares l)) pours in
-    let one : last.lot ≡ at.lot = same_Some last.lot at.lot (sym last.found ∙ at.found) in
-    let after_is : after ≡ update_at lots n (with_pour shares at.lot) = last.holds ∙ ap (λ (l : LotState). update_at lots n (with_pour shares l)) one in
-    let tied = are.each n at.lot at.found at.going in
-    let twin : Lot = tied.twin in
+-- a pour leaves the lots of other issues, and the plan of its own
+pub pour_tied : (old new : ClearNode) (lots : List LotState) (issue shares : ℕ) → AreTied old.lots lots → LotPourLeaves issue (Ok shares) old new → AreTied new.lots lots
+pour_tied old new lots issue shares are h =
     let c : List ClearRecord = old.log.records in
-    let found : lot_of old.lots issue ≡ Some twin = ap (lot_of old.lots) at.holds ∙ tied.found in
-    let is : twin.issue ≡ issue = found_of old.lots issue twin found in
-    let poured : lot_of (lots_poured c issue old.lots) issue ≡ Some (record twin { upto = length c; poured = avail_in c issue }) =
-    found_poured c issue issue old.lots ∙ ap (option_map (poured_into c issue)) found ∙ ap Some (poured_same c issue twin is) in
-    let same : h.1.lot ≡ twin = same_Some h.1.lot twin (sym h.1.found ∙ found) in
-    let all : avail_in c issue ≡ at.lot.poured + shares = sym h.1.all ∙ ap (λ (l : Lot). l.poured + shares) same ∙ ap (λ p. p + shares) tied.poured in
-    subst (λ (l : List Lot). AreTied l after) (sym (ap (λ (m : ClearNode). m.lots) h.2))
-    (subst (AreTied (lots_poured c issue old.lots)) (sym after_is)
-    (tied_changed old.lots (lots_poured c issue old.lots) lots n at.lot (with_pour shares at.lot) are at.found at.going refl
-    (λ up. record {
-      twin = record twin { upto = length c; poured = avail_in c issue };
-      found = ap (lot_of (lots_poured c issue old.lots)) (sym at.holds) ∙ poured;
-      plan = tied.plan;
-      poured = all;
+    subst (λ (l : List Lot). AreTied l lots) (sym (ap (λ (m : ClearNode). m.lots) h.2)) (record {
+      each = λ m k at up.
+          let tied = are.each m k at up in
+          record {
+            twin = poured_into c issue tied.twin;
+            found = found_poured c issue k.issue old.lots ∙ ap (option_map (poured_into c issue)) tied.found;
+            is = subst (λ (ps : List Planned). IsOfPlan ps k) (sym (poured_keeps (λ (l : Lot). l.plan) c issue tied.twin refl)) tied.is;
+          };
+      once = are.once;
     })
-    (λ other differ. others_poured c issue other old.lots (λ e. differ (e ∙ at.holds)))))
 
 -- ---- a close
 
@@ -206,39 +198,33 @@ close_no_lot open_lots lots n issue l are has is none =
     let at = open-parts lots n (λ (k : LotState). l ≡ k) has in
     no_twin open_lots lots n issue at.lot are at.found at.going (is ∙ ap (λ (k : LotState). k.issue) at.holds) none
 
-lawful_at : (lots : List LotState) (i : ℕ) (l : LotState) → All IsLot lots → slice_get lots i ≡ Some l → IsLot l
-lawful_at [] i l all found = cc
-lawful_at (x ∷ lots) zero l all found = subst IsLot (same_Some x l found) (All-head IsLot x lots all)
-lawful_at (x ∷ lots) (suc i) l all found = lawful_at lots i l (All-tail IsLot x lots all) found
-
 -- the tickets of a lot that is sealed, or in which nobody waits, serve its plan
-pub met_served : (l : LotState) → IsLot l → ((l.sealed ≡ true) ⊎ (waiting l.plan l.tickets ≡ [])) → IsServed l.plan l.tickets l.sealed
-met_served l is met = by l.sealed refl met
+pub met_served : (plan : List Planned) (l : LotState) → IsOfPlan plan l → IsMet l → IsServed plan l.tickets l.sealed
+met_served plan l is met = by l.sealed refl met
   where
-    by : (b : Bool) → l.sealed ≡ b → ((l.sealed ≡ true) ⊎ (waiting l.plan l.tickets ≡ [])) → IsServed l.plan l.tickets b
+    by : (b : Bool) → l.sealed ≡ b → (l.sealed ≡ true) ⊎ (l.turns ≡ []) → IsServed plan l.tickets b
     by true e m = is.served
     by false e (inl is_sealed) = let no : true ≡ false = sym is_sealed ∙ e in cc
-    by false e (inr nobody) = served_whole l.plan l.tickets is.plan is.served nobody
+    by false e (inr nobody) = served_whole plan l.tickets is.is is.served (sym is.turns ∙ nobody)
 
 pub close_no_bad : (open_lots : List Lot) (lots : List LotState) (n issue : ℕ) (tickets : List Ticket) (sealed : Bool) (l : LotState) → AreTied open_lots lots
-    → AreLotsLawful lots → HasOpenLot lots n (λ (k : LotState). l ≡ k) → issue ≡ l.issue → tickets ≡ l.tickets → sealed ≡ l.sealed
-    → ((l.sealed ≡ true) ⊎ (waiting l.plan l.tickets ≡ []))
+    → HasOpenLot lots n (λ (k : LotState). l ≡ k) → issue ≡ l.issue → tickets ≡ l.tickets → sealed ≡ l.sealed → IsMet l
     → ((twin : Lot) × (lot_of open_lots issue ≡ Some twin) × (IsServed twin.plan tickets sealed → ⊥)) → ⊥
-close_no_bad open_lots lots n issue tickets sealed l are lawful has is drawn seal met bad =
+close_no_bad open_lots lots n issue tickets sealed l are has is drawn seal met bad =
     let at = open-parts lots n (λ (k : LotState). l ≡ k) has in
     let found : lot_at lots n ≡ Some l = at.found ∙ ap Some (sym at.holds) in
     let going : l.ended ≡ false = ap (λ (k : LotState). k.ended) at.holds ∙ at.going in
     let tied = are.each n l found going in
-    let served = met_served l (lawful_at lots (n - 1) l lawful (at_place lots n l found).1) met in
-    let same : l.plan ≡ bad.0.plan = sym tied.plan ∙ ap (λ (k : Lot). k.plan) (same_Some tied.twin bad.0 (sym tied.found ∙ ap (lot_of open_lots) (sym is) ∙ bad.1)) in
+    let served = met_served tied.twin.plan l tied.is met in
+    let same : tied.twin.plan ≡ bad.0.plan = ap (λ (k : Lot). k.plan) (same_Some tied.twin bad.0 (sym tied.found ∙ ap (lot_of open_lots) (sym is) ∙ bad.1)) in
     bad.2 (rw (drawn, seal) (subst (λ (ps : List Planned). IsServed ps l.tickets l.sealed) same served))
 
 -- what a close leaves that the node refused
 pub close_refused : (n : ℕ) (f : Refusal) (old new : NumberedNode) (issue : ℕ) (tickets : List Ticket) (sealed : Bool) (l : LotState)
-    → AreTied old.clear.lots old.lots → AreLotsLawful old.lots → HasOpenLot old.lots n (λ (k : LotState). l ≡ k) → issue ≡ l.issue → tickets ≡ l.tickets
+    → AreTied old.clear.lots old.lots → HasOpenLot old.lots n (λ (k : LotState). l ≡ k) → issue ≡ l.issue → tickets ≡ l.tickets
     → sealed ≡ l.sealed → IsMet l → old.clear.log.down ≡ false → LotCloseLeaves issue tickets sealed (Err f) old.clear new.clear → new.lots ≡ old.lots
     → CloseLeaves n (Err f) old new
-close_refused n f old new issue tickets sealed l are lawful has is drawn seal met up h same = by f h
+close_refused n f old new issue tickets sealed l are has is drawn seal met up h same = by f h
   where
     found : lot_at old.lots n ≡ Some l
     found = let at = open-parts old.lots n (λ (k : LotState). l ≡ k) has in at.found ∙ ap Some (sym at.holds)
@@ -259,7 +245,7 @@ close_refused n f old new issue tickets sealed l are lawful has is drawn seal me
     by : (g : Refusal) → LotCloseLeaves issue tickets sealed (Err g) old.clear new.clear → CloseLeaves n (Err g) old new
     by refusal.Down left = absurd (let no : true ≡ false = sym left.0 ∙ up in cc)
     by refusal.NoLot left = absurd (close_no_lot old.clear.lots old.lots n issue l are has is left.1)
-    by refusal.BadTickets left = absurd (close_no_bad old.clear.lots old.lots n issue tickets sealed l are lawful has is drawn seal met left.1)
+    by refusal.BadTickets left = absurd (close_no_bad old.clear.lots old.lots n issue tickets sealed l are has is drawn seal met left.1)
     by refusal.NumbersSpent left = (open-from old.lots n _ l found going (met, its refusal.NumbersSpent left), whole left.2)
     by refusal.OutOfMemory left = (open-from old.lots n _ l found going (met, its refusal.OutOfMemory left), whole left.2)
     by refusal.Device left = (open-from old.lots n _ l found going (met, its refusal.Device left), same)

@@ -8,9 +8,9 @@ use Rattle.std.proofs.lemmas.List.Sorted.{IsPermutation-refl}
 use Rattle.std.proofs.lemmas.Option.{get_or_from_slice_get, same_Some, slice_get_within}
 use Rattle.cns_pool.specs.declared.ticket.Ticket.{Ticket}
 use Rattle.cns_allocate.specs.Group.{rank}
-use Rattle.cns_allocate.specs.Plan.{IsPlan}
 use Rattle.cns_allocate.specs.Served.{IsServed}
 use Rattle.cns_allocate.specs.declared.planned.Planned.{Planned}
+use Rattle.cns_allocate.proofs.TurnLemmas.{IsPlan-none, find-All, no_pairs}
 use Rattle.cns_netting.specs.Rows.{holdings_of}
 use Rattle.cns_clearing.specs.Books.{books_of}
 use Rattle.cns_clearing.specs.declared.answer.Closed.{Closed}
@@ -20,8 +20,8 @@ use Rattle.cns_records.specs.declared.refusal.Refusal.{Refusal}
 use Rattle.cns_records.specs.declared.refusal.Refusal.TheVariants as refusal
 use Rattle.cns_system.specs.Finish.{AreCutOff, AreEntered, AreOfOnePlan, IsClosed, IsEnded, IsNotEntered, IsSealedFirst, IsUnserved, drawn_in, draws, is_close, is_done, reserves}
 use Rattle.cns_system.specs.Floor.{AreBusy, BusyLot, FloorState, IsBusy, busy_at}
-use Rattle.cns_system.specs.Lot.{IsLot, IsPlanOf, LotState, with_ticket}
-use Rattle.cns_system.specs.Lots.{AreLotsLawful, ArePlanned, ReserveLeaves, lot_at, update_at}
+use Rattle.cns_system.specs.Lot.{IsPlanOf, LotState, with_ticket}
+use Rattle.cns_system.specs.Lots.{ArePlanned, ReserveLeaves, lot_at, update_at}
 use Rattle.cns_system.specs.Numbered.{CloseLeaves, IsMet, NumberedNode}
 use Rattle.cns_system.specs.Outcomes.{close_outcome, reserve_outcome}
 use Rattle.cns_system.specs.Run.{Run}
@@ -84,15 +84,6 @@ has_first n (t ∷ ts) old mid run unserved =
     let has : Has n old.clear.lots [] = record { lot = at.lot; found = at.found; going = at.going; tickets_are = free.0; unsealed = free.1 } in
     inr (has_all n (t ∷ ts) [] old mid run has)
 
-lawful_at : (lots : List LotState) (n : ℕ) (l : LotState) → lot_at lots n ≡ Some l → AreLotsLawful lots → IsLot l
-lawful_at lots n l found lawful =
-    let at = at_place lots n l found in
-    subst IsLot (get_or_from_slice_get lots (n - 1) l l at.1) (lawful (n - 1) l (slice_get_within lots (n - 1) l at.1))
-
-has_served : (n : ℕ) (lots : List LotState) (ts : List Ticket) (has : Has n lots ts) → AreLotsLawful lots → IsServed has.lot.plan ts true
-has_served n lots ts has lawful =
-    subst (λ (us : List Ticket). IsServed has.lot.plan us true) has.tickets_are (lawful_at lots n has.lot has.found lawful).served
-
 -- ---- the tickets among the outcomes
 
 drawn_of_draws : (ts : List Ticket) (last : List Outcome) → drawn_in last ≡ [] → drawn_in (draws ts ++ last) ≡ ts
@@ -146,12 +137,6 @@ ended_ends n false last old new h = closed_ends n last old new h
 
 -- ---- all of it
 
-no_pairs : {X : Type 0} (R : X → X → Type 0) → AllPairs R []
-no_pairs R i j d less below = absurd (omega (arith, below))
-
-no_plan : IsPlan []
-no_plan = record { asked = All-nil _; once = λ m. omega arith; groups = no_pairs (λ (p q : Planned). rank p.group ≤ rank q.group) }
-
 none_served : (b : Bool) → IsServed [] [] b
 none_served b = record {
   follows = record { order = []; permutation = IsPermutation-refl []; groups = no_pairs (λ (p q : Planned). rank p.group ≤ rank q.group); drawn = tt; whole = λ s. refl };
@@ -168,28 +153,27 @@ of_none c told none = record {
   issue = 0;
   plan = [];
   of = no_plan_of c;
-  is = no_plan;
+  is = IsPlan-none;
   served = subst (λ (ts : List Ticket). IsServed [] ts true) (sym none) (none_served true);
   whole = λ closed unsealed. subst (λ (ts : List Ticket). IsServed [] ts false) (sym none) (none_served false);
 }
 
-of_plan : (c : List ClearRecord) (n : ℕ) (lots : List LotState) (ts : List Ticket) (last : List Outcome) → (ts ≡ []) ⊎ Has n lots ts → AreLotsLawful lots
-    → ArePlanned c lots → Ends n lots last → AreOfOnePlan c (draws ts ++ last)
-of_plan c n lots ts last (inl none) lawful planned ends =
-    of_none c (draws ts ++ last) (drawn_of_draws ts last ends.none ∙ none)
-of_plan c n lots ts last (inr has) lawful planned ends =
-    let lot = lawful_at lots n has.lot has.found lawful in
+of_plan : (c : List ClearRecord) (n : ℕ) (lots : List LotState) (ts : List Ticket) (last : List Outcome) → (ts ≡ []) ⊎ Has n lots ts → ArePlanned c lots
+    → Ends n lots last → AreOfOnePlan c (draws ts ++ last)
+of_plan c n lots ts last (inl none) planned ends = of_none c (draws ts ++ last) (drawn_of_draws ts last ends.none ∙ none)
+of_plan c n lots ts last (inr has) planned ends =
+    let lot = planned n has.lot has.found has.going in
     let drawn = drawn_of_draws ts last ends.none in
     record {
       issue = has.lot.issue;
-      plan = has.lot.plan;
-      of = planned n has.lot has.found has.going;
-      is = lot.plan;
-      served = subst (λ (us : List Ticket). IsServed has.lot.plan us true) (sym drawn) (has_served n lots ts has lawful);
+      plan = lot.plan;
+      of = lot.of;
+      is = lot.is.is;
+      served = subst (λ (us : List Ticket). IsServed lot.plan us true) (has.tickets_are ∙ sym drawn) lot.is.served;
       whole = λ closed unsealed.
           let met = ends.met (sym (close_of_draws ts last) ∙ closed) (sym (done_of_draws ts last) ∙ unsealed) has.lot has.found in
-          let served = subst (λ (b : Bool). IsServed has.lot.plan has.lot.tickets b) has.unsealed (met_served has.lot lot met) in
-          subst (λ (us : List Ticket). IsServed has.lot.plan us false) (has.tickets_are ∙ sym drawn) served;
+          let served = subst (λ (b : Bool). IsServed lot.plan has.lot.tickets b) has.unsealed (met_served lot.plan has.lot lot.is met) in
+          subst (λ (us : List Ticket). IsServed lot.plan us false) (has.tickets_are ∙ sym drawn) served;
     }
 
 -- what the clearing node's records are, and entering tickets leaves as it is
@@ -202,14 +186,13 @@ drawn_keeps n (t ∷ ts) old mid run = drawn_keeps n ts run.0 mid run.2 ∙ ap (
 
 -- the tickets are entered, and the lot ends
 pub entered_of_plan : (n : ℕ) (ts : List Ticket) (sealed : Bool) (first last told : List Outcome) (old mid new : World) → told ≡ first ++ last → AreEntered n ts first old mid
-    → IsUnserved n old.clear.lots → AreLotsLawful mid.clear.lots → ArePlanned (records_of mid) mid.clear.lots → IsEnded n sealed last mid new
-    → AreOfOnePlan (records_of old) told
-entered_of_plan n ts sealed first last told old mid new all entered unserved lawful planned ended =
+    → IsUnserved n old.clear.lots → ArePlanned (records_of mid) mid.clear.lots → IsEnded n sealed last mid new → AreOfOnePlan (records_of old) told
+entered_of_plan n ts sealed first last told old mid new all entered unserved planned ended =
     let both : told ≡ draws ts ++ last = all ∙ ap (λ (os : List Outcome). os ++ last) entered.told_is in
     let kept = drawn_keeps n ts old mid entered.drawn in
     subst (λ (c : List ClearRecord). AreOfOnePlan c told) kept
     (subst (AreOfOnePlan (records_of mid)) (sym both)
-    (of_plan (records_of mid) n mid.clear.lots ts last (has_first n ts old mid entered.drawn unserved) lawful planned (ended_ends n sealed last mid new ended)))
+    (of_plan (records_of mid) n mid.clear.lots ts last (has_first n ts old mid entered.drawn unserved) planned (ended_ends n sealed last mid new ended)))
 
 -- a reserve that is refused leaves the lots as they are
 refused_leaves : (n member : ℕ) (r : Refusal) (lots new : List LotState) → ReserveLeaves n member (Err r) lots new → new ≡ lots
@@ -235,29 +218,21 @@ stopped_keeps n t r old new (inl occurs) = ap (λ (node : ClearNode). node.log.r
 stopped_keeps n t r old new (inr h) = ap records_of h.1
 
 pub cut_of_plan : (n : ℕ) (ts : List Ticket) (r : Refusal) (first told : List Outcome) (old new : World) → told ≡ first ++ outcomes.Refused r ∷ [] → AreCutOff n ts r first old new
-    → IsUnserved n old.clear.lots → AreLotsLawful new.clear.lots → ArePlanned (records_of new) new.clear.lots → AreOfOnePlan (records_of old) told
-cut_of_plan n ts r first told old new all cut unserved lawful planned =
+    → IsUnserved n old.clear.lots → ArePlanned (records_of new) new.clear.lots → AreOfOnePlan (records_of old) told
+cut_of_plan n ts r first told old new all cut unserved planned =
     let same = stopped_lots n cut.ticket r cut.between new cut.stopped in
     let both : told ≡ draws cut.first ++ outcomes.Refused r ∷ [] = all ∙ ap (λ (os : List Outcome). os ++ outcomes.Refused r ∷ []) cut.entered.told_is in
     let kept = stopped_keeps n cut.ticket r cut.between new cut.stopped ∙ drawn_keeps n cut.first old cut.between cut.entered.drawn in
     subst (λ (c : List ClearRecord). AreOfOnePlan c told) kept
     (subst (AreOfOnePlan (records_of new)) (sym both)
-    (of_plan (records_of new) n cut.between.clear.lots cut.first (outcomes.Refused r ∷ []) (has_first n cut.first old cut.between cut.entered.drawn unserved) (subst AreLotsLawful same lawful)
+    (of_plan (records_of new) n cut.between.clear.lots cut.first (outcomes.Refused r ∷ []) (has_first n cut.first old cut.between cut.entered.drawn unserved)
     (subst (ArePlanned (records_of new)) same planned) (refused_ends n cut.between.clear.lots r)))
 
-busy_found : (busy : List BusyLot) (n : ℕ) (b : BusyLot) (P : BusyLot → Type 0) → All P busy → busy_at busy n ≡ Some b → P b
-busy_found [] n b P all found = cc
-busy_found (x ∷ busy) n b P all found = by (x.lot == n) found (busy_found busy n b P (All-tail P x busy all))
-  where
-    by : (t : Bool) → cond t (Some x) (busy_at busy n) ≡ Some b → (busy_at busy n ≡ Some b → P b) → P b
-    by true is rest = subst P (same_Some x b is) (All-head P x busy all)
-    by false is rest = rest is
-
 -- a lot that was busy is unserved
-pub busy_unserved : (n : ℕ) (f mid : FloorState) (b : BusyLot) → busy_at f.busy n ≡ Some b → AreBusy f.system.clear.lots f.busy → mid.system ≡ f.system
+pub busy_unserved : (n : ℕ) (f mid : FloorState) (b : BusyLot) → busy_at f.busy n ≡ Some b → AreBusy f.system.clear f.busy → mid.system ≡ f.system
     → IsUnserved n mid.system.clear.lots
 busy_unserved n f mid b found are same l here going =
-    let is = busy_found f.busy n b (IsBusy f.system.clear.lots) are.each found in
+    let is = find-All (IsBusy f.system.clear) (λ (c : BusyLot). c.lot == n) f.busy b are.each found in
     let fed = is.fed l (ap (λ (m : ℕ). lot_at f.system.clear.lots m) (busy_number f.busy n b found) ∙ ap (λ (w : World). lot_at w.clear.lots n) (sym same) ∙ here) going in
     (fed.tickets, fed.unsealed)
 

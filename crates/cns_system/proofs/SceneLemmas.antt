@@ -241,7 +241,7 @@ open_commits issue (Err _) w old new left = absurd left
 pour_commits : (n : ℕ) (result : Result ℕ Refusal) (w : Shown) (old new : NumberedNode) → PourLeaves n result old new
     → ClearCommits (event.LotPour n) (pour_outcome result) w old.clear new.clear
 pour_commits n (Ok shares) w old new left =
-    let pours = (open-parts old.lots n _ left).holds.0 in
+    let pours = (open-parts old.lots n _ left.0).holds in
     same (event.LotPour n) (outcomes.Poured shares) w _ _ (λ d room. tt) (λ f. refl) (ap (λ (k : ClearNode). sight_of k.log) pours.2)
 pour_commits n (Err refusal.NoLot) w old new left = node_refused (event.LotPour n) refusal.NoLot w old new tt left.1
 pour_commits n (Err refusal.StaleLot) w old new left = node_refused (event.LotPour n) refusal.StaleLot w old new tt left.1

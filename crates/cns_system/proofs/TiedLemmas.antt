@@ -6,12 +6,12 @@ use Rattle.std.proofs.lemmas.Bool.{cases_eq, eq-eqb, eqb-false, eqb-true, false_
 use Rattle.std.proofs.lemmas.List.{append_assoc}
 use Rattle.std.proofs.lemmas.List.Folds.{find-append}
 use Rattle.std.proofs.lemmas.Option.{same_Some, slice_get-map}
-use Rattle.cns_allocate.proofs.TurnLemmas.{find-All}
+use Rattle.cns_allocate.proofs.TurnLemmas.{find-All, find-passes}
 use Rattle.cns_clearing.specs.Lots.{AreLots, IsLot, avail_in, lots_poured, plan_in, poured_into, without_lot}
 use Rattle.cns_clearing.specs.Pools.{lot_of}
 use Rattle.cns_clearing.specs.declared.lot.Lot.{Lot}
 use Rattle.cns_records.specs.declared.clear_record.ClearRecord.{ClearRecord}
-use Rattle.cns_system.specs.Lot.{LotState, with_end}
+use Rattle.cns_system.specs.Lot.{LotState, IsOfPlan, with_end}
 use Rattle.cns_system.specs.Lots.{ArePlanned, lot_at, update_at}
 use Rattle.cns_system.specs.Numbered.{AreTied, IsTied}
 
@@ -19,12 +19,7 @@ use Rattle.cns_system.specs.Numbered.{AreTied, IsTied}
 
 -- a lot that is found is of the issue
 pub found_of : (open_lots : List Lot) (issue : ℕ) (lot : Lot) → lot_of open_lots issue ≡ Some lot → lot.issue ≡ issue
-found_of [] issue lot found = cc
-found_of (first ∷ rest) issue lot found = by (first.issue == issue) refl found (found_of rest issue lot)
-  where
-    by : (b : Bool) → (first.issue == issue) ≡ b → cond b (Some first) (lot_of rest issue) ≡ Some lot → (lot_of rest issue ≡ Some lot → lot.issue ≡ issue) → lot.issue ≡ issue
-    by true e is more = subst (λ (l : Lot). l.issue ≡ issue) (same_Some first lot is) (eqb-true first.issue issue e)
-    by false e is more = more is
+found_of open_lots issue lot found = eqb-true lot.issue issue (find-passes (λ (l : Lot). l.issue == issue) open_lots lot found)
 
 -- a change that keeps what a test says of each
 found_mapped : (p : Lot → Bool) (f : Lot → Lot) → ((l : Lot) → p (f l) ≡ p l) → (lots : List Lot) → find p (map f lots) ≡ option_map f (find p lots)
@@ -36,16 +31,18 @@ found_mapped p f same (l ∷ lots) =
     by true rest = refl
     by false rest = rest
 
-poured_issue : (c : List ClearRecord) (issue : ℕ) (l : Lot) → (poured_into c issue l).issue ≡ l.issue
-poured_issue c issue l = by (l.issue == issue)
+-- a pour changes of a lot the shares and the place of the last pour alone
+pub poured_keeps : {X : Type 0} (f : Lot → X) (c : List ClearRecord) (issue : ℕ) (l : Lot) → f (record l { upto = length c; poured = avail_in c issue }) ≡ f l
+    → f (poured_into c issue l) ≡ f l
+poured_keeps f c issue l same = by (l.issue == issue)
   where
-    by : (b : Bool) → (if b then record l { upto = length c; poured = avail_in c issue } else l).issue ≡ l.issue
-    by true = refl
+    by : (b : Bool) → f (if b then record l { upto = length c; poured = avail_in c issue } else l) ≡ f l
+    by true = same
     by false = refl
 
 pub found_poured : (c : List ClearRecord) (issue other : ℕ) (lots : List Lot) → lot_of (lots_poured c issue lots) other ≡ option_map (poured_into c issue) (lot_of lots other)
 found_poured c issue other lots =
-    found_mapped (λ (l : Lot). l.issue == other) (poured_into c issue) (λ l. ap (λ (n : ℕ). n == other) (poured_issue c issue l)) lots
+    found_mapped (λ (l : Lot). l.issue == other) (poured_into c issue) (λ l. poured_keeps (λ (k : Lot). k.issue == other) c issue l refl) lots
 
 -- the lots without that of an issue have those of the others
 pub found_without : (issue other : ℕ) (lots : List Lot) → (other ≡ issue → ⊥) → lot_of (without_lot issue lots) other ≡ lot_of lots other
@@ -60,12 +57,12 @@ found_without issue other (l ∷ lots) differ =
     by false e true f rest = rest
     by false e false f rest = ap (λ b. cond b (Some l) (lot_of (without_lot issue lots) other)) e ∙ rest
 
-found_more : (open_lots : List Lot) (new lot : Lot) (issue : ℕ) → lot_of open_lots issue ≡ Some lot → lot_of (open_lots ++ new ∷ []) issue ≡ Some lot
+pub found_more : (open_lots : List Lot) (new lot : Lot) (issue : ℕ) → lot_of open_lots issue ≡ Some lot → lot_of (open_lots ++ new ∷ []) issue ≡ Some lot
 found_more open_lots new lot issue found =
     let p : Lot → Bool = λ (l : Lot). l.issue == issue in
     find-append p open_lots (new ∷ []) ∙ ap (λ (o : Option Lot). option_or o (find p (new ∷ []))) found
 
-found_new : (open_lots : List Lot) (new : Lot) (issue : ℕ) → new.issue ≡ issue → lot_of open_lots issue ≡ None → lot_of (open_lots ++ new ∷ []) issue ≡ Some new
+pub found_new : (open_lots : List Lot) (new : Lot) (issue : ℕ) → new.issue ≡ issue → lot_of open_lots issue ≡ None → lot_of (open_lots ++ new ∷ []) issue ≡ Some new
 found_new open_lots new issue is none =
     let p : Lot → Bool = λ (l : Lot). l.issue == issue in
     find-append p open_lots (new ∷ []) ∙ ap (λ (o : Option Lot). option_or o (find p (new ∷ []))) none
@@ -159,7 +156,7 @@ tied_changed open_lots after lots n l x are found going issue one others = recor
     each m k at up (inr h) =
         let tied = are.each m k h.1 up in
         let other : k.issue ≡ l.issue → ⊥ = λ e. h.0 (are.once m n k l h.1 found up going e) in
-        record { twin = tied.twin; found = others k.issue other ∙ tied.found; plan = tied.plan; poured = tied.poured }
+        record { twin = tied.twin; found = others k.issue other ∙ tied.found; is = tied.is }
 
     from : (m : ℕ) (k : LotState) → lot_at (update_at lots n x) m ≡ Some k → k.ended ≡ false
         → ((m ≡ n) × (x ≡ k)) ⊎ ((m ≡ n → ⊥) × (lot_at lots m ≡ Some k)) → IsFrom lots m k
@@ -173,8 +170,8 @@ tied_changed open_lots after lots n l x are found going issue one others = recor
 
 -- the lots where both have one more
 pub tied_more : (open_lots : List Lot) (lots : List LotState) (new : Lot) (x : LotState) → AreTied open_lots lots → lot_of open_lots x.issue ≡ None
-    → new.issue ≡ x.issue → new.plan ≡ x.plan → new.poured ≡ x.poured → AreTied (open_lots ++ new ∷ []) (lots ++ x ∷ [])
-tied_more open_lots lots new x are none issue plan poured = record {
+    → new.issue ≡ x.issue → IsOfPlan new.plan x → AreTied (open_lots ++ new ∷ []) (lots ++ x ∷ [])
+tied_more open_lots lots new x are none issue is = record {
   each = λ m k at up. each m k up (place m k at);
   once = λ m p k j at_m at_p up_k up_j same. once m p k j up_k up_j same (place m k at_m) (place p j at_p);
 }
@@ -191,9 +188,9 @@ tied_more open_lots lots new x are none issue plan poured = record {
     each : (m : ℕ) (k : LotState) → k.ended ≡ false → (lot_at lots m ≡ Some k) ⊎ ((m ≡ length lots + 1) × (x ≡ k)) → IsTied (open_lots ++ new ∷ []) k
     each m k up (inl h) =
         let tied = are.each m k h up in
-        record { twin = tied.twin; found = found_more open_lots new tied.twin k.issue tied.found; plan = tied.plan; poured = tied.poured }
+        record { twin = tied.twin; found = found_more open_lots new tied.twin k.issue tied.found; is = tied.is }
     each m k up (inr h) =
-        subst (IsTied (open_lots ++ new ∷ [])) h.1 (record { twin = new; found = found_new open_lots new x.issue issue none; plan = plan; poured = poured })
+        subst (IsTied (open_lots ++ new ∷ [])) h.1 (record { twin = new; found = found_new open_lots new x.issue issue none; is = is })
 
     apart : (m : ℕ) (k : LotState) → lot_at lots m ≡ Some k → k.ended ≡ false → k.issue ≡ x.issue → ⊥
     apart m k at up e =
@@ -225,14 +222,18 @@ tied_ended lots = record {
 
 -- ---- the plans of the lots by number
 
--- the plan of each lot that has not ended is that of the node's lot, which is as the records have it
+-- each lot that has not ended is of the plan of the node's lot, which is as the records have it
 pub planned_from : (c : List ClearRecord) (open_lots : List Lot) (lots : List LotState) → AreTied open_lots lots → AreLots c open_lots → ArePlanned c lots
 planned_from c open_lots lots tied are n lot found going =
     let twin = tied.each n lot found going in
     let is : IsLot c twin.twin = find-All (IsLot c) (λ (l : Lot). l.issue == lot.issue) open_lots twin.twin are.each twin.found in
     record {
-      later = is.later ++ is.middle;
-      before = is.before;
-      split = is.split ∙ sym (append_assoc is.later is.middle is.before);
-      is = sym twin.plan ∙ is.plan ∙ ap (plan_in is.before) (found_of open_lots lot.issue twin.twin twin.found);
+      plan = twin.twin.plan;
+      of = record {
+        later = is.later ++ is.middle;
+        before = is.before;
+        split = is.split ∙ sym (append_assoc is.later is.middle is.before);
+        is = is.plan ∙ ap (plan_in is.before) (found_of open_lots lot.issue twin.twin twin.found);
+      };
+      is = twin.is;
     }

@@ -4,6 +4,7 @@ use Rattle.std.specs.Prelude.{◌≡◌, ℕ, ◌+◌, ◌<◌, ◌≤◌, ◌==
 use Rattle.cns_pool.specs.FeederSeat.{TableId}
 use Rattle.cns_records.specs.declared.refusal.Refusal.TheVariants as refusal
 use Rattle.cns_clearing.specs.Pools.{lent_of}
+use Rattle.cns_clearing.specs.declared.lot.Lot.{Lot}
 use Rattle.cns_system.specs.Accord.{IsInAccord}
 use Rattle.cns_system.specs.Headline.{IsAgreed}
 use Rattle.cns_system.specs.Lot.{LotState}
@@ -32,37 +33,32 @@ pub record FloorState : Type 0 where
 
 -- ---- what holds between any two events
 
--- the cell is fed with just what is poured into the lot, which itself has no ticket and no seal
-pub record IsFed (b : BusyLot) (lot : LotState) : Type 0 where
-  pub poured : b.poured ≡ lot.poured
+-- the cell is fed with just what is lent to the lot, which itself has no ticket and no seal
+pub record IsFed (open_lots : List Lot) (b : BusyLot) (lot : LotState) : Type 0 where
+  pub poured : b.poured ≡ lent_of open_lots lot.issue
   pub tickets : lot.tickets ≡ []
   pub unsealed : lot.sealed ≡ false
 
--- a busy lot beside the lots by number: its number was given, and it is fed while it has not ended
-pub record IsBusy (lots : List LotState) (b : BusyLot) : Type 0 where
-  pub given : b.lot ≤ length lots
-  pub fed : (lot : LotState) → lot_at lots b.lot ≡ Some lot → lot.ended ≡ false → IsFed b lot
+-- a busy lot beside the clearing node and its lots by number: its number was given, and it is fed while it has not ended
+pub record IsBusy (node : NumberedNode) (b : BusyLot) : Type 0 where
+  pub given : b.lot ≤ length node.lots
+  pub fed : (lot : LotState) → lot_at node.lots b.lot ≡ Some lot → lot.ended ≡ false → IsFed node.clear.lots b lot
 
 -- busy lots stand by number, each once
 abbrev pub AreInOrder : List BusyLot → Type 0
 AreInOrder [] = Unit {0}
 AreInOrder (b ∷ busy) = All (λ (c : BusyLot). b.lot < c.lot) busy × AreInOrder busy
 
-pub record AreBusy (lots : List LotState) (busy : List BusyLot) : Type 0 where
-  pub each : All (IsBusy lots) busy
+pub record AreBusy (node : NumberedNode) (busy : List BusyLot) : Type 0 where
+  pub each : All (IsBusy node) busy
   pub order : AreInOrder busy
 
--- what was poured into the cell of a busy lot that has not ended is what the clearing node has lent to the lot of its issue
-abbrev pub IsLent : NumberedNode → BusyLot → Type 0
-IsLent node b = (lot : LotState) → lot_at node.lots b.lot ≡ Some lot → lot.ended ≡ false → b.poured ≡ lent_of node.clear.lots lot.issue
-
--- where both keepers are honest, both nodes and the link are in accord and the headline holds; and the busy lots are busy, with what is
--- lent to them in their cells
+-- where both keepers are honest, both nodes and the link are in accord and the headline holds; and the busy lots are busy, with what the
+-- clearing node has lent to each in its cell
 pub record IsLawfulFloor (f : FloorState) : Type 0 where
   pub accord : IsInAccord f.system
   pub headline : IsAgreed f.system
-  pub busy : AreBusy f.system.clear.lots f.busy
-  pub lent : All (IsLent f.system.clear) f.busy
+  pub busy : AreBusy f.system.clear f.busy
 
 -- lot numbers that were given stay given
 abbrev pub NumbersRise : World → World → Type 0

@@ -16,7 +16,6 @@ use Rattle.cns_movements.specs.declared.order.Reply.{Reply}
 use Rattle.cns_wire.specs.Frame.{order_frame, reply_frame}
 use Rattle.cns_wire.specs.Packet.{packet_at}
 use Rattle.cns_pool.specs.Pool.{asked_sum}
-use Rattle.cns_allocate.specs.Served.{waiting}
 use Rattle.cns_allocate.specs.declared.planned.Planned.{Planned}
 use Rattle.cns_allocate.specs.declared.turns.Turn.{Turn}
 use Rattle.cns_allocate.specs.declared.turns.Turn.TheVariants as turn
@@ -30,11 +29,11 @@ use Rattle.cns_records.specs.declared.refusal.Refusal.TheVariants as refusal
 use Rattle.cns_clearing.specs.Answers.{allocation_of, answer_in, covers_in, verdict_in}
 use Rattle.cns_clearing.specs.Books.{are_spent, deliveries_in, history_of, is_later, latest_of, orders_of}
 use Rattle.cns_clearing.specs.Lots.{lots_poured, new_lot}
-use Rattle.cns_clearing.specs.Pools.{free_of, lot_of}
+use Rattle.cns_clearing.specs.Pools.{free_of, lent_of, lot_of}
 use Rattle.cns_clearing.specs.declared.lot.Lot.{Lot}
 use Rattle.cns_depository.specs.Answers.{reply_to}
 use Rattle.cns_depository.specs.Stock.{moved_by, movement, record_of}
-use Rattle.cns_system.specs.Lot.{LotState, ticket_in, turn_in, with_end, with_pour, with_seal, with_ticket}
+use Rattle.cns_system.specs.Lot.{LotState, ticket_in, turn_in, with_end, with_seal, with_ticket}
 use Rattle.cns_system.specs.Lot.{new_lot as numbered_lot}
 use Rattle.cns_system.specs.Lots.{lot_at}
 use Rattle.cns_system.specs.Shown.{Shown, clear_added, clear_failed, clear_reread, clear_unread, depot_added, depot_failed, depot_reread, depot_unread, with_lot}
@@ -123,7 +122,7 @@ cycle_happens d id w =
 abbrev pub lot_added : ℕ → Lot → Shown → Happening
 lot_added number lot w = (
   outcomes.LotOpened (record { number = number; poured = lot.poured; plan = lot.plan }),
-  record w { clear = record w.clear { open_lots = w.clear.open_lots ++ lot ∷ []; lots = w.clear.lots ++ numbered_lot lot.issue lot.plan lot.poured ∷ [] } },
+  record w { clear = record w.clear { open_lots = w.clear.open_lots ++ lot ∷ []; lots = w.clear.lots ++ numbered_lot lot.issue lot.plan ∷ [] } },
 )
 
 -- beside the open lot of the issue, where there is one; there are 1,000,000 numbers
@@ -144,18 +143,15 @@ at_found (Some lot) happening w = if lot.ended then refuse refusal.StaleLot w el
 abbrev pub at_lot : ℕ → (LotState → Happening) → Shown → Happening
 at_lot number happening w = at_found (lot_at w.clear.lots number) happening w
 
--- the shares of its issue that have become free are poured into a lot
-abbrev pub lot_poured : ℕ → ℕ → Shown → LotState → Happening
-lot_poured number shares w lot = (
-  outcomes.Poured shares,
-  with_lot number (with_pour shares lot) (record w { clear = record w.clear { open_lots = lots_poured w.clear.records lot.issue w.clear.open_lots } }),
+-- the shares of an issue that have become free are poured into its lot
+abbrev pub lot_poured : ℕ → Shown → Happening
+lot_poured issue w = (
+  outcomes.Poured (free_of (orders_of w.clear.records) w.clear.open_lots issue),
+  record w { clear = record w.clear { open_lots = lots_poured w.clear.records issue w.clear.open_lots } },
 )
 
 abbrev pub pour_happens : ℕ → Shown → Happening
-pour_happens number w =
-    at_lot number
-    (λ (lot : LotState).
-    if w.clear.down then refuse refusal.Down w else lot_poured number (free_of (orders_of w.clear.records) w.clear.open_lots lot.issue) w lot) w
+pour_happens number w = at_lot number (λ (lot : LotState). if w.clear.down then refuse refusal.Down w else lot_poured lot.issue w) w
 
 -- a member's ticket, by its turn
 abbrev pub turn_taken : ℕ → ℕ → Turn → Shown → LotState → Happening
@@ -170,7 +166,7 @@ reserve_happens number member w = at_lot number (λ (lot : LotState). turn_taken
 
 -- looks change nothing
 abbrev pub look_poured_happens : ℕ → Shown → Happening
-look_poured_happens number w = at_lot number (λ (lot : LotState). (outcomes.LookedPoured lot.poured, w)) w
+look_poured_happens number w = at_lot number (λ (lot : LotState). (outcomes.LookedPoured (lent_of w.clear.open_lots lot.issue), w)) w
 
 abbrev pub look_asked_happens : ℕ → Shown → Happening
 look_asked_happens number w = at_lot number (λ (lot : LotState). (outcomes.LookedAsked (asked_sum lot.tickets) lot.sealed, w)) w
@@ -205,7 +201,7 @@ lot_closed_beside (p ∷ rest) d number w lot = refuse refusal.Unserved w
 -- of a node that is up: a sealed lot is closed whoever waits
 abbrev pub lot_closed_up : Decision → ℕ → Shown → LotState → Happening
 lot_closed_up d number w lot =
-    if lot.sealed then lot_closed_met d number w lot else lot_closed_beside (waiting lot.plan lot.tickets) d number w lot
+    if lot.sealed then lot_closed_met d number w lot else lot_closed_beside lot.turns d number w lot
 
 -- the close of a lot of this number
 abbrev pub close_happens : Decision → ℕ → Shown → Happening

@@ -1,12 +1,13 @@
 -- The lots in the order of their numbers, which are counted from 1, and what each call answers and leaves (this project's own
 -- rules). A refusal leaves all as it was.
-use Rattle.std.specs.Prelude.{◌≡◌, ℕ, ◌-◌, ◌==◌, true, false, List, All, Option, Some, None, Result, Ok, Err, IsSomeAnd, slice_get, slice_set, if◌then◌else◌}
+use Rattle.std.specs.Prelude.{◌≡◌, ℕ, ◌-◌, ◌==◌, true, false, List, Option, Some, None, Result, Ok, Err, IsSomeAnd, slice_get, slice_set, if◌then◌else◌}
 use Rattle.cns_pool.specs.declared.ticket.Ticket.{Ticket}
+use Rattle.cns_allocate.specs.declared.planned.Planned.{Planned}
 use Rattle.cns_allocate.specs.declared.turns.Turn.TheVariants as turn
 use Rattle.cns_records.specs.declared.clear_record.ClearRecord.{ClearRecord}
 use Rattle.cns_records.specs.declared.refusal.Refusal.{Refusal}
 use Rattle.cns_records.specs.declared.refusal.Refusal.TheVariants as refusal
-use Rattle.cns_system.specs.Lot.{LotState, IsLot, IsPlanOf, turn_in, ticket_in, with_ticket}
+use Rattle.cns_system.specs.Lot.{LotState, IsOfPlan, IsPlanOf, turn_in, ticket_in, with_ticket}
 
 -- the lot of a number, where it was given
 abbrev pub lot_at : List LotState → ℕ → Option LotState
@@ -16,13 +17,19 @@ lot_at lots number = if number == 0 then None else slice_get lots (number - 1)
 abbrev pub update_at : List LotState → ℕ → LotState → List LotState
 update_at lots number new = slice_set lots (number - 1) new
 
--- what holds of each lot
-abbrev pub AreLotsLawful : List LotState → Type 0
-AreLotsLawful lots = All IsLot lots
+-- the lots, and for how many more there is room
+pub record LotsRoom : Type 0 where
+  pub lots : List LotState
+  pub room : ℕ
 
--- the plan of each lot that has not ended is that of its issue, as a first part of the clearing node's records has it
+-- a lot is of a plan of its issue, as a first part of the clearing node's records has it; and each lot that has not ended is
+pub record IsPlanned (c : List ClearRecord) (lot : LotState) : Type 0 where
+  pub plan : List Planned
+  pub of : IsPlanOf c lot.issue plan
+  pub is : IsOfPlan plan lot
+
 abbrev pub ArePlanned : List ClearRecord → List LotState → Type 0
-ArePlanned c lots = (number : ℕ) (lot : LotState) → lot_at lots number ≡ Some lot → lot.ended ≡ false → IsPlanOf c lot.issue lot.plan
+ArePlanned c lots = (number : ℕ) (lot : LotState) → lot_at lots number ≡ Some lot → lot.ended ≡ false → IsPlanned c lot
 
 -- a lot was opened with the number and has not ended, and this holds of it
 abbrev pub HasOpenLot : List LotState → ℕ → (LotState → Type 0) → Type 0

@@ -1,7 +1,6 @@
 -- A clearing node with its lots by number, and what each call answers and leaves (this project's own rules). A refusal tells that
 -- those named before it did not apply; only `Device` leaves anything changed.
 use Rattle.std.specs.Prelude.{◌≡◌, ◌≢◌, ◌⊎◌, ℕ, ◌+◌, ◌<◌, ◌≤◌, true, false, List, [], ◌∷◌, ◌++◌, length, Some, None, Result, Ok, Err}
-use Rattle.cns_allocate.specs.Served.{waiting}
 use Rattle.cns_clearing.specs.Answers.{LotCloseLeaves, LotOpenLeaves, LotPourLeaves}
 use Rattle.cns_clearing.specs.Lots.{avail_in, plan_in}
 use Rattle.cns_clearing.specs.Node.{ClearNode}
@@ -10,7 +9,7 @@ use Rattle.cns_clearing.specs.declared.lot.Lot.{Lot}
 use Rattle.cns_clearing.specs.declared.answer.Closed.{Closed}
 use Rattle.cns_records.specs.declared.refusal.Refusal.{Refusal}
 use Rattle.cns_records.specs.declared.refusal.Refusal.TheVariants as refusal
-use Rattle.cns_system.specs.Lot.{LotState, new_lot, with_end, with_pour}
+use Rattle.cns_system.specs.Lot.{LotState, IsOfPlan, new_lot, with_end}
 use Rattle.cns_system.specs.Lots.{lot_at, update_at, HasEndedLot, HasOpenLot}
 use Rattle.cns_system.specs.declared.numbered.Opened.{Opened}
 
@@ -19,29 +18,29 @@ pub record NumberedNode : Type 0 where
   pub clear : ClearNode
   pub lots : List LotState
 
--- one of the node's open lots is this one: it is of its issue, and has its plan and what was poured into it
+-- the node has an open lot of its issue, of whose plan it is
 pub record IsTied (open_lots : List Lot) (lot : LotState) : Type 0 where
   pub twin : Lot
   pub found : lot_of open_lots lot.issue ≡ Some twin
-  pub plan : twin.plan ≡ lot.plan
-  pub poured : twin.poured ≡ lot.poured
+  pub is : IsOfPlan twin.plan lot
 
--- each lot that has not ended is one of the node's, and no two of them are of one issue
+-- of each lot that has not ended the node has the open lot of its issue, and no two of them are of one issue
 pub record AreTied (open_lots : List Lot) (lots : List LotState) : Type 0 where
   pub each : (number : ℕ) (lot : LotState) → lot_at lots number ≡ Some lot → lot.ended ≡ false → IsTied open_lots lot
   pub once : (m n : ℕ) (k l : LotState) → lot_at lots m ≡ Some k → lot_at lots n ≡ Some l → k.ended ≡ false → l.ended ≡ false → k.issue ≡ l.issue → m ≡ n
 
--- an opened lot has the next number, all shares of the issue that are there, and its plan
+-- an opened lot has the next number, all shares of the issue that are there, at most 10^18, and its plan
 pub record IsOpened (node : NumberedNode) (issue : ℕ) (opened : Opened) : Type 0 where
   pub number : opened.number ≡ length node.lots + 1
   pub poured : opened.poured ≡ avail_in node.clear.log.records issue
+  pub few : opened.poured ≤ 1000000000000000000
   pub plan : opened.plan ≡ plan_in node.clear.log.records issue
 
 -- what the opening of a lot leaves, by its answer
 abbrev pub OpenLeaves : ℕ → Result Opened Refusal → NumberedNode → NumberedNode → Type 0
 OpenLeaves issue (Ok opened) old new =
     (length old.lots < 1000000) × IsOpened old issue opened × LotOpenLeaves issue (Ok (plan_in old.clear.log.records issue)) old.clear new.clear
-    × (new.lots ≡ old.lots ++ new_lot issue (plan_in old.clear.log.records issue) opened.poured ∷ [])
+    × (new.lots ≡ old.lots ++ new_lot issue (plan_in old.clear.log.records issue) ∷ [])
 OpenLeaves issue (Err refusal.Down) old new = (old.clear.log.down ≡ true) × (new ≡ old)
 OpenLeaves issue (Err refusal.LotAlready) old new = (old.clear.log.down ≡ false) × (lot_of old.clear.lots issue ≢ None) × (new ≡ old)
 OpenLeaves issue (Err refusal.LotsSpent) old new =
@@ -50,19 +49,18 @@ OpenLeaves issue (Err refusal.OutOfMemory) old new =
     (old.clear.log.down ≡ false) × (lot_of old.clear.lots issue ≡ None) × (length old.lots < 1000000) × (new ≡ old)
 OpenLeaves issue (Err _) old new = ⊥
 
--- what a pour leaves, by its answer: what the node pours into the lot of the issue is poured into the lot of the number
+-- what a pour leaves, by its answer: the node pours into its lot of the issue of the lot of the number
 abbrev pub PourLeaves : ℕ → Result ℕ Refusal → NumberedNode → NumberedNode → Type 0
 PourLeaves number (Ok shares) old new =
-    HasOpenLot old.lots number
-    (λ (lot : LotState). LotPourLeaves lot.issue (Ok shares) old.clear new.clear × (new.lots ≡ update_at old.lots number (with_pour shares lot)))
+    HasOpenLot old.lots number (λ (lot : LotState). LotPourLeaves lot.issue (Ok shares) old.clear new.clear) × (new.lots ≡ old.lots)
 PourLeaves number (Err refusal.NoLot) old new = (lot_at old.lots number ≡ None) × (new ≡ old)
 PourLeaves number (Err refusal.StaleLot) old new = HasEndedLot old.lots number × (new ≡ old)
 PourLeaves number (Err refusal.Down) old new = HasOpenLot old.lots number (λ (lot : LotState). old.clear.log.down ≡ true) × (new ≡ old)
 PourLeaves number (Err _) old new = ⊥
 
--- a lot is sealed, or each member of its plan has a ticket
+-- a lot is sealed, or nobody waits for a ticket of it
 abbrev pub IsMet : LotState → Type 0
-IsMet lot = (lot.sealed ≡ true) ⊎ (waiting lot.plan lot.tickets ≡ [])
+IsMet lot = (lot.sealed ≡ true) ⊎ (lot.turns ≡ [])
 
 -- what a close leaves, by its answer: the node closes the lot of the issue with the tickets and the seal of the lot of the number
 abbrev pub CloseLeaves : ℕ → Result Closed Refusal → NumberedNode → NumberedNode → Type 0
@@ -74,7 +72,7 @@ CloseLeaves number (Err refusal.NoLot) old new = (lot_at old.lots number ≡ Non
 CloseLeaves number (Err refusal.StaleLot) old new = HasEndedLot old.lots number × (new ≡ old)
 CloseLeaves number (Err refusal.Down) old new = HasOpenLot old.lots number (λ (lot : LotState). old.clear.log.down ≡ true) × (new ≡ old)
 CloseLeaves number (Err refusal.Unserved) old new =
-    HasOpenLot old.lots number (λ (lot : LotState). (old.clear.log.down ≡ false) × (lot.sealed ≡ false) × (waiting lot.plan lot.tickets ≢ [])) × (new ≡ old)
+    HasOpenLot old.lots number (λ (lot : LotState). (old.clear.log.down ≡ false) × (lot.sealed ≡ false) × (lot.turns ≢ [])) × (new ≡ old)
 CloseLeaves number (Err refusal.NumbersSpent) old new =
     HasOpenLot old.lots number
     (λ (lot : LotState). IsMet lot × LotCloseLeaves lot.issue lot.tickets lot.sealed (Err refusal.NumbersSpent) old.clear new.clear) × (new ≡ old)

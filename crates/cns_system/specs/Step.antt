@@ -18,6 +18,8 @@ use Rattle.cns_depository.specs.declared.fault.DepFault.TheVariants as fault
 use Rattle.cns_clearing.specs.Answers.{CycleLeaves, ReplyLeaves, SettingLeaves, TradeLeaves}
 use Rattle.cns_clearing.specs.Books.{orders_of}
 use Rattle.cns_clearing.specs.Node.{ClearNode, RestartLeaves}
+use Rattle.cns_clearing.specs.Pools.{lent_of}
+use Rattle.cns_clearing.specs.declared.lot.Lot.{Lot}
 use Rattle.cns_journal.specs.declared.record_log.ReplayFault.{ReplayFault}
 use Rattle.cns_journal.specs.declared.record_log.Restarted.{Restarted}
 use Rattle.cns_pool.specs.Pool.{asked_sum}
@@ -47,13 +49,13 @@ ByNode Leaves result old new = Leaves result old.clear new.clear × (new.lots �
 abbrev pub ByLots : {R : Type 0} → (R → List LotState → List LotState → Type 0) → R → NumberedNode → NumberedNode → Type 0
 ByLots Leaves result old new = Leaves result old.lots new.lots × (new.clear ≡ old.clear)
 
--- what a lot shows
-abbrev pub shown : LotState → Look
-shown lot = record { poured = lot.poured; asked = asked_sum lot.tickets; sealed = lot.sealed }
+-- what a lot shows beside the node's open lots: the shares that are lent to it, those of its tickets, and its seal
+abbrev pub shown : List Lot → LotState → Look
+shown open_lots lot = record { poured = lent_of open_lots lot.issue; asked = asked_sum lot.tickets; sealed = lot.sealed }
 
 -- a look at a lot changes nothing
 abbrev pub Looks : ℕ → Result Look Refusal → NumberedNode → NumberedNode → Type 0
-Looks number result old new = LotGives (λ (lot : LotState) (look : Look). look ≡ shown lot) number result old.lots × (new ≡ old)
+Looks number result old new = LotGives (λ (lot : LotState) (look : Look). look ≡ shown old.clear.lots lot) number result old.lots × (new ≡ old)
 
 -- a restart of the clearing node ends all lots, also where it is refused
 abbrev pub ClearRestarts : Result Restarted ReplayFault → NumberedNode → NumberedNode → Type 0

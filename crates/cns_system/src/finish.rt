@@ -49,30 +49,16 @@ impl<C: Keeper, D: Keeper> Floor<C, D> {
         ensures strict { AreStrict self.old.system → AreStrict self.new.system }
         ensures numbers { NumbersRise self.old.system self.new.system }
     {
-        let told = self.finish_lot(alloc, lot, tickets, failed);
-        self.lawful();
-        told
-    }
-
-    // Enters what the workers of a busy lot drew, and ends the lot, as `finish` does.
-    fn finish_lot(
-        &mut self,
-        alloc: Global,
-        lot: u64,
-        tickets: &[Ticket],
-        failed: bool,
-    ) -> Result<Vec<Outcome>, AllocError>
-        ensures ok { IfOk result (λ told. FinishGives lot tickets.now failed told.items self.old self.new.system) }
-        ensures tickets { IfOk result (λ told. AreOfOnePlan self.old.system.clear.clear.log.records told.items) }
-        ensures err { OnErr result (self.new.system ≡ self.old.system) }
-        ensures memory { OnErr result (busy_at self.old.busy lot ≢ None) }
-        ensures busy { self.new.busy ≡ without_busy lot self.old.busy }
-        ensures strict { AreStrict self.old.system → AreStrict self.new.system }
-        ensures numbers { NumbersRise self.old.system self.new.system }
-    {
         match self.release(lot) {
-            Some(sealed) => self.enter(alloc, lot, tickets, failed || sealed),
-            None => Ok(Vec::new(alloc)),
+            Some(sealed) => {
+                let told = self.enter(alloc, lot, tickets, failed || sealed);
+                self.lawful();
+                told
+            }
+            None => {
+                self.lawful();
+                Ok(Vec::new(alloc))
+            }
         }
     }
 
@@ -108,7 +94,7 @@ impl<C: Keeper, D: Keeper> Floor<C, D> {
         ensures busy { self.new.busy ≡ self.old.busy }
     {
         let drawn = self.draw_each(lot, tickets, told);
-        self.lots_lawful();
+        self.planned();
         match drawn {
             Ok(()) => self.end(lot, sealed, told),
             Err(refusal) => told.push_reserved(Outcome::Refused(refusal)),

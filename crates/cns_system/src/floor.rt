@@ -5,7 +5,7 @@ ghost use Rattle.cns_system.specs.Finish.{IsReleased, IsUnserved};
 ghost use Rattle.cns_system.specs.Floor.{AreInOrder, BySystem, FloorStep, IsLawfulFloor, IsPlaceOf, NamesLot, NumbersRise, PourFits, SparesBusy, UnlessBusy, busy_at, busy_with_look, busy_with_pour, busy_with_seal, is_open, served_at, with_busy};
 ghost use Rattle.cns_system.specs.Headline.{AreStrict};
 ghost use Rattle.cns_system.specs.Lot.{planned_sum};
-ghost use Rattle.cns_system.specs.Lots.{AreLotsLawful, ArePlanned};
+ghost use Rattle.cns_system.specs.Lots.{ArePlanned};
 ghost use Rattle.cns_system.specs.Numbered.{OpenLeaves};
 ghost use Rattle.cns_system.specs.Readers.{PlanStep, counts_of, unconfirmed};
 ghost use Rattle.cns_system.specs.Run.{Occurs};
@@ -13,7 +13,7 @@ ghost use Rattle.cns_system.specs.Scene.{Plans, scene_of};
 ghost use Rattle.cns_system.specs.declared.event.Event.TheVariants.{LookAsked, LookPoured, LotOpen, LotPour, Seal};
 ghost use Rattle.cns_system.specs.declared.outcome.Outcome.TheVariants.{LotOpened};
 
-use crate::entry::{MAX_POURED, shares};
+use crate::entry::shares;
 use crate::event::{Event, NodeName};
 use crate::lots::LotBook;
 use crate::numbered::{MAX_LOTS, Opened, plan_of};
@@ -28,6 +28,9 @@ use cns_records::Refusal;
 use std::alloc::{AllocError, Global};
 use std::marker::Model;
 use std::sync::Arc;
+
+// The most shares that are poured into a cell.
+const MAX_POURED: u64 = 1_000_000_000_000_000_000;
 
 // A lot that workers serve: its number, its cell, and the seat that feeds the cell.
 #[derive(Drop)]
@@ -143,7 +146,7 @@ impl<C: Keeper, D: Keeper> Model for Floor<C, D> {
 
     ghost view = { λ f. record { system = f.system; busy = f.busy.items } };
 
-    ghost invariant = { λ f. AreBusy f.system.clear.lots f.busy.items };
+    ghost invariant = { λ f. AreBusy f.system.clear f.busy.items };
 }
 
 impl<C: Keeper, D: Keeper> Floor<C, D> {
@@ -239,14 +242,12 @@ impl<C: Keeper, D: Keeper> Floor<C, D> {
         ensures ok { IfOk result (λ begun. IsBegun issue begun self.old self.new) }
         ensures err { IfErr result (λ outcome. IsNotBegun issue outcome self.old self.new) }
     {
+        self.system.agreed();
         let Ok(cell) = prepare(alloc, &self.system, &mut self.busy, issue) else {
             return Err(not_opened(&self.system, issue));
         };
         match open_lot(&mut self.system, issue) {
-            Ok(opened) => {
-                self.system.lots().lawful();
-                Ok(hand_out(&mut self.busy, opened, cell))
-            }
+            Ok(opened) => Ok(hand_out(&mut self.busy, opened, cell)),
             Err(outcome) => Err(outcome),
         }
     }
@@ -269,12 +270,10 @@ impl<C: Keeper, D: Keeper> Floor<C, D> {
         self.system.agreed();
     }
 
-    // Does nothing, and tells what is so of the lots.
-    pub(crate) fn lots_lawful(&self)
-        ensures lots { AreLotsLawful self.now.system.clear.lots }
-        ensures planned { ArePlanned self.now.system.clear.clear.log.records self.now.system.clear.lots }
+    // Does nothing, and tells of which plans the lots are.
+    pub(crate) fn planned(&self)
+        ensures { ArePlanned self.now.system.clear.clear.log.records self.now.system.clear.lots }
     {
-        self.system.lots().lawful();
         self.system.agreed();
     }
 
@@ -300,6 +299,7 @@ impl<C: Keeper, D: Keeper> Floor<C, D> {
         requires { SparesBusy event self.old }
         ensures { BySystem event result self.old self.new }
     {
+        self.system.agreed();
         self.system.step(event)
     }
 
@@ -318,9 +318,9 @@ impl<C: Keeper, D: Keeper> Floor<C, D> {
     fn pour(&mut self, lot: u64) -> Outcome
         ensures { FloorStep (LotPour lot) result self.old self.new }
     {
+        self.system.agreed();
         match self.system.step(Event::LotPour { lot }) {
             Outcome::Poured { shares } => {
-                self.system.lots().lawful();
                 pour_into(&mut self.busy, lot, shares);
                 Outcome::Poured { shares }
             }
@@ -385,7 +385,7 @@ impl<C: Keeper, D: Keeper> Floor<C, D> {
 
 // Whether a lot was opened with the number and has not ended.
 fn is_open(lots: &LotBook, number: u64) -> bool
-    ensures { result ≡ is_open lots.now number }
+    ensures { result ≡ is_open lots.now.lots number }
 {
     lots.issue(number).is_ok()
 }

@@ -1,10 +1,9 @@
-ghost use Rattle.std.specs.Prelude.{◌≡◌, ◌↔◌, ◌⊎◌, ◌+◌, ◌-◌, ◌^◌, ◌<◌, ◌≤◌, true, [], ◌∷◌, ◌++◌, length, map, take, IfOk, OnErr, OnOk, IsTrue};
+ghost use Rattle.std.specs.Prelude.{◌≡◌, ◌↔◌, ◌⊎◌, ◌-◌, ◌^◌, ◌<◌, ◌≤◌, true, [], ◌∷◌, ◌++◌, length, map, IfOk, OnErr, OnOk, IsTrue};
 ghost use Rattle.cns_pool.specs.Pool.{asked_sum};
-ghost use Rattle.cns_allocate.specs.Served.{waiting};
-ghost use Rattle.cns_system.specs.Lot.{new_lot, planned_sum, with_end, with_pour, with_seal};
-ghost use Rattle.cns_system.specs.Lots.{lot_at, update_at, AreLotsLawful, LotGives, LotLeaves, HasOpenLot, ReserveLeaves, WouldReserve};
+ghost use Rattle.cns_system.specs.Lot.{new_lot, planned_sum, with_end, with_seal};
+ghost use Rattle.cns_system.specs.Lots.{LotGives, LotLeaves, ReserveLeaves, WouldReserve};
 
-use crate::entry::{Look, LotEntry};
+use crate::entry::LotEntry;
 use cns_allocate::{Plan, Planned};
 use cns_ids::{Cusip, MemberNo};
 use cns_pool::Ticket;
@@ -14,32 +13,28 @@ use std::marker::Model;
 
 /// The lots by number: 1, 2, 3 and so on, in the order of their opening. No number is given again.
 ///
-/// Each lot gives the shares that are poured into it to the members of a plan, who draw tickets from
-/// it until it is sealed. A number that was given finds its lot until the lot ends. (This project's own
-/// rules.)
+/// The members of a lot's plan draw tickets from it, each in its turn, until it is sealed. A number that
+/// was given finds its lot until the lot ends. (This project's own rules.)
 ///
-/// Contracts see the lots in the order of their numbers.
+/// Contracts see the lots in the order of their numbers, and beside them for how many more there is room.
 #[derive(Drop)]
 pub struct LotBook {
     lots: Vec<LotEntry>,
 }
 
 impl Model for LotBook {
-    ghost use Rattle.std.specs.Prelude.{List};
-    ghost use Rattle.cns_system.specs.Lot.{LotState};
-    ghost use Rattle.cns_system.specs.Lots.{AreLotsLawful};
+    ghost use Rattle.std.specs.Prelude.{◌-◌, length, vec_capacity};
+    ghost use Rattle.cns_system.specs.Lots.{LotsRoom};
 
-    ghost Value = { List LotState };
+    ghost Value = { LotsRoom };
 
-    ghost view = { λ b. b.lots.items };
-
-    ghost invariant = { λ b. AreLotsLawful b.lots.items };
+    ghost view = { λ b. record { lots = b.lots.items; room = vec_capacity b.lots - length b.lots.items } };
 }
 
 impl LotBook {
     /// No lots. It takes no memory.
     pub fn new(alloc: Global) -> LotBook
-        ensures { result ≡ [] }
+        ensures { result.lots ≡ [] }
     {
         LotBook {
             lots: Vec::new(alloc),
@@ -48,34 +43,51 @@ impl LotBook {
 
     /// How many lots were opened, which is the highest number that was given.
     pub fn len(&self) -> u64
-        ensures { result ≡ length self.now }
+        ensures { result ≡ length self.now.lots }
     {
         self.lots.len() as u64
     }
 
     /// Whether no lot was opened.
     pub fn is_empty(&self) -> bool
-        ensures { IsTrue result ↔ (self.now ≡ []) }
+        ensures { IsTrue result ↔ (self.now.lots ≡ []) }
     {
         self.lots.is_empty()
     }
 
-    /// Opens a lot of an issue with these shares poured into it, and gives its number. It has no
-    /// tickets, and is not sealed.
+    /// Opens a lot of an issue, of which each member of a plan may draw a ticket in its turn, and gives its
+    /// number. It has no tickets, and is not sealed.
     ///
-    /// The plan may ask for at most 10^18 shares in all, and at most 10^18 shares may be poured.
-    pub fn open(&mut self, issue: Cusip, plan: &Plan, poured: u64) -> Result<u64, AllocError>
-        requires planned { planned_sum plan.now ≤ 10 ^ 18 }
-        requires poured { poured ≤ 10 ^ 18 }
-        ensures ok { OnOk result (self.new ≡ self.old ++ new_lot issue plan.now poured ∷ []) }
-        ensures number { IfOk result (λ number. number ≡ length self.new) }
-        ensures err { OnErr result (self.new ≡ self.old) }
-        ensures lawful { AreLotsLawful self.new }
+    /// The plan may ask for at most 10^18 shares in all.
+    pub fn open(&mut self, issue: Cusip, plan: &Plan) -> Result<u64, AllocError>
+        requires { planned_sum plan.now ≤ 10 ^ 18 }
+        ensures ok { OnOk result (self.new.lots ≡ self.old.lots ++ new_lot issue plan.now ∷ []) }
+        ensures number { IfOk result (λ number. number ≡ length self.new.lots) }
+        ensures err { OnErr result (self.new.lots ≡ self.old.lots) }
     {
-        let alloc = *self.lots.allocator();
-        let lot = LotEntry::open(alloc, issue, plan, poured)?;
-        self.lots.push(lot)?;
-        Ok(self.len())
+        let lot = self.prepare(issue, plan)?;
+        Ok(self.add(lot))
+    }
+
+    // Makes a lot as it is opened, and room for it.
+    pub(crate) fn prepare(&mut self, issue: Cusip, plan: &Plan) -> Result<LotEntry, AllocError>
+        requires { planned_sum plan.now ≤ 10 ^ 18 }
+        ensures lot { IfOk result (λ lot. lot ≡ new_lot issue plan.now) }
+        ensures room { OnOk result (0 < self.new.room) }
+        ensures same { self.new.lots ≡ self.old.lots }
+    {
+        self.lots.reserve(1)?;
+        LotEntry::open(*self.lots.allocator(), issue, plan)
+    }
+
+    // Adds a lot, for which there is room, and gives its number. It takes no memory.
+    pub(crate) fn add(&mut self, lot: LotEntry) -> u64
+        requires { 0 < self.old.room }
+        ensures lots { self.new.lots ≡ self.old.lots ++ lot ∷ [] }
+        ensures number { result ≡ length self.new.lots }
+    {
+        self.lots.push_reserved(lot);
+        self.len()
     }
 
     /// Draws a member's ticket, of all the shares that are planned for it, which starts where the
@@ -85,8 +97,7 @@ impl LotBook {
     /// its ticket, a planned member of an earlier group has no ticket yet, or the lot is sealed, and
     /// told the first of these that applies. A refusal changes nothing.
     pub fn reserve(&mut self, number: u64, member: MemberNo) -> Result<Ticket, Refusal>
-        ensures leaves { ReserveLeaves number member result self.old self.new }
-        ensures lawful { AreLotsLawful self.new }
+        ensures { ReserveLeaves number member result self.old.lots self.new.lots }
     {
         let index = self.place(number)?;
         let lot = &mut self.lots[index];
@@ -95,30 +106,14 @@ impl LotBook {
 
     // What `reserve` of a member would answer.
     pub(crate) fn next_ticket(&self, number: u64, member: MemberNo) -> Result<Ticket, Refusal>
-        ensures { WouldReserve number member result self.now }
+        ensures { WouldReserve number member result self.now.lots }
     {
         self.find(number)?.next_ticket(member)
     }
 
-    /// What was poured into a lot, the shares of its tickets, and whether it is sealed.
-    pub fn look(&mut self, number: u64) -> Result<Look, Refusal>
-        ensures shown { LotGives (λ lot shown. shown ≡ record {
-          poured = lot.poured;
-          asked = asked_sum lot.tickets;
-          sealed = lot.sealed;
-        }) number result self.old }
-        ensures same { self.new ≡ self.old }
-        ensures lawful { AreLotsLawful self.new }
-    {
-        let index = self.place(number)?;
-        let lot = &mut self.lots[index];
-        Ok(lot.look())
-    }
-
     /// Seals a lot: no ticket is drawn from it from now on. A sealed lot stays as it is.
     pub fn seal(&mut self, number: u64) -> Result<(), Refusal>
-        ensures leaves { LotLeaves with_seal number result self.old self.new }
-        ensures lawful { AreLotsLawful self.new }
+        ensures { LotLeaves with_seal number result self.old.lots self.new.lots }
     {
         let index = self.place(number)?;
         let lot = &mut self.lots[index];
@@ -126,88 +121,71 @@ impl LotBook {
         Ok(())
     }
 
-    /// Pours shares into a lot that has not ended, possibly none. A sealed lot takes them too.
-    ///
-    /// At most 10^18 shares may be poured into a lot in all.
-    pub fn pour(&mut self, number: u64, shares: u64)
-        requires { HasOpenLot self.old number (λ lot. lot.poured + shares ≤ 10 ^ 18) }
-        ensures after { HasOpenLot self.old number (λ lot. self.new ≡ update_at self.old number (with_pour shares lot)) }
-        ensures lawful { AreLotsLawful self.new }
-    {
-        let index = (number - 1) as usize;
-        let lot = &mut self.lots[index];
-        lot.pour(shares);
-    }
-
-    /// Ends a lot.
+    /// Ends a lot. What it held goes.
     pub fn end(&mut self, number: u64) -> Result<(), Refusal>
-        ensures leaves { LotLeaves with_end number result self.old self.new }
-        ensures lawful { AreLotsLawful self.new }
+        ensures { LotLeaves with_end number result self.old.lots self.new.lots }
     {
         let index = self.place(number)?;
+        let alloc = self.allocator();
         let lot = &mut self.lots[index];
-        lot.end();
+        lot.end(alloc);
         Ok(())
     }
 
     /// Ends each lot.
     pub fn end_all(&mut self)
-        ensures after { self.new ≡ map with_end self.old }
-        ensures lawful { AreLotsLawful self.new }
+        ensures { self.new.lots ≡ map with_end self.old.lots }
     {
-        end_each(&mut self.lots);
+        let alloc = self.allocator();
+        end_each(alloc, &mut self.lots);
     }
 
     /// The issue of a lot.
     pub fn issue(&self, number: u64) -> Result<Cusip, Refusal>
-        ensures { LotGives (λ lot issue. issue ≡ lot.issue) number result self.now }
+        ensures { LotGives (λ lot issue. issue ≡ lot.issue) number result self.now.lots }
     {
         Ok(self.find(number)?.issue())
     }
 
-    /// The members that a lot's plan has, in the plan's order.
-    pub fn planned(&self, number: u64) -> Result<&[Planned], Refusal>
-        ensures value { LotGives (λ lot plan. plan.now ≡ lot.plan) number result self.now }
-        ensures lawful { AreLotsLawful self.now }
+    /// The members that wait for a ticket of a lot, in the order of its plan.
+    pub fn waiting(&self, number: u64) -> Result<&[Planned], Refusal>
+        ensures { LotGives (λ lot members. members.now ≡ lot.turns) number result self.now.lots }
     {
-        Ok(self.find(number)?.planned())
+        Ok(self.find(number)?.waiting())
     }
 
     /// The tickets of a lot, in the order in which they were drawn.
     pub fn tickets(&self, number: u64) -> Result<&[Ticket], Refusal>
-        ensures value { LotGives (λ lot tickets. tickets.now ≡ lot.tickets) number result self.now }
-        ensures lawful { AreLotsLawful self.now }
+        ensures { LotGives (λ lot tickets. tickets.now ≡ lot.tickets) number result self.now.lots }
     {
         Ok(self.find(number)?.tickets())
     }
 
+    /// The shares of a lot's tickets.
+    pub fn asked(&self, number: u64) -> Result<u64, Refusal>
+        ensures { LotGives (λ lot asked. asked ≡ asked_sum lot.tickets) number result self.now.lots }
+    {
+        Ok(self.find(number)?.asked())
+    }
+
     /// Whether a lot is sealed.
     pub fn is_sealed(&self, number: u64) -> Result<bool, Refusal>
-        ensures { LotGives (λ lot sealed. sealed ≡ lot.sealed) number result self.now }
+        ensures { LotGives (λ lot sealed. sealed ≡ lot.sealed) number result self.now.lots }
     {
         Ok(self.find(number)?.is_sealed())
     }
 
-    /// Whether a lot is sealed, or each member of its plan has a ticket.
+    /// Whether a lot is sealed, or nobody waits for a ticket of it.
     pub fn is_served(&self, number: u64) -> Result<bool, Refusal>
-        ensures value { LotGives (λ lot served. IsTrue served
-            ↔ ((lot.sealed ≡ true) ⊎ (waiting lot.plan lot.tickets ≡ []))) number result self.now }
-        ensures lawful { AreLotsLawful self.now }
+        ensures { LotGives (λ lot served. IsTrue served
+            ↔ ((lot.sealed ≡ true) ⊎ (lot.turns ≡ []))) number result self.now.lots }
     {
         Ok(self.find(number)?.is_served())
     }
 
-    // Does nothing, and tells what is so of each lot.
-    pub(crate) fn lawful(&self)
-        ensures { AreLotsLawful self.now }
-    {
-        let _lots = &self.lots;
-    }
-
     // The lot of a number.
     pub(crate) fn find(&self, number: u64) -> Result<&LotEntry, Refusal>
-        ensures gives { LotGives (λ lot entry. entry.now ≡ lot) number result self.now }
-        ensures lawful { AreLotsLawful self.now }
+        ensures { LotGives (λ lot entry. entry.now ≡ lot) number result self.now.lots }
     {
         let index = self.place(number)?;
         Ok(&self.lots[index])
@@ -218,18 +196,10 @@ impl LotBook {
         *self.lots.allocator()
     }
 
-    // Takes back the lot that was opened last, whose number was given to nobody yet.
-    pub(crate) fn withdraw(&mut self)
-        ensures after { self.new ≡ take (length self.old - 1) self.old }
-    {
-        let _latest = self.lots.pop();
-    }
-
     // The place of the lot of a number.
     fn place(&self, number: u64) -> Result<usize, Refusal>
-        ensures gives { LotGives (λ _ index. index ≡ number - 1) number result self.now }
-        ensures within { IfOk result (λ index. index < length self.now) }
-        ensures lawful { AreLotsLawful self.now }
+        ensures gives { LotGives (λ _ index. index ≡ number - 1) number result self.now.lots }
+        ensures within { IfOk result (λ index. index < length self.now.lots) }
     {
         let lots = &self.lots;
         if number == 0 || number > lots.len() as u64 {
@@ -244,11 +214,11 @@ impl LotBook {
 }
 
 // Ends each of these lots.
-fn end_each(lots: &mut Vec<LotEntry>)
+fn end_each(alloc: Global, lots: &mut Vec<LotEntry>)
     ensures { lots.new.items ≡ map with_end lots.old.items }
 {
     for index in 0..lots.len() {
         let one = &mut lots[index];
-        one.end();
+        one.end(alloc);
     }
 }

@@ -1,13 +1,15 @@
 ghost use Rattle.std.specs.Prelude.{◌≡◌, ◌^◌, ◌≤◌, [], length, map, IfOk};
 ghost use Rattle.cns_records.specs.declared.clear_record.ClearRecord.TheVariants.{Exempt, Priority};
 ghost use Rattle.cns_clearing.specs.Answers.{CycleLeaves, ReplyLeaves, SettingLeaves, TradeLeaves};
+ghost use Rattle.cns_allocate.specs.Plan.{IsPlan};
 ghost use Rattle.cns_clearing.specs.Lots.{plan_in};
 ghost use Rattle.cns_clearing.specs.Node.{NodePlanned, RestartLeaves};
-ghost use Rattle.cns_pool.specs.Pool.{asked_sum};
+ghost use Rattle.cns_clearing.specs.Pools.{lent_of};
 ghost use Rattle.cns_system.specs.Lot.{planned_sum, with_end, with_seal};
-ghost use Rattle.cns_system.specs.Lots.{AreLotsLawful, LotGives, LotLeaves, ReserveLeaves};
+ghost use Rattle.cns_system.specs.Lots.{LotGives, LotLeaves, ReserveLeaves};
 ghost use Rattle.cns_system.specs.Numbered.{AreTied, CloseLeaves, OpenLeaves, PourLeaves};
 ghost use Rattle.cns_system.specs.Readers.{unconfirmed, without_reply};
+ghost use Rattle.cns_system.specs.Step.{shown};
 
 use crate::entry::Look;
 use crate::lots::LotBook;
@@ -38,8 +40,9 @@ pub struct Opened {
 
 /// The clearing node, with its lots by number.
 ///
-/// Each lot that has not ended is the node's open lot of its issue, with the same plan and the same
-/// shares poured, and its tickets serve the plan. (This project's own rules.)
+/// The node has the open lot of the issue of each lot that has not ended, with its plan and its shares; the lot by
+/// number has the tickets, which serve that plan as far as they go, and those who wait for one. (This
+/// project's own rules.)
 ///
 /// Contracts see the node, and the lots in the order of their numbers.
 #[derive(Drop)]
@@ -53,9 +56,9 @@ impl<K: Keeper> Model for NumberedClearing<K> {
 
     ghost Value = { NumberedNode };
 
-    ghost view = { λ n. record { clear = n.node; lots = n.lots } };
+    ghost view = { λ n. record { clear = n.node; lots = n.lots.lots } };
 
-    ghost invariant = { λ n. AreTied n.node.lots n.lots };
+    ghost invariant = { λ n. AreTied n.node.lots n.lots.lots };
 }
 
 impl<K: Keeper> NumberedClearing<K> {
@@ -88,9 +91,9 @@ impl<K: Keeper> NumberedClearing<K> {
 
     /// The lots by number.
     pub fn book(&self) -> &LotBook
-        ensures lots { result.now ≡ self.now.lots }
+        ensures lots { result.now.lots ≡ self.now.lots }
 
-        // Each lot that has not ended is the node's open lot of its issue.
+        // Each lot that has not ended is of the plan of the node's open lot of its issue.
         ensures tied { AreTied self.now.clear.lots self.now.lots }
     {
         &self.lots
@@ -130,18 +133,13 @@ impl<K: Keeper> NumberedClearing<K> {
         let plan = plan_of(&self.node, issue)?;
         let answer = plan.copy(self.lots.allocator())?;
         let poured = self.node.free(issue) as u64;
-        let number = self.lots.open(issue, &plan, poured)?;
-        match self.node.lot_open_with(issue, plan) {
-            Ok(()) => Ok(Opened {
-                number,
-                poured,
-                plan: answer,
-            }),
-            Err(_) => {
-                self.lots.withdraw();
-                Err(Refusal::OutOfMemory)
-            }
-        }
+        let lot = self.lots.prepare(issue, &plan)?;
+        self.node.lot_open_with(issue, plan)?;
+        Ok(Opened {
+            number: self.lots.add(lot),
+            poured,
+            plan: answer,
+        })
     }
 
     /// Draws a member's ticket from a lot, of all the shares that are planned for it, which starts
@@ -158,15 +156,15 @@ impl<K: Keeper> NumberedClearing<K> {
     }
 
     /// What was poured into a lot, the shares of its tickets, and whether it is sealed.
-    pub fn look(&mut self, number: u64) -> Result<Look, Refusal>
-        ensures shown { LotGives (λ lot shown. shown ≡ record {
-          poured = lot.poured;
-          asked = asked_sum lot.tickets;
-          sealed = lot.sealed;
-        }) number result self.old.lots }
-        ensures same { self.new ≡ self.old }
+    pub fn look(&self, number: u64) -> Result<Look, Refusal>
+        ensures { LotGives (λ lot look. look ≡ shown self.now.clear.lots lot) number result self.now.lots }
     {
-        self.lots.look(number)
+        let lot = self.lots.find(number)?;
+        Ok(Look {
+            poured: lent(&self.node, lot.issue()),
+            asked: lot.asked(),
+            sealed: lot.is_sealed(),
+        })
     }
 
     /// Seals a lot: no ticket is drawn from it from now on. A sealed lot stays as it is.
@@ -191,7 +189,6 @@ impl<K: Keeper> NumberedClearing<K> {
         let Ok(shares) = self.node.lot_pour(issue) else {
             unreachable!()
         };
-        self.lots.pour(number, shares);
         Ok(shares)
     }
 
@@ -279,13 +276,24 @@ impl<K: Keeper> NumberedClearing<K> {
     }
 }
 
+// The shares that are lent to the open lot of an issue.
+fn lent<K: Keeper>(node: &Clearing<K>, issue: Cusip) -> u64
+    ensures { result ≡ lent_of node.now.lots issue }
+{
+    match node.lot(issue) {
+        Some(lot) => lot.poured.count(),
+        None => 0,
+    }
+}
+
 // The plan that a lot of an issue would have if it were opened now.
 pub(crate) fn plan_of<K: Keeper>(node: &Clearing<K>, issue: Cusip) -> Result<Plan, AllocError>
     ensures plan { IfOk result (λ plan. plan ≡ plan_in node.now.log.records issue) }
     ensures small { IfOk result (λ plan. planned_sum plan ≤ 10 ^ 18) }
+    ensures lawful { IfOk result IsPlan }
 {
     let plan = node.lot_plan(issue)?;
-    // As the book is small, so is what the plan asks for in all.
+    // As the book is small, so is what the plan asks for in all, and of each member.
     let _book = node.book();
     Ok(plan)
 }

@@ -158,7 +158,7 @@ impl<C: Keeper, D: Keeper> Pair<C, D> {
 
     /// The lots by number.
     pub(crate) fn lots(&self) -> &LotBook
-        ensures { result.now ≡ self.now.clear.lots }
+        ensures { result.now.lots ≡ self.now.clear.lots }
     {
         self.clear.book()
     }
@@ -193,7 +193,7 @@ impl<C: Keeper, D: Keeper> Pair<C, D> {
 
     /// Does nothing, and tells what each node knows of its own records: each of them may stand after those
     /// before it; in each issue the clearing node's longs, shorts and pool balance; and each lot that has not
-    /// ended is the node's open lot of its issue, with the plan of its opening.
+    /// ended is of the plan of the node's open lot of its issue, which is that of its opening.
     pub(crate) fn lawful(&self)
         ensures lawful { AreLawful self.now }
         ensures balanced { IsBalanced self.now }

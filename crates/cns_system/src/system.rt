@@ -124,7 +124,7 @@ impl<C: Keeper, D: Keeper> System<C, D> {
 
     /// The lots by number, those that have ended among them.
     pub fn lots(&self) -> &LotBook
-        ensures { result.now ≡ self.now.clear.lots }
+        ensures { result.now.lots ≡ self.now.clear.lots }
     {
         self.pair.lots()
     }

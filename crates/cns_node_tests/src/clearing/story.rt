@@ -106,12 +106,20 @@ fn restarts(node: &mut Node, wanted: Restarted) -> bool {
     node.restart() == Ok(wanted) && !node.is_down()
 }
 
+// Whether a node has lots of just these issues open.
+fn are_open(rt: &impl Abort, alloc: Global, node: &Node, wanted: &[Cusip]) -> bool {
+    let open = node.open_lots(alloc).expect(rt, "memory");
+    let same = open.as_slice() == wanted && node.has_open_lots() == !wanted.is_empty();
+    drop(open);
+    same
+}
+
 // Whether a node has this lot of an issue open.
 fn holds(node: &Node, issue: Cusip, wanted: (u64, u64, u64)) -> bool {
     let Some(lot) = node.lot(issue) else {
         return false;
     };
-    (lot.opened, lot.upto, lot.poured.count()) == wanted && node.has_open_lots()
+    (lot.opened, lot.upto, lot.poured.count()) == wanted
 }
 
 fn is_row(row: &PoolRow, issue: Cusip, wanted: (u128, u128, u128)) -> bool {
@@ -146,8 +154,10 @@ fn closes(
 fn shows(rt: &impl Abort, alloc: Global, node: &Node, step: &Step) -> bool {
     let issue = apple(rt);
     match step {
-        Step::Holds(opened, upto, poured) => holds(node, issue, (*opened, *upto, *poured)),
-        Step::NoLot => node.lot(issue).is_none() && !node.has_open_lots(),
+        Step::Holds(opened, upto, poured) => {
+            holds(node, issue, (*opened, *upto, *poured)) && are_open(rt, alloc, node, &[issue])
+        }
+        Step::NoLot => node.lot(issue).is_none() && are_open(rt, alloc, node, &[]),
         Step::Shows(position, free) => {
             node.position(member_of(rt, 1), issue) == *position && node.free(issue) == *free
         }

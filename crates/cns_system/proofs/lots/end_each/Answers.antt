@@ -6,6 +6,6 @@ pub loop-index-preserved : goal.loop-index-preserved
 loop-index-preserved c = record {
   ended =
       ended_more c.args.lots.now.items c.loop-index.lots.items c.loop-index.index c.index_mut-one.result.now c.end.new.self c.loop-index.invariant.ended (omega arith)
-      c.index_mut-one.ensures.value c.end.ensures.after;
+      c.index_mut-one.ensures.value c.end.ensures;
   len = length-set _ _ _ ∙ c.loop-index.invariant.len;
 }

@@ -1,6 +1,5 @@
 use Rattle.std.proofs.Common.{subst}
 use Rattle.cns_system.specs.Floor.{FloorState, IsLawfulFloor}
-use Rattle.cns_system.proofs.FloorLemmas.{all_lent}
 use Rattle.cns_system.proofs.floor.Floor.lawful.Goals as goal
 
 pub returns : goal.returns
@@ -10,6 +9,5 @@ returns g c =
       accord = c.agreed.ensures.accord;
       headline = c.agreed.ensures.headline;
       busy = c.self.invariant;
-      lent = all_lent c.self.inside.system.clear c.self.inside.busy.items c.agreed.ensures.tied c.self.invariant;
     } in
     subst IsLawfulFloor c.self.view_is lawful

@@ -1,6 +1,5 @@
 use Rattle.std.proofs.Common.{refl, subst, sym}
 use Rattle.cns_system.specs.Floor.{AreBusy}
-use Rattle.cns_system.specs.Lots.{AreLotsLawful}
 use Rattle.cns_system.specs.declared.outcome.Outcome.TheVariants as outcomes
 use Rattle.cns_system.proofs.FloorLemmas.{not_poured, pour_fits, pour_kept}
 use Rattle.cns_system.proofs.floor.Floor.pour.Goals as goal
@@ -8,14 +7,13 @@ use Rattle.cns_system.proofs.floor.Floor.pour.Goals as goal
 pub pour_into-requires-clause-fits : goal.pour_into-requires-clause-fits
 pour_into-requires-clause-fits g c =
     pour_fits c.args.lot c.in-Poured.shares (outcomes.Poured c.in-Poured.shares) c.self.inside.system c.step.new.self c.self.inside.busy.items c.in-Poured.ensures.step refl c.self.invariant
-    (subst AreLotsLawful c.lots.ensures c.lawful.ensures)
 
 pub invariant_of-self : goal.invariant_of-self
 invariant_of-self g c =
-    subst (AreBusy c.step.new.self.clear.lots) (sym c.pour_into.ensures)
-    (pour_kept c.args.lot (outcomes.Poured c.in-Poured.shares) c.self.inside.system c.step.new.self c.self.inside.busy.items c.in-Poured.ensures.step c.self.invariant)
+    subst (AreBusy c.step.new.self.clear) (sym c.pour_into.ensures)
+    (pour_kept c.args.lot (outcomes.Poured c.in-Poured.shares) c.self.inside.system c.step.new.self c.self.inside.busy.items c.agreed.ensures.tied c.in-Poured.ensures.step c.self.invariant)
 
 pub invariant_of-self-in_default : goal.invariant_of-self-in_default
 invariant_of-self-in_default g c =
-    subst (AreBusy c.step.new.self.clear.lots) (not_poured c.step.result c.args.lot c.self.inside.busy.items c.in_default.not-Poured)
-    (pour_kept c.args.lot c.step.result c.self.inside.system c.step.new.self c.self.inside.busy.items c.step.ensures.step c.self.invariant)
+    subst (AreBusy c.step.new.self.clear) (not_poured c.step.result c.args.lot c.self.inside.busy.items c.in_default.not-Poured)
+    (pour_kept c.args.lot c.step.result c.self.inside.system c.step.new.self c.self.inside.busy.items c.agreed.ensures.tied c.step.ensures.step c.self.invariant)

@@ -8,7 +8,7 @@ pub invariant_of-self : goal.invariant_of-self
 invariant_of-self g c =
     let f : FloorState = record { system = c.self.inside.system; busy = c.self.inside.busy.items } in
     let left = left_busy f c.args.lot c.in_ok-place.place c.as_slice.result.now c.remove-one.new.self.items c.as_slice.ensures.value c.in_ok-place.ensures c.remove-one.ensures.by_index.2 c.self.invariant.order in
-    subst (AreBusy c.self.inside.system.clear.lots) (sym left) (still_busy c.args.lot c.self.inside.system.clear.lots c.self.inside.busy.items c.self.invariant)
+    subst (AreBusy c.self.inside.system.clear) (sym left) (still_busy c.args.lot c.self.inside.system.clear c.self.inside.busy.items c.self.invariant)
 
 pub returns-clause-released : goal.returns-clause-released
 returns-clause-released g c =

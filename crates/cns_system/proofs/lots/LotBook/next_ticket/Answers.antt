@@ -8,8 +8,8 @@ use Rattle.cns_system.proofs.lots.LotBook.next_ticket.Goals as goal
 
 pub returns-in_err-find : goal.returns-in_err-find
 returns-in_err-find c =
-    passed_on (λ (r : Result Ticket Refusal). WouldReserve c.args.number c.args.member r c.args.self.now) c.from_residual.result c.in_err-find.field-0.0 c.from_residual.ensures.0
-    c.from_residual.ensures.1 (no_lot {X = LotState} c.args.number c.args.member c.in_err-find.field-0.0 c.args.self.now (λ (l k : LotState). k ≡ l) c.in_err-find.ensures.gives)
+    passed_on (λ (r : Result Ticket Refusal). WouldReserve c.args.number c.args.member r c.args.self.now.lots) c.from_residual.result c.in_err-find.field-0.0 c.from_residual.ensures.0
+    c.from_residual.ensures.1 (no_lot {X = LotState} c.args.number c.args.member c.in_err-find.field-0.0 c.args.self.now.lots (λ (l k : LotState). k ≡ l) c.in_err-find.ensures)
 
 pub returns : goal.returns
-returns c = would_found c.args.number c.args.member c.next_ticket.result c.args.self.now c.in_ok-find.field-0.now c.in_ok-find.ensures.gives c.next_ticket.ensures.would
+returns c = would_found c.args.number c.args.member c.next_ticket.result c.args.self.now.lots c.in_ok-find.field-0.now c.in_ok-find.ensures c.next_ticket.ensures

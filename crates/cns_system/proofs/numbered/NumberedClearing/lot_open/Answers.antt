@@ -3,8 +3,8 @@ use Rattle.cns_clearing.specs.Pools.{lot_of}
 use Rattle.cns_system.proofs.NumberedLemmas.{open_tied}
 use Rattle.cns_system.proofs.numbered.NumberedClearing.lot_open.Goals as goal
 
-pub invariant_of-self-in-Ok : goal.invariant_of-self-in-Ok
-invariant_of-self-in-Ok g c =
+pub invariant_of-self-2 : goal.invariant_of-self-2
+invariant_of-self-2 g c =
     let none : lot_of c.self.inside.node.lots c.args.issue ≡ None = search rules in
-    open_tied c.self.inside.node c.lot_open_with.new.self c.self.inside.lots c.open.new.self c.args.issue c.free-poured.result c.in_ok-plan.plan c.self.invariant none
-    c.in-Ok.ensures.ok c.in_ok-plan.ensures.plan c.free-poured.ensures.value c.in_ok-number.ensures.ok
+    open_tied c.self.inside.node c.lot_open_with.new.self c.self.inside.lots.lots c.add.new.self.lots c.args.issue c.in_ok-plan.plan c.in_ok-lot.lot c.self.invariant none
+    (search rules) c.in_ok-plan.ensures.plan c.in_ok-plan.ensures.lawful c.in_ok-lot.ensures.lot (search rules)

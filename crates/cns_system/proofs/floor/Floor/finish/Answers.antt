@@ -4,11 +4,11 @@ use Rattle.cns_system.specs.Finish.{AreOfOnePlan}
 use Rattle.cns_system.specs.World.{World}
 use Rattle.cns_system.proofs.FinishLemmas.{finish_goes, finish_told, released_gone, released_rest, released_system}
 use Rattle.cns_system.proofs.OnePlanLemmas.{nothing_drawn}
-use Rattle.cns_system.proofs.floor.Floor.finish_lot.Goals as goal
-use Rattle.cns_system.proofs.floor.Floor.finish_lot.Goals.{then-failed, else-failed}
+use Rattle.cns_system.proofs.floor.Floor.finish.Goals as goal
+use Rattle.cns_system.proofs.floor.Floor.finish.Goals.{then-failed, else-failed}
 
-pub enter-requires-clause-free : goal.enter-requires-clause-free
-enter-requires-clause-free g c = released_gone c.args.lot c.in-Some.sealed c.args.self.now c.release.new.self c.in-Some.ensures.released
+pub enter-told-requires-clause-free : goal.enter-told-requires-clause-free
+enter-told-requires-clause-free g c = released_gone c.args.lot c.in-Some.sealed c.args.self.now c.release.new.self c.in-Some.ensures.released
 
 pub returns-after-failed-clause-ok : goal.returns-after-failed-clause-ok
 returns-after-failed-clause-ok g c =
@@ -17,23 +17,23 @@ returns-after-failed-clause-ok g c =
       | then-failed w ↦ w.enter-is ∙ w.if-failed.true ∙ ap (λ (t : Bool). t || c.in-Some.sealed) (sym w.if-failed.true)
       | else-failed w ↦ w.enter-is ∙ ap (λ (t : Bool). t || c.in-Some.sealed) (sym w.if-failed.false)
     ] in
-    finish_told (λ told. told.items) c.args.lot c.args.tickets.now c.args.failed c.in-Some.sealed c.if-failed.enter c.enter.result c.args.self.now c.release.new.self c.enter.new.self.system
-    c.in-Some.ensures.released either c.enter.ensures.ok
+    finish_told (λ told. told.items) c.args.lot c.args.tickets.now c.args.failed c.in-Some.sealed c.if-failed.enter c.enter-told.result c.args.self.now c.release.new.self c.enter-told.new.self.system
+    c.in-Some.ensures.released either c.enter-told.ensures.ok
 
 pub returns-after-failed-clause-tickets : goal.returns-after-failed-clause-tickets
 returns-after-failed-clause-tickets g c =
-    subst (λ (w : World). IfOk c.enter.result (λ told. AreOfOnePlan w.clear.clear.log.records told.items))
-    (released_system c.args.lot c.in-Some.sealed c.args.self.now c.release.new.self c.in-Some.ensures.released) c.enter.ensures.tickets
+    subst (λ (w : World). IfOk c.enter-told.result (λ told. AreOfOnePlan w.clear.clear.log.records told.items))
+    (released_system c.args.lot c.in-Some.sealed c.args.self.now c.release.new.self c.in-Some.ensures.released) c.enter-told.ensures.tickets
 
 pub returns-after-failed-clause-strict : goal.returns-after-failed-clause-strict
 returns-after-failed-clause-strict g c =
-    (finish_goes (λ told. told.items) c.args.lot c.args.tickets.now c.in-Some.sealed c.if-failed.enter c.enter.result c.args.self.now c.release.new.self c.enter.new.self.system
-    c.in-Some.ensures.released c.enter.ensures.ok c.enter.ensures.err).strict
+    (finish_goes (λ told. told.items) c.args.lot c.args.tickets.now c.in-Some.sealed c.if-failed.enter c.enter-told.result c.args.self.now c.release.new.self c.enter-told.new.self.system
+    c.in-Some.ensures.released c.enter-told.ensures.ok c.enter-told.ensures.err).strict
 
 pub returns-after-failed-clause-numbers : goal.returns-after-failed-clause-numbers
 returns-after-failed-clause-numbers g c =
-    (finish_goes (λ told. told.items) c.args.lot c.args.tickets.now c.in-Some.sealed c.if-failed.enter c.enter.result c.args.self.now c.release.new.self c.enter.new.self.system
-    c.in-Some.ensures.released c.enter.ensures.ok c.enter.ensures.err).rises
+    (finish_goes (λ told. told.items) c.args.lot c.args.tickets.now c.in-Some.sealed c.if-failed.enter c.enter-told.result c.args.self.now c.release.new.self c.enter-told.new.self.system
+    c.in-Some.ensures.released c.enter-told.ensures.ok c.enter-told.ensures.err).rises
 
 pub returns-in-None-clause-busy : goal.returns-in-None-clause-busy
 returns-in-None-clause-busy g c = released_rest c.args.lot c.release.result c.args.self.now c.release.new.self c.release.ensures.released
