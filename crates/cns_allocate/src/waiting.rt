@@ -1,4 +1,4 @@
-ghost use Rattle.std.specs.Prelude.{◌≡◌, ◌↔◌, ◌<◌, ◌≤◌, ◌==◌, [], drop, find, length, slice_index_or, true, IsTrue};
+ghost use Rattle.std.specs.Prelude.{◌≡◌, ◌↔◌, ◌<◌, ◌≤◌, ◌==◌, [], drop, find, length, replicate, slice_index_or, true, IsTrue};
 ghost use Rattle.cns_allocate.specs.Plan.{IsPlan};
 ghost use Rattle.cns_allocate.specs.Served.{is_after_others, turn_of, without};
 ghost use Rattle.cns_allocate.specs.Waiting.{ArePlaces, is_placed, placed};
@@ -42,7 +42,8 @@ impl<'a> Waiting<'a> {
         requires plan { IsPlan plan.now }
         ensures { result ≡ plan.now }
     {
-        let places = places_of(plan);
+        let mut places = [0; MEMBERS];
+        place_each(&mut places, plan);
         let first = first_placed(plan, &places, 0);
         Waiting {
             plan,
@@ -100,18 +101,16 @@ impl<'a> Waiting<'a> {
     }
 }
 
-// By member number the place of each one in the plan, counted from 1.
-#[inline(always)]
-fn places_of(plan: &[Planned]) -> [u16; MEMBERS]
+// Sets by member number the place of each one in the plan, counted from 1, in a table in which nobody has one.
+fn place_each(places: &mut [u16; MEMBERS], plan: &[Planned])
     requires plan { IsPlan plan.now }
-    ensures places { ArePlaces plan.now result }
-    ensures all { placed result plan.now ≡ plan.now }
+    requires none { places.old ≡ replicate 10000 0 }
+    ensures places { ArePlaces plan.now places.new }
+    ensures all { placed places.new plan.now ≡ plan.now }
 {
-    let mut places = [0; MEMBERS];
     for (place, planned) in plan.iter().enumerate() {
         places[usize::from(planned.member.number())] = place as u16 + 1;
     }
-    places
 }
 
 // The place of the first one that has a place in the table, from `start` on; the plan's length where

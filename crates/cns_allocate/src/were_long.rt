@@ -1,4 +1,4 @@
-ghost use Rattle.std.specs.Prelude.{◌≡◌};
+ghost use Rattle.std.specs.Prelude.{◌≡◌, false, replicate};
 ghost use Rattle.cns_allocate.specs.Plan.{is_among};
 ghost use Rattle.cns_allocate.specs.WereLong.{AreAmong};
 
@@ -33,7 +33,8 @@ impl<'a> WereLong<'a> {
     pub(crate) fn of(members: &'a [MemberNo]) -> WereLong<'a>
         ensures { result ≡ members.now }
     {
-        let among = table_of(members);
+        let mut among = [false; MEMBERS];
+        set_each(&mut among, members);
         WereLong { members, among }
     }
 
@@ -45,14 +46,12 @@ impl<'a> WereLong<'a> {
     }
 }
 
-// By member number whether it is one of these members.
-#[inline(always)]
-fn table_of(members: &[MemberNo]) -> [bool; MEMBERS]
-    ensures { AreAmong members.now result }
+// Sets by member number whether it is one of these members, in a table in which nobody is.
+fn set_each(among: &mut [bool; MEMBERS], members: &[MemberNo])
+    requires { among.old ≡ replicate 10000 false }
+    ensures { AreAmong members.now among.new }
 {
-    let mut among = [false; MEMBERS];
     for member in members {
         among[usize::from(member.number())] = true;
     }
-    among
 }

@@ -3,7 +3,7 @@ use Rattle.std.specs.Prelude.{All}
 use Rattle.cns_allocate.specs.Waiting.{ArePlaces, is_placed}
 use Rattle.cns_allocate.specs.declared.planned.Planned.{Planned}
 use Rattle.cns_allocate.proofs.WaitingLemmas.{HasMember}
-use Rattle.cns_allocate.proofs.waiting.places_of.Given as goal
+use Rattle.cns_allocate.proofs.waiting.place_each.Given as goal
 
 abbrev pub invariant-loop-place : goal.invariant-loop-place
 invariant-loop-place l = record {

@@ -1,10 +1,10 @@
-use Rattle.std.proofs.Common.{◌≡◌, ◌<◌, ◌∙◌, ap, drop, length, length-set, refl, true, arith}
+use Rattle.std.proofs.Common.{◌≡◌, ◌<◌, ◌∙◌, ap, drop, length, length-set, true, arith}
 use Rattle.std.proofs.lemmas.List.{drop_all}
 use Rattle.cns_allocate.proofs.TableLemmas.{all_set, none_set, one_set}
-use Rattle.cns_allocate.proofs.were_long.table_of.Goals as goal
+use Rattle.cns_allocate.proofs.were_long.set_each.Goals as goal
 
 pub loop-member-init : goal.loop-member-init
-loop-member-init c = record { coming = none_set c.args.members.now; size = refl }
+loop-member-init c = record { coming = rw c.requires (none_set c.args.members.now); size = ap length c.requires }
 
 pub loop-member-preserved : goal.loop-member-preserved
 loop-member-preserved c =

@@ -1,10 +1,16 @@
-use Rattle.std.proofs.Common.{◌≡◌, ◌<◌, ◌≤◌, ◌+◌, ◌∙◌, length, length-set, refl, arith}
+use Rattle.std.proofs.Common.{◌≡◌, ◌<◌, ◌≤◌, ◌+◌, ◌∙◌, ap, arith, length, length-set, subst, sym}
 use Rattle.std.proofs.lemmas.List.Elements.{All-nil}
+use Rattle.cns_allocate.specs.Waiting.{ArePlaces}
 use Rattle.cns_allocate.proofs.WaitingLemmas.{HasMember, first_few, members_more, no_places-are, placed_more, placed_whole, places_more}
-use Rattle.cns_allocate.proofs.waiting.places_of.Goals as goal
+use Rattle.cns_allocate.proofs.waiting.place_each.Goals as goal
 
 pub loop-place-init : goal.loop-place-init
-loop-place-init c = record { size = refl; places_are = no_places-are _ 10000; placed_all = All-nil _; members = All-nil HasMember }
+loop-place-init c = record {
+  size = ap length c.requires.none;
+  places_are = subst (ArePlaces c.args.plan.now) (sym c.requires.none) (no_places-are c.args.plan.now 10000);
+  placed_all = All-nil _;
+  members = All-nil HasMember;
+}
 
 pub overflow_cast-places : goal.overflow_cast-places
 overflow_cast-places c =
