@@ -727,21 +727,34 @@ def kinds(one):
     return [ended.strip()] + [kind_of(line) for line in lines]
 
 
-def main():
-    parser = argparse.ArgumentParser(description='Compares a program with the oracle on random inputs.')
+def input_arguments(description):
+    """The command line of what tries a program on the inputs of a seed."""
+    parser = argparse.ArgumentParser(description=description, formatter_class=argparse.RawDescriptionHelpFormatter)
     parser.add_argument('program')
     parser.add_argument('--seed', type=int, default=1)
     parser.add_argument('--count', type=int, default=1000)
     parser.add_argument('--from', type=int, default=0, dest='first')
+    return parser
+
+
+def found_program(name):
+    """The path of a program; None where there is none, which is then told."""
+    program = shutil.which(name)
+    if program is None:
+        print('no program %s' % name)
+        print('0 passed, 1 failed')
+        return None
+    return os.path.abspath(program)
+
+
+def main():
+    parser = input_arguments('Compares a program with the oracle on random inputs.')
     parser.add_argument('--no-shrink', action='store_true')
     parser.add_argument('--limits', action='store_true')
     given = parser.parse_args()
-    program = shutil.which(given.program)
+    program = found_program(given.program)
     if program is None:
-        print('no program %s' % given.program)
-        print('0 passed, 1 failed')
         return 1
-    program = os.path.abspath(program)
     met, passed = collections.Counter(), 0
     numbers = range(given.first, given.first + given.count)
     inputs = limit_inputs(given.seed) if given.limits else (input_number(given.seed, number) for number in numbers)

@@ -12,7 +12,6 @@ to do; what is checked has no rule of cnsd_oracle.py. Input number i of a seed i
 At the end it is told what was met. The last line is `N passed, M failed`, where N are the inputs of which
 all was as it has to be; the exit status is 0 where M is 0 and N is not.
 """
-import argparse
 import collections
 import csv
 import io
@@ -23,7 +22,7 @@ import sys
 
 sys.path.insert(0, os.path.dirname(os.path.abspath(__file__)))
 import cnsd_oracle  # noqa: E402
-from fuzz import Maker  # noqa: E402
+from fuzz import Maker, found_program, input_arguments  # noqa: E402
 
 SECONDS = 60                # that a run may take
 CNS = 0                     # the CNS account, through which each movement goes
@@ -501,13 +500,10 @@ def try_input(program, seed, number):
 
 
 def main():
-    parser = argparse.ArgumentParser(description=__doc__, formatter_class=argparse.RawDescriptionHelpFormatter)
-    parser.add_argument('program')
-    parser.add_argument('--seed', type=int, default=1)
-    parser.add_argument('--count', type=int, default=1000)
-    parser.add_argument('--from', type=int, default=0, dest='first')
-    asked = parser.parse_args()
-    program = os.path.abspath(asked.program)
+    asked = input_arguments(__doc__).parse_args()
+    program = found_program(asked.program)
+    if program is None:
+        return 1
     passed, failed, met = 0, 0, collections.Counter()
     for number in range(asked.first, asked.first + asked.count):
         found = try_input(program, asked.seed, number)

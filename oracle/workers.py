@@ -21,12 +21,10 @@ With --plain the program is run without `--workers`: one thread's choices are la
 The last line is `N passed, M failed`, where N are the inputs without a difference. The exit status is 0 where M
 is 0 and N is not.
 """
-import argparse
 import collections
 import os
 import random
 import re
-import shutil
 import sys
 
 sys.path.insert(0, os.path.dirname(os.path.abspath(__file__)))
@@ -379,23 +377,17 @@ def tell_met(met, columns):
 
 
 def main():
-    parser = argparse.ArgumentParser(description=__doc__, formatter_class=argparse.RawDescriptionHelpFormatter)
-    parser.add_argument('program')
-    parser.add_argument('--seed', type=int, default=1)
-    parser.add_argument('--count', type=int, default=1000)
-    parser.add_argument('--from', type=int, default=0, dest='first')
+    parser = fuzz.input_arguments(__doc__)
     parser.add_argument('--workers', type=lambda text: [int(word) for word in text.split(',')], default=[1, 2])
     parser.add_argument('--times', type=int, default=1)
     parser.add_argument('--plain', action='store_true')
     given = parser.parse_args()
-    program = shutil.which(given.program)
+    program = fuzz.found_program(given.program)
     if program is None:
-        print('no program %s' % given.program)
-        print('0 passed, 1 failed')
         return 1
     met = collections.Counter()
     for passed, number in enumerate(range(given.first, given.first + given.count)):
-        if not try_input(os.path.abspath(program), given, number, met):
+        if not try_input(program, given, number, met):
             print('%d passed, 1 failed' % passed)
             return 1
     tell_met(met, [0] if given.plain else given.workers)

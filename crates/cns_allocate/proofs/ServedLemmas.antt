@@ -3,6 +3,7 @@ use Rattle.std.proofs.Common.{◌≡◌, ◌≤◌, ◌<◌, ◌+◌, ℕ, suc, 
 use Rattle.std.specs.Prelude.{◌==◌, ◌||◌, ◌&&◌, ◌↔◌, All, AllPairs, IsPermutation, count_by, sum_by, filter, find}
 use Rattle.std.proofs.Math.Bool.{or-false}
 use Rattle.std.proofs.Math.Nat.{le_refl}
+use Rattle.std.proofs.lemmas.List.{drop_all}
 use Rattle.std.proofs.lemmas.List.Elements.{All-cons, All-filter, All-head, All-nil, All-tail}
 use Rattle.std.proofs.lemmas.List.Folds.{list_any-append}
 use Rattle.std.proofs.lemmas.List.Kept.{AllPairs-cons}
@@ -282,16 +283,23 @@ underway-refused plan tickets sealed left start t rest is before refused s =
     let h = before.turns.1 (served-in_turn plan tickets sealed is s) in
     refused (h.0, h.1)
 
+-- where no ticket is left, all steps are taken
+underway-ended : (plan : List Planned) (tickets : List Ticket) (left : List Planned) (start i : ℕ) → length tickets ≤ i
+    → IsUnderway plan tickets left start (drop i tickets) → IsUnderway plan tickets left start []
+underway-ended plan tickets left start i past underway = rw (drop_all i tickets past) at underway
+
 -- the end of the tickets
-pub underway-last : (plan : List Planned) (tickets : List Ticket) (sealed : Bool) (left : List Planned) (start : ℕ) → IsPlan plan
-    → IsUnderway plan tickets left start [] → (sealed ≡ false → left ≡ []) → IsServed plan tickets sealed
-underway-last plan tickets sealed left start is before nobody =
+pub underway-last : (plan : List Planned) (tickets : List Ticket) (sealed : Bool) (left : List Planned) (start i : ℕ) → IsPlan plan
+    → length tickets ≤ i → IsUnderway plan tickets left start (drop i tickets) → (sealed ≡ false → left ≡ []) → IsServed plan tickets sealed
+underway-last plan tickets sealed left start i is past underway nobody =
+    let before = underway-ended plan tickets left start i past underway in
     in_turn-served plan tickets sealed is (before.turns.0 tt) (λ e. sym before.wait ∙ waiting-none left ∙ nobody e)
 
 -- where somebody waits at the end, the lot may not close unsealed
-pub underway-waits : (plan : List Planned) (tickets : List Ticket) (left : List Planned) (start : ℕ) → IsPlan plan
-    → IsUnderway plan tickets left start [] → IsServed plan tickets false → left ≡ []
-underway-waits plan tickets left start is before s = sym (waiting-none left) ∙ before.wait ∙ served_all plan tickets is s
+pub underway-waits : (plan : List Planned) (tickets : List Ticket) (left : List Planned) (start i : ℕ) → IsPlan plan
+    → length tickets ≤ i → IsUnderway plan tickets left start (drop i tickets) → IsServed plan tickets false → left ≡ []
+underway-waits plan tickets left start i is past underway s =
+    let before = underway-ended plan tickets left start i past underway in sym (waiting-none left) ∙ before.wait ∙ served_all plan tickets is s
 
 -- the first of the tickets that are left, and those after it
 pub rest-cons : (ts : List Ticket) (i : ℕ) (t : Ticket) → i < length ts → t ≡ get_or ts i t → drop i ts ≡ t ∷ drop (i + 1) ts

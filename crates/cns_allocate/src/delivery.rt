@@ -4,7 +4,7 @@ ghost use Rattle.cns_pool.specs.Pool.{asked_sum, intervals_of};
 ghost use Rattle.cns_movements.specs.declared.order.Ask.{Ask};
 ghost use Rattle.cns_allocate.specs.Deliveries.{deliveries_of, delivery_ask};
 
-use crate::grants::grant;
+use crate::grant::grant;
 use cns_ids::Cusip;
 use cns_movements::{Ask, Asked, MoveKind};
 use cns_pool::Ticket;

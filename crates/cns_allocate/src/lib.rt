@@ -7,7 +7,7 @@
 
 mod delivery;
 mod gate;
-mod grants;
+mod grant;
 mod group;
 mod plan;
 mod planned;
@@ -21,7 +21,7 @@ mod were_long;
 
 pub use delivery::{deliveries, delivery_count};
 pub use gate::{Gate, OpenGate};
-pub use grants::Grants;
+pub use grant::grants;
 pub use group::Group;
 pub use plan::Plan;
 pub use planned::Planned;

@@ -1,10 +1,10 @@
-ghost use Rattle.std.specs.Prelude.{◌≡◌, ◌↔◌, ◌<◌, ◌==◌, [], length, find, IfOk, IfSome, IsTrue, nat_lt};
-ghost use Rattle.std.specs.List.{position_from};
+ghost use Rattle.std.specs.Prelude.{◌≡◌, ◌↔◌, ◌==◌, [], find, IfOk, IsTrue, nat_lt};
 ghost use Rattle.cns_allocate.specs.Group.{rank};
 ghost use Rattle.cns_allocate.specs.Plan.{IsPlan};
 ghost use Rattle.cns_allocate.specs.Served.{is_after_others, turn_of, without};
 ghost use Rattle.cns_allocate.specs.declared.planned.Planned.{Planned};
 
+use crate::plan::Plan;
 use crate::planned::Planned;
 use cns_ids::MemberNo;
 use std::alloc::{AllocError, Global};
@@ -30,19 +30,16 @@ pub enum Turn {
 /// the order is free. (This project's own rule.) Contracts see the members that wait, in their order.
 #[derive(Debug, Drop)]
 pub struct Turns {
-    list: Vec<Planned>,
+    waiting: Plan,
 }
 
 impl Model for Turns {
     ghost use Rattle.std.specs.Prelude.{List};
-    ghost use Rattle.cns_allocate.specs.Plan.{IsPlan};
     ghost use Rattle.cns_allocate.specs.declared.planned.Planned.{Planned};
 
     ghost Value = { List Planned };
 
-    ghost view = { λ t. t.list.items };
-
-    ghost invariant = { λ t. IsPlan t.list.items };
+    ghost view = { λ t. t.waiting };
 }
 
 impl Turns {
@@ -51,7 +48,7 @@ impl Turns {
         ensures { result ≡ [] }
     {
         Turns {
-            list: Vec::new(alloc),
+            waiting: Plan::new(alloc),
         }
     }
 
@@ -60,15 +57,15 @@ impl Turns {
         requires plan { IsPlan plan.now }
         ensures { IfOk result (λ turns. turns ≡ plan.now) }
     {
-        let list = plan.iter().copied().collect(alloc)?;
-        Ok(Turns { list })
+        let waiting = Plan::from_slice(alloc, plan)?;
+        Ok(Turns { waiting })
     }
 
     /// What a member is answered that asks for a ticket now.
     pub fn turn(&self, member: MemberNo) -> Turn
         ensures { result ≡ turn_of self.now member }
     {
-        match planned_as(self.list.as_slice(), member) {
+        match planned_as(self.waiting.as_slice(), member) {
             None => Turn::NotLong,
             Some(planned) if self.is_after_others(&planned) => Turn::EarlierGroup,
             Some(planned) => Turn::Next {
@@ -81,50 +78,32 @@ impl Turns {
     pub fn serve(&mut self, member: MemberNo)
         ensures { self.new ≡ without member self.old }
     {
-        if let Some(place) = place_of(self.list.as_slice(), member) {
-            self.list.remove(place);
-        }
+        self.waiting.remove(member);
     }
 
     /// The members that wait, in the plan's order.
     pub fn as_slice(&self) -> &[Planned]
-        ensures value { result.now ≡ self.now }
-        ensures lawful { IsPlan self.now }
+        ensures { result.now ≡ self.now }
     {
-        self.list.as_slice()
-    }
-
-    /// How many members wait.
-    pub fn len(&self) -> usize
-        ensures { result ≡ length self.now }
-    {
-        self.list.len()
+        self.waiting.as_slice()
     }
 
     /// Whether no member waits.
     pub fn is_empty(&self) -> bool
         ensures { IsTrue result ↔ (self.now ≡ []) }
     {
-        self.list.is_empty()
+        self.waiting.is_empty()
     }
 
     // Whether a member of an earlier group waits: then the first one is of such a group.
     fn is_after_others(&self, planned: &Planned) -> bool
         ensures { result ≡ is_after_others self.now planned.now }
     {
-        match self.list.first() {
+        match self.waiting.as_slice().first() {
             Some(first) => is_before(first, planned),
             None => false,
         }
     }
-}
-
-// The place of what is planned for a member.
-fn place_of(plan: &[Planned], member: MemberNo) -> Option<usize>
-    ensures place { result ≡ position_from (λ (p : Planned). p.member == member) 0 plan.now }
-    ensures within { IfSome result (λ place. place < length plan.now) }
-{
-    plan.iter().position(|planned| planned.member == member)
 }
 
 // What is planned for a member.

@@ -17,7 +17,7 @@ use Rattle.cns_system.specs.declared.outcome.Outcome.{Outcome}
 use Rattle.cns_report.specs.Outcomes.{outcome_line}
 use Rattle.cns_batch.specs.Acts.{Act, Told, after_text, continued, done, each, gives, happened, tells, followed, times, with_outcome}
 use Rattle.cns_batch.specs.Commands.{ends_with, failed, learned, next_reserved, next_taken, reserved, row_taken}
-use Rattle.cns_batch.specs.Runs.{Continues, Place, RunState, Runs, Stops, Writes, course_at}
+use Rattle.cns_batch.specs.Runs.{Continues, IsNextRow, Place, RunState, Runs, Stops, Writes, course_at}
 
 -- ---- what is written
 
@@ -315,11 +315,16 @@ beside_set a b p q beside is same =
     subst (λ q. Continues a b p q) (sym is) (moves a b p (record p { run = record p.run { beside = beside } }) same refl refl)
 
 -- a row is taken
-pub row_next : (r : Row) (rest : List Row) (p q : Place) → p.run.rows ≡ r ∷ rest → q ≡ record p { run = record p.run { rows = rest } } → Continues next_taken (row_taken r) p q
+row_next : (r : Row) (rest : List Row) (p q : Place) → p.run.rows ≡ r ∷ rest → q ≡ record p { run = record p.run { rows = rest } } → Continues next_taken (row_taken r) p q
 unfolding next_taken
 row_next r rest p q rows is =
     subst (λ q. Continues next_taken (row_taken r) p q) (sym is)
     (moves next_taken (row_taken r) p (record p { run = record p.run { rows = rest } }) (λ more. rw rows refl) refl refl)
+
+pub takes_row : {E : Type 0} (r : Row) (result : Result (Unit {0}) E) (old new : RunState) (sent : Option (List ℕ)) (q : Place) → IsNextRow (Some r) old new
+    → Runs (row_taken r) result (record { run = new; sent = sent }) q → Runs next_taken result (record { run = old; sent = sent }) q
+takes_row r result old new sent q next runs =
+    runs_after next_taken (row_taken r) result _ _ q (row_next r new.rows _ _ next.0 (ap (λ (s : RunState). record { run = s; sent = sent }) next.1)) runs
 
 -- a failure is planned, or is not
 pub fails_next : (name : NodeName) (stands : Bool) (p q : Place) → is_planner name (scene_of p.run.world) ≡ true → scene_of q.run.world ≡ planned name stands (scene_of p.run.world)

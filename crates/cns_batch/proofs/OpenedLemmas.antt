@@ -37,39 +37,20 @@ nothing_given given (inr more) = absurd (none-some more.0 more.1)
 -- ---- both nodes at the start
 
 -- a log that is opened over an empty journal has no records, and what was known of its keeper is known still
-record IsFirst {R : Type 0} (log : LogState R) : Type 0 where
-  records : log.records ≡ []
-  tried : log.tried ≡ None
-  down : log.down ≡ false
-  honest : log.honest ≡ true
-  foresight : log.foresight ≡ record { next = Succeeds; stands = None }
+abbrev first_log : {R : Type 0} → LogState R
+first_log = record { records = []; tried = None; down = false; failures = 0; honest = true; foresight = record { next = Succeeds; stands = None } }
 
-first : {R : Type 0} (spelling : R → List ℕ) (allows : List R → R → Type 0) (log : LogState R) → IsOpened spelling allows new_keeper log → IsFirst log
-first {R} spelling allows log opened = record {
-  records = no_records log.records (no_items spelling (reverse log.records) (nothing_given _ (opened.given refl)));
-  tried = ap (λ (l : LogState R). l.tried) opened.value;
-  down = ap (λ (l : LogState R). l.down) opened.value;
-  honest = ap (λ (l : LogState R). l.honest) opened.value;
-  foresight = ap (λ (l : LogState R). l.foresight) opened.value;
-}
+first : {R : Type 0} (spelling : R → List ℕ) (allows : List R → R → Type 0) (log : LogState R) → IsOpened spelling allows new_keeper log → log ≡ first_log
+first {R} spelling allows log opened =
+    opened.value ∙ ap (λ (rs : List R). record first_log { records = rs }) (no_records log.records (no_items spelling (reverse log.records) (nothing_given _ (opened.given refl))))
 
 pub started_first : (openings : List Opening) (w : World) → IsStarted openings new_keeper new_keeper w → scene_of w ≡ first_scene openings
 started_first openings w started =
-    let c = first spelling IsAllowed w.clear.clear.log started.clear_opens.0 in
-    let p = first dep_spelling (IsExecutable openings) w.depot.log started.depot_opens.0 in
     rw (
-      c.records,
-      c.tried,
-      c.down,
-      c.honest,
-      c.foresight,
+      first spelling IsAllowed w.clear.clear.log started.clear_opens.0,
       started.clear_opens.1,
       started.lots,
-      p.records,
-      p.tried,
-      p.down,
-      p.honest,
-      p.foresight,
+      first dep_spelling (IsExecutable openings) w.depot.log started.depot_opens.0,
       started.depot_opens.1,
       started.orders,
       started.replies,
@@ -100,5 +81,5 @@ none_unopened input clear depot (start.Depot replay.OutOfMemory, long, why) = ab
 none_unopened input clear depot (start.Depot replay.Device, long, (returned, reopened)) = absurd (cc reopened.foreseen.0)
 none_unopened input clear depot (start.Disagree, long, (c, opened, (p, stocked, differs))) =
     differs
-    (nothing_agrees c.log.records p.log.records (first spelling IsAllowed c.log opened.0.0).records
-    (first dep_spelling (IsExecutable input.openings) p.log stocked.0.0).records)
+    (nothing_agrees c.log.records p.log.records (ap (λ (l : LogState ClearRecord). l.records) (first spelling IsAllowed c.log opened.0.0))
+    (ap (λ (l : LogState DepRecord). l.records) (first dep_spelling (IsExecutable input.openings) p.log stocked.0.0)))

@@ -1,5 +1,5 @@
 -- A script, one line after another.
-use Rattle.std.proofs.Common.{◌≡◌, ◌≤◌, ◌<◌, ◌+◌, ℕ, true, false, List, [], ◌∷◌, length, take, drop, Option, Some, None, refl, sym, ap, ◌∙◌, subst, arith}
+use Rattle.std.proofs.Common.{◌≡◌, ◌≤◌, ◌<◌, ◌+◌, ℕ, true, false, List, [], ◌∷◌, length, take, drop, Option, Some, None, Result, refl, sym, ap, ◌∙◌, subst, arith, length-drop}
 use Rattle.std.specs.Prelude.{is_some}
 use Rattle.std.proofs.lemmas.List.{drop-drop, drop_all}
 use Rattle.cns_report.specs.Lines.{line_text as line_bytes}
@@ -7,14 +7,14 @@ use Rattle.cns_report.specs.declared.line.Line.TheVariants as line
 use Rattle.cns_system.specs.declared.event.Event.TheVariants as event
 use Rattle.cns_batch.specs.Acts.{Act, done, followed, tells}
 use Rattle.cns_batch.specs.Commands.{learned, opened_in}
-use Rattle.cns_batch.specs.Run.{begun, command_run, ended, line_counted, line_run, lines_run, waited}
-use Rattle.cns_batch.specs.Runs.{Continues, Place, Stops}
+use Rattle.cns_batch.specs.Run.{begun, beside_begun, command_run, ended, line_counted, line_run, lines_run, waited}
+use Rattle.cns_batch.specs.Runs.{Continues, Place, Runs, Stops, course_at}
 use Rattle.cns_input.specs.Script.{command_of}
 use Rattle.cns_input.specs.Sections.{line_size, line_text, raw_lines}
 use Rattle.cns_input.specs.declared.command.Command.{Command}
 use Rattle.cns_input.specs.declared.command.Command.TheVariants as command
 use Rattle.cns_batch.specs.declared.runner.Beside.{Beside}
-use Rattle.cns_batch.proofs.ActLemmas.{continues_more, followed_gives, stops_after, stops_followed}
+use Rattle.cns_batch.proofs.ActLemmas.{continues_more, followed_gives, runs_as, stops_after, stops_followed}
 use Rattle.cns_input.proofs.SectionLemmas.{lines_step}
 
 -- a line that is neither passed over nor opens a lot beside others
@@ -33,13 +33,27 @@ line_plain n command.Report skip beside = refl
 line_plain n command.Bad skip beside = refl
 
 -- BESIDE where a lot waits, and where none does
-pub begun_again : (waits : Option Beside) (n issue lines : ℕ) → is_some waits ≡ true → begun waits n issue lines ≡ followed (tells (line_bytes (line.BadCommand n))) (λ _. line_counted)
+begun_again : (waits : Option Beside) (n issue lines : ℕ) → is_some waits ≡ true → begun waits n issue lines ≡ followed (tells (line_bytes (line.BadCommand n))) (λ _. line_counted)
 begun_again None n issue lines some = absurd (cc some)
 begun_again (Some beside) n issue lines some = refl
 
-pub begun_first : (waits : Option Beside) (n issue lines : ℕ) → is_some waits ≡ false → begun waits n issue lines ≡ followed (learned (event.LotOpen issue) opened_in) (waited lines)
+begun_first : (waits : Option Beside) (n issue lines : ℕ) → is_some waits ≡ false → begun waits n issue lines ≡ followed (learned (event.LotOpen issue) opened_in) (waited lines)
 begun_first None n issue lines none = refl
 begun_first (Some beside) n issue lines none = absurd (cc none)
+
+pub runs_again : {E : Type 0} (n issue lines : ℕ) (result : Result (Unit {0}) E) (p q : Place) → is_some p.run.beside ≡ true
+    → Runs (followed (tells (line_bytes (line.BadCommand n))) (λ _. line_counted)) result p q → Runs (beside_begun n issue lines) result p q
+unfolding beside_begun
+runs_again n issue lines result p q waits runs =
+    runs_as (beside_begun n issue lines) (followed (tells (line_bytes (line.BadCommand n))) (λ _. line_counted)) result p q
+    (λ more. ap (λ (a : Act (Unit {0})). a (course_at p.run more)) (begun_again p.run.beside n issue lines waits)) runs
+
+pub runs_first : {E : Type 0} (n issue lines : ℕ) (result : Result (Unit {0}) E) (p q : Place) → is_some p.run.beside ≡ false
+    → Runs (followed (learned (event.LotOpen issue) opened_in) (waited lines)) result p q → Runs (beside_begun n issue lines) result p q
+unfolding beside_begun
+runs_first n issue lines result p q waits runs =
+    runs_as (beside_begun n issue lines) (followed (learned (event.LotOpen issue) opened_in) (waited lines)) result p q
+    (λ more. ap (λ (a : Act (Unit {0})). a (course_at p.run more)) (begun_first p.run.beside n issue lines waits)) runs
 
 -- lines that are not empty, by the first
 first_line : (n : ℕ) (xs : List ℕ) → 0 < length xs → lines_run n (raw_lines xs)
@@ -56,9 +70,10 @@ pub record IsLine (script rest line : List ℕ) (c : Command) (at size : ℕ) : 
   pub line_is : line ≡ take size rest
   pub command_is : c ≡ command_of (line_text line)
 
-pub is_line : (script rest line : List ℕ) (c : Command) (at size : ℕ) → rest ≡ drop at script → 0 < length rest → size ≡ line_size rest → line ≡ take size rest
+pub is_line : (script rest line : List ℕ) (c : Command) (at size : ℕ) → rest ≡ drop at script → at < length script → size ≡ line_size rest → line ≡ take size rest
     → c ≡ command_of (line_text line) → IsLine script rest line c at size
-is_line script rest line c at size r some z l k = record { rest_is = r; some = some; size_is = z; line_is = l; command_is = k }
+is_line script rest line c at size r more z l k =
+    record { rest_is = r; some = rw r (omega (arith, length-drop at script, more)); size_is = z; line_is = l; command_is = k }
 
 here : (n : ℕ) (script rest line : List ℕ) (c : Command) (at size : ℕ) → IsLine script rest line c at size
     → lines_run n (raw_lines (drop at script)) ≡ followed (line_run n c) (λ _. lines_run (n + 1) (raw_lines (drop (at + size) script)))

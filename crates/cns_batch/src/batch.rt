@@ -8,7 +8,7 @@ ghost use Rattle.cns_batch.specs.Runs.{Runs};
 ghost use Rattle.cns_input.specs.Sections.{raw_lines};
 ghost use Rattle.cns_batch.specs.Text.{BatchLeaves, KeptLeaves, RunsInput, Tells, WritesNothing, fault_of_rows, fault_of_start, input_of, input_under};
 
-use crate::fault::OutputFault;
+use crate::fault::Told;
 use crate::opening::take_openings;
 use crate::runner::Runner;
 use cns_depository::Openings;
@@ -111,7 +111,7 @@ pub(crate) fn read_parts(alloc: Global, text: &[u8]) -> Result<Parts, BatchFault
 }
 
 // What a run comes to, as a batch.
-pub(crate) fn batch_result(ran: Result<(), OutputFault>) -> Result<(), BatchFault>
+pub(crate) fn batch_result(ran: Told) -> Result<(), BatchFault>
     ensures { result ≡ batch_result ran }
 {
     match ran {
@@ -125,7 +125,7 @@ fn run_whole<C: Keeper, D: Keeper, W: Write>(
     runner: &mut Runner<C, D>,
     script: &[u8],
     writer: &mut W,
-) -> Result<(), OutputFault>
+) -> Told
     ensures runs { Runs (lines_run 1 (raw_lines script.now)) result (record { run = runner.old; sent = W.contents writer.old }) (record { run = runner.new; sent = W.contents writer.new }) }
     ensures none { OnOk result (runner.new.held ≡ []) }
 {

@@ -6,7 +6,7 @@ ghost use Rattle.cns_batch.specs.Acts.{each, times};
 ghost use Rattle.cns_batch.specs.Commands.{all_taken, allocated, ends_with, event_run, failed, is_busy as is_busy_of, is_refused, learned, looked, names_busy as names_busy_of, next_taken, opened_in, order_pumped, pumped, pumped_one, reply_packet, reply_pumped, reported, reserved, sent_packet, served, served_if_open, taken};
 ghost use Rattle.cns_batch.specs.Runs.{Runs};
 
-use crate::fault::OutputFault;
+use crate::fault::Told;
 use crate::runner::{Beside, Runner};
 use cns_allocate::Planned;
 use cns_ids::{Cusip, MemberNo};
@@ -91,7 +91,7 @@ fn ends_with(outcome: &Outcome) -> Option<bool>
 
 impl<C: Keeper, D: Keeper> Runner<C, D> {
     // Takes the next row, where one is left.
-    fn take_next<W: Write>(&mut self, writer: &mut W) -> Result<(), OutputFault>
+    fn take_next<W: Write>(&mut self, writer: &mut W) -> Told
         ensures { Runs next_taken result (record { run = self.old; sent = W.contents writer.old }) (record { run = self.new; sent = W.contents writer.new }) }
     {
         match self.next_row() {
@@ -102,7 +102,7 @@ impl<C: Keeper, D: Keeper> Runner<C, D> {
     }
 
     // Takes the next row so many times.
-    fn take_times<W: Write>(&mut self, count: u64, writer: &mut W) -> Result<(), OutputFault>
+    fn take_times<W: Write>(&mut self, count: u64, writer: &mut W) -> Told
         ensures { Runs (times count next_taken) result (record { run = self.old; sent = W.contents writer.old }) (record { run = self.new; sent = W.contents writer.new }) }
     {
         for _turn in 0..count {
@@ -112,7 +112,7 @@ impl<C: Keeper, D: Keeper> Runner<C, D> {
     }
 
     /// Takes so many of the rows that are left, or all where fewer are.
-    pub(crate) fn take<W: Write>(&mut self, rows: u64, writer: &mut W) -> Result<(), OutputFault>
+    pub(crate) fn take<W: Write>(&mut self, rows: u64, writer: &mut W) -> Told
         ensures { Runs (taken rows) result (record { run = self.old; sent = W.contents writer.old }) (record { run = self.new; sent = W.contents writer.new }) }
     {
         let left = self.rows_left() as u64;
@@ -120,7 +120,7 @@ impl<C: Keeper, D: Keeper> Runner<C, D> {
     }
 
     /// Takes all the rows that are left.
-    pub(crate) fn take_all<W: Write>(&mut self, writer: &mut W) -> Result<(), OutputFault>
+    pub(crate) fn take_all<W: Write>(&mut self, writer: &mut W) -> Told
         ensures { Runs all_taken result (record { run = self.old; sent = W.contents writer.old }) (record { run = self.new; sent = W.contents writer.new }) }
     {
         let left = self.rows_left() as u64;
@@ -128,7 +128,7 @@ impl<C: Keeper, D: Keeper> Runner<C, D> {
     }
 
     // Looks at what was poured into a lot, and answers whether that was refused.
-    fn look_poured<W: Write>(&mut self, lot: u64, writer: &mut W) -> Result<bool, OutputFault>
+    fn look_poured<W: Write>(&mut self, lot: u64, writer: &mut W) -> Told<bool>
         ensures { Runs (learned (event.LookPoured lot) is_refused) result (record { run = self.old; sent = W.contents writer.old }) (record { run = self.new; sent = W.contents writer.new }) }
     {
         let outcome = self.event(Event::LookPoured { lot }, writer)?;
@@ -138,7 +138,7 @@ impl<C: Keeper, D: Keeper> Runner<C, D> {
     }
 
     /// Looks at what was poured into a lot and at what its tickets ask for, in one line.
-    pub(crate) fn look<W: Write>(&mut self, lot: u64, writer: &mut W) -> Result<(), OutputFault>
+    pub(crate) fn look<W: Write>(&mut self, lot: u64, writer: &mut W) -> Told
         ensures { Runs (looked lot) result (record { run = self.old; sent = W.contents writer.old }) (record { run = self.new; sent = W.contents writer.new }) }
     {
         if self.look_poured(lot, writer)? {
@@ -148,7 +148,7 @@ impl<C: Keeper, D: Keeper> Runner<C, D> {
     }
 
     // Sends an order, and answers its packet where it was sent.
-    fn send<W: Write>(&mut self, number: u64, writer: &mut W) -> Result<Option<u64>, OutputFault>
+    fn send<W: Write>(&mut self, number: u64, writer: &mut W) -> Told<Option<u64>>
         ensures { Runs (learned (event.Send number) sent_packet) result (record { run = self.old; sent = W.contents writer.old }) (record { run = self.new; sent = W.contents writer.new }) }
     {
         let outcome = self.event(Event::Send { number }, writer)?;
@@ -158,7 +158,7 @@ impl<C: Keeper, D: Keeper> Runner<C, D> {
     }
 
     // Lets the packet of an order arrive, and answers that of the reply where the order was executed.
-    fn deliver<W: Write>(&mut self, packet: u64, writer: &mut W) -> Result<Option<u64>, OutputFault>
+    fn deliver<W: Write>(&mut self, packet: u64, writer: &mut W) -> Told<Option<u64>>
         ensures { Runs (learned (event.OrderIn packet) reply_packet) result (record { run = self.old; sent = W.contents writer.old }) (record { run = self.new; sent = W.contents writer.new }) }
     {
         let outcome = self.event(Event::OrderIn { packet }, writer)?;
@@ -168,11 +168,7 @@ impl<C: Keeper, D: Keeper> Runner<C, D> {
     }
 
     // Lets the packet of a reply arrive, where there is one.
-    fn pump_reply<W: Write>(
-        &mut self,
-        packet: Option<u64>,
-        writer: &mut W,
-    ) -> Result<(), OutputFault>
+    fn pump_reply<W: Write>(&mut self, packet: Option<u64>, writer: &mut W) -> Told
         ensures { Runs (reply_pumped packet) result (record { run = self.old; sent = W.contents writer.old }) (record { run = self.new; sent = W.contents writer.new }) }
     {
         match packet {
@@ -182,11 +178,7 @@ impl<C: Keeper, D: Keeper> Runner<C, D> {
     }
 
     // Lets the packet of an order arrive, where there is one, and then that of the reply.
-    fn pump_order<W: Write>(
-        &mut self,
-        packet: Option<u64>,
-        writer: &mut W,
-    ) -> Result<(), OutputFault>
+    fn pump_order<W: Write>(&mut self, packet: Option<u64>, writer: &mut W) -> Told
         ensures { Runs (order_pumped packet) result (record { run = self.old; sent = W.contents writer.old }) (record { run = self.new; sent = W.contents writer.new }) }
     {
         let Some(packet) = packet else {
@@ -197,7 +189,7 @@ impl<C: Keeper, D: Keeper> Runner<C, D> {
     }
 
     // Sends an order, and lets its packet and that of the reply arrive; a refusal ends this.
-    fn pump_one<W: Write>(&mut self, number: MoveNo, writer: &mut W) -> Result<(), OutputFault>
+    fn pump_one<W: Write>(&mut self, number: MoveNo, writer: &mut W) -> Told
         ensures { Runs (pumped_one number) result (record { run = self.old; sent = W.contents writer.old }) (record { run = self.new; sent = W.contents writer.new }) }
     {
         let packet = self.send(number.number(), writer)?;
@@ -205,7 +197,7 @@ impl<C: Keeper, D: Keeper> Runner<C, D> {
     }
 
     // Does so with these orders, one after another.
-    fn pump_each<W: Write>(&mut self, numbers: &[MoveNo], writer: &mut W) -> Result<(), OutputFault>
+    fn pump_each<W: Write>(&mut self, numbers: &[MoveNo], writer: &mut W) -> Told
         ensures { Runs (each pumped_one numbers.now) result (record { run = self.old; sent = W.contents writer.old }) (record { run = self.new; sent = W.contents writer.new }) }
     {
         for number in numbers {
@@ -215,7 +207,7 @@ impl<C: Keeper, D: Keeper> Runner<C, D> {
     }
 
     /// Sends each order that is unconfirmed at the start, by number, and lets its packets arrive.
-    pub(crate) fn pump<W: Write>(&mut self, writer: &mut W) -> Result<(), OutputFault>
+    pub(crate) fn pump<W: Write>(&mut self, writer: &mut W) -> Told
         ensures { Runs pumped result (record { run = self.old; sent = W.contents writer.old }) (record { run = self.new; sent = W.contents writer.new }) }
     {
         let numbers = self.system.unconfirmed(self.alloc)?;
@@ -227,7 +219,7 @@ impl<C: Keeper, D: Keeper> Runner<C, D> {
         &mut self,
         issue: Cusip,
         writer: &mut W,
-    ) -> Result<Option<Opened>, OutputFault>
+    ) -> Told<Option<Opened>>
         ensures { Runs (learned (event.LotOpen issue) opened_in) result (record { run = self.old; sent = W.contents writer.old }) (record { run = self.new; sent = W.contents writer.new }) }
     {
         let outcome = self.event(Event::LotOpen { issue }, writer)?;
@@ -235,12 +227,7 @@ impl<C: Keeper, D: Keeper> Runner<C, D> {
     }
 
     // Draws a member's ticket of a lot, and answers what follows where the tickets end with it.
-    fn draw<W: Write>(
-        &mut self,
-        lot: u64,
-        member: MemberNo,
-        writer: &mut W,
-    ) -> Result<Option<bool>, OutputFault>
+    fn draw<W: Write>(&mut self, lot: u64, member: MemberNo, writer: &mut W) -> Told<Option<bool>>
         ensures { Runs (learned (event.Reserve lot member) ends_with) result (record { run = self.old; sent = W.contents writer.old }) (record { run = self.new; sent = W.contents writer.new }) }
     {
         let outcome = self.event(Event::Reserve { lot, member }, writer)?;
@@ -251,12 +238,7 @@ impl<C: Keeper, D: Keeper> Runner<C, D> {
 
     // Draws a ticket for one member of a plan after another, up to a refusal, and answers whether the lot
     // is to be closed then: it is where all have one, or where it is sealed.
-    fn reserve_each<W: Write>(
-        &mut self,
-        lot: u64,
-        plan: &[Planned],
-        writer: &mut W,
-    ) -> Result<bool, OutputFault>
+    fn reserve_each<W: Write>(&mut self, lot: u64, plan: &[Planned], writer: &mut W) -> Told<bool>
         ensures { Runs (reserved lot plan.now) result (record { run = self.old; sent = W.contents writer.old }) (record { run = self.new; sent = W.contents writer.new }) }
     {
         for planned in plan {
@@ -270,11 +252,7 @@ impl<C: Keeper, D: Keeper> Runner<C, D> {
     /// Draws a ticket for each member of an opened lot, and closes it.
     ///
     /// A sealed lot is closed with the tickets that it has. Another refusal ends this.
-    pub(crate) fn serve<W: Write>(
-        &mut self,
-        lot: &Opened,
-        writer: &mut W,
-    ) -> Result<(), OutputFault>
+    pub(crate) fn serve<W: Write>(&mut self, lot: &Opened, writer: &mut W) -> Told
         ensures { Runs (served lot.now) result (record { run = self.old; sent = W.contents writer.old }) (record { run = self.new; sent = W.contents writer.new }) }
     {
         if self.reserve_each(lot.number, lot.plan.as_slice(), writer)? {
@@ -284,11 +262,7 @@ impl<C: Keeper, D: Keeper> Runner<C, D> {
     }
 
     /// Serves a lot, where it was opened.
-    pub(crate) fn serve_if_open<W: Write>(
-        &mut self,
-        lot: Option<Opened>,
-        writer: &mut W,
-    ) -> Result<(), OutputFault>
+    pub(crate) fn serve_if_open<W: Write>(&mut self, lot: Option<Opened>, writer: &mut W) -> Told
         ensures { Runs (served_if_open lot) result (record { run = self.old; sent = W.contents writer.old }) (record { run = self.new; sent = W.contents writer.new }) }
     {
         match lot {
@@ -298,11 +272,7 @@ impl<C: Keeper, D: Keeper> Runner<C, D> {
     }
 
     /// Opens a lot of an issue and serves it.
-    pub(crate) fn allocate<W: Write>(
-        &mut self,
-        issue: Cusip,
-        writer: &mut W,
-    ) -> Result<(), OutputFault>
+    pub(crate) fn allocate<W: Write>(&mut self, issue: Cusip, writer: &mut W) -> Told
         ensures { Runs (allocated issue) result (record { run = self.old; sent = W.contents writer.old }) (record { run = self.new; sent = W.contents writer.new }) }
     {
         let lot = self.open_lot(issue, writer)?;
@@ -310,11 +280,7 @@ impl<C: Keeper, D: Keeper> Runner<C, D> {
     }
 
     /// Lets the event of a command happen. A ticket or a close of the lot that waits is refused.
-    pub(crate) fn run_event<W: Write>(
-        &mut self,
-        event: Event,
-        writer: &mut W,
-    ) -> Result<(), OutputFault>
+    pub(crate) fn run_event<W: Write>(&mut self, event: Event, writer: &mut W) -> Told
         ensures { Runs (event_run event) result (record { run = self.old; sent = W.contents writer.old }) (record { run = self.new; sent = W.contents writer.new }) }
     {
         if names_busy(&self.beside, &event) {
@@ -325,12 +291,7 @@ impl<C: Keeper, D: Keeper> Runner<C, D> {
     }
 
     /// Makes the next commit of a node fail, where its keeper plans failures.
-    pub(crate) fn fail<W: Write>(
-        &mut self,
-        node: NodeName,
-        stands: bool,
-        writer: &mut W,
-    ) -> Result<(), OutputFault>
+    pub(crate) fn fail<W: Write>(&mut self, node: NodeName, stands: bool, writer: &mut W) -> Told
         ensures { Runs (failed node stands) result (record { run = self.old; sent = W.contents writer.old }) (record { run = self.new; sent = W.contents writer.new }) }
     {
         if self.plan(node, stands) {
@@ -340,7 +301,7 @@ impl<C: Keeper, D: Keeper> Runner<C, D> {
     }
 
     /// Tells the report.
-    pub(crate) fn report<W: Write>(&mut self, writer: &mut W) -> Result<(), OutputFault>
+    pub(crate) fn report<W: Write>(&mut self, writer: &mut W) -> Told
         ensures { Runs reported result (record { run = self.old; sent = W.contents writer.old }) (record { run = self.new; sent = W.contents writer.new }) }
     {
         self.write_report()?;

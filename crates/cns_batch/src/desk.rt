@@ -10,7 +10,7 @@ ghost use Rattle.cns_batch.specs.Text.{LeavesSomeKeepers, SaysOf, WritesNothing}
 
 use crate::batch::{Parts, Rows, batch_result, read_parts, run_batch_kept, start_fault};
 use crate::commands::{reply_packet, sent_packet};
-use crate::fault::OutputFault;
+use crate::fault::{OutputFault, Told};
 use crate::lines::Lines;
 use crate::page::Page;
 use crate::untaken::Untaken;
@@ -50,7 +50,7 @@ struct DeskRun<'a, C: Keeper, D: Keeper, G, R> {
 
 impl<'a, C: Keeper, D: Keeper, G: Gate + Sync, R: Threads + Wait + Sync> DeskRun<'a, C, D, G, R> {
     // Lets an event happen, and tells and answers its outcome.
-    fn event<W: Write>(&mut self, event: Event, writer: &mut W) -> Result<Outcome, OutputFault> {
+    fn event<W: Write>(&mut self, event: Event, writer: &mut W) -> Told<Outcome> {
         let outcome = self.desk.lock(self.rt).step(event);
         match self.page.outcome(&event, &outcome, writer) {
             Ok(()) => Ok(outcome),
@@ -62,7 +62,7 @@ impl<'a, C: Keeper, D: Keeper, G: Gate + Sync, R: Threads + Wait + Sync> DeskRun
     }
 
     // Lets an event happen, and tells its outcome.
-    fn single<W: Write>(&mut self, event: Event, writer: &mut W) -> Result<(), OutputFault> {
+    fn single<W: Write>(&mut self, event: Event, writer: &mut W) -> Told {
         let outcome = self.desk.lock(self.rt).step(event);
         let told = self.page.outcome(&event, &outcome, writer);
         drop(outcome);
@@ -70,7 +70,7 @@ impl<'a, C: Keeper, D: Keeper, G: Gate + Sync, R: Threads + Wait + Sync> DeskRun
     }
 
     // Takes a row.
-    fn take_row<W: Write>(&mut self, row: Row, writer: &mut W) -> Result<(), OutputFault> {
+    fn take_row<W: Write>(&mut self, row: Row, writer: &mut W) -> Told {
         match row {
             Row::Trade(trade) => self.single(Event::Trade(trade), writer),
             Row::Fault { row, fault } => self.page.tell(Line::RowFault { row, fault }, writer),
@@ -78,7 +78,7 @@ impl<'a, C: Keeper, D: Keeper, G: Gate + Sync, R: Threads + Wait + Sync> DeskRun
     }
 
     // Takes so many of the rows that are left.
-    fn take<W: Write>(&mut self, rows: u64, writer: &mut W) -> Result<(), OutputFault> {
+    fn take<W: Write>(&mut self, rows: u64, writer: &mut W) -> Told {
         for _turn in 0..rows {
             let Some(row) = self.trades.next() else {
                 return Ok(());
@@ -89,7 +89,7 @@ impl<'a, C: Keeper, D: Keeper, G: Gate + Sync, R: Threads + Wait + Sync> DeskRun
     }
 
     // Looks at what was poured into a lot and at what its tickets ask for, in one line.
-    fn look<W: Write>(&mut self, lot: u64, writer: &mut W) -> Result<(), OutputFault> {
+    fn look<W: Write>(&mut self, lot: u64, writer: &mut W) -> Told {
         match self.event(Event::LookPoured { lot }, writer)? {
             Outcome::Refused(_) => Ok(()),
             _ => self.single(Event::LookAsked { lot }, writer),
@@ -97,7 +97,7 @@ impl<'a, C: Keeper, D: Keeper, G: Gate + Sync, R: Threads + Wait + Sync> DeskRun
     }
 
     // Seals a lot.
-    fn seal<W: Write>(&mut self, lot: u64, writer: &mut W) -> Result<(), OutputFault> {
+    fn seal<W: Write>(&mut self, lot: u64, writer: &mut W) -> Told {
         let outcome = self.event(Event::Seal { lot }, writer)?;
         match (outcome, self.busy) {
             (Outcome::Done, Some(busy)) if busy.lot == lot => {
@@ -109,7 +109,7 @@ impl<'a, C: Keeper, D: Keeper, G: Gate + Sync, R: Threads + Wait + Sync> DeskRun
     }
 
     // Sends an order, and lets its packet and that of the reply arrive; a refusal ends this.
-    fn pump_one<W: Write>(&mut self, number: u64, writer: &mut W) -> Result<(), OutputFault> {
+    fn pump_one<W: Write>(&mut self, number: u64, writer: &mut W) -> Told {
         let Some(packet) = sent_packet(&self.event(Event::Send { number }, writer)?) else {
             return Ok(());
         };
@@ -120,7 +120,7 @@ impl<'a, C: Keeper, D: Keeper, G: Gate + Sync, R: Threads + Wait + Sync> DeskRun
     }
 
     // Does so with each order that is unconfirmed at the start, by number.
-    fn pump<W: Write>(&mut self, writer: &mut W) -> Result<(), OutputFault> {
+    fn pump<W: Write>(&mut self, writer: &mut W) -> Told {
         let numbers = self.desk.lock(self.rt).unconfirmed(self.alloc)?;
         for number in numbers.as_slice() {
             self.pump_one(number.number(), writer)?;
@@ -129,18 +129,13 @@ impl<'a, C: Keeper, D: Keeper, G: Gate + Sync, R: Threads + Wait + Sync> DeskRun
     }
 
     // Makes the next commit of a node fail, where its keeper plans failures.
-    fn fail<W: Write>(
-        &mut self,
-        node: NodeName,
-        stands: bool,
-        writer: &mut W,
-    ) -> Result<(), OutputFault> {
+    fn fail<W: Write>(&mut self, node: NodeName, stands: bool, writer: &mut W) -> Told {
         let is_planned = self.desk.lock(self.rt).plan(node, stands).is_ok();
         self.page.plan(is_planned, writer)
     }
 
     // Tells the report.
-    fn report<W: Write>(&mut self, writer: &mut W) -> Result<(), OutputFault> {
+    fn report<W: Write>(&mut self, writer: &mut W) -> Told {
         let floor = self.desk.lock(self.rt);
         let told = self.page.report(self.alloc, floor.system());
         drop(floor);
@@ -149,7 +144,7 @@ impl<'a, C: Keeper, D: Keeper, G: Gate + Sync, R: Threads + Wait + Sync> DeskRun
     }
 
     // Opens a lot of an issue, and lets workers serve it.
-    fn allocate<W: Write>(&mut self, issue: Cusip, writer: &mut W) -> Result<(), OutputFault> {
+    fn allocate<W: Write>(&mut self, issue: Cusip, writer: &mut W) -> Told {
         let all = self
             .desk
             .allocate(self.rt, self.alloc, issue, self.workers, self.gate)?;
@@ -165,7 +160,7 @@ impl<'a, C: Keeper, D: Keeper, G: Gate + Sync, R: Threads + Wait + Sync> DeskRun
         count: u64,
         lines: &mut Lines<'_>,
         writer: &mut W,
-    ) -> Result<(), OutputFault> {
+    ) -> Told {
         let begun = self.desk.lock(self.rt).begin(self.alloc, issue);
         match begun {
             Ok(begun) => self.serve_beside(begun, count, lines, writer),
@@ -187,7 +182,7 @@ impl<'a, C: Keeper, D: Keeper, G: Gate + Sync, R: Threads + Wait + Sync> DeskRun
         count: u64,
         lines: &mut Lines<'_>,
         writer: &mut W,
-    ) -> Result<(), OutputFault>
+    ) -> Told
         requires { begun.seat ≡ new_worker (arc_value begun.cell) (planned_sum begun.plan) (length begun.plan) }
     {
         let Begun {
@@ -211,7 +206,7 @@ impl<'a, C: Keeper, D: Keeper, G: Gate + Sync, R: Threads + Wait + Sync> DeskRun
             move || -> Drawn
                 requires { IsSync R.row × IsSync G.row × (seat ≡ new_worker (arc_value cell.now) (planned_sum plan.now) (length plan.now)) }
             { serve_lot(rt, alloc, cell, seat, plan, workers, gate) },
-            || -> Result<(), OutputFault>
+            || -> Told
                 requires { IsSync R.row × IsSync G.row }
             { self.run_lines(count, lines, writer) },
         );
@@ -224,12 +219,7 @@ impl<'a, C: Keeper, D: Keeper, G: Gate + Sync, R: Threads + Wait + Sync> DeskRun
     }
 
     // Enters what workers drew of the busy lot, and ends it.
-    fn end<W: Write>(
-        &mut self,
-        lot: u64,
-        drawn: &Drawn,
-        writer: &mut W,
-    ) -> Result<(), OutputFault> {
+    fn end<W: Write>(&mut self, lot: u64, drawn: &Drawn, writer: &mut W) -> Told {
         let cut = drawn.cut.is_some();
         let sealed = match self.busy.take() {
             Some(busy) => cut || busy.sealed,
@@ -245,12 +235,7 @@ impl<'a, C: Keeper, D: Keeper, G: Gate + Sync, R: Threads + Wait + Sync> DeskRun
     }
 
     // Runs a command, in the line of this number. None of them opens a lot beside lines.
-    fn run_command<W: Write>(
-        &mut self,
-        number: u64,
-        command: &Command,
-        writer: &mut W,
-    ) -> Result<(), OutputFault> {
+    fn run_command<W: Write>(&mut self, number: u64, command: &Command, writer: &mut W) -> Told {
         match *command {
             Command::Skip => Ok(()),
             Command::TakeAll => self.take(u64::MAX, writer),
@@ -269,12 +254,7 @@ impl<'a, C: Keeper, D: Keeper, G: Gate + Sync, R: Threads + Wait + Sync> DeskRun
     }
 
     // Runs so many of the next lines; those that are skipped do not count.
-    fn run_lines<W: Write>(
-        &mut self,
-        count: u64,
-        lines: &mut Lines<'_>,
-        writer: &mut W,
-    ) -> Result<(), OutputFault> {
+    fn run_lines<W: Write>(&mut self, count: u64, lines: &mut Lines<'_>, writer: &mut W) -> Told {
         let mut left = count;
         while left > 0 {
             let Some((number, command)) = lines.take_next() else {
@@ -290,7 +270,7 @@ impl<'a, C: Keeper, D: Keeper, G: Gate + Sync, R: Threads + Wait + Sync> DeskRun
     }
 
     // Runs all lines, and writes all that is told.
-    fn run_script<W: Write>(&mut self, script: &[u8], writer: &mut W) -> Result<(), OutputFault> {
+    fn run_script<W: Write>(&mut self, script: &[u8], writer: &mut W) -> Told {
         let mut lines = Lines::of(script);
         // Each line has a byte at least.
         for _line in 0..script.len() {

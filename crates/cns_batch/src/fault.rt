@@ -12,6 +12,9 @@ pub(crate) enum OutputFault {
     Write,
 }
 
+/// What a call that tells something gives, or why that was not told.
+pub(crate) type Told<T = ()> = Result<T, OutputFault>;
+
 impl From<AllocError> for OutputFault {
     ghost use Rattle.std.specs.Prelude.{◌≡◌};
     ghost use Rattle.cns_batch.specs.declared.fault.OutputFault.TheVariants.{Memory};

@@ -2,7 +2,7 @@ ghost use Rattle.std.specs.Prelude.{◌≡◌};
 ghost use Rattle.cns_batch.specs.Run.{beside_begun, beside_served, command_run, ended, ended_when_due, is_due as is_due_of, line_counted, line_run, one_line_fewer as one_line_fewer_of, waited};
 ghost use Rattle.cns_batch.specs.Runs.{Runs};
 
-use crate::fault::OutputFault;
+use crate::fault::Told;
 use crate::runner::{Beside, Runner};
 use cns_ids::Cusip;
 use cns_input::Command;
@@ -36,11 +36,7 @@ fn is_due(beside: &Option<Beside>) -> bool
 
 impl<C: Keeper, D: Keeper> Runner<C, D> {
     // Serves the lot that waited, where one did and was opened.
-    fn serve_beside<W: Write>(
-        &mut self,
-        beside: Option<Beside>,
-        writer: &mut W,
-    ) -> Result<(), OutputFault>
+    fn serve_beside<W: Write>(&mut self, beside: Option<Beside>, writer: &mut W) -> Told
         ensures { Runs (beside_served beside) result (record { run = self.old; sent = W.contents writer.old }) (record { run = self.new; sent = W.contents writer.new }) }
     {
         match beside {
@@ -50,7 +46,7 @@ impl<C: Keeper, D: Keeper> Runner<C, D> {
     }
 
     /// Serves the lot that waits, where one does.
-    pub(crate) fn end<W: Write>(&mut self, writer: &mut W) -> Result<(), OutputFault>
+    pub(crate) fn end<W: Write>(&mut self, writer: &mut W) -> Told
         ensures { Runs ended result (record { run = self.old; sent = W.contents writer.old }) (record { run = self.new; sent = W.contents writer.new }) }
     {
         let beside = self.take_beside();
@@ -58,7 +54,7 @@ impl<C: Keeper, D: Keeper> Runner<C, D> {
     }
 
     // Serves the lot that waits where no more lines are to run beside it.
-    fn end_when_due<W: Write>(&mut self, writer: &mut W) -> Result<(), OutputFault>
+    fn end_when_due<W: Write>(&mut self, writer: &mut W) -> Told
         ensures { Runs ended_when_due result (record { run = self.old; sent = W.contents writer.old }) (record { run = self.new; sent = W.contents writer.new }) }
     {
         if is_due(&self.beside) {
@@ -68,7 +64,7 @@ impl<C: Keeper, D: Keeper> Runner<C, D> {
     }
 
     // Counts a line that has run, and serves the lot that waits where it was the last one.
-    fn count_line<W: Write>(&mut self, writer: &mut W) -> Result<(), OutputFault>
+    fn count_line<W: Write>(&mut self, writer: &mut W) -> Told
         ensures { Runs line_counted result (record { run = self.old; sent = W.contents writer.old }) (record { run = self.new; sent = W.contents writer.new }) }
     {
         let beside = self.take_beside();
@@ -77,12 +73,7 @@ impl<C: Keeper, D: Keeper> Runner<C, D> {
     }
 
     // Lets a lot wait for so many lines.
-    fn wait_for<W: Write>(
-        &mut self,
-        lines: u64,
-        lot: Option<Opened>,
-        writer: &mut W,
-    ) -> Result<(), OutputFault>
+    fn wait_for<W: Write>(&mut self, lines: u64, lot: Option<Opened>, writer: &mut W) -> Told
         ensures { Runs (waited lines lot) result (record { run = self.old; sent = W.contents writer.old }) (record { run = self.new; sent = W.contents writer.new }) }
     {
         self.set_beside(Some(Beside { lot, lines }));
@@ -97,7 +88,7 @@ impl<C: Keeper, D: Keeper> Runner<C, D> {
         issue: Cusip,
         lines: u64,
         writer: &mut W,
-    ) -> Result<(), OutputFault>
+    ) -> Told
         ensures { Runs (beside_begun number issue lines) result (record { run = self.old; sent = W.contents writer.old }) (record { run = self.new; sent = W.contents writer.new }) }
     {
         if self.is_beside() {
@@ -109,12 +100,7 @@ impl<C: Keeper, D: Keeper> Runner<C, D> {
     }
 
     // Runs a command, in the line of this number.
-    fn run_command<W: Write>(
-        &mut self,
-        number: u64,
-        command: &Command,
-        writer: &mut W,
-    ) -> Result<(), OutputFault>
+    fn run_command<W: Write>(&mut self, number: u64, command: &Command, writer: &mut W) -> Told
         ensures { Runs (command_run number command.now) result (record { run = self.old; sent = W.contents writer.old }) (record { run = self.new; sent = W.contents writer.new }) }
     {
         match *command {
@@ -139,7 +125,7 @@ impl<C: Keeper, D: Keeper> Runner<C, D> {
         number: u64,
         command: &Command,
         writer: &mut W,
-    ) -> Result<(), OutputFault>
+    ) -> Told
         ensures { Runs (line_run number command.now) result (record { run = self.old; sent = W.contents writer.old }) (record { run = self.new; sent = W.contents writer.new }) }
     {
         match command {

@@ -2,11 +2,11 @@ ghost use Rattle.std.specs.Prelude.{◌≡◌, ℕ, ◌+◌, ◌-◌, ◌≤◌,
 ghost use Rattle.std.specs.Io.KnownBytes.{Appends};
 ghost use Rattle.cns_batch.specs.declared.fault.OutputFault.TheVariants.{Write as write_fault};
 
-use crate::fault::OutputFault;
+use crate::fault::{OutputFault, Told};
 use std::io::Write;
 
 // Writes all of a text, or a part at its front.
-pub(crate) fn write_text<W: Write>(writer: &mut W, text: &[u8]) -> Result<(), OutputFault>
+pub(crate) fn write_text<W: Write>(writer: &mut W, text: &[u8]) -> Told
     ensures ok { OnOk result (Appends (W.contents writer.old) (W.contents writer.new) text.now) }
     ensures err { OnErr result ((k : ℕ) × (k ≤ length text.now) × Appends (W.contents writer.old) (W.contents writer.new) (take k text.now)) }
     ensures kind { IfErr result (λ e. e ≡ write_fault) }

@@ -1,6 +1,6 @@
 //! What a run with workers told and has not yet written.
 
-use crate::fault::OutputFault;
+use crate::fault::Told;
 use crate::output::write_text;
 use crate::runner::{FULL, add_report};
 use cns_ids::Cusip;
@@ -49,14 +49,14 @@ impl Page {
     }
 
     /// Writes what was told.
-    pub(crate) fn flush<W: Write>(&mut self, writer: &mut W) -> Result<(), OutputFault> {
+    pub(crate) fn flush<W: Write>(&mut self, writer: &mut W) -> Told {
         write_text(writer, self.text.as_bytes())?;
         self.text.clear();
         Ok(())
     }
 
     /// Writes what was told where that is much.
-    pub(crate) fn flush_when_full<W: Write>(&mut self, writer: &mut W) -> Result<(), OutputFault> {
+    pub(crate) fn flush_when_full<W: Write>(&mut self, writer: &mut W) -> Told {
         if self.text.len() < FULL {
             return Ok(());
         }
@@ -69,23 +69,19 @@ impl Page {
         event: &Event,
         outcome: &Outcome,
         writer: &mut W,
-    ) -> Result<(), OutputFault> {
+    ) -> Told {
         outcome_line(&mut self.text, event, outcome)?;
         self.flush_when_full(writer)
     }
 
     /// Tells a line.
-    pub(crate) fn tell<W: Write>(&mut self, line: Line, writer: &mut W) -> Result<(), OutputFault> {
+    pub(crate) fn tell<W: Write>(&mut self, line: Line, writer: &mut W) -> Told {
         write_line(&mut self.text, line)?;
         self.flush_when_full(writer)
     }
 
     /// Tells whether a failure is planned.
-    pub(crate) fn plan<W: Write>(
-        &mut self,
-        is_planned: bool,
-        writer: &mut W,
-    ) -> Result<(), OutputFault> {
+    pub(crate) fn plan<W: Write>(&mut self, is_planned: bool, writer: &mut W) -> Told {
         let line = if is_planned {
             Line::FailurePlanned
         } else {
@@ -115,22 +111,13 @@ impl Page {
     }
 
     // Tells what entering a ticket, or ending a lot, came to.
-    fn entered<W: Write>(
-        &mut self,
-        command: Subject,
-        outcome: &Outcome,
-        writer: &mut W,
-    ) -> Result<(), OutputFault> {
+    fn entered<W: Write>(&mut self, command: Subject, outcome: &Outcome, writer: &mut W) -> Told {
         add_entered(&mut self.text, command, outcome)?;
         self.flush_when_full(writer)
     }
 
     // Tells what entering tickets came to.
-    fn tickets<W: Write>(
-        &mut self,
-        entered: &[Outcome],
-        writer: &mut W,
-    ) -> Result<(), OutputFault> {
+    fn tickets<W: Write>(&mut self, entered: &[Outcome], writer: &mut W) -> Told {
         for outcome in entered {
             self.entered(Subject::Reserve, outcome, writer)?;
         }
@@ -138,12 +125,7 @@ impl Page {
     }
 
     // Tells what the close of a lot came to, after a seal where there was one.
-    fn close<W: Write>(
-        &mut self,
-        sealed: bool,
-        entered: &[Outcome],
-        writer: &mut W,
-    ) -> Result<(), OutputFault> {
+    fn close<W: Write>(&mut self, sealed: bool, entered: &[Outcome], writer: &mut W) -> Told {
         let mut command = if sealed {
             Subject::Seal
         } else {
@@ -157,7 +139,7 @@ impl Page {
     }
 
     // Tells what cut workers off, where something did.
-    fn cut<W: Write>(&mut self, cut: Option<Cut>, writer: &mut W) -> Result<(), OutputFault> {
+    fn cut<W: Write>(&mut self, cut: Option<Cut>, writer: &mut W) -> Told {
         match cut {
             Some(cut) => {
                 let (subject, refusal) = (Subject::Reserve, refusal_of(cut));
@@ -175,7 +157,7 @@ impl Page {
         sealed: bool,
         entered: &[Outcome],
         writer: &mut W,
-    ) -> Result<(), OutputFault> {
+    ) -> Told {
         let tickets = drawn.seat.tickets().len();
         if entered.len() <= tickets {
             return self.tickets(entered, writer);
@@ -192,7 +174,7 @@ impl Page {
         issue: Cusip,
         all: &Allocated,
         writer: &mut W,
-    ) -> Result<(), OutputFault> {
+    ) -> Told {
         self.outcome(&Event::LotOpen { issue }, &all.opened, writer)?;
         match &all.drawn {
             Some(drawn) => self.end(drawn, drawn.cut.is_some(), all.entered.as_slice(), writer),

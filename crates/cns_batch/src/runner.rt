@@ -8,7 +8,7 @@ ghost use Rattle.cns_batch.specs.Acts.{done, happened, single, tells};
 ghost use Rattle.cns_batch.specs.Commands.{report_text};
 ghost use Rattle.cns_batch.specs.Runs.{IsNextRow, IsPlanned, Runs};
 
-use crate::fault::OutputFault;
+use crate::fault::Told;
 use crate::output::write_text;
 use crate::untaken::Untaken;
 use cns_journal::Keeper;
@@ -89,7 +89,7 @@ impl<C: Keeper, D: Keeper> Runner<C, D> {
     }
 
     /// Writes what was told.
-    pub(crate) fn flush<W: Write>(&mut self, writer: &mut W) -> Result<(), OutputFault>
+    pub(crate) fn flush<W: Write>(&mut self, writer: &mut W) -> Told
         ensures runs { Runs done result (record { run = self.old; sent = W.contents writer.old }) (record { run = self.new; sent = W.contents writer.new }) }
         ensures none { OnOk result (self.new.held ≡ []) }
     {
@@ -99,7 +99,7 @@ impl<C: Keeper, D: Keeper> Runner<C, D> {
     }
 
     /// Writes what was told where that is much.
-    pub(crate) fn flush_when_full<W: Write>(&mut self, writer: &mut W) -> Result<(), OutputFault>
+    pub(crate) fn flush_when_full<W: Write>(&mut self, writer: &mut W) -> Told
         ensures { Runs done result (record { run = self.old; sent = W.contents writer.old }) (record { run = self.new; sent = W.contents writer.new }) }
     {
         if self.text.len() < FULL {
@@ -109,11 +109,7 @@ impl<C: Keeper, D: Keeper> Runner<C, D> {
     }
 
     /// Lets an event happen, and tells and answers its outcome.
-    pub(crate) fn event<W: Write>(
-        &mut self,
-        event: Event,
-        writer: &mut W,
-    ) -> Result<Outcome, OutputFault>
+    pub(crate) fn event<W: Write>(&mut self, event: Event, writer: &mut W) -> Told<Outcome>
         ensures { Runs (happened event) result (record { run = self.old; sent = W.contents writer.old }) (record { run = self.new; sent = W.contents writer.new }) }
     {
         let outcome = self.system.step(event);
@@ -123,11 +119,7 @@ impl<C: Keeper, D: Keeper> Runner<C, D> {
     }
 
     /// Lets an event happen, and tells its outcome.
-    pub(crate) fn single<W: Write>(
-        &mut self,
-        event: Event,
-        writer: &mut W,
-    ) -> Result<(), OutputFault>
+    pub(crate) fn single<W: Write>(&mut self, event: Event, writer: &mut W) -> Told
         ensures { Runs (single event) result (record { run = self.old; sent = W.contents writer.old }) (record { run = self.new; sent = W.contents writer.new }) }
     {
         self.event(event, writer)?;
@@ -135,7 +127,7 @@ impl<C: Keeper, D: Keeper> Runner<C, D> {
     }
 
     /// Tells a line.
-    pub(crate) fn tell<W: Write>(&mut self, line: Line, writer: &mut W) -> Result<(), OutputFault>
+    pub(crate) fn tell<W: Write>(&mut self, line: Line, writer: &mut W) -> Told
         ensures { Runs (tells (line_text line)) result (record { run = self.old; sent = W.contents writer.old }) (record { run = self.new; sent = W.contents writer.new }) }
     {
         write_line(&mut self.text, line)?;

@@ -3,7 +3,7 @@ ghost use Rattle.cns_batch.specs.Run.{lines_run};
 ghost use Rattle.cns_batch.specs.Runs.{Runs};
 ghost use Rattle.cns_input.specs.Sections.{raw_lines};
 
-use crate::fault::OutputFault;
+use crate::fault::Told;
 use crate::runner::Runner;
 use cns_input::{command_of, line_size, line_text};
 use cns_journal::Keeper;
@@ -11,11 +11,7 @@ use std::io::Write;
 
 impl<C: Keeper, D: Keeper> Runner<C, D> {
     /// Runs the lines of a script, and then serves the lot that still waits.
-    pub(crate) fn run_script<W: Write>(
-        &mut self,
-        script: &[u8],
-        writer: &mut W,
-    ) -> Result<(), OutputFault>
+    pub(crate) fn run_script<W: Write>(&mut self, script: &[u8], writer: &mut W) -> Told
         ensures { Runs (lines_run 1 (raw_lines script.now)) result (record { run = self.old; sent = W.contents writer.old }) (record { run = self.new; sent = W.contents writer.new }) }
     {
         let mut number = 1;

@@ -49,35 +49,28 @@ share_grows true false q f = let no = f refl in cc no
 share_grows false true q f = omega arith
 share_grows false false q f = omega arith
 
-sold_grows : (a b : Option ℕ) → Reaches a b → (h : List NetEntry) (m i : ℕ) → sold (due_since a h) m i ≤ sold (due_since b h) m i
+-- a sum over the trades that are due grows as more of them are
+due_grows : (part : List Trade → ℕ) (share : Trade → ℕ) → ((b : Bool) (t : Trade) (ts : List Trade) → part (if b then t ∷ ts else ts) ≡ (if b then share t else 0) + part ts)
+    → (a b : Option ℕ) → Reaches a b → (h : List NetEntry) → part (due_since a h) ≤ part (due_since b h)
 unfolding Reaches
-sold_grows a b more [] m i = omega arith
-sold_grows a b more (Accepted t ∷ h) m i =
-    let share = if (t.seller == m) && (t.issue == i) then t.quantity else 0 in
-    let part = share_grows (is_reached a t.settle) (is_reached b t.settle) share (more t.settle) in
-    omega (arith, part, sold-due (is_reached a t.settle) t (due_since a h) m i, sold-due (is_reached b t.settle) t (due_since b h) m i, sold_grows a b more h m i)
-sold_grows a b more (Netted d ∷ h) m i = sold_grows (latest a d) (latest b d) (reaches_latest a b d more) h m i
-sold_grows a b more (Settled k j z ∷ h) m i = sold_grows a b more h m i
-
-bought_grows : (a b : Option ℕ) → Reaches a b → (h : List NetEntry) (m i : ℕ) → bought (due_since a h) m i ≤ bought (due_since b h) m i
-unfolding Reaches
-bought_grows a b more [] m i = omega arith
-bought_grows a b more (Accepted t ∷ h) m i =
-    let share = if (t.buyer == m) && (t.issue == i) then t.quantity else 0 in
-    let part = share_grows (is_reached a t.settle) (is_reached b t.settle) share (more t.settle) in
-    omega (arith, part, bought-due (is_reached a t.settle) t (due_since a h) m i, bought-due (is_reached b t.settle) t (due_since b h) m i, bought_grows a b more h m i)
-bought_grows a b more (Netted d ∷ h) m i = bought_grows (latest a d) (latest b d) (reaches_latest a b d more) h m i
-bought_grows a b more (Settled k j z ∷ h) m i = bought_grows a b more h m i
+due_grows part share more_by a b more [] = omega arith
+due_grows part share more_by a b more (Accepted t ∷ h) =
+    let one = share_grows (is_reached a t.settle) (is_reached b t.settle) (share t) (more t.settle) in
+    omega (arith, one, more_by (is_reached a t.settle) t (due_since a h), more_by (is_reached b t.settle) t (due_since b h), due_grows part share more_by a b more h)
+due_grows part share more_by a b more (Netted d ∷ h) = due_grows part share more_by (latest a d) (latest b d) (reaches_latest a b d more) h
+due_grows part share more_by a b more (Settled k j z ∷ h) = due_grows part share more_by a b more h
 
 -- a netting makes no trade undue, so no member has sold less
 pub sold-grows : (h : List NetEntry) (day m i : ℕ) → sold (due h) m i ≤ sold (due (Netted day ∷ h)) m i
 unfolding Reaches
-sold-grows h day m i = sold_grows None (Some day) (λ settle e. cc e) h m i
+sold-grows h day m i =
+    due_grows (λ ts. sold ts m i) (λ t. if (t.seller == m) && (t.issue == i) then t.quantity else 0) (λ b t ts. sold-due b t ts m i) None (Some day) (λ settle e. cc e) h
 
 -- nor has one bought less
 pub bought-grows : (h : List NetEntry) (day m i : ℕ) → bought (due h) m i ≤ bought (due (Netted day ∷ h)) m i
 unfolding Reaches
-bought-grows h day m i = bought_grows None (Some day) (λ settle e. cc e) h m i
+bought-grows h day m i =
+    due_grows (λ ts. bought ts m i) (λ t. if (t.buyer == m) && (t.issue == i) then t.quantity else 0) (λ b t ts. bought-due b t ts m i) None (Some day) (λ settle e. cc e) h
 
 -- one holding more asks for its cover, in its own place
 asked_by-ask_for : (m i member issue c : ℕ) (rest : List Ask)

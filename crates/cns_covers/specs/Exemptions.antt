@@ -1,11 +1,6 @@
 -- The shares that members exempt from covers (this project's own rule). Settings stand newest first.
-use Rattle.std.specs.Prelude.{◌≡◌, ℕ, ◌&&◌, ◌==◌, Bool, List, Option, find, option_map, unwrap_or}
+use Rattle.std.specs.Prelude.{ℕ, ◌&&◌, ◌==◌, Bool, List, find, option_map, unwrap_or}
 use Rattle.cns_covers.specs.declared.exemptions.Exempted.{Exempted}
-
--- the settings, and for how many more there is room
-pub record ExemptionRoom : Type 0 where
-  pub settings : List Exempted
-  pub room : ℕ
 
 -- whether a setting is of a member and issue
 abbrev pub is_exemption_of : ℕ → ℕ → Exempted → Bool
@@ -14,7 +9,3 @@ is_exemption_of member issue s = (s.member == member) && (s.issue == issue)
 -- the shares that a member exempts in an issue: those of the newest setting, 0 where there is none
 abbrev pub exempt_of : List Exempted → ℕ → ℕ → ℕ
 exempt_of settings member issue = unwrap_or (option_map (λ (s : Exempted). s.shares) (find (is_exemption_of member issue) settings)) 0
-
--- what is found for each member and issue is what the newest setting of them says
-abbrev pub AreLatestExemptions : List Exempted → (ℕ → ℕ → Option ℕ) → Type 0
-AreLatestExemptions settings found = (member issue : ℕ) → unwrap_or (found member issue) 0 ≡ exempt_of settings member issue

@@ -1,3 +1,4 @@
+pub mod Settings
 pub mod Exemptions
 pub mod Priorities
 pub mod Covers

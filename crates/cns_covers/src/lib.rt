@@ -6,9 +6,10 @@
 
 mod cover;
 mod exemptions;
-mod latest;
 mod priorities;
+mod settings;
 
 pub use cover::{cover_count, covers, covers_of_rows};
 pub use exemptions::{Exempted, Exemptions};
 pub use priorities::{Priorities, Prioritized};
+pub use settings::{Setting, Settings};

@@ -1,7 +1,7 @@
 ghost use Rattle.std.specs.Prelude.{◌≡◌, ◌==◌, ◌<◌, option_map, length, IfSome};
 ghost use Rattle.std.specs.List.{position_from};
 ghost use Rattle.cns_input.specs.Words.{split_at_space, words_of};
-ghost use Rattle.cns_input.specs.Script.{command_of as command_of_line, form_of, single as single_of, pair as pair_of, pair_event as pair_event_of, triple_event as triple_event_of, triple as triple_of, quadruple as quadruple_of, quadruple_event as quadruple_event_of, take_in, one_of, place_in, member_in, issue_in, switch_in, node_in, stands_in, kind_in};
+ghost use Rattle.cns_input.specs.Script.{command_of as command_of_line, form_of, single as single_of, pair as pair_of, pair_event as pair_event_of, triple_event as triple_event_of, triple as triple_of, quadruple as quadruple_of, quadruple_event as quadruple_event_of, take_in, one_of, place_in, member_in, issue_in, node_in};
 
 use cns_ids::{Cusip, CycleId, CycleKind, Day, MemberNo, Shares, read_number};
 use cns_system::{Event, NodeName};
@@ -89,29 +89,10 @@ fn read_one_of<T: Drop>(text: &[u8], this: &[u8], a: T, that: &[u8], b: T) -> Op
     }
 }
 
-fn read_kind(text: &[u8]) -> Option<CycleKind>
-    ensures { result ≡ kind_in text.now }
-{
-    read_one_of(text, b"NIGHT", CycleKind::Night, b"DAY", CycleKind::Day)
-}
-
-fn read_switch(text: &[u8]) -> Option<bool>
-    ensures { result ≡ switch_in text.now }
-{
-    read_one_of(text, b"ON", true, b"OFF", false)
-}
-
 fn read_node(text: &[u8]) -> Option<NodeName>
     ensures { result ≡ node_in text.now }
 {
     read_one_of(text, b"CLEAR", NodeName::Clear, b"DEPOT", NodeName::Depot)
-}
-
-// Whether the record of a planned failure stands.
-fn read_stands(text: &[u8]) -> Option<bool>
-    ensures { result ≡ stands_in text.now }
-{
-    read_one_of(text, b"KEEP", true, b"DROP", false)
 }
 
 // All rows, or a number of them.
@@ -143,28 +124,21 @@ fn pair_event(word: &[u8], first: &[u8]) -> Option<Event>
     ensures { result ≡ pair_event_of word.now first.now }
 {
     if word == b"SEND".as_slice() {
-        let number = read_place(first)?;
-        Some(Event::Send { number })
+        read_place(first).map(|number| Event::Send { number })
     } else if word == b"ORDER".as_slice() {
-        let packet = read_place(first)?;
-        Some(Event::OrderIn { packet })
+        read_place(first).map(|packet| Event::OrderIn { packet })
     } else if word == b"REPLY".as_slice() {
-        let packet = read_place(first)?;
-        Some(Event::ReplyIn { packet })
+        read_place(first).map(|packet| Event::ReplyIn { packet })
     } else if word == b"RESTART".as_slice() {
         read_node(first).map(Event::Restart)
     } else if word == b"LOT".as_slice() {
-        let issue = read_issue(first)?;
-        Some(Event::LotOpen { issue })
+        read_issue(first).map(|issue| Event::LotOpen { issue })
     } else if word == b"POUR".as_slice() {
-        let lot = read_place(first)?;
-        Some(Event::LotPour { lot })
+        read_place(first).map(|lot| Event::LotPour { lot })
     } else if word == b"SEAL".as_slice() {
-        let lot = read_place(first)?;
-        Some(Event::Seal { lot })
+        read_place(first).map(|lot| Event::Seal { lot })
     } else if word == b"CLOSE".as_slice() {
-        let lot = read_place(first)?;
-        Some(Event::LotClose { lot })
+        read_place(first).map(|lot| Event::LotClose { lot })
     } else {
         None
     }
@@ -190,7 +164,7 @@ fn triple_event(word: &[u8], first: &[u8], second: &[u8]) -> Option<Event>
     ensures { result ≡ triple_event_of word.now first.now second.now }
 {
     if word == b"CYCLE".as_slice() {
-        let kind = read_kind(first)?;
+        let kind = read_one_of(first, b"NIGHT", CycleKind::Night, b"DAY", CycleKind::Day)?;
         let day = Day::read(second).ok()?;
         Some(Event::Cycle(CycleId { day, kind }))
     } else if word == b"RESERVE".as_slice() {
@@ -209,7 +183,7 @@ fn triple(word: &[u8], first: &[u8], second: &[u8]) -> Option<Command>
     if word == b"FAIL".as_slice() {
         Some(Command::Fail {
             node: read_node(first)?,
-            stands: read_stands(second)?,
+            stands: read_one_of(second, b"KEEP", true, b"DROP", false)?,
         })
     } else if word == b"BESIDE".as_slice() {
         Some(Command::Beside {
@@ -235,7 +209,7 @@ fn quadruple_event(word: &[u8], first: &[u8], second: &[u8], third: &[u8]) -> Op
         Some(Event::Priority {
             member: read_member(first)?,
             issue: read_issue(second)?,
-            on: read_switch(third)?,
+            on: read_one_of(third, b"ON", true, b"OFF", false)?,
         })
     } else {
         None

@@ -4,8 +4,9 @@ use Rattle.std.specs.Prelude.{slice_get}
 use Rattle.std.proofs.lemmas.List.{take_at, drop_at, take_all, drop_all, get_or-drop, length-take}
 use Rattle.std.proofs.lemmas.Bool.{cases_eq}
 use Rattle.std.proofs.lemmas.Option.{get_or_from_slice_get, none-some, slice_get_cases, slice_get_within}
-use Rattle.cns_journal.specs.Disk.{overwritten, Only, Shortened, Torn}
+use Rattle.cns_journal.specs.Disk.{overwritten, LeavesOnly, Only, Shortened, Torn}
 use Rattle.cns_journal.specs.Layout.{payload_length, counts, first_records, journal_of, size_of, behind, IsSettled}
+use Rattle.cns_journal.proofs.Moments.{weaken}
 use Rattle.cns_journal.proofs.LayoutLemmas.{by_bool, counts-true, records-true, records-false, length-part, journal-same, append-none, take-short}
 
 -- bytes too few for a record have none
@@ -75,9 +76,19 @@ settled_by file images end gate byte end_is is some zero_is only =
 pub end_within : (file : List ℕ) (end : ℕ) → end ≡ size_of (journal_of file) → end ≤ length file
 end_within file end is = let w = size-within file in omega arith
 
--- what is known of the file once it is cut
-pub cut_same : (file : List ℕ) (end : ℕ) → end ≡ size_of (journal_of file) → (cut : List ℕ) → end < length file → cut ≡ take (end + 1) file
-    → (end ≡ size_of (journal_of cut)) × (length cut ≤ end + 1) × (end ≤ length cut) × (journal_of cut ≡ journal_of file) × (take end cut ≡ take end file)
-cut_same file end end_is cut inside is = let same = shortened_same file end end_is cut inside (inr is) in
-    let l : length cut ≡ end + 1 = ap (λ (l : List ℕ). length l) is ∙ length-take (end + 1) file ∙ omega arith in
-    (end_is ∙ ap size_of (sym same.0), omega arith, omega arith, same.0, same.1)
+-- at any moment of a cut behind the gate the records are those before
+pub cut_moments : {D : Type 0} (moment : D → ℕ) (left_since : D → ℕ → List ℕ → Type 0) (old new : D) (file : List ℕ) (end : ℕ) (gate : _) (byte : ℕ)
+    → end ≡ size_of (journal_of file) → gate ≡ slice_get file end → gate ≡ Some byte
+    → (end + 1 ≤ length file → LeavesOnly moment left_since old new (Shortened (end + 1) file)) → LeavesOnly moment left_since old new (λ image. journal_of image ≡ journal_of file)
+cut_moments moment left_since old new file end gate byte end_is is some cut = let inside = inside_by file end gate byte is some in
+    weaken moment left_since old new _ _ (cut inside.1) (λ image h. (shortened_same file end end_is image inside.0 h).0)
+
+-- what is known of the file once it is cut behind the gate
+pub cut_same : (file : List ℕ) (end : ℕ) (gate : _) (byte : ℕ) → end ≡ size_of (journal_of file) → gate ≡ slice_get file end → gate ≡ Some byte
+    → (cut : List ℕ) (images : List ℕ → Type 0) → (end + 1 ≤ length file → (cut ≡ take (end + 1) file) × Only cut images)
+    → ((end ≡ size_of (journal_of cut)) × (length cut ≤ end + 1) × (end ≤ length cut) × (journal_of cut ≡ journal_of file) × (take end cut ≡ take end file)) × Only cut images
+cut_same file end gate byte end_is is some cut images done = let inside = inside_by file end gate byte is some in
+    let (is_cut, only) = done inside.1 in
+    let same = shortened_same file end end_is cut inside.0 (inr is_cut) in
+    let l : length cut ≡ end + 1 = ap (λ (l : List ℕ). length l) is_cut ∙ length-take (end + 1) file ∙ omega arith in
+    ((end_is ∙ ap size_of (sym same.0), omega arith, omega arith, same.0, same.1), only)

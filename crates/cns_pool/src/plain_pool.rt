@@ -3,7 +3,7 @@ ghost use Rattle.cns_pool.specs.Tiles.{Tiles};
 ghost use Rattle.cns_pool.specs.Pool.{new_pool, asked_sum, intervals_of, IsPool};
 
 use crate::pool::{Asked, Closed, MAX_POOL, Pool};
-use crate::ticket::{Reserved, Ticket};
+use crate::ticket::{Reserved, Ticket, draw};
 use crate::tickets::Tickets;
 use cns_ids::MemberNo;
 use std::alloc::{AllocError, Global};
@@ -111,14 +111,9 @@ impl Pool for PlainPool {
         if self.sealed {
             return Reserved::Sealed;
         }
-        let ticket = &Ticket {
-            member,
-            start: self.asked,
-            asked,
-        };
+        let start = self.asked;
         self.asked += asked;
-        self.tickets.push_reserved(*ticket);
-        Reserved::Ticket(*ticket)
+        draw(&mut self.tickets, member, start, asked)
     }
 
     fn pour(&mut self, shares: u64) {

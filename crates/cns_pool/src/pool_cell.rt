@@ -14,7 +14,7 @@ use crate::rule::{
     ASKED, Closing, Feeding, Joining, Limits, LookPoured, MakeSeal, POURED, Part, Parting, Pour,
     Reserve, SEAL, Telling, Token, Words, asked_in,
 };
-use crate::ticket::{Reserved, Ticket};
+use crate::ticket::{Reserved, Ticket, draw};
 use crate::tickets::Tickets;
 use crate::worker_seat::WorkerSeat;
 use cns_ids::MemberNo;
@@ -106,13 +106,7 @@ impl PoolCell {
         if found.sealed {
             return Reserved::Sealed;
         }
-        let ticket = &Ticket {
-            member,
-            start: found.sum,
-            asked,
-        };
-        seat.tickets.push_reserved(*ticket);
-        Reserved::Ticket(*ticket)
+        draw(&mut seat.tickets, member, found.sum, asked)
     }
 
     /// Pours shares into the cell, possibly none. A sealed cell takes them too.

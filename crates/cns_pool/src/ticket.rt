@@ -1,3 +1,5 @@
+ghost use Rattle.std.specs.Prelude.{◌≡◌, ◌<◌, [], ◌∷◌, ◌++◌, length, vec_capacity};
+
 use cns_ids::MemberNo;
 
 /// The shares that a member drew from a pool: those from `start` on, `asked` of them. (This project's
@@ -21,4 +23,21 @@ pub enum Reserved {
     Ticket(Ticket),
     /// The pool is sealed, so no ticket was drawn.
     Sealed,
+}
+
+// Draws a ticket behind others, for which there is room.
+pub(crate) fn draw(tickets: &mut Vec<Ticket>, member: MemberNo, start: u64, asked: u64) -> Reserved
+    requires { length tickets.old.items < vec_capacity tickets.old }
+    ensures answer { result ≡ Reserved.Ticket (record { member = member; start = start; asked = asked }) }
+    ensures items { tickets.new.items
+        ≡ tickets.old.items ++ record { member = member; start = start; asked = asked } ∷ [] }
+    ensures capacity { vec_capacity tickets.new ≡ vec_capacity tickets.old }
+{
+    let ticket = &Ticket {
+        member,
+        start,
+        asked,
+    };
+    tickets.push_reserved(*ticket);
+    Reserved::Ticket(*ticket)
 }

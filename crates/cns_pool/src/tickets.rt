@@ -1,4 +1,4 @@
-ghost use Rattle.std.specs.Prelude.{◌≡◌, ◌↔◌, [], length, IsTrue};
+ghost use Rattle.std.specs.Prelude.{◌≡◌};
 
 use crate::ticket::Ticket;
 use std::marker::Model;
@@ -40,20 +40,6 @@ impl Tickets {
         ensures { result.now ≡ self.now }
     {
         self.list.as_slice()
-    }
-
-    /// How many tickets there are.
-    pub fn len(&self) -> usize
-        ensures { result ≡ length self.now }
-    {
-        self.list.len()
-    }
-
-    /// Whether there are no tickets.
-    pub fn is_empty(&self) -> bool
-        ensures { IsTrue result ↔ (self.now ≡ []) }
-    {
-        self.list.is_empty()
     }
 }
 

@@ -1,5 +1,5 @@
-ghost use Rattle.std.specs.Prelude.{Some};
-ghost use Rattle.cns_report.specs.Faults.{read_fault_text, cusip_fault_text, opening_fault_text, row_fault_text, verdict_text};
+ghost use Rattle.std.specs.Prelude.{◌≡◌, Some};
+ghost use Rattle.cns_report.specs.Faults.{read_fault_text, opening_fault_text, row_fault_text, verdict_text};
 ghost use Rattle.cns_report.specs.Refusals.{refusal_text};
 
 use cns_depository::OpeningFault;
@@ -8,34 +8,13 @@ use cns_records::Refusal;
 use cns_trades::{RowFault, Verdict};
 use std::fmt;
 
-/// The name of a number's fault.
-#[derive(Clone, Copy)]
-pub(crate) struct ReadFaultName(pub(crate) ReadFault);
-
-impl fmt::Display for ReadFaultName {
-    ghost output = { λ name. Some (read_fault_text name.0) };
-
-    fn fmt<W: fmt::Write>(&self, f: &mut fmt::Formatter<W>) -> fmt::Result {
-        f.write_str(match self.0 {
-            ReadFault::BadNumber => "BadNumber",
-            ReadFault::OutOfRange => "OutOfRange",
-        })
-    }
-}
-
-/// The name of a CUSIP's fault.
-#[derive(Clone, Copy)]
-pub(crate) struct CusipFaultName(pub(crate) CusipFault);
-
-impl fmt::Display for CusipFaultName {
-    ghost output = { λ name. Some (cusip_fault_text name.0) };
-
-    fn fmt<W: fmt::Write>(&self, f: &mut fmt::Formatter<W>) -> fmt::Result {
-        match self.0 {
-            CusipFault::Length => f.write_str("Length"),
-            CusipFault::BadChar { place } => write!(f, "BadChar {place}"),
-            CusipFault::CheckDigit { want } => write!(f, "CheckDigit {want}"),
-        }
+// The name of a number's fault.
+fn read_fault_name(fault: ReadFault) -> &'static str
+    ensures { result.now ≡ read_fault_text fault }
+{
+    match fault {
+        ReadFault::BadNumber => "BadNumber",
+        ReadFault::OutOfRange => "OutOfRange",
     }
 }
 
@@ -51,84 +30,70 @@ impl fmt::Display for RowFaultName {
             RowFault::Fields => f.write_str("Fields"),
             RowFault::Id => f.write_str("Id"),
             RowFault::Settle => f.write_str("Settle BadDate"),
-            RowFault::Buyer(fault) => write!(f, "Buyer {}", ReadFaultName(fault)),
-            RowFault::Seller(fault) => write!(f, "Seller {}", ReadFaultName(fault)),
-            RowFault::Cusip(fault) => write!(f, "Cusip {}", CusipFaultName(fault)),
-            RowFault::Quantity(fault) => write!(f, "Quantity {}", ReadFaultName(fault)),
-            RowFault::Account(fault) => write!(f, "Account {}", ReadFaultName(fault)),
-            RowFault::Shares(fault) => write!(f, "Shares {}", ReadFaultName(fault)),
+            RowFault::Buyer(fault) => write!(f, "Buyer {}", read_fault_name(fault)),
+            RowFault::Seller(fault) => write!(f, "Seller {}", read_fault_name(fault)),
+            RowFault::Cusip(CusipFault::Length) => f.write_str("Cusip Length"),
+            RowFault::Cusip(CusipFault::BadChar { place }) => write!(f, "Cusip BadChar {place}"),
+            RowFault::Cusip(CusipFault::CheckDigit { want }) => {
+                write!(f, "Cusip CheckDigit {want}")
+            }
+            RowFault::Quantity(fault) => write!(f, "Quantity {}", read_fault_name(fault)),
+            RowFault::Account(fault) => write!(f, "Account {}", read_fault_name(fault)),
+            RowFault::Shares(fault) => write!(f, "Shares {}", read_fault_name(fault)),
         }
     }
 }
 
 /// The name of an opening's fault.
-#[derive(Clone, Copy)]
-pub(crate) struct OpeningFaultName(pub(crate) OpeningFault);
-
-impl fmt::Display for OpeningFaultName {
-    ghost output = { λ name. Some (opening_fault_text name.0) };
-
-    fn fmt<W: fmt::Write>(&self, f: &mut fmt::Formatter<W>) -> fmt::Result {
-        f.write_str(match self.0 {
-            OpeningFault::Double => "Double",
-            OpeningFault::IssueSum => "IssueSum",
-            OpeningFault::OutOfMemory => "OutOfMemory",
-        })
+pub(crate) fn opening_fault_name(fault: OpeningFault) -> &'static str
+    ensures { result.now ≡ opening_fault_text fault }
+{
+    match fault {
+        OpeningFault::Double => "Double",
+        OpeningFault::IssueSum => "IssueSum",
+        OpeningFault::OutOfMemory => "OutOfMemory",
     }
 }
 
 // The name of a verdict.
-#[derive(Clone, Copy)]
-struct VerdictName(Verdict);
-
-impl fmt::Display for VerdictName {
-    ghost output = { λ name. Some (verdict_text name.0) };
-
-    fn fmt<W: fmt::Write>(&self, f: &mut fmt::Formatter<W>) -> fmt::Result {
-        f.write_str(match self.0 {
-            Verdict::New => "New",
-            Verdict::Same => "Same",
-            Verdict::Conflict => "Conflict",
-            Verdict::SameMember => "SameMember",
-            Verdict::Full => "Full",
-        })
+fn verdict_name(verdict: Verdict) -> &'static str
+    ensures { result.now ≡ verdict_text verdict }
+{
+    match verdict {
+        Verdict::New => "New",
+        Verdict::Same => "Same",
+        Verdict::Conflict => "Conflict",
+        Verdict::SameMember => "SameMember",
+        Verdict::Full => "Full",
     }
 }
 
 /// The name of a refusal. That of a trade is the name of its verdict.
-#[derive(Clone, Copy)]
-pub(crate) struct RefusalName(pub(crate) Refusal);
-
-impl fmt::Display for RefusalName {
-    ghost output = { λ name. Some (refusal_text name.0) };
-
-    fn fmt<W: fmt::Write>(&self, f: &mut fmt::Formatter<W>) -> fmt::Result {
-        f.write_str(match self.0 {
-            Refusal::Trade(verdict) => {
-                let name = VerdictName(verdict);
-                return write!(f, "{name}");
-            }
-            Refusal::Down => "Down",
-            Refusal::CycleOrder => "CycleOrder",
-            Refusal::LotsOpen => "LotsOpen",
-            Refusal::LotAlready => "LotAlready",
-            Refusal::LotsSpent => "LotsSpent",
-            Refusal::NoLot => "NoLot",
-            Refusal::StaleLot => "StaleLot",
-            Refusal::LotBusy => "LotBusy",
-            Refusal::NotLong => "NotLong",
-            Refusal::EarlierGroup => "EarlierGroup",
-            Refusal::Sealed => "Sealed",
-            Refusal::Unserved => "Unserved",
-            Refusal::BadTickets => "BadTickets",
-            Refusal::NumbersSpent => "NumbersSpent",
-            Refusal::UnknownMove => "UnknownMove",
-            Refusal::NoPacket => "NoPacket",
-            Refusal::Conflict => "Conflict",
-            Refusal::TooMuch => "TooMuch",
-            Refusal::BadJournal { .. } => "BadJournal",
-            Refusal::OutOfMemory => "OutOfMemory",
-            Refusal::Device => "Device",
-        })
+pub(crate) fn refusal_name(refusal: Refusal) -> &'static str
+    ensures { result.now ≡ refusal_text refusal }
+{
+    match refusal {
+        Refusal::Trade(verdict) => verdict_name(verdict),
+        Refusal::Down => "Down",
+        Refusal::CycleOrder => "CycleOrder",
+        Refusal::LotsOpen => "LotsOpen",
+        Refusal::LotAlready => "LotAlready",
+        Refusal::LotsSpent => "LotsSpent",
+        Refusal::NoLot => "NoLot",
+        Refusal::StaleLot => "StaleLot",
+        Refusal::LotBusy => "LotBusy",
+        Refusal::NotLong => "NotLong",
+        Refusal::EarlierGroup => "EarlierGroup",
+        Refusal::Sealed => "Sealed",
+        Refusal::Unserved => "Unserved",
+        Refusal::BadTickets => "BadTickets",
+        Refusal::NumbersSpent => "NumbersSpent",
+        Refusal::UnknownMove => "UnknownMove",
+        Refusal::NoPacket => "NoPacket",
+        Refusal::Conflict => "Conflict",
+        Refusal::TooMuch => "TooMuch",
+        Refusal::BadJournal { .. } => "BadJournal",
+        Refusal::OutOfMemory => "OutOfMemory",
+        Refusal::Device => "Device",
     }
 }

@@ -1,8 +1,9 @@
-ghost use Rattle.std.specs.Prelude.{Some};
+ghost use Rattle.std.specs.Prelude.{◌≡◌, Some};
 ghost use Rattle.cns_report.specs.Lines.{line_text, lot_line_text, order_line_text, yes_or_no};
+ghost use Rattle.cns_report.specs.Refusals.{node_text};
 
-use crate::fault::{OpeningFaultName, RefusalName, RowFaultName};
-use crate::subject::{NodeWord, Subject};
+use crate::fault::{RowFaultName, opening_fault_name, refusal_name};
+use crate::subject::Subject;
 use cns_depository::OpeningFault;
 use cns_ids::CycleId;
 use cns_movements::{Order, Reply};
@@ -128,7 +129,7 @@ impl fmt::Display for Line {
         match *self {
             Line::TradeAccepted(id) => write!(f, "trade {id} accepted\n"),
             Line::TradeRefused { id, refusal } => {
-                write!(f, "trade {id} refused {}\n", RefusalName(refusal))
+                write!(f, "trade {id} refused {}\n", refusal_name(refusal))
             }
             Line::RowFault { row, fault } => {
                 write!(f, "row {row} fault {}\n", RowFaultName(fault))
@@ -137,11 +138,11 @@ impl fmt::Display for Line {
                 write!(f, "opening row {row} fault {}\n", RowFaultName(fault))
             }
             Line::OpeningRefused { row, fault } => {
-                write!(f, "opening row {row} fault {}\n", OpeningFaultName(fault))
+                write!(f, "opening row {row} fault {}\n", opening_fault_name(fault))
             }
             Line::BadCommand { line } => write!(f, "line {line} bad command\n"),
             Line::Refused { subject, refusal } => {
-                write!(f, "{subject} refused {}\n", RefusalName(refusal))
+                write!(f, "{subject} refused {}\n", refusal_name(refusal))
             }
             Line::ExemptionSet => f.write_str("exempt ok\n"),
             Line::PrioritySet => f.write_str("priority ok\n"),
@@ -153,7 +154,7 @@ impl fmt::Display for Line {
                 records,
                 kept,
             } => {
-                let (node, kept) = (NodeWord(node), YesOrNo(kept));
+                let (node, kept) = (node_word(node), yes_or_no(kept));
                 write!(f, "restart {node} records {records} kept {kept}\n")
             }
             Line::Order(line) => write!(f, "{line}"),
@@ -215,7 +216,7 @@ impl fmt::Display for LotLine {
             }
             LotLine::LookedPoured { poured } => write!(f, "look poured {poured}"),
             LotLine::LookedAsked { asked, sealed } => {
-                write!(f, " asked {asked} sealed {}\n", YesOrNo(sealed))
+                write!(f, " asked {asked} sealed {}\n", yes_or_no(sealed))
             }
             LotLine::Sealed => f.write_str("seal ok\n"),
             LotLine::Closed { granted } => write!(f, "close granted {granted}\n"),
@@ -223,14 +224,19 @@ impl fmt::Display for LotLine {
     }
 }
 
-// Whether something is so, as lines show it.
-#[derive(Clone, Copy)]
-struct YesOrNo(bool);
-
-impl fmt::Display for YesOrNo {
-    ghost output = { λ answer. Some (yes_or_no answer.0) };
-
-    fn fmt<W: fmt::Write>(&self, f: &mut fmt::Formatter<W>) -> fmt::Result {
-        f.write_str(if self.0 { "yes" } else { "no" })
+// A node's name, as lines show it.
+fn node_word(node: NodeName) -> &'static str
+    ensures { result.now ≡ node_text node }
+{
+    match node {
+        NodeName::Clear => "CLEAR",
+        NodeName::Depot => "DEPOT",
     }
+}
+
+// Whether something is so, as lines show it.
+fn yes_or_no(answer: bool) -> &'static str
+    ensures { result.now ≡ yes_or_no answer }
+{
+    if answer { "yes" } else { "no" }
 }

@@ -1,8 +1,8 @@
 ghost use Rattle.std.specs.Prelude.{◌≡◌, Some};
 ghost use Rattle.cns_report.specs.Outcomes.{subject_of};
-ghost use Rattle.cns_report.specs.Refusals.{subject_text, node_text};
+ghost use Rattle.cns_report.specs.Refusals.{subject_text};
 
-use cns_system::{Event, NodeName};
+use cns_system::Event;
 use std::fmt;
 
 /// What a line tells of, as the word that its refusals begin with.
@@ -67,21 +67,6 @@ impl fmt::Display for Subject {
             Subject::Seal => "seal",
             Subject::Close => "close",
             Subject::Restart => "restart",
-        })
-    }
-}
-
-/// A node, as lines name it.
-#[derive(Clone, Copy)]
-pub(crate) struct NodeWord(pub(crate) NodeName);
-
-impl fmt::Display for NodeWord {
-    ghost output = { λ word. Some (node_text word.0) };
-
-    fn fmt<W: fmt::Write>(&self, f: &mut fmt::Formatter<W>) -> fmt::Result {
-        f.write_str(match self.0 {
-            NodeName::Clear => "CLEAR",
-            NodeName::Depot => "DEPOT",
         })
     }
 }

@@ -18,13 +18,14 @@ lookup-keyed id (t ∷ ts) = rw (lookup-keyed id ts) refl
 pub known-lookup : (id : List ℕ) (es : List (List ℕ × Trade)) → es ≡ keyed (map (λ e. e.1) es) → known id (map (λ e. e.1) es) ≡ lookup (same_text id) es
 known-lookup id es h = sym (lookup-keyed id (map (λ e. e.1) es)) ∙ ap (lookup (same_text id)) (sym h)
 
-pub verdict-found : (held : List Trade) (t u : Trade) → (t.buyer == t.seller) ≡ false → known t.id held ≡ Some u
-    → verdict held t ≡ (if same_trade u t then verdicts.Same else verdicts.Conflict)
-verdict-found held t u h k = rw (h, k) refl
+-- what the list says of a trade between two members whose id is found, and of one whose id is not
+pub verdict-found : (es : List (List ℕ × Trade)) (t u : Trade) → es ≡ keyed (map (λ e. e.1) es) → (t.buyer == t.seller) ≡ false → lookup (same_text t.id) es ≡ Some u
+    → verdict (map (λ e. e.1) es) t ≡ (if same_trade u t then verdicts.Same else verdicts.Conflict)
+verdict-found es t u by_id h found = let k = known-lookup t.id es by_id ∙ found in rw (h, k) refl
 
-pub verdict-none : (held : List Trade) (t : Trade) → (t.buyer == t.seller) ≡ false → known t.id held ≡ None
-    → verdict held t ≡ (if nat_lt (length held) 1000000 then verdicts.New else verdicts.Full)
-verdict-none held t h k = rw (h, k) refl
+pub verdict-none : (es : List (List ℕ × Trade)) (t : Trade) → es ≡ keyed (map (λ e. e.1) es) → (t.buyer == t.seller) ≡ false → lookup (same_text t.id) es ≡ None
+    → verdict (map (λ e. e.1) es) t ≡ (if nat_lt (length (map (λ e. e.1) es)) 1000000 then verdicts.New else verdicts.Full)
+verdict-none es t by_id h none = let k = known-lookup t.id es by_id ∙ none in rw (h, k) refl
 
 -- a new trade has an id that is not known
 pub new-unknown : (held : List Trade) (t : Trade) → verdict held t ≡ verdicts.New → known t.id held ≡ None

@@ -1,7 +1,7 @@
 use super::even_plan;
 use crate::common::{assert_same, member_of};
 use cns_allocate::{
-    Gate, Grants, MAX_WORKERS, OpenGate, Plan, ServeCause, ServeFault, Served, serve,
+    Gate, MAX_WORKERS, OpenGate, Plan, ServeCause, ServeFault, Served, grants, serve,
 };
 use cns_pool::{Closed, PoolCell};
 use std::alloc::Global;
@@ -47,7 +47,7 @@ fn the_ticket_of_a_sealed_cell_is_granted(rt: HostRuntime) -> Result<(), Fail> {
     cell.reserve(&mut second, three, 30);
     assert!(rt; cell.join(&mut first, second).is_ok());
     let closed = cell.close(feeder, first);
-    let grants = Grants::of(rt.alloc(), closed.tickets.as_slice(), closed.poured)?;
+    let grants = grants(rt.alloc(), closed.tickets.as_slice(), closed.poured)?;
     assert_same(&rt, &grants.as_slice(), &[30].as_slice());
     Ok(())
 }

@@ -1,9 +1,7 @@
-use Rattle.std.proofs.Common.{◌+◌, ℕ, List, [], drop, arith, sym, ◌∙◌}
-use Rattle.std.proofs.lemmas.List.{drop_all}
+use Rattle.std.proofs.Common.{◌+◌, List, drop, arith, sym, ◌∙◌}
 use Rattle.std.proofs.lemmas.Bool.{false≢true, iff_false}
 use Rattle.cns_pool.specs.declared.ticket.Ticket.{Ticket}
-use Rattle.cns_allocate.specs.declared.planned.Planned.{Planned}
-use Rattle.cns_allocate.proofs.ServedLemmas.{IsUnderway, rest-cons, underway-last, underway-more, underway-refused, underway-waits}
+use Rattle.cns_allocate.proofs.ServedLemmas.{rest-cons, underway-last, underway-more, underway-refused, underway-waits}
 use Rattle.cns_allocate.proofs.served.are_served.Goals as goal
 
 pub returns-then-not-is_in_turn : goal.returns-then-not-is_in_turn
@@ -31,23 +29,13 @@ loop-ticket-preserved c =
     }
 
 pub returns-then-sealed : goal.returns-then-sealed
-returns-then-sealed c =
-    let plan : List Planned = c.args.plan.now in
-    let tickets : List Ticket = c.args.tickets.now in
-    let waiting : List Planned = c.loop-ticket.waiting in
-    let n : ℕ = c.loop-ticket.start in
-    let last : IsUnderway plan tickets waiting n [] = rw (drop_all c.loop-ticket.ticket-index tickets c.loop-ticket-test.false) at c.loop-ticket.invariant.underway in (
-      λ e. underway-last plan tickets c.args.sealed waiting n c.requires.plan last (λ f. absurd (false≢true (sym f ∙ c.if-sealed.true))),
-      λ s. c.if-sealed.true,
-    )
+returns-then-sealed c = (
+  λ e. underway-last c.args.plan.now c.args.tickets.now c.args.sealed _ _ _ c.requires.plan c.loop-ticket-test.false c.loop-ticket.invariant.underway (λ f. absurd (false≢true (sym f ∙ c.if-sealed.true))),
+  λ s. c.if-sealed.true,
+)
 
 pub returns-else-sealed : goal.returns-else-sealed
-returns-else-sealed c =
-    let plan : List Planned = c.args.plan.now in
-    let tickets : List Ticket = c.args.tickets.now in
-    let waiting : List Planned = c.loop-ticket.waiting in
-    let n : ℕ = c.loop-ticket.start in
-    let last : IsUnderway plan tickets waiting n [] = rw (drop_all c.loop-ticket.ticket-index tickets c.loop-ticket-test.false) at c.loop-ticket.invariant.underway in (
-      λ e. underway-last plan tickets c.args.sealed waiting n c.requires.plan last (λ f. c.is_empty.ensures.0 e),
-      λ s. c.is_empty.ensures.1 (underway-waits plan tickets waiting n c.requires.plan last (rw c.if-sealed.false at s)),
-    )
+returns-else-sealed c = (
+  λ e. underway-last c.args.plan.now c.args.tickets.now c.args.sealed _ _ _ c.requires.plan c.loop-ticket-test.false c.loop-ticket.invariant.underway (λ f. c.is_empty.ensures.0 e),
+  λ s. c.is_empty.ensures.1 (underway-waits c.args.plan.now c.args.tickets.now _ _ _ c.requires.plan c.loop-ticket-test.false c.loop-ticket.invariant.underway (rw c.if-sealed.false at s)),
+)

@@ -1,6 +1,6 @@
 use Rattle.std.proofs.Common.{sym, ◌∙◌}
 use Rattle.std.proofs.lemmas.Result.{on_ok_weaker}
-use Rattle.cns_journal.proofs.CloseLemmas.{closed_settled, cut_same, end_within, few_by, inside_by, settled_by, shortened_same, torn_same}
+use Rattle.cns_journal.proofs.CloseLemmas.{closed_settled, cut_moments, cut_same, end_within, few_by, inside_by, settled_by, shortened_same, torn_same}
 use Rattle.cns_journal.proofs.Moments.{runs_on, weaken}
 use Rattle.cns_journal.proofs.record_file.close.Goals as goal
 
@@ -10,9 +10,8 @@ returns-in-Some-eq0-clause-ok g c honest =
 
 pub returns-in_err-cut_through-in-Some-clause-any_moment : goal.returns-in_err-cut_through-in-Some-clause-any_moment
 returns-in_err-cut_through-in-Some-clause-any_moment g c honest =
-    let inside = inside_by _ _ _ _ (c.requires.gate honest) c.in-Some.is in
-    weaken g.D.Disk.moment g.D.Disk.left_since _ _ _ _ (c.cut_through.ensures.any_moment honest inside.1 (c.requires.durable honest))
-    (λ image h. (shortened_same _ _ (c.requires.end honest) image inside.0 h).0)
+    cut_moments g.D.Disk.moment g.D.Disk.left_since _ _ _ _ _ _ (c.requires.end honest) (c.requires.gate honest) c.in-Some.is
+    (λ within. c.cut_through.ensures.any_moment honest within (c.requires.durable honest))
 
 pub returns-in_err-cut_through-in-Some-clause-seen : goal.returns-in_err-cut_through-in-Some-clause-seen
 returns-in_err-cut_through-in-Some-clause-seen g c honest =
@@ -22,31 +21,25 @@ returns-in_err-cut_through-in-Some-clause-seen g c honest =
 
 pub returns-in_ok-cut_through-in-Some-clause-ok : goal.returns-in_ok-cut_through-in-Some-clause-ok
 returns-in_ok-cut_through-in-Some-clause-ok g c honest =
-    let inside = inside_by _ _ _ _ (c.requires.gate honest) c.in-Some.is in
-    let cut = c.in_ok-cut_through-in-Some.ensures.cut honest inside.1 in
+    let (same, only) = cut_same _ _ _ _ (c.requires.end honest) (c.requires.gate honest) c.in-Some.is _ _ (c.in_ok-cut_through-in-Some.ensures.cut honest) in
     let mid = c.cut_through.ensures.honest ∙ honest in
-    let same = cut_same _ _ (c.requires.end honest) _ inside.0 cut.0 in
     on_ok_weaker c.write_through.result (λ y. (closed_settled _ _ same.0 _ _ same.1 y.0 y.1).0) (c.write_through.ensures.written mid same.2)
 
 pub returns-in_ok-cut_through-in-Some-clause-any_moment : goal.returns-in_ok-cut_through-in-Some-clause-any_moment
 returns-in_ok-cut_through-in-Some-clause-any_moment g c honest =
-    let inside = inside_by _ _ _ _ (c.requires.gate honest) c.in-Some.is in
-    let cut = c.in_ok-cut_through-in-Some.ensures.cut honest inside.1 in
+    let (same, only) = cut_same _ _ _ _ (c.requires.end honest) (c.requires.gate honest) c.in-Some.is _ _ (c.in_ok-cut_through-in-Some.ensures.cut honest) in
     let mid = c.cut_through.ensures.honest ∙ honest in
-    let same = cut_same _ _ (c.requires.end honest) _ inside.0 cut.0 in
-    let first = weaken g.D.Disk.moment g.D.Disk.left_since _ _ _ _ (c.cut_through.ensures.any_moment honest inside.1 (c.requires.durable honest))
-    (λ image h. (shortened_same _ _ (c.requires.end honest) image inside.0 h).0) in
-    let second = weaken g.D.Disk.moment g.D.Disk.left_since _ _ _ _ (c.write_through.ensures.any_moment mid same.2 cut.1)
+    let first = cut_moments g.D.Disk.moment g.D.Disk.left_since _ _ _ _ _ _ (c.requires.end honest) (c.requires.gate honest) c.in-Some.is
+    (λ within. c.cut_through.ensures.any_moment honest within (c.requires.durable honest)) in
+    let second = weaken g.D.Disk.moment g.D.Disk.left_since _ _ _ _ (c.write_through.ensures.any_moment mid same.2 only)
     (λ image h. (torn_same _ _ same.0 image same.1 h).0 ∙ same.3) in
     runs_on g.D.Disk.moment g.D.Disk.left_since _ _ _ _ first second
 
 pub returns-in_ok-cut_through-in-Some-clause-seen : goal.returns-in_ok-cut_through-in-Some-clause-seen
 returns-in_ok-cut_through-in-Some-clause-seen g c honest =
-    let inside = inside_by _ _ _ _ (c.requires.gate honest) c.in-Some.is in
-    let cut = c.in_ok-cut_through-in-Some.ensures.cut honest inside.1 in
+    let (same, only) = cut_same _ _ _ _ (c.requires.end honest) (c.requires.gate honest) c.in-Some.is _ _ (c.in_ok-cut_through-in-Some.ensures.cut honest) in
     let mid = c.cut_through.ensures.honest ∙ honest in
-    let same = cut_same _ _ (c.requires.end honest) _ inside.0 cut.0 in
-    let last = torn_same _ _ same.0 _ same.1 (c.write_through.ensures.images mid same.2 cut.1 _ (g.met.D.Disk.reads_an_image _ (c.write_through.ensures.honest ∙ mid))) in
+    let last = torn_same _ _ same.0 _ same.1 (c.write_through.ensures.images mid same.2 only _ (g.met.D.Disk.reads_an_image _ (c.write_through.ensures.honest ∙ mid))) in
     (last.0 ∙ same.3, last.1 ∙ same.4)
 
 pub returns-in-None-clause-ok : goal.returns-in-None-clause-ok

@@ -1,4 +1,4 @@
-use Rattle.std.proofs.Common.{◌<◌, ◌∙◌, ap, arith, length, length-drop}
+use Rattle.std.proofs.Common.{◌∙◌, ap, arith, length-drop}
 use Rattle.cns_batch.specs.Run.{ended, lines_run}
 use Rattle.cns_input.specs.Script.{command_of}
 use Rattle.cns_input.specs.Sections.{raw_lines}
@@ -11,32 +11,23 @@ loop-at-init g c = (omega arith, omega arith, continues_here (lines_run 1 (raw_l
 
 pub returns-in_err-run_line : goal.returns-in_err-run_line
 returns-in_err-run_line g c =
-    let inv = c.loop-at.invariant in
-    let rest = c.split_at.ensures.back in
-    let lt = c.loop-at-test.true in
-    let len = length-drop c.loop-at.at c.args.script.now in
-    let pos : 0 < length c.split_at.result.1.now = rw rest (omega (arith, len, lt)) in
     let line =
-    is_line c.args.script.now c.split_at.result.1.now c.split_at-in-loop-at.result.0.now c.command_of.result c.loop-at.at c.line_size-size.result rest pos c.line_size-size.ensures.size
-    c.split_at-in-loop-at.ensures.front (c.command_of.ensures ∙ ap command_of c.line_text.ensures) in
+    is_line c.args.script.now c.split_at.result.1.now c.split_at-in-loop-at.result.0.now c.command_of.result c.loop-at.at c.line_size-size.result c.split_at.ensures.back c.loop-at-test.true
+    c.line_size-size.ensures.size c.split_at-in-loop-at.ensures.front (c.command_of.ensures ∙ ap command_of c.line_text.ensures) in
     runs_fault (lines_run 1 (raw_lines c.args.script.now)) c.from_residual.result _ _ c.from_residual.ensures.0
-    (script_stops (lines_run 1 (raw_lines c.args.script.now)) c.loop-at.number c.args.script.now _ _ _ c.loop-at.at _ _ _ _ line inv.2 c.in_err-run_line.ensures)
+    (script_stops (lines_run 1 (raw_lines c.args.script.now)) c.loop-at.number c.args.script.now _ _ _ c.loop-at.at _ _ _ _ line c.loop-at.invariant.2 c.in_err-run_line.ensures)
 
 pub loop-at-preserved : goal.loop-at-preserved
 loop-at-preserved g c =
-    let inv = c.loop-at.invariant in
-    let rest = c.split_at.ensures.back in
-    let lt = c.loop-at-test.true in
-    let len = length-drop c.loop-at.at c.args.script.now in
-    let pos : 0 < length c.split_at.result.1.now = rw rest (omega (arith, len, lt)) in
     let line =
-    is_line c.args.script.now c.split_at.result.1.now c.split_at-in-loop-at.result.0.now c.command_of.result c.loop-at.at c.line_size-size.result rest pos c.line_size-size.ensures.size
-    c.split_at-in-loop-at.ensures.front (c.command_of.ensures ∙ ap command_of c.line_text.ensures) in
-    let within = rw rest at c.line_size-size.ensures.within in
-    let some = c.line_size-size.ensures.some pos in (
-      omega (arith, within, len, lt),
-      omega (arith, some, inv.1),
-      script_next (lines_run 1 (raw_lines c.args.script.now)) c.loop-at.number c.args.script.now _ _ _ c.loop-at.at _ _ _ _ line inv.2 c.in_ok-run_line.ensures,
+    is_line c.args.script.now c.split_at.result.1.now c.split_at-in-loop-at.result.0.now c.command_of.result c.loop-at.at c.line_size-size.result c.split_at.ensures.back c.loop-at-test.true
+    c.line_size-size.ensures.size c.split_at-in-loop-at.ensures.front (c.command_of.ensures ∙ ap command_of c.line_text.ensures) in
+    let len = length-drop c.loop-at.at c.args.script.now in
+    let within = rw c.split_at.ensures.back at c.line_size-size.ensures.within in
+    let some = c.line_size-size.ensures.some line.some in (
+      omega (arith, within, len, c.loop-at-test.true),
+      omega (arith, some, c.loop-at.invariant.1),
+      script_next (lines_run 1 (raw_lines c.args.script.now)) c.loop-at.number c.args.script.now _ _ _ c.loop-at.at _ _ _ _ line c.loop-at.invariant.2 c.in_ok-run_line.ensures,
     )
 
 pub returns : goal.returns

@@ -30,11 +30,11 @@ invariant_of-seat-2 c =
     let call : 0 < c.seat.inside.calls = omega (arith, ap (λ (w : WorkerState). w.calls) c.seat.view_is, c.requires.calls) in
     let told = c.fetch_add.ensures.2 in
     IsWorker_drawn c.seat.inside.token.me c.fetch_add.new.seat.me _ _ c.fetch_add.result c.args.asked c.seat.invariant told.0 told.1 _ c.asked_in-found.ensures call c.if-found.false
-    (record { member = c.args.member; start = c.asked_in-found.result.sum; asked = c.args.asked }) refl refl _ _ c.requires.some (omega (arith, c.push_reserved.ensures.capacity)) c.fetch_add.ensures.0 c.push_reserved.ensures.items refl refl
+    (record { member = c.args.member; start = c.asked_in-found.result.sum; asked = c.args.asked }) refl refl _ _ c.requires.some (omega (arith, c.draw.ensures.capacity)) c.fetch_add.ensures.0 c.draw.ensures.items refl refl
 
 pub returns : goal.returns
 returns c =
     let call : 0 < c.seat.inside.calls = omega (arith, ap (λ (w : WorkerState). w.calls) c.seat.view_is, c.requires.calls) in
     let told = c.fetch_add.ensures.2 in
-    DrawsTicket_told c.seat.inside.token.me c.fetch_add.new.seat.me _ _ c.fetch_add.result c.args.asked c.seat.invariant told.0 told.1 _ c.asked_in-found.ensures call c.if-found.false
-    (record { member = c.args.member; start = c.asked_in-found.result.sum; asked = c.args.asked }) refl refl _ _ _ c.seat.view_is refl c.fetch_add.ensures.0 c.push_reserved.ensures.items refl refl
+    rw c.draw.ensures.answer (DrawsTicket_told c.seat.inside.token.me c.fetch_add.new.seat.me _ _ c.fetch_add.result c.args.asked c.seat.invariant told.0 told.1 _ c.asked_in-found.ensures call c.if-found.false
+    (record { member = c.args.member; start = c.asked_in-found.result.sum; asked = c.args.asked }) refl refl _ _ _ c.seat.view_is refl c.fetch_add.ensures.0 c.draw.ensures.items refl refl)
