@@ -7,7 +7,8 @@ use Rattle.cns_trades.specs.declared.trade.Trade.{Trade}
 use Rattle.cns_netting.specs.History.{bought, credit, debit, due, due_since, is_reached, latest, long_up_to, settled_in, settled_out, short_up_to, sold}
 use Rattle.cns_netting.specs.declared.entry.NetEntry.{NetEntry}
 use Rattle.cns_netting.specs.declared.entry.NetEntry.TheVariants.{Accepted, Netted, Settled}
-use Rattle.cns_netting.specs.Sides.{bought_by, sold_by}
+use Rattle.cns_netting.specs.Positions.{bought_by, sold_by}
+use Rattle.cns_netting.specs.Undue.{waiting_of}
 unfoldable pub use Rattle.cns_netting.specs.Totals.{total}
 use Rattle.cns_netting.proofs.TradeLemmas.{either-sum}
 
@@ -136,12 +137,12 @@ party_none n m p b q none from to = rw (ne_eqb p m (λ e. let not = none.not in 
 pub bought-members : (n i : ℕ) (h : List NetEntry) → AreMembers n h → IsUpTo n (λ m. bought (due h) m i)
 unfolding bought
 bought-members n i h members =
-    up_to n _ (λ m none. due_none n (bought_by m i) (λ t among. party_none n m t.buyer (t.issue == i) t.quantity none among.0 among.1) None h members)
+    up_to n _ (λ m none. due_none n (λ t. bought_by m i (waiting_of t)) (λ t among. party_none n m t.buyer (t.issue == i) t.quantity none among.0 among.1) None h members)
 
 pub sold-members : (n i : ℕ) (h : List NetEntry) → AreMembers n h → IsUpTo n (λ m. sold (due h) m i)
 unfolding sold
 sold-members n i h members =
-    up_to n _ (λ m none. due_none n (sold_by m i) (λ t among. party_none n m t.seller (t.issue == i) t.quantity none among.2 among.3) None h members)
+    up_to n _ (λ m none. due_none n (λ t. sold_by m i (waiting_of t)) (λ t among. party_none n m t.seller (t.issue == i) t.quantity none among.2 among.3) None h members)
 
 -- the shares that a trade moves in an issue
 traded : ℕ → Trade → ℕ

@@ -5,8 +5,8 @@ use Rattle.std.proofs.lemmas.Int.{ints}
 use Rattle.std.proofs.lemmas.Bool.{eqb-true}
 use Rattle.cns_trades.specs.declared.trade.Trade.{Trade}
 use Rattle.cns_netting.specs.History.{accepted, bought, credit, credit_part, debit, debit_part, due_since, position_of, settled_in, settled_out, sold}
-use Rattle.cns_netting.specs.Sides.{bought_by, sold_by}
-use Rattle.cns_netting.specs.Undue.{undue}
+use Rattle.cns_netting.specs.Positions.{bought_by, sold_by}
+use Rattle.cns_netting.specs.Undue.{waiting_of, undue}
 use Rattle.cns_netting.specs.Book.{AmountsFit, IsBook, IsSettled, IsWithin, QuantitiesFit}
 use Rattle.cns_netting.specs.declared.entry.NetEntry.{NetEntry}
 use Rattle.cns_netting.specs.declared.entry.NetEntry.TheVariants.{Accepted, Netted, Settled}
@@ -16,43 +16,20 @@ share_most : (b : Bool) (q n : ℕ) → q ≤ n → (if b then q else 0) ≤ n
 share_most true q n h = h
 share_most false q n h = omega arith
 
-bought_by-most : (m i : ℕ) (t : Trade) → bought_by m i t ≤ t.quantity
+bought_by-most : (m i : ℕ) (t : Trade) → bought_by m i (waiting_of t) ≤ t.quantity
 bought_by-most m i t = share_most ((t.buyer == m) && (t.issue == i)) t.quantity t.quantity (omega arith)
 
-sold_by-most : (m i : ℕ) (t : Trade) → sold_by m i t ≤ t.quantity
+sold_by-most : (m i : ℕ) (t : Trade) → sold_by m i (waiting_of t) ≤ t.quantity
 sold_by-most m i t = share_most ((t.seller == m) && (t.issue == i)) t.quantity t.quantity (omega arith)
 
 -- the shares that due trades bring a member are at most those of all accepted trades
 pub bought-most : (reached : Option ℕ) (h : List NetEntry) (m i : ℕ) → QuantitiesFit h → bought (due_since reached h) m i ≤ length (accepted h) * 999999999999
 unfolding bought
-bought-most reached h m i fit = omega (arith, accepted-most (bought_by m i) (bought_by-most m i) reached h fit)
+bought-most reached h m i fit = omega (arith, accepted-most (λ t. bought_by m i (waiting_of t)) (bought_by-most m i) reached h fit)
 
 pub sold-most : (reached : Option ℕ) (h : List NetEntry) (m i : ℕ) → QuantitiesFit h → sold (due_since reached h) m i ≤ length (accepted h) * 999999999999
 unfolding sold
-sold-most reached h m i fit = omega (arith, accepted-most (sold_by m i) (sold_by-most m i) reached h fit)
-
--- so many shares at most are settled either way
-settled-most : (h : List NetEntry) (m i : ℕ) → AmountsFit h → settled_in h m i + settled_out h m i ≤ length h * 4000000000000000000
-unfolding settled_in settled_out AmountsFit
-settled-most [] m i fit = omega arith
-settled-most (Accepted t ∷ h) m i fit = omega (arith, settled-most h m i fit)
-settled-most (Netted d ∷ h) m i fit = omega (arith, settled-most h m i fit)
-settled-most (Settled k j z ∷ h) m i fit =
-    let come = share_most ((k == m) && (j == i)) (credit_part z) 2000000000000000000 fit.0 in
-    let gone = share_most ((k == m) && (j == i)) (debit_part z) 2000000000000000000 fit.1 in
-    omega (arith, come, gone, settled-most h m i fit.2)
-
--- the sums of a book fit, with those that are still to come
-pub record AreSmall (h : List NetEntry) (m i : ℕ) : Type 0 where
-  pub credit : credit h m i + sum_by (bought_by m i) (undue h) < 2 ^ 127
-  pub debit : debit h m i + sum_by (sold_by m i) (undue h) < 2 ^ 127
-
-pub small : (m i : ℕ) (h : List NetEntry) → IsBook h → length h < 2 ^ 63 → AreSmall h m i
-unfolding bought sold
-small m i h book size = record {
-  credit = omega (arith, accepted-most (bought_by m i) (bought_by-most m i) None h book.quantities, settled-most h m i book.amounts, book.few, size);
-  debit = omega (arith, accepted-most (sold_by m i) (sold_by-most m i) None h book.quantities, settled-most h m i book.amounts, book.few, size);
-}
+sold-most reached h m i fit = omega (arith, accepted-most (λ t. sold_by m i (waiting_of t)) (sold_by-most m i) reached h fit)
 
 pub book_empty : IsBook []
 unfolding QuantitiesFit AmountsFit settled_in settled_out
@@ -84,7 +61,7 @@ pub record AreSettled (come gone : ℕ) : Type 0 where
   pub in_most : come ≤ gone + 2000000000000000000
   pub out_most : gone ≤ come + 2000000000000000000
 
--- a position within 10^18 of 0, by its two sides
+-- a position within 10^18 of 0, by its two positions
 pub sides_near : (c d : ℕ) → IsWithin (pos c -ℤ pos d) → AreNear c d
 sides_near c d w = record { above = omega (arith, ints, w.high); below = omega (arith, ints, w.low) }
 
@@ -138,13 +115,13 @@ book_settled h m i z book before after =
     }
 
 -- a position of a book stays within 3 * 10^18 of 0 while the trades become due that wait
-pub long-most : (h : List NetEntry) (m i : ℕ) → IsBook h → credit h m i + sum_by (bought_by m i) (undue h) ≤ debit h m i + 3 * 10 ^ 18
+pub long-most : (h : List NetEntry) (m i : ℕ) → IsBook h → credit h m i + sum_by (λ t. bought_by m i (waiting_of t)) (undue h) ≤ debit h m i + 3 * 10 ^ 18
 unfolding bought
-long-most h m i book = omega (arith, accepted-most (bought_by m i) (bought_by-most m i) None h book.quantities, (book.settled m i).in_most, book.few)
+long-most h m i book = omega (arith, accepted-most (λ t. bought_by m i (waiting_of t)) (bought_by-most m i) None h book.quantities, (book.settled m i).in_most, book.few)
 
-pub short-most : (h : List NetEntry) (m i : ℕ) → IsBook h → debit h m i + sum_by (sold_by m i) (undue h) ≤ credit h m i + 3 * 10 ^ 18
+pub short-most : (h : List NetEntry) (m i : ℕ) → IsBook h → debit h m i + sum_by (λ t. sold_by m i (waiting_of t)) (undue h) ≤ credit h m i + 3 * 10 ^ 18
 unfolding sold
-short-most h m i book = omega (arith, accepted-most (sold_by m i) (sold_by-most m i) None h book.quantities, (book.settled m i).out_most, book.few)
+short-most h m i book = omega (arith, accepted-most (λ t. sold_by m i (waiting_of t)) (sold_by-most m i) None h book.quantities, (book.settled m i).out_most, book.few)
 
 -- nor does a position go further by the shares alone that come by a settlement, or by those alone that go
 pub settled-near : (h : List NetEntry) (member issue : ℕ) (z : ℤ) (m i : ℕ) → IsBook h → IsWithin (position_of h member issue) → IsWithin (position_of h member issue +ℤ z)

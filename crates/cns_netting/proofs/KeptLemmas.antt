@@ -1,76 +1,74 @@
 -- What a book keeps beside its history, as the history grows.
-use Rattle.std.proofs.Common.{◌≡◌, ◌≤◌, ◌<◌, ◌+◌, ◌-◌, ◌*◌, ◌^◌, ℕ, nat_eq, reverse, List, [], ◌∷◌, length, None, refl, sym, ap, ◌∙◌, arith, subst}
+use Rattle.std.proofs.Common.{◌≡◌, ◌≤◌, ◌<◌, ◌+◌, ◌-◌, ◌*◌, ◌^◌, ℕ, nat_eq, List, [], ◌∷◌, None, refl, sym, ap, ◌∙◌, arith, subst}
 use Rattle.std.specs.Prelude.{◌&&◌, ◌==◌, All, IsSome, ℤ, sum_by, if◌then◌else◌}
 use Rattle.std.specs.BinaryHeap.{IsHeap}
 use Rattle.std.specs.HashMap.{HashMap, get}
 use Rattle.std.specs.List.Sorted.{IsPermutation}
-use Rattle.std.proofs.lemmas.List.{length-reverse}
 use Rattle.std.proofs.lemmas.List.Elements.{All-cons, All-nil, All-weaker}
 use Rattle.std.proofs.lemmas.List.Sorted.{All-permutation, sum_by_pushed}
 use Rattle.std.proofs.lemmas.List.Sums.{sum_by-cons}
 use Rattle.cns_trades.specs.declared.trade.Trade.{Trade}
 use Rattle.cns_netting.specs.Book.{IsBook, IsKept}
 use Rattle.cns_netting.specs.History.{becoming_due, bought, credit_part, debit_part, due, longs_of, settled_in, settled_out, shorts_of, sold}
+use Rattle.cns_netting.specs.Rows.{holdings_of, rows_of}
 use Rattle.cns_ids.specs.Holding.{holding_at, holding_eq}
-use Rattle.cns_netting.specs.Sides.{AreOfMembers, AreSidesOf, bought_by, credit_at, credit_in, debit_at, debit_in, IsNamed, sold_by}
+use Rattle.cns_netting.specs.Positions.{AreOfMembers, ArePositionsOf, bought_by, credit_at, credit_in, debit_at, debit_in, IsNamed, sold_by}
 use Rattle.cns_netting.specs.Totals.{AreTotalsOf, HasIssue, longs_at, longs_in, shorts_at, shorts_in}
-use Rattle.cns_netting.specs.Undue.{earlier, if_left, if_settled, undue}
+use Rattle.cns_netting.specs.Undue.{earlier, if_left, if_settled, waiting_of, undue}
 use Rattle.cns_netting.specs.declared.entry.NetEntry.{NetEntry}
 use Rattle.cns_netting.specs.declared.entry.NetEntry.TheVariants.{Accepted, Netted, Settled}
 use Rattle.cns_ids.specs.declared.holding.Holding.{Holding}
-use Rattle.cns_netting.specs.declared.sides.Sides.{Sides}
+use Rattle.cns_netting.specs.declared.positions.Position.{Position}
 use Rattle.cns_netting.specs.declared.totals.Totals.{Totals}
+use Rattle.cns_netting.specs.declared.undue.Undue.{Undue}
 use Rattle.cns_netting.proofs.BalanceLemmas.{total-nothing}
-use Rattle.cns_netting.proofs.BookLemmas.{AreSmall, book_empty, long-most, short-most, small}
+use Rattle.cns_netting.proofs.BookLemmas.{book_empty, long-most, short-most}
+use Rattle.cns_netting.proofs.QueueLemmas.{none-settled}
+use Rattle.cns_netting.proofs.RowLemmas.{same_positions}
 use Rattle.cns_netting.proofs.TotalLemmas.{longs_by_history, shorts_by_history, totals_kept}
 use Rattle.cns_netting.proofs.TradeLemmas.{due-netting, length-sum, settled-left, undue-netting}
 
 module _ {S : Type 0} where
-  -- the sums fit, with those of the trades that are not due, and no position goes further than 3 * 10^18 shares from 0
-  pub record AreFit (sides : HashMap Holding Sides S) (waiting : List Trade) : Type 0 where
-    pub credit : (m i : ℕ) → credit_in sides m i + sum_by (bought_by m i) waiting < 2 ^ 127
-    pub debit : (m i : ℕ) → debit_in sides m i + sum_by (sold_by m i) waiting < 2 ^ 127
-    pub long : (m i : ℕ) → credit_in sides m i + sum_by (bought_by m i) waiting ≤ debit_in sides m i + 3 * 10 ^ 18
-    pub short : (m i : ℕ) → debit_in sides m i + sum_by (sold_by m i) waiting ≤ credit_in sides m i + 3 * 10 ^ 18
+  -- whichever of the trades that wait become due, no position goes further than 3 * 10^18 shares from 0
+  pub record AreNear (positions : HashMap Holding Position S) (waiting : List Undue) : Type 0 where
+    pub long : (m i : ℕ) → credit_in positions m i + sum_by (bought_by m i) waiting ≤ debit_in positions m i + 3 * 10 ^ 18
+    pub short : (m i : ℕ) → debit_in positions m i + sum_by (sold_by m i) waiting ≤ credit_in positions m i + 3 * 10 ^ 18
 
-  -- those of a row alone
-  pub fit_rows : (sides : HashMap Holding Sides S) (waiting : List Trade) → AreFit sides waiting → (m i : ℕ) → (credit_in sides m i < 2 ^ 127) × (debit_in sides m i < 2 ^ 127)
-  fit_rows sides waiting fit m i = (omega (arith, fit.credit m i), omega (arith, fit.debit m i))
+  -- so it is with those that become due by a day
+  pub long_by : (day : ℕ) (positions : HashMap Holding Position S) (waiting : List Undue) → AreNear positions waiting → (m i : ℕ)
+      → credit_in positions m i + sum_by (if_settled day (bought_by m i)) waiting ≤ debit_in positions m i + 3 * 10 ^ 18
+  long_by day positions waiting near m i = omega (arith, near.long m i, settled-left day (bought_by m i) waiting)
 
-  -- so do those of the sides as after a netting
-  pub after_fit : (day : ℕ) (old new : HashMap Holding Sides S) (waiting : List Trade) → AreFit old waiting
-      → ((m i : ℕ) → credit_in new m i ≡ credit_in old m i + sum_by (if_settled day (bought_by m i)) waiting)
-      → ((m i : ℕ) → debit_in new m i ≡ debit_in old m i + sum_by (if_settled day (sold_by m i)) waiting)
-      → (m i : ℕ) → (credit_in new m i < 2 ^ 127) × (debit_in new m i < 2 ^ 127)
-  after_fit day old new waiting fit credit debit m i =
-      (omega (arith, credit m i, fit.credit m i, settled-left day (bought_by m i) waiting), omega (arith, debit m i, fit.debit m i, settled-left day (sold_by m i) waiting))
+  pub short_by : (day : ℕ) (positions : HashMap Holding Position S) (waiting : List Undue) → AreNear positions waiting → (m i : ℕ)
+      → debit_in positions m i + sum_by (if_settled day (sold_by m i)) waiting ≤ credit_in positions m i + 3 * 10 ^ 18
+  short_by day positions waiting near m i = omega (arith, near.short m i, settled-left day (sold_by m i) waiting)
 
   -- where nothing is named
-  members_none : (sides : HashMap Holding Sides S) → sides.entries ≡ [] → AreOfMembers sides
-  members_none sides none k some =
-      let no : get holding_eq sides k ≡ None = Prim.rw none refl in
+  members_none : (positions : HashMap Holding Position S) → positions.entries ≡ [] → AreOfMembers positions
+  members_none positions none k some =
+      let no : get holding_eq positions k ≡ None = Prim.rw none refl in
       let it = subst IsSome no some in cc it
 
 module _ {S T : Type 0} where
-  pub kept_empty : (sides : HashMap Holding Sides S) (totals : HashMap ℕ Totals T) (waiting : List Trade) → sides.entries ≡ [] → totals.entries ≡ [] → waiting ≡ []
-      → IsHeap earlier waiting → IsKept [] sides totals waiting
+  pub kept_empty : (positions : HashMap Holding Position S) (totals : HashMap ℕ Totals T) (waiting : List Undue) → positions.entries ≡ [] → totals.entries ≡ [] → waiting ≡ []
+      → IsHeap earlier waiting → IsKept [] positions totals waiting
   unfolding bought sold settled_in settled_out
-  kept_empty sides totals waiting none uncounted empty heap = record {
+  kept_empty positions totals waiting none uncounted empty heap = record {
     book = book_empty;
-    sides = record { credit = λ m i. Prim.rw none refl; debit = λ m i. Prim.rw none refl };
+    positions = record { balance = λ m i. Prim.rw none refl };
     totals = record {
-      longs = λ i. Prim.rw uncounted (sym (total-nothing 9999 (λ m. credit_in sides m i - debit_in sides m i) (λ m. Prim.rw none refl)));
-      shorts = λ i. Prim.rw uncounted (sym (total-nothing 9999 (λ m. debit_in sides m i - credit_in sides m i) (λ m. Prim.rw none refl)));
+      longs = λ i. Prim.rw uncounted (sym (total-nothing 9999 (λ m. credit_in positions m i - debit_in positions m i) (λ m. Prim.rw none refl)));
+      shorts = λ i. Prim.rw uncounted (sym (total-nothing 9999 (λ m. debit_in positions m i - credit_in positions m i) (λ m. Prim.rw none refl)));
     };
     undue = λ f. Prim.rw empty refl;
-    named = Prim.rw empty (All-nil (IsNamed sides));
+    named = Prim.rw empty (All-nil (IsNamed positions));
     named_issues = Prim.rw empty (All-nil (HasIssue totals));
-    members = members_none sides none;
+    members = members_none positions none;
     heap = heap;
   }
 
   -- look-ups alone count, and the trades that wait
-  pub kept_room : (h : List NetEntry) (old new : HashMap Holding Sides S) (totals next : HashMap ℕ Totals T) (waiting queue : List Trade)
+  pub kept_room : (h : List NetEntry) (old new : HashMap Holding Position S) (totals next : HashMap ℕ Totals T) (waiting queue : List Undue)
       → ((k : Holding) → get holding_eq new k ≡ get holding_eq old k) → ((i : ℕ) → get nat_eq next i ≡ get nat_eq totals i) → queue ≡ waiting
       → IsKept h old totals waiting → IsKept h new next queue
   kept_room h old new totals next waiting queue same alike stay kept =
@@ -78,8 +76,8 @@ module _ {S T : Type 0} where
       let debit : (m i : ℕ) → debit_in new m i ≡ debit_in old m i = λ m i. ap debit_at (same (holding_at i m)) in
       subst (λ ts. IsKept h new next ts) (sym stay) (record {
         book = kept.book;
-        sides = record { credit = λ m i. credit m i ∙ kept.sides.credit m i; debit = λ m i. debit m i ∙ kept.sides.debit m i };
-        totals = totals_kept old new totals next credit debit (λ i. ap longs_at (alike i)) (λ i. ap shorts_at (alike i)) kept.totals;
+        positions = record { balance = λ m i. omega (arith, credit m i, debit m i, kept.positions.balance m i) };
+        totals = totals_kept old new totals next (λ m i. omega (arith, credit m i, debit m i)) (λ i. ap longs_at (alike i)) (λ i. ap shorts_at (alike i)) kept.totals;
         undue = kept.undue;
         named = All-weaker (IsNamed old) (IsNamed new) (λ t both. (subst IsSome (sym (same _)) both.0, subst IsSome (sym (same _)) both.1)) waiting kept.named;
         named_issues = All-weaker (HasIssue totals) (HasIssue next) (λ t one. subst IsSome (sym (alike _)) one) waiting kept.named_issues;
@@ -87,28 +85,28 @@ module _ {S T : Type 0} where
         heap = kept.heap;
       })
 
-  -- what the next sides and totals have, where no name is lost, and no holding is named but a member's
-  pub record KeepNames (old new : HashMap Holding Sides S) (totals next : HashMap ℕ Totals T) : Type 0 where
+  -- what the next positions and totals have, where no name is lost, and no holding is named but a member's
+  pub record KeepNames (old new : HashMap Holding Position S) (totals next : HashMap ℕ Totals T) : Type 0 where
     pub still : (k : Holding) → IsSome (get holding_eq old k) → IsSome (get holding_eq new k)
     pub issues : (i : ℕ) → IsSome (get nat_eq totals i) → IsSome (get nat_eq next i)
     pub members : AreOfMembers old → AreOfMembers new
 
-  names_stay : (old new : HashMap Holding Sides S) (totals next : HashMap ℕ Totals T) (waiting : List Trade) → KeepNames old new totals next → All (IsNamed old) waiting
+  names_stay : (old new : HashMap Holding Position S) (totals next : HashMap ℕ Totals T) (waiting : List Undue) → KeepNames old new totals next → All (IsNamed old) waiting
       → All (IsNamed new) waiting
   names_stay old new totals next waiting keep named = All-weaker (IsNamed old) (IsNamed new) (λ t both. (keep.still _ both.0, keep.still _ both.1)) waiting named
 
-  issues_stay : (old new : HashMap Holding Sides S) (totals next : HashMap ℕ Totals T) (waiting : List Trade) → KeepNames old new totals next → All (HasIssue totals) waiting
+  issues_stay : (old new : HashMap Holding Position S) (totals next : HashMap ℕ Totals T) (waiting : List Undue) → KeepNames old new totals next → All (HasIssue totals) waiting
       → All (HasIssue next) waiting
   issues_stay old new totals next waiting keep named = All-weaker (HasIssue totals) (HasIssue next) (λ t one. keep.issues _ one) waiting named
 
-  -- sides that are what they were
-  pub kept_same : (h : List NetEntry) (old new : HashMap Holding Sides S) (totals : HashMap ℕ Totals T) (waiting : List Trade) → IsKept h old totals waiting
-      → ((m i : ℕ) → credit_in new m i ≡ credit_in old m i) → ((m i : ℕ) → debit_in new m i ≡ debit_in old m i)
+  -- positions that are what they were
+  pub kept_same : (h : List NetEntry) (old new : HashMap Holding Position S) (totals : HashMap ℕ Totals T) (waiting : List Undue) → IsKept h old totals waiting
+      → ((m i : ℕ) → credit_in new m i + debit_in old m i ≡ debit_in new m i + credit_in old m i)
       → KeepNames old new totals totals → IsKept h new totals waiting
-  kept_same h old new totals waiting kept credit debit keep = record {
+  kept_same h old new totals waiting kept same keep = record {
     book = kept.book;
-    sides = record { credit = λ m i. credit m i ∙ kept.sides.credit m i; debit = λ m i. debit m i ∙ kept.sides.debit m i };
-    totals = totals_kept old new totals totals credit debit (λ i. refl) (λ i. refl) kept.totals;
+    positions = record { balance = λ m i. omega (arith, same m i, kept.positions.balance m i) };
+    totals = totals_kept old new totals totals same (λ i. refl) (λ i. refl) kept.totals;
     undue = kept.undue;
     named = names_stay old new totals totals waiting keep kept.named;
     named_issues = kept.named_issues;
@@ -116,36 +114,32 @@ module _ {S T : Type 0} where
     heap = kept.heap;
   }
 
-  pub kept_accepted : (h : List NetEntry) (t : Trade) (old new : HashMap Holding Sides S) (totals next : HashMap ℕ Totals T) (waiting queue : List Trade)
+  pub kept_accepted : (h : List NetEntry) (t : Trade) (old new : HashMap Holding Position S) (totals next : HashMap ℕ Totals T) (waiting queue : List Undue)
       → IsKept h old totals waiting → IsBook (Accepted t ∷ h)
       → ((m i : ℕ) → credit_in new m i ≡ credit_in old m i) → ((m i : ℕ) → debit_in new m i ≡ debit_in old m i)
       → ((i : ℕ) → longs_in next i ≡ longs_in totals i) → ((i : ℕ) → shorts_in next i ≡ shorts_in totals i)
-      → KeepNames old new totals next → IsNamed new t → HasIssue next t
-      → IsPermutation (t ∷ waiting) queue → IsHeap earlier queue → IsKept (Accepted t ∷ h) new next queue
+      → KeepNames old new totals next → IsNamed new (waiting_of t) → HasIssue next (waiting_of t)
+      → IsPermutation (waiting_of t ∷ waiting) queue → IsHeap earlier queue → IsKept (Accepted t ∷ h) new next queue
   unfolding settled_in settled_out
   kept_accepted h t old new totals next waiting queue kept book credit debit longs shorts keep named issue perm heap = record {
     book = book;
-    sides = record { credit = λ m i. credit m i ∙ kept.sides.credit m i; debit = λ m i. debit m i ∙ kept.sides.debit m i };
-    totals = totals_kept old new totals next credit debit longs shorts kept.totals;
-    undue = λ f. omega (arith, sum_by_pushed f t waiting queue perm, kept.undue f, sum_by-cons f t (undue h));
-    named = All-permutation (IsNamed new) (t ∷ waiting) queue perm (All-cons (IsNamed new) t waiting named (names_stay old new totals next waiting keep kept.named));
-    named_issues = All-permutation (HasIssue next) (t ∷ waiting) queue perm (All-cons (HasIssue next) t waiting issue (issues_stay old new totals next waiting keep kept.named_issues));
+    positions = record { balance = λ m i. omega (arith, credit m i, debit m i, kept.positions.balance m i) };
+    totals = totals_kept old new totals next (λ m i. omega (arith, credit m i, debit m i)) longs shorts kept.totals;
+    undue = λ f. omega (arith, sum_by_pushed f (waiting_of t) waiting queue perm, kept.undue f, sum_by-cons (λ s. f (waiting_of s)) t (undue h));
+    named = All-permutation (IsNamed new) (waiting_of t ∷ waiting) queue perm (All-cons (IsNamed new) (waiting_of t) waiting named (names_stay old new totals next waiting keep kept.named));
+    named_issues = All-permutation (HasIssue next) (waiting_of t ∷ waiting) queue perm (All-cons (HasIssue next) (waiting_of t) waiting issue (issues_stay old new totals next waiting keep kept.named_issues));
     members = keep.members kept.members;
     heap = heap;
   }
 
-  pub kept_settled : (h : List NetEntry) (member issue : ℕ) (z : ℤ) (old new : HashMap Holding Sides S) (totals next : HashMap ℕ Totals T) (waiting : List Trade)
+  pub kept_settled : (h : List NetEntry) (member issue : ℕ) (z : ℤ) (old new : HashMap Holding Position S) (totals next : HashMap ℕ Totals T) (waiting : List Undue)
       → IsKept h old totals waiting → IsBook (Settled member issue z ∷ h)
-      → ((m i : ℕ) → credit_in new m i ≡ credit_in old m i + (if (member == m) && (issue == i) then credit_part z else 0))
-      → ((m i : ℕ) → debit_in new m i ≡ debit_in old m i + (if (member == m) && (issue == i) then debit_part z else 0))
+      → ((m i : ℕ) → credit_in new m i + (debit_in old m i + (if (member == m) && (issue == i) then debit_part z else 0)) ≡ debit_in new m i + (credit_in old m i + (if (member == m) && (issue == i) then credit_part z else 0)))
       → AreTotalsOf next new → KeepNames old new totals next → IsKept (Settled member issue z ∷ h) new next waiting
   unfolding settled_in settled_out
-  kept_settled h member issue z old new totals next waiting kept book credit debit are keep = record {
+  kept_settled h member issue z old new totals next waiting kept book moved are keep = record {
     book = book;
-    sides = record {
-      credit = λ m i. omega (arith, credit m i, kept.sides.credit m i);
-      debit = λ m i. omega (arith, debit m i, kept.sides.debit m i);
-    };
+    positions = record { balance = λ m i. omega (arith, moved m i, kept.positions.balance m i) };
     totals = are;
     undue = kept.undue;
     named = names_stay old new totals next waiting keep kept.named;
@@ -155,22 +149,30 @@ module _ {S T : Type 0} where
   }
 
   -- a number of the trades that are due after a netting, by those that waited
-  due_then : (h : List NetEntry) (day : ℕ) (sides : HashMap Holding Sides S) (totals : HashMap ℕ Totals T) (waiting : List Trade) → IsKept h sides totals waiting → (f : Trade → ℕ)
-      → sum_by f (due (Netted day ∷ h)) ≡ sum_by f (due h) + sum_by (if_settled day f) waiting
-  due_then h day sides totals waiting kept f = omega (arith, kept.undue (if_settled day f), due-netting f None day h)
+  due_then : (h : List NetEntry) (day : ℕ) (positions : HashMap Holding Position S) (totals : HashMap ℕ Totals T) (waiting : List Undue) → IsKept h positions totals waiting → (f : Undue → ℕ)
+      → sum_by (λ t. f (waiting_of t)) (due (Netted day ∷ h)) ≡ sum_by (λ t. f (waiting_of t)) (due h) + sum_by (if_settled day f) waiting
+  due_then h day positions totals waiting kept f = omega (arith, kept.undue (if_settled day f), due-netting f None day h)
 
-  pub kept_netted : (h : List NetEntry) (day : ℕ) (old new : HashMap Holding Sides S) (totals next : HashMap ℕ Totals T) (waiting queue : List Trade)
+  pub kept_netted : (h : List NetEntry) (day : ℕ) (old new : HashMap Holding Position S) (totals next : HashMap ℕ Totals T) (waiting queue : List Undue)
       → IsKept h old totals waiting → IsBook (Netted day ∷ h)
-      → ((f : Trade → ℕ) → sum_by f queue ≡ sum_by (if_left day f) waiting)
-      → ((m i : ℕ) → credit_in new m i + sum_by (bought_by m i) queue ≡ credit_in old m i + sum_by (bought_by m i) waiting)
-      → ((m i : ℕ) → debit_in new m i + sum_by (sold_by m i) queue ≡ debit_in old m i + sum_by (sold_by m i) waiting)
+      → ((f : Undue → ℕ) → sum_by f queue ≡ sum_by (if_left day f) waiting)
+      → ((m i : ℕ) → credit_in new m i + sum_by (bought_by m i) queue + (debit_in old m i + sum_by (sold_by m i) waiting) ≡ debit_in new m i + sum_by (sold_by m i) queue + (credit_in old m i + sum_by (bought_by m i) waiting))
       → AreTotalsOf next new → All (IsNamed new) queue → All (HasIssue next) queue → (AreOfMembers old → AreOfMembers new) → IsHeap earlier queue → IsKept (Netted day ∷ h) new next queue
   unfolding bought sold settled_in settled_out
-  kept_netted h day old new totals next waiting queue kept book left credit debit are named issues members heap = record {
+  kept_netted h day old new totals next waiting queue kept book left moved are named issues members heap = record {
     book = book;
-    sides = record {
-      credit = λ m i. omega (arith, credit m i, kept.sides.credit m i, left (bought_by m i), settled-left day (bought_by m i) waiting, due_then h day old totals waiting kept (bought_by m i));
-      debit = λ m i. omega (arith, debit m i, kept.sides.debit m i, left (sold_by m i), settled-left day (sold_by m i) waiting, due_then h day old totals waiting kept (sold_by m i));
+    positions = record {
+      balance = λ m i. omega (
+        arith,
+        moved m i,
+        kept.positions.balance m i,
+        left (bought_by m i),
+        settled-left day (bought_by m i) waiting,
+        due_then h day old totals waiting kept (bought_by m i),
+        left (sold_by m i),
+        settled-left day (sold_by m i) waiting,
+        due_then h day old totals waiting kept (sold_by m i),
+      );
     };
     totals = are;
     undue = λ f. left f ∙ kept.undue (if_left day f) ∙ sym (undue-netting f None day h);
@@ -181,42 +183,46 @@ module _ {S T : Type 0} where
   }
 
   -- how many became due
-  pub netted-count : (h : List NetEntry) (day count : ℕ) (old : HashMap Holding Sides S) (totals : HashMap ℕ Totals T) (waiting queue : List Trade) → IsKept h old totals waiting
-      → ((f : Trade → ℕ) → sum_by f queue ≡ sum_by (if_left day f) waiting)
-      → count + sum_by (λ (t : Trade). 1) queue ≡ sum_by (λ (t : Trade). 1) waiting → count ≡ becoming_due h day
+  pub netted-count : (h : List NetEntry) (day count : ℕ) (old : HashMap Holding Position S) (totals : HashMap ℕ Totals T) (waiting queue : List Undue) → IsKept h old totals waiting
+      → ((f : Undue → ℕ) → sum_by f queue ≡ sum_by (if_left day f) waiting)
+      → count + sum_by (λ (t : Undue). 1) queue ≡ sum_by (λ (t : Undue). 1) waiting → count ≡ becoming_due h day
   netted-count h day count old totals waiting queue kept left all =
-      let one : Trade → ℕ = λ t. 1 in
+      let one : Undue → ℕ = λ t. 1 in
       omega (arith, all, left one, settled-left day one waiting, due_then h day old totals waiting kept one, length-sum (due h), length-sum (due (Netted day ∷ h)))
 
-  -- the sides as after a netting of a day
-  pub sides_netted : (h : List NetEntry) (day : ℕ) (old new : HashMap Holding Sides S) (totals : HashMap ℕ Totals T) (waiting : List Trade) → IsKept h old totals waiting
-      → ((m i : ℕ) → credit_in new m i ≡ credit_in old m i + sum_by (if_settled day (bought_by m i)) waiting)
-      → ((m i : ℕ) → debit_in new m i ≡ debit_in old m i + sum_by (if_settled day (sold_by m i)) waiting)
-      → AreSidesOf new (Netted day ∷ h)
+  -- the positions as after a netting of a day
+  pub positions_netted : (h : List NetEntry) (day : ℕ) (old new : HashMap Holding Position S) (totals : HashMap ℕ Totals T) (waiting : List Undue) → IsKept h old totals waiting
+      → ((m i : ℕ) → credit_in new m i + (debit_in old m i + sum_by (if_settled day (sold_by m i)) waiting) ≡ debit_in new m i + (credit_in old m i + sum_by (if_settled day (bought_by m i)) waiting))
+      → ArePositionsOf new (Netted day ∷ h)
   unfolding bought sold settled_in settled_out
-  sides_netted h day old new totals waiting kept credit debit = record {
-    credit = λ m i. omega (arith, credit m i, kept.sides.credit m i, due_then h day old totals waiting kept (bought_by m i));
-    debit = λ m i. omega (arith, debit m i, kept.sides.debit m i, due_then h day old totals waiting kept (sold_by m i));
+  positions_netted h day old new totals waiting kept moved = record {
+    balance = λ m i. omega (arith, moved m i, kept.positions.balance m i, due_then h day old totals waiting kept (bought_by m i), due_then h day old totals waiting kept (sold_by m i));
   }
 
-  -- the sums of a book fit
-  pub kept_fit : (entries : List NetEntry) (sides : HashMap Holding Sides S) (totals : HashMap ℕ Totals T) (waiting : List Trade) → IsKept (reverse entries) sides totals waiting
-      → length entries < 2 ^ 63 → AreFit sides waiting
-  kept_fit entries sides totals waiting kept size =
-      let h = reverse entries in
-      let fits : (m i : ℕ) → AreSmall h m i = λ m i. small m i h kept.book (Prim.rw length-reverse size) in
-      record {
-        credit = λ m i. let fit = (fits m i).credit in omega (arith, fit, kept.sides.credit m i, kept.undue (bought_by m i));
-        debit = λ m i. let fit = (fits m i).debit in omega (arith, fit, kept.sides.debit m i, kept.undue (sold_by m i));
-        long = λ m i. omega (arith, long-most h m i kept.book, kept.sides.credit m i, kept.sides.debit m i, kept.undue (bought_by m i));
-        short = λ m i. omega (arith, short-most h m i kept.book, kept.sides.credit m i, kept.sides.debit m i, kept.undue (sold_by m i));
-      }
+  -- nothing stands otherwise where all trades that wait settle later than the day of a netting
+  none_due : (h : List NetEntry) (day : ℕ) (positions : HashMap Holding Position S) (totals : HashMap ℕ Totals T) (waiting : List Undue) → IsKept h positions totals waiting
+      → All (λ (t : Undue). day < t.settle) waiting → (f : Undue → ℕ) → sum_by (λ t. f (waiting_of t)) (due (Netted day ∷ h)) ≡ sum_by (λ t. f (waiting_of t)) (due h)
+  none_due h day positions totals waiting kept later f = omega (arith, due_then h day positions totals waiting kept f, settled-left day f waiting, none-settled day f waiting later)
+
+  pub rows_netted : (h : List NetEntry) (day : ℕ) (positions : HashMap Holding Position S) (totals : HashMap ℕ Totals T) (waiting : List Undue) → IsKept h positions totals waiting
+      → All (λ (t : Undue). day < t.settle) waiting → rows_of h ≡ rows_of (Netted day ∷ h)
+  unfolding bought sold settled_in settled_out holdings_of
+  rows_netted h day positions totals waiting kept later =
+      same_positions h (Netted day ∷ h) (holdings_of h) (λ m i. omega (arith, none_due h day positions totals waiting kept later (bought_by m i)))
+      (λ m i. omega (arith, none_due h day positions totals waiting kept later (sold_by m i)))
+
+  -- the positions of a book stay near 0
+  pub kept_near : (h : List NetEntry) (positions : HashMap Holding Position S) (totals : HashMap ℕ Totals T) (waiting : List Undue) → IsKept h positions totals waiting → AreNear positions waiting
+  kept_near h positions totals waiting kept = record {
+    long = λ m i. omega (arith, long-most h m i kept.book, kept.positions.balance m i, kept.undue (bought_by m i));
+    short = λ m i. omega (arith, short-most h m i kept.book, kept.positions.balance m i, kept.undue (sold_by m i));
+  }
 
   -- the totals of an issue are the history's
-  pub kept_longs : (h : List NetEntry) (sides : HashMap Holding Sides S) (totals : HashMap ℕ Totals T) (waiting : List Trade) (issue : ℕ) → IsKept h sides totals waiting
+  pub kept_longs : (h : List NetEntry) (positions : HashMap Holding Position S) (totals : HashMap ℕ Totals T) (waiting : List Undue) (issue : ℕ) → IsKept h positions totals waiting
       → longs_in totals issue ≡ longs_of h issue
-  kept_longs h sides totals waiting issue kept = longs_by_history totals sides h issue kept.totals kept.sides
+  kept_longs h positions totals waiting issue kept = longs_by_history totals positions h issue kept.totals kept.positions
 
-  pub kept_shorts : (h : List NetEntry) (sides : HashMap Holding Sides S) (totals : HashMap ℕ Totals T) (waiting : List Trade) (issue : ℕ) → IsKept h sides totals waiting
+  pub kept_shorts : (h : List NetEntry) (positions : HashMap Holding Position S) (totals : HashMap ℕ Totals T) (waiting : List Undue) (issue : ℕ) → IsKept h positions totals waiting
       → shorts_in totals issue ≡ shorts_of h issue
-  kept_shorts h sides totals waiting issue kept = shorts_by_history totals sides h issue kept.totals kept.sides
+  kept_shorts h positions totals waiting issue kept = shorts_by_history totals positions h issue kept.totals kept.positions

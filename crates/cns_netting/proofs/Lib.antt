@@ -1,5 +1,5 @@
 pub mod TradeLemmas
-pub mod SidesLemmas
+pub mod PositionLemmas
 pub mod QueueLemmas
 pub mod BookLemmas
 pub mod HoldingLemmas

@@ -1,6 +1,6 @@
 -- The rows of an issue, by a look-up of each member.
-use Rattle.std.proofs.Common.{◌≡◌, ◌≤◌, ◌<◌, ◌+◌, ℕ, zero, suc, List, [], ◌∷◌, Option, Some, None, Bool, true, false, refl, sym, ap, ◌∙◌, arith, subst}
-use Rattle.std.specs.Prelude.{◌||◌, ◌&&◌, ◌==◌, filter, if◌then◌else◌, sum_by}
+use Rattle.std.proofs.Common.{◌≡◌, ◌≤◌, ◌<◌, ◌+◌, ℕ, zero, suc, List, Option, Some, None, Bool, true, false, refl, sym, ap, ◌∙◌, arith, subst}
+use Rattle.std.specs.Prelude.{◌||◌, ◌==◌, filter, if◌then◌else◌, sum_by}
 use Rattle.std.specs.HashMap.{HashMap, get}
 use Rattle.std.specs.List.{AllByRecursion, IsDistinct, list_any}
 use Rattle.std.proofs.lemmas.Bool.Decides.{nat_tests}
@@ -8,22 +8,24 @@ use Rattle.std.proofs.lemmas.Bool.{eqb-true}
 use Rattle.std.proofs.lemmas.List.Sums.{sum_by-cons}
 use Rattle.cns_ids.specs.Holding.{holding_at, holding_eq}
 use Rattle.cns_ids.specs.declared.holding.Holding.{Holding}
+use Rattle.cns_netting.specs.History.{credit_part, debit_part}
 use Rattle.cns_netting.specs.Rows.{is_row_in, rows_of}
-use Rattle.cns_netting.specs.Sides.{AreInOrder, AreOfMembers, AreSidesOf, credit_at, debit_at, holdings_up_to, row_by, row_if, row_part}
+use Rattle.cns_netting.specs.Positions.{AreInOrder, AreOfMembers, ArePositionsOf, credit_at, debit_at, holdings_up_to, row_by, row_if, row_part}
 use Rattle.cns_netting.specs.declared.entry.NetEntry.{NetEntry}
 use Rattle.cns_netting.specs.declared.position.PositionRow.{PositionRow}
-use Rattle.cns_netting.specs.declared.sides.Sides.{Sides}
+use Rattle.cns_netting.specs.declared.positions.Position.{Position}
 use Rattle.cns_netting.proofs.RowLemmas.{rows_by_holdings}
+use Rattle.cns_netting.proofs.PositionLemmas.{same_parts}
 
 -- the row by a look-up that found nothing is that of no shares
-row_of_none : (s : Sides) (k : Holding) → s.credit ≡ 0 → s.debit ≡ 0 → row_by k (Some s) ≡ None
+row_of_none : (s : Position) (k : Holding) → credit_part s.shares ≡ 0 → debit_part s.shares ≡ 0 → row_by k (Some s) ≡ None
 row_of_none s k credit debit = rw (credit, debit) refl
 
-row_looked_up : (o : Option Sides) (s : Sides) (k : Holding) → s.credit ≡ credit_at o → s.debit ≡ debit_at o → row_by k (Some s) ≡ row_by k o
+row_looked_up : (o : Option Position) (s : Position) (k : Holding) → credit_part s.shares ≡ credit_at o → debit_part s.shares ≡ debit_at o → row_by k (Some s) ≡ row_by k o
 row_looked_up None s k credit debit = row_of_none s k credit debit
-row_looked_up (Some t) s k credit debit = rw (credit, debit) refl
+row_looked_up (Some t) s k credit debit = rw (same_parts s.shares t.shares credit debit) refl
 
-pub looked_up : (issue : ℕ) (o : Option Sides) (s : Sides) (k : Holding) → s.credit ≡ credit_at o → s.debit ≡ debit_at o → row_if (Some issue) k (Some s) ≡ row_if (Some issue) k o
+pub looked_up : (issue : ℕ) (o : Option Position) (s : Position) (k : Holding) → credit_part s.shares ≡ credit_at o → debit_part s.shares ≡ debit_at o → row_if (Some issue) k (Some s) ≡ row_if (Some issue) k o
 looked_up issue o s k credit debit = ap (λ (r : Option PositionRow). if k.issue == issue then r else None) (row_looked_up o s k credit debit)
 
 -- a sum over the members 1 to n, with one member more
@@ -68,15 +70,15 @@ there (suc n) issue m some most = by (holding_eq (holding_at issue m) (holding_a
 
 -- ---- the rows
 
-pub rows_by_members : {S : Type 0} (issue : ℕ) (sides : HashMap Holding Sides S) (h : List NetEntry) (xs : List PositionRow) → AreOfMembers sides → AreSidesOf sides h
-    → ((f : PositionRow → ℕ) → sum_by f xs ≡ sum_by (λ (k : Holding). row_part f (row_if (Some issue) k (get holding_eq sides k))) (holdings_up_to 9999 issue))
+pub rows_by_members : {S : Type 0} (issue : ℕ) (positions : HashMap Holding Position S) (h : List NetEntry) (xs : List PositionRow) → AreOfMembers positions → ArePositionsOf positions h
+    → ((f : PositionRow → ℕ) → sum_by f xs ≡ sum_by (λ (k : Holding). row_part f (row_if (Some issue) k (get holding_eq positions k))) (holdings_up_to 9999 issue))
     → AreInOrder xs → xs ≡ filter (is_row_in issue) (rows_of h)
-rows_by_members issue sides h xs members are sums order = rows_by_holdings (Some issue) sides h xs (holdings_up_to 9999 issue) (distinct 9999 issue) are others sums order
+rows_by_members issue positions h xs members are sums order = rows_by_holdings (Some issue) positions h xs (holdings_up_to 9999 issue) (distinct 9999 issue) are others sums order
   where
-    others : (q : Holding) → list_any (holding_eq q) (holdings_up_to 9999 issue) ≡ false → row_if (Some issue) q (get holding_eq sides q) ≡ None
+    others : (q : Holding) → list_any (holding_eq q) (holdings_up_to 9999 issue) ≡ false → row_if (Some issue) q (get holding_eq positions q) ≡ None
     others q none = by (q.issue == issue) refl
       where
-        nobody : q.issue ≡ issue → (o : Option Sides) → get holding_eq sides q ≡ o → row_by q o ≡ None
+        nobody : q.issue ≡ issue → (o : Option Position) → get holding_eq positions q ≡ o → row_by q o ≡ None
         nobody is None e = refl
         nobody is (Some s) e =
             let one = members q (rw e refl) in
@@ -84,6 +86,6 @@ rows_by_members issue sides h xs members are sums order = rows_by_holdings (Some
             subst (λ (i : ℕ). list_any (holding_eq (holding_at i q.member)) (holdings_up_to 9999 issue) ≡ true) (sym is) (there 9999 issue q.member one.from one.to) in
             let no : true ≡ false = sym here ∙ none in cc
 
-        by : (b : Bool) → (q.issue == issue) ≡ b → ◌≡◌ {A = Option PositionRow} (if b then row_by q (get holding_eq sides q) else None) None
-        by true e = nobody (eqb-true q.issue issue e) (get holding_eq sides q) refl
+        by : (b : Bool) → (q.issue == issue) ≡ b → ◌≡◌ {A = Option PositionRow} (if b then row_by q (get holding_eq positions q) else None) None
+        by true e = nobody (eqb-true q.issue issue e) (get holding_eq positions q) refl
         by false e = refl

@@ -8,7 +8,7 @@ use Rattle.std.proofs.lemmas.Bool.Decides.{Decides-int_eq, nat_tests}
 use Rattle.std.proofs.lemmas.List.Elements.{All-weaker, recursion_from_All}
 use Rattle.std.proofs.lemmas.List.Sums.{sum_by-cons}
 use Rattle.cns_ids.specs.Holding.{holding_cmp}
-use Rattle.cns_netting.specs.Sides.{AreInOrder, holding_of}
+use Rattle.cns_netting.specs.Positions.{AreInOrder, holding_of}
 use Rattle.cns_netting.specs.declared.position.PositionRow.{PositionRow}
 
 -- each row's holding stands after all those before it

@@ -1,5 +1,5 @@
--- The rows of a history by the sides of its holdings: rows in order that have their sums are those.
-use Rattle.std.proofs.Common.{◌≡◌, ℕ, List, [], ◌∷◌, Option, Some, None, Bool, true, false, cond, refl, sym, ap, ◌∙◌, arith, subst, Ordering, Less, Equal, Greater}
+-- The rows of a history by the positions of its holdings: rows in order that have their sums are those.
+use Rattle.std.proofs.Common.{◌≡◌, ℕ, List, [], ◌∷◌, Option, Some, None, Bool, true, false, cond, refl, sym, ap, ◌∙◌, ◌+◌, arith, subst, Ordering, Less, Equal, Greater}
 use Rattle.std.specs.Prelude.{◌||◌, ◌&&◌, ◌==◌, All, if◌then◌else◌, filter, sum_by}
 use Rattle.std.specs.List.{cons_option, filter_map, IsDistinct, list_any}
 use Rattle.std.specs.Map.{keys_of, lookup}
@@ -13,14 +13,15 @@ use Rattle.std.proofs.lemmas.List.Elements.{All-cons, All-head, All-nil, All-tai
 use Rattle.cns_netting.specs.History.{bought, credit, credit_part, debit, debit_part, due_since, is_reached, latest, position_of, settled_in, settled_out, sold}
 use Rattle.cns_ids.specs.Holding.{holding_at, holding_cmp, holding_eq}
 use Rattle.cns_netting.specs.Rows.{holdings_of, is_row_in, open_row, rows_of}
-use Rattle.cns_netting.specs.Sides.{AreInOrder, AreSidesOf, credit_at, debit_at, holding_of, row_by, row_if, row_part, rows_if}
-use Rattle.cns_netting.specs.declared.sides.Sides.{Sides}
+use Rattle.cns_netting.specs.Positions.{AreInOrder, ArePositionsOf, credit_at, debit_at, holding_of, row_by, row_if, row_part, rows_if}
+use Rattle.cns_netting.specs.declared.positions.Position.{Position}
 use Rattle.cns_netting.specs.declared.entry.NetEntry.{NetEntry}
 use Rattle.cns_netting.specs.declared.entry.NetEntry.TheVariants.{Accepted, Netted, Settled}
 use Rattle.cns_ids.specs.declared.holding.Holding.{Holding}
 use Rattle.cns_netting.specs.declared.position.PositionRow.{PositionRow}
 use Rattle.cns_netting.proofs.HoldingLemmas.{AreAscending, holdings-ascending}
 use Rattle.cns_netting.proofs.OrderLemmas.{AreRising, same_rows}
+use Rattle.cns_netting.proofs.PositionLemmas.{by_parts}
 use Rattle.cns_netting.proofs.SumLemmas.{agree, entries-sum, filter_map-sum, same_sums}
 use Rattle.cns_netting.proofs.TradeLemmas.{bought-due, sold-due}
 
@@ -139,6 +140,18 @@ open_row-holding h k row e = by (credit h k.member k.issue == debit h k.member k
     by true g = cc g
     by false g = cc g
 
+-- holdings have the same rows by two histories with the same positions
+pub same_positions : (a b : List NetEntry) (ks : List Holding) → ((m i : ℕ) → credit a m i ≡ credit b m i) → ((m i : ℕ) → debit a m i ≡ debit b m i)
+    → filter_map (open_row a) ks ≡ filter_map (open_row b) ks
+unfolding open_row
+same_positions a b [] credits debits = refl
+same_positions a b (k ∷ ks) credits debits =
+    ap (λ o. cons_option o (filter_map (open_row a) ks)) (one (credits k.member k.issue) (debits k.member k.issue))
+    ∙ ap (λ l. cons_option (open_row b k) l) (same_positions a b ks credits debits)
+  where
+    one : credit a k.member k.issue ≡ credit b k.member k.issue → debit a k.member k.issue ≡ debit b k.member k.issue → open_row a k ≡ open_row b k
+    one c d = Prim.rw (c, d) refl
+
 -- the row of a holding in an issue, where it is one
 abbrev row_in : ℕ → List NetEntry → Holding → Option PositionRow
 row_in i h k = if k.issue == i then open_row h k else None
@@ -161,23 +174,29 @@ rows_in_issue i h (k ∷ ks) = by (k.issue == i) refl (open_row h k) refl (rows_
     by false e None f rest = rest
     by false e (Some row) f rest = left_out row (filter_map (open_row h) ks) _ (ap (λ (q : Holding). q.issue == i) (open_row-holding h k row f) ∙ e) rest
 
--- a holding's row by its sides is its row by the history
-row_by-history : {S : Type 0} (sides : HashMap Holding Sides S) (h : List NetEntry) → AreSidesOf sides h → (q : Holding) → row_by q (hash.get holding_eq sides q) ≡ open_row h q
+-- a holding's row by its positions is its row by the history
+row_by-history : {S : Type 0} (positions : HashMap Holding Position S) (h : List NetEntry) → ArePositionsOf positions h → (q : Holding) → row_by q (hash.get holding_eq positions q) ≡ open_row h q
 unfolding open_row
-row_by-history sides h are q = by (hash.get holding_eq sides q) (are.credit q.member q.issue) (are.debit q.member q.issue)
+row_by-history positions h are q = by (hash.get holding_eq positions q) (are.balance q.member q.issue)
   where
-    by : (o : Option Sides) → credit_at o ≡ credit h q.member q.issue → debit_at o ≡ debit h q.member q.issue → row_by q o ≡ open_row h q
-    by None c d = Prim.rw (← c, ← d) refl
-    by (Some s) c d = Prim.rw (← c, ← d) refl
+    same_test : (a b c d : ℕ) → a + d ≡ b + c → (a == b) ≡ (c == d)
+    same_test a b c d e = grind (arith, nat_tests)
+
+    by : (o : Option Position) → credit_at o + debit h q.member q.issue ≡ debit_at o + credit h q.member q.issue → row_by q o ≡ open_row h q
+    by None e = Prim.rw (sym (same_test 0 0 (credit h q.member q.issue) (debit h q.member q.issue) e)) refl
+    by (Some s) e = Prim.rw (
+      same_test (credit_part s.shares) (debit_part s.shares) (credit h q.member q.issue) (debit h q.member q.issue) e,
+      by_parts s.shares (credit h q.member q.issue) (debit h q.member q.issue) e,
+    ) refl
 
 -- the row of a holding, of an issue alone, where one is given
 abbrev row_for : Option ℕ → List NetEntry → Holding → Option PositionRow
 row_for None h k = open_row h k
 row_for (Some i) h k = row_in i h k
 
-row_if-history : {S : Type 0} (issue : Option ℕ) (sides : HashMap Holding Sides S) (h : List NetEntry) → AreSidesOf sides h → (q : Holding) → row_if issue q (hash.get holding_eq sides q) ≡ row_for issue h q
-row_if-history None sides h are q = row_by-history sides h are q
-row_if-history (Some i) sides h are q = ap (λ o. if q.issue == i then o else None) (row_by-history sides h are q)
+row_if-history : {S : Type 0} (issue : Option ℕ) (positions : HashMap Holding Position S) (h : List NetEntry) → ArePositionsOf positions h → (q : Holding) → row_if issue q (hash.get holding_eq positions q) ≡ row_for issue h q
+row_if-history None positions h are q = row_by-history positions h are q
+row_if-history (Some i) positions h are q = ap (λ o. if q.issue == i then o else None) (row_by-history positions h are q)
 
 no_row_for : (issue : Option ℕ) (h : List NetEntry) (q : Holding) → open_row h q ≡ None → row_for issue h q ≡ None
 no_row_for None h q none = none
@@ -221,37 +240,37 @@ pub rising : (h : List NetEntry) → AreRising (rows_of h)
 rising h = rows-rising (open_row h) (open_row-holding h) (holdings_of h) (holdings-ascending h)
 
 -- a sum over the rows of some holdings is the one over those of the history, where no other holding has a row
-sum_by_holdings : {S : Type 0} (issue : Option ℕ) (sides : HashMap Holding Sides S) (h : List NetEntry) (f : PositionRow → ℕ) (ks : List Holding) → IsDistinct holding_eq ks → AreSidesOf sides h
-    → ((q : Holding) → list_any (holding_eq q) ks ≡ false → row_if issue q (hash.get holding_eq sides q) ≡ None)
-    → sum_by (λ q. row_part f (row_if issue q (hash.get holding_eq sides q))) ks ≡ sum_by f (filter_map (row_for issue h) (holdings_of h))
-sum_by_holdings issue sides h f ks distinct are others =
-    agree (λ q. row_part f (row_if issue q (hash.get holding_eq sides q))) (λ q. row_part f (row_for issue h q)) theirs ks
+sum_by_holdings : {S : Type 0} (issue : Option ℕ) (positions : HashMap Holding Position S) (h : List NetEntry) (f : PositionRow → ℕ) (ks : List Holding) → IsDistinct holding_eq ks → ArePositionsOf positions h
+    → ((q : Holding) → list_any (holding_eq q) ks ≡ false → row_if issue q (hash.get holding_eq positions q) ≡ None)
+    → sum_by (λ q. row_part f (row_if issue q (hash.get holding_eq positions q))) ks ≡ sum_by f (filter_map (row_for issue h) (holdings_of h))
+sum_by_holdings issue positions h f ks distinct are others =
+    agree (λ q. row_part f (row_if issue q (hash.get holding_eq positions q))) (λ q. row_part f (row_for issue h q)) theirs ks
     ∙ same_sums (λ q. row_part f (row_for issue h q)) ks (holdings_of h) distinct (apart (holding_at 0 0) (holdings_of h) (holdings-ascending h)) (λ q none. ap (row_part f) (unnamed q none))
     (λ q none. ap (row_part f) (no_row_for issue h q (no_row h q (there_by_order q (holdings_of h) ∙ none))))
     ∙ sym (filter_map-sum f (row_for issue h) (holdings_of h))
   where
-    theirs : (q : Holding) → row_part f (row_if issue q (hash.get holding_eq sides q)) ≡ row_part f (row_for issue h q)
-    theirs q = ap (row_part f) (row_if-history issue sides h are q)
+    theirs : (q : Holding) → row_part f (row_if issue q (hash.get holding_eq positions q)) ≡ row_part f (row_for issue h q)
+    theirs q = ap (row_part f) (row_if-history issue positions h are q)
 
     unnamed : (q : Holding) → list_any (holding_eq q) ks ≡ false → row_for issue h q ≡ None
-    unnamed q none = sym (row_if-history issue sides h are q) ∙ others q none
+    unnamed q none = sym (row_if-history issue positions h are q) ∙ others q none
 
 -- rows in order that have the sums of the rows of some holdings are those of the history, where no other holding has a row
-pub rows_by_holdings : {S : Type 0} (issue : Option ℕ) (sides : HashMap Holding Sides S) (h : List NetEntry) (xs : List PositionRow) (ks : List Holding) → IsDistinct holding_eq ks → AreSidesOf sides h
-    → ((q : Holding) → list_any (holding_eq q) ks ≡ false → row_if issue q (hash.get holding_eq sides q) ≡ None)
-    → ((f : PositionRow → ℕ) → sum_by f xs ≡ sum_by (λ q. row_part f (row_if issue q (hash.get holding_eq sides q))) ks)
+pub rows_by_holdings : {S : Type 0} (issue : Option ℕ) (positions : HashMap Holding Position S) (h : List NetEntry) (xs : List PositionRow) (ks : List Holding) → IsDistinct holding_eq ks → ArePositionsOf positions h
+    → ((q : Holding) → list_any (holding_eq q) ks ≡ false → row_if issue q (hash.get holding_eq positions q) ≡ None)
+    → ((f : PositionRow → ℕ) → sum_by f xs ≡ sum_by (λ q. row_part f (row_if issue q (hash.get holding_eq positions q))) ks)
     → AreInOrder xs → xs ≡ rows_if issue (rows_of h)
-rows_by_holdings issue sides h xs ks distinct are others sums order =
+rows_by_holdings issue positions h xs ks distinct are others sums order =
     same_rows xs (filter_map (row_for issue h) (holdings_of h)) order (rows-rising (row_for issue h) (row_for-holding issue h) (holdings_of h) (holdings-ascending h))
-    (λ f. sums f ∙ sum_by_holdings issue sides h f ks distinct are others)
+    (λ f. sums f ∙ sum_by_holdings issue positions h f ks distinct are others)
     ∙ rows_for issue h
 
--- a holding that is not named has no row by its sides
-no_row_by : {S : Type 0} (issue : Option ℕ) (sides : HashMap Holding Sides S) (q : Holding) → list_any (holding_eq q) (keys_of sides.entries) ≡ false
-    → row_if issue q (hash.get holding_eq sides q) ≡ None
-no_row_by issue sides q none = ap (row_if issue q) (lookup_none sides.entries none) ∙ nothing issue
+-- a holding that is not named has no row by its positions
+no_row_by : {S : Type 0} (issue : Option ℕ) (positions : HashMap Holding Position S) (q : Holding) → list_any (holding_eq q) (keys_of positions.entries) ≡ false
+    → row_if issue q (hash.get holding_eq positions q) ≡ None
+no_row_by issue positions q none = ap (row_if issue q) (lookup_none positions.entries none) ∙ nothing issue
   where
-    lookup_none : (es : List (Holding × Sides)) → list_any (holding_eq q) (keys_of es) ≡ false → lookup (holding_eq q) es ≡ None
+    lookup_none : (es : List (Holding × Position)) → list_any (holding_eq q) (keys_of es) ≡ false → lookup (holding_eq q) es ≡ None
     lookup_none [] e = refl
     lookup_none (x ∷ es) e = here (holding_eq q x.0) (or_parts (holding_eq q x.0) (list_any (holding_eq q) (keys_of es)) e).0 (lookup_none es (or_parts (holding_eq q x.0) (list_any (holding_eq q) (keys_of es)) e).1)
       where
@@ -268,16 +287,16 @@ no_row_by issue sides q none = ap (row_if issue q) (lookup_none sides.entries no
         by false = refl
 
 -- so are those of all holdings that are named
-pub rows_by_sums : {S : Type 0} (issue : Option ℕ) (sides : HashMap Holding Sides S) (h : List NetEntry) (xs : List PositionRow) → hash.IsUnique holding_eq sides → AreSidesOf sides h
-    → ((f : PositionRow → ℕ) → sum_by f xs ≡ sum_by (λ (e : Holding × Sides). row_part f (row_if issue e.0 (Some e.1))) sides.entries)
+pub rows_by_sums : {S : Type 0} (issue : Option ℕ) (positions : HashMap Holding Position S) (h : List NetEntry) (xs : List PositionRow) → hash.IsUnique holding_eq positions → ArePositionsOf positions h
+    → ((f : PositionRow → ℕ) → sum_by f xs ≡ sum_by (λ (e : Holding × Position). row_part f (row_if issue e.0 (Some e.1))) positions.entries)
     → AreInOrder xs → xs ≡ rows_if issue (rows_of h)
-rows_by_sums issue sides h xs unique are sums order =
-    rows_by_holdings issue sides h xs (keys_of sides.entries) unique are (no_row_by issue sides)
-    (λ f. sums f ∙ entries-sum (λ q o. row_part f (row_if issue q o)) sides.entries unique) order
+rows_by_sums issue positions h xs unique are sums order =
+    rows_by_holdings issue positions h xs (keys_of positions.entries) unique are (no_row_by issue positions)
+    (λ f. sums f ∙ entries-sum (λ q o. row_part f (row_if issue q o)) positions.entries unique) order
 
 -- the sum over the rows of all holdings that are named is the one over those of the history
-pub sum_by_entries : {S : Type 0} (sides : HashMap Holding Sides S) (h : List NetEntry) (f : PositionRow → ℕ) → hash.IsUnique holding_eq sides → AreSidesOf sides h
-    → sum_by (λ (e : Holding × Sides). row_part f (row_if None e.0 (Some e.1))) sides.entries ≡ sum_by f (rows_of h)
-sum_by_entries sides h f unique are =
-    entries-sum (λ q o. row_part f (row_if None q o)) sides.entries unique
-    ∙ sum_by_holdings None sides h f (keys_of sides.entries) unique are (no_row_by None sides)
+pub sum_by_entries : {S : Type 0} (positions : HashMap Holding Position S) (h : List NetEntry) (f : PositionRow → ℕ) → hash.IsUnique holding_eq positions → ArePositionsOf positions h
+    → sum_by (λ (e : Holding × Position). row_part f (row_if None e.0 (Some e.1))) positions.entries ≡ sum_by f (rows_of h)
+sum_by_entries positions h f unique are =
+    entries-sum (λ q o. row_part f (row_if None q o)) positions.entries unique
+    ∙ sum_by_holdings None positions h f (keys_of positions.entries) unique are (no_row_by None positions)

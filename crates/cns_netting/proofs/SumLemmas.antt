@@ -10,8 +10,8 @@ use Rattle.std.proofs.lemmas.Map.Keys.{IsDistinct-head, IsDistinct-tail}
 use Rattle.std.proofs.lemmas.Map.Views.{lookup-from_Contains}
 use Rattle.cns_ids.specs.Holding.{holding_eq}
 use Rattle.cns_ids.specs.declared.holding.Holding.{Holding}
-use Rattle.cns_netting.specs.Sides.{row_part}
-use Rattle.cns_netting.specs.declared.sides.Sides.{Sides}
+use Rattle.cns_netting.specs.Positions.{row_part}
+use Rattle.cns_netting.specs.declared.positions.Position.{Position}
 use Rattle.cns_netting.specs.declared.position.PositionRow.{PositionRow}
 use Rattle.cns_netting.proofs.HoldingLemmas.{equal_holdings, holding_eq_laws}
 
@@ -84,14 +84,14 @@ filter_map-sum f rows (k ∷ ks) = by (rows k) refl (filter_map-sum f rows ks)
     by None e rest = omega (arith, sum_by-cons (λ q. row_part f (rows q)) k ks, rest, ap (row_part f) e)
     by (Some row) e rest = omega (arith, sum_by-cons f row (filter_map rows ks), sum_by-cons (λ q. row_part f (rows q)) k ks, rest, ap (row_part f) e)
 
-keyed-sum : (g : Holding → Option Sides → ℕ) (all : Holding → Option Sides) (es : List (Holding × Sides)) → AllByRecursion (λ e. all e.0 ≡ Some e.1) es
+keyed-sum : (g : Holding → Option Position → ℕ) (all : Holding → Option Position) (es : List (Holding × Position)) → AllByRecursion (λ e. all e.0 ≡ Some e.1) es
     → sum_by (λ e. g e.0 (Some e.1)) es ≡ sum_by (λ q. g q (all q)) (keys_of es)
 keyed-sum g all [] found = refl
 keyed-sum g all (e ∷ es) found =
     omega (arith, sum_by-cons (λ x. g x.0 (Some x.1)) e es, sum_by-cons (λ q. g q (all q)) e.0 (keys_of es), keyed-sum g all es found.1, ap (g e.0) found.0)
 
 -- a sum over entries is the one over their keys by look-up
-pub entries-sum : (g : Holding → Option Sides → ℕ) (es : List (Holding × Sides)) → IsDistinct holding_eq (keys_of es)
+pub entries-sum : (g : Holding → Option Position → ℕ) (es : List (Holding × Position)) → IsDistinct holding_eq (keys_of es)
     → sum_by (λ e. g e.0 (Some e.1)) es ≡ sum_by (λ q. g q (lookup (holding_eq q) es)) (keys_of es)
 entries-sum g es distinct =
     keyed-sum g (λ q. lookup (holding_eq q) es) es

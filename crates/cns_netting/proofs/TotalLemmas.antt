@@ -1,17 +1,18 @@
 -- The totals of an issue, as positions in it change.
-use Rattle.std.proofs.Common.{◌≡◌, ◌≤◌, ◌+◌, ◌-◌, ◌*◌, ◌^◌, ℕ, zero, suc, Bool, true, false, refl, ap, ◌∙◌, arith, inl, inr}
+use Rattle.std.proofs.Common.{◌≡◌, ◌≤◌, ◌+◌, ◌-◌, ◌*◌, ◌^◌, ℕ, zero, suc, Bool, true, false, refl, sym, ap, ◌∙◌, arith, inl, inr}
 use Rattle.std.specs.Prelude.{◌&&◌, ◌==◌, List, if◌then◌else◌}
 use Rattle.std.specs.HashMap.{HashMap}
 use Rattle.std.proofs.lemmas.Bool.{cases_eq, eq-eqb, eqb-true}
 use Rattle.cns_ids.specs.Member.{IsMember}
 use Rattle.cns_ids.specs.declared.holding.Holding.{Holding}
-use Rattle.cns_netting.specs.History.{long_up_to, longs_of, short_up_to, shorts_of}
-use Rattle.cns_netting.specs.Sides.{AreSidesOf, credit_in, debit_in}
+use Rattle.cns_netting.specs.History.{credit_part, debit_part, long_up_to, longs_of, short_up_to, shorts_of}
+use Rattle.cns_netting.specs.Positions.{ArePositionsOf, credit_in, debit_in}
 use Rattle.cns_netting.specs.Totals.{AreTotalsOf, longs_in, shorts_in, total}
 use Rattle.cns_netting.specs.declared.entry.NetEntry.{NetEntry}
-use Rattle.cns_netting.specs.declared.sides.Sides.{Sides}
+use Rattle.cns_netting.specs.declared.positions.Position.{Position}
 use Rattle.cns_netting.specs.declared.totals.Totals.{Totals}
 use Rattle.cns_netting.proofs.BalanceLemmas.{total-one, total-plus, total-same}
+use Rattle.cns_netting.proofs.PositionLemmas.{one_part, other_part}
 
 -- ---- sums over the members 1 to n
 
@@ -62,15 +63,14 @@ whole member issue q = there (member == member) (issue == issue) q (eq-eqb membe
 abbrev above : (ℕ → ℕ) → (ℕ → ℕ) → ℕ → ℕ
 above more less m = more m - less m
 
--- the sum of what one side has above the other in an issue i, after a member's sides in an issue grew by `up` and by `down`
+-- the sum of what one side has above the other in an issue i, after a member's position in an issue changed by `up` and by `down`
 counted : (member issue i up down was is old new : ℕ) (more less more_then less_then : ℕ → ℕ) → IsMember member
-    → ((m : ℕ) → more_then m ≡ more m + (if (member == m) && (issue == i) then up else 0))
-    → ((m : ℕ) → less_then m ≡ less m + (if (member == m) && (issue == i) then down else 0))
+    → ((m : ℕ) → more_then m + (less m + (if (member == m) && (issue == i) then down else 0)) ≡ less_then m + (more m + (if (member == m) && (issue == i) then up else 0)))
     → (issue ≡ i → was ≡ more member - less member)
     → (issue ≡ i → is ≡ (more member + up) - (less member + down))
     → new + (if issue == i then was else 0) ≡ old + (if issue == i then is else 0)
     → old ≡ total 9999 (above more less) → new ≡ total 9999 (above more_then less_then)
-counted member issue i up down was is old new more less more_then less_then range ups downs before after moved sum = by (issue == i) refl moved
+counted member issue i up down was is old new more less more_then less_then range moves before after moved sum = by (issue == i) refl moved
   where
     by : (b : Bool) → (issue == i) ≡ b → new + (if b then was else 0) ≡ old + (if b then is else 0) → new ≡ total 9999 (above more_then less_then)
     by true e change =
@@ -79,7 +79,7 @@ counted member issue i up down was is old new more less more_then less_then rang
         let same : issue ≡ i = eqb-true issue i e in
         let mine : (member == member) ≡ true = eq-eqb member member refl in
         let others : (k : ℕ) → (member == k) ≡ false → g k ≡ f k =
-        λ k apart. omega (arith, ups k, downs k, away (member == k) (issue == i) up apart, away (member == k) (issue == i) down apart) in
+        λ k apart. omega (arith, moves k, away (member == k) (issue == i) up apart, away (member == k) (issue == i) down apart) in
         omega (
           arith,
           total-changed 9999 member f g range.from range.to others,
@@ -87,76 +87,73 @@ counted member issue i up down was is old new more less more_then less_then rang
           change,
           before same,
           after same,
-          ups member,
-          downs member,
+          moves member,
           there (member == member) (issue == i) up mine e,
           there (member == member) (issue == i) down mine e,
         )
     by false e change =
         let f : ℕ → ℕ = above more less in
         let g : ℕ → ℕ = above more_then less_then in
-        let others : (k : ℕ) → g k ≡ f k =
-        λ k. omega (arith, ups k, downs k, elsewhere (member == k) (issue == i) up e, elsewhere (member == k) (issue == i) down e) in
+        let others : (k : ℕ) → g k ≡ f k = λ k. omega (arith, moves k, elsewhere (member == k) (issue == i) up e, elsewhere (member == k) (issue == i) down e) in
         omega (arith, change, sum, total-same 9999 g f others)
 
 module _ {S T : Type 0} where
-  -- the totals after a member's sides in an issue grew, and its position was counted anew
-  pub totals_added : (sides after : HashMap Holding Sides S) (totals next : HashMap ℕ Totals T) (member issue credit debit : ℕ) (was is : Sides) → IsMember member
-      → was.credit ≡ credit_in sides member issue → was.debit ≡ debit_in sides member issue
-      → is.credit ≡ was.credit + credit → is.debit ≡ was.debit + debit
-      → ((m i : ℕ) → credit_in after m i ≡ credit_in sides m i + (if (member == m) && (issue == i) then credit else 0))
-      → ((m i : ℕ) → debit_in after m i ≡ debit_in sides m i + (if (member == m) && (issue == i) then debit else 0))
-      → ((i : ℕ) → longs_in next i + (if issue == i then was.credit - was.debit else 0) ≡ longs_in totals i + (if issue == i then is.credit - is.debit else 0))
-      → ((i : ℕ) → shorts_in next i + (if issue == i then was.debit - was.credit else 0) ≡ shorts_in totals i + (if issue == i then is.debit - is.credit else 0))
-      → AreTotalsOf totals sides → AreTotalsOf next after
-  totals_added sides after totals next member issue credit debit was is range had owed has owes credits debits longs shorts are = record {
-    longs = λ i. counted member issue i credit debit (was.credit - was.debit) (is.credit - is.debit) (longs_in totals i) (longs_in next i)
-        (λ m. credit_in sides m i) (λ m. debit_in sides m i) (λ m. credit_in after m i) (λ m. debit_in after m i) range (λ m. credits m i) (λ m. debits m i)
-        (λ e. omega (arith, had, owed, ap (credit_in sides member) e, ap (debit_in sides member) e))
-        (λ e. omega (arith, had, owed, has, owes, ap (credit_in sides member) e, ap (debit_in sides member) e))
+  -- the totals after a member's position in an issue changed, and was counted anew
+  pub totals_added : (positions after : HashMap Holding Position S) (totals next : HashMap ℕ Totals T) (member issue credit debit : ℕ) (was is : Position) → IsMember member
+      → credit_part was.shares ≡ credit_in positions member issue → debit_part was.shares ≡ debit_in positions member issue
+      → credit_part is.shares + (debit_part was.shares + debit) ≡ debit_part is.shares + (credit_part was.shares + credit)
+      → ((m i : ℕ) → credit_in after m i + (debit_in positions m i + (if (member == m) && (issue == i) then debit else 0)) ≡ debit_in after m i + (credit_in positions m i + (if (member == m) && (issue == i) then credit else 0)))
+      → ((i : ℕ) → longs_in next i + (if issue == i then credit_part was.shares else 0) ≡ longs_in totals i + (if issue == i then credit_part is.shares else 0))
+      → ((i : ℕ) → shorts_in next i + (if issue == i then debit_part was.shares else 0) ≡ shorts_in totals i + (if issue == i then debit_part is.shares else 0))
+      → AreTotalsOf totals positions → AreTotalsOf next after
+  totals_added positions after totals next member issue credit debit was is range had owed moves balance longs shorts are = record {
+    longs = λ i. counted member issue i credit debit (credit_part was.shares) (credit_part is.shares) (longs_in totals i) (longs_in next i)
+        (λ m. credit_in positions m i) (λ m. debit_in positions m i) (λ m. credit_in after m i) (λ m. debit_in after m i) range (λ m. balance m i)
+        (λ e. omega (arith, had, owed, one_part was.shares, ap (credit_in positions member) e, ap (debit_in positions member) e))
+        (λ e. omega (arith, had, owed, moves, one_part is.shares, ap (credit_in positions member) e, ap (debit_in positions member) e))
         (longs i) (are.longs i);
-    shorts = λ i. counted member issue i debit credit (was.debit - was.credit) (is.debit - is.credit) (shorts_in totals i) (shorts_in next i)
-        (λ m. debit_in sides m i) (λ m. credit_in sides m i) (λ m. debit_in after m i) (λ m. credit_in after m i) range (λ m. debits m i) (λ m. credits m i)
-        (λ e. omega (arith, had, owed, ap (credit_in sides member) e, ap (debit_in sides member) e))
-        (λ e. omega (arith, had, owed, has, owes, ap (credit_in sides member) e, ap (debit_in sides member) e))
+    shorts = λ i. counted member issue i debit credit (debit_part was.shares) (debit_part is.shares) (shorts_in totals i) (shorts_in next i)
+        (λ m. debit_in positions m i) (λ m. credit_in positions m i) (λ m. debit_in after m i) (λ m. credit_in after m i) range (λ m. sym (balance m i))
+        (λ e. omega (arith, had, owed, other_part was.shares, ap (credit_in positions member) e, ap (debit_in positions member) e))
+        (λ e. omega (arith, had, owed, moves, other_part is.shares, ap (credit_in positions member) e, ap (debit_in positions member) e))
         (shorts i) (are.shorts i);
   }
 
   -- where nothing changes that counts
-  pub totals_kept : (sides after : HashMap Holding Sides S) (totals next : HashMap ℕ Totals T)
-      → ((m i : ℕ) → credit_in after m i ≡ credit_in sides m i) → ((m i : ℕ) → debit_in after m i ≡ debit_in sides m i)
+  pub totals_kept : (positions after : HashMap Holding Position S) (totals next : HashMap ℕ Totals T)
+      → ((m i : ℕ) → credit_in after m i + debit_in positions m i ≡ debit_in after m i + credit_in positions m i)
       → ((i : ℕ) → longs_in next i ≡ longs_in totals i) → ((i : ℕ) → shorts_in next i ≡ shorts_in totals i)
-      → AreTotalsOf totals sides → AreTotalsOf next after
-  totals_kept sides after totals next credits debits longs shorts are = record {
+      → AreTotalsOf totals positions → AreTotalsOf next after
+  totals_kept positions after totals next same longs shorts are = record {
     longs = λ i. omega (
       arith,
       longs i,
       are.longs i,
-      total-same 9999 (λ m. credit_in after m i - debit_in after m i) (λ m. credit_in sides m i - debit_in sides m i) (λ m. omega (arith, credits m i, debits m i)),
+      total-same 9999 (λ m. credit_in after m i - debit_in after m i) (λ m. credit_in positions m i - debit_in positions m i) (λ m. omega (arith, same m i)),
     );
     shorts = λ i. omega (
       arith,
       shorts i,
       are.shorts i,
-      total-same 9999 (λ m. debit_in after m i - credit_in after m i) (λ m. debit_in sides m i - credit_in sides m i) (λ m. omega (arith, credits m i, debits m i)),
+      total-same 9999 (λ m. debit_in after m i - credit_in after m i) (λ m. debit_in positions m i - credit_in positions m i) (λ m. omega (arith, same m i)),
     );
   }
 
   -- ---- what they are
 
   -- an issue's totals are at least the position of each member in it, and at most 9999 such as are allowed
-  pub record AreWithin (totals : HashMap ℕ Totals T) (sides : HashMap Holding Sides S) (member issue : ℕ) : Type 0 where
-    pub longs_least : credit_in sides member issue - debit_in sides member issue ≤ longs_in totals issue
-    pub shorts_least : debit_in sides member issue - credit_in sides member issue ≤ shorts_in totals issue
+  pub record AreWithin (totals : HashMap ℕ Totals T) (positions : HashMap Holding Position S) (member issue : ℕ) : Type 0 where
+    pub longs_least : credit_in positions member issue - debit_in positions member issue ≤ longs_in totals issue
+    pub shorts_least : debit_in positions member issue - credit_in positions member issue ≤ shorts_in totals issue
     pub longs_most : longs_in totals issue ≤ 3 * 10 ^ 22
     pub shorts_most : shorts_in totals issue ≤ 3 * 10 ^ 22
 
-  pub totals_within : (totals : HashMap ℕ Totals T) (sides : HashMap Holding Sides S) (member issue : ℕ) → IsMember member
-      → ((m i : ℕ) → credit_in sides m i ≤ debit_in sides m i + 3 * 10 ^ 18) → ((m i : ℕ) → debit_in sides m i ≤ credit_in sides m i + 3 * 10 ^ 18)
-      → AreTotalsOf totals sides → AreWithin totals sides member issue
-  totals_within totals sides member issue range long short are =
-      let above : ℕ → ℕ = λ m. credit_in sides m issue - debit_in sides m issue in
-      let below : ℕ → ℕ = λ m. debit_in sides m issue - credit_in sides m issue in
+  pub totals_within : (totals : HashMap ℕ Totals T) (positions : HashMap Holding Position S) (member issue : ℕ) → IsMember member
+      → ((m i : ℕ) → credit_in positions m i ≤ debit_in positions m i + 3 * 10 ^ 18) → ((m i : ℕ) → debit_in positions m i ≤ credit_in positions m i + 3 * 10 ^ 18)
+      → AreTotalsOf totals positions → AreWithin totals positions member issue
+  totals_within totals positions member issue range long short are =
+      let above : ℕ → ℕ = λ m. credit_in positions m issue - debit_in positions m issue in
+      let below : ℕ → ℕ = λ m. debit_in positions m issue - credit_in positions m issue in
       record {
         longs_least = omega (arith, are.longs issue, total-part 9999 member above range.from range.to);
         shorts_least = omega (arith, are.shorts issue, total-part 9999 member below range.from range.to);
@@ -165,24 +162,24 @@ module _ {S T : Type 0} where
       }
 
 module _ {S : Type 0} where
-  long_total : (n : ℕ) (sides : HashMap Holding Sides S) (h : List NetEntry) (issue : ℕ) → AreSidesOf sides h
-      → total n (λ m. credit_in sides m issue - debit_in sides m issue) ≡ long_up_to n h issue
+  long_total : (n : ℕ) (positions : HashMap Holding Position S) (h : List NetEntry) (issue : ℕ) → ArePositionsOf positions h
+      → total n (λ m. credit_in positions m issue - debit_in positions m issue) ≡ long_up_to n h issue
   unfolding total long_up_to
-  long_total zero sides h issue are = refl
-  long_total (suc n) sides h issue are = omega (arith, are.credit (suc n) issue, are.debit (suc n) issue, long_total n sides h issue are)
+  long_total zero positions h issue are = refl
+  long_total (suc n) positions h issue are = omega (arith, are.balance (suc n) issue, long_total n positions h issue are)
 
-  short_total : (n : ℕ) (sides : HashMap Holding Sides S) (h : List NetEntry) (issue : ℕ) → AreSidesOf sides h
-      → total n (λ m. debit_in sides m issue - credit_in sides m issue) ≡ short_up_to n h issue
+  short_total : (n : ℕ) (positions : HashMap Holding Position S) (h : List NetEntry) (issue : ℕ) → ArePositionsOf positions h
+      → total n (λ m. debit_in positions m issue - credit_in positions m issue) ≡ short_up_to n h issue
   unfolding total short_up_to
-  short_total zero sides h issue are = refl
-  short_total (suc n) sides h issue are = omega (arith, are.credit (suc n) issue, are.debit (suc n) issue, short_total n sides h issue are)
+  short_total zero positions h issue are = refl
+  short_total (suc n) positions h issue are = omega (arith, are.balance (suc n) issue, short_total n positions h issue are)
 
 module _ {S T : Type 0} where
-  -- by the sides of a history they are its longs and shorts
-  pub longs_by_history : (totals : HashMap ℕ Totals T) (sides : HashMap Holding Sides S) (h : List NetEntry) (issue : ℕ) → AreTotalsOf totals sides → AreSidesOf sides h
+  -- by the positions of a history they are its longs and shorts
+  pub longs_by_history : (totals : HashMap ℕ Totals T) (positions : HashMap Holding Position S) (h : List NetEntry) (issue : ℕ) → AreTotalsOf totals positions → ArePositionsOf positions h
       → longs_in totals issue ≡ longs_of h issue
-  longs_by_history totals sides h issue are by = are.longs issue ∙ long_total 9999 sides h issue by
+  longs_by_history totals positions h issue are by = are.longs issue ∙ long_total 9999 positions h issue by
 
-  pub shorts_by_history : (totals : HashMap ℕ Totals T) (sides : HashMap Holding Sides S) (h : List NetEntry) (issue : ℕ) → AreTotalsOf totals sides → AreSidesOf sides h
+  pub shorts_by_history : (totals : HashMap ℕ Totals T) (positions : HashMap Holding Position S) (h : List NetEntry) (issue : ℕ) → AreTotalsOf totals positions → ArePositionsOf positions h
       → shorts_in totals issue ≡ shorts_of h issue
-  shorts_by_history totals sides h issue are by = are.shorts issue ∙ short_total 9999 sides h issue by
+  shorts_by_history totals positions h issue are by = are.shorts issue ∙ short_total 9999 positions h issue by

@@ -8,7 +8,8 @@ use Rattle.cns_trades.specs.declared.trade.Trade.{Trade}
 use Rattle.cns_netting.specs.History.{bought, due_since, is_reached, latest, sold, accepted}
 use Rattle.cns_netting.specs.declared.entry.NetEntry.{NetEntry}
 use Rattle.cns_netting.specs.declared.entry.NetEntry.TheVariants.{Accepted, Netted, Settled}
-use Rattle.cns_netting.specs.Undue.{if_left, if_settled, undue_since}
+use Rattle.cns_netting.specs.Undue.{if_left, if_settled, waiting_of, undue_since}
+use Rattle.cns_netting.specs.declared.undue.Undue.{Undue}
 use Rattle.cns_netting.specs.Book.{QuantitiesFit}
 
 -- a trade's share, where it is due
@@ -68,42 +69,42 @@ other-sum f true t ts = omega arith
 other-sum f false t ts = sum_by-cons f t ts
 
 -- what a netting of a date makes due are the undue trades that settle by it
-pub due-netting : (f : Trade → ℕ) (reached : Option ℕ) (day : ℕ) (h : List NetEntry)
-    → sum_by f (due_since (latest reached day) h) ≡ sum_by f (due_since reached h) + sum_by (if_settled day f) (undue_since reached h)
+pub due-netting : (f : Undue → ℕ) (reached : Option ℕ) (day : ℕ) (h : List NetEntry)
+    → sum_by (λ t. f (waiting_of t)) (due_since (latest reached day) h) ≡ sum_by (λ t. f (waiting_of t)) (due_since reached h) + sum_by (λ t. if_settled day f (waiting_of t)) (undue_since reached h)
 due-netting f reached day [] = refl
 due-netting f reached day (Accepted t ∷ h) =
-    let now = either-sum f (is_reached (latest reached day) t.settle) t (due_since (latest reached day) h) in
-    let was = either-sum f (is_reached reached t.settle) t (due_since reached h) in
-    let left = other-sum (if_settled day f) (is_reached reached t.settle) t (undue_since reached h) in
-    omega (arith, now, was, left, due-netting f reached day h, one (is_reached (latest reached day) t.settle) (nat_le t.settle day) (is_reached reached t.settle) (f t) (is_reached-latest reached day t.settle))
+    let now = either-sum (λ s. f (waiting_of s)) (is_reached (latest reached day) t.settle) t (due_since (latest reached day) h) in
+    let was = either-sum (λ s. f (waiting_of s)) (is_reached reached t.settle) t (due_since reached h) in
+    let left = other-sum (λ s. if_settled day f (waiting_of s)) (is_reached reached t.settle) t (undue_since reached h) in
+    omega (arith, now, was, left, due-netting f reached day h, one (is_reached (latest reached day) t.settle) (nat_le t.settle day) (is_reached reached t.settle) (f (waiting_of t)) (is_reached-latest reached day t.settle))
   where
     one : (a b c : Bool) (q : ℕ) → a ≡ (b || c) → (if a then q else 0) ≡ (if c then q else 0) + (if c then 0 else (if b then q else 0))
     one a true true q e = Prim.rw e (omega arith)
     one a true false q e = Prim.rw e (omega arith)
     one a false true q e = Prim.rw e (omega arith)
     one a false false q e = Prim.rw e refl
-due-netting f reached day (Netted d ∷ h) = ap (λ r. sum_by f (due_since r h)) (latest-swap reached day d) ∙ due-netting f (latest reached d) day h
+due-netting f reached day (Netted d ∷ h) = ap (λ r. sum_by (λ t. f (waiting_of t)) (due_since r h)) (latest-swap reached day d) ∙ due-netting f (latest reached d) day h
 due-netting f reached day (Settled m i z ∷ h) = due-netting f reached day h
 
 -- and the undue trades that settle later are left
-pub undue-netting : (f : Trade → ℕ) (reached : Option ℕ) (day : ℕ) (h : List NetEntry)
-    → sum_by f (undue_since (latest reached day) h) ≡ sum_by (if_left day f) (undue_since reached h)
+pub undue-netting : (f : Undue → ℕ) (reached : Option ℕ) (day : ℕ) (h : List NetEntry)
+    → sum_by (λ t. f (waiting_of t)) (undue_since (latest reached day) h) ≡ sum_by (λ t. if_left day f (waiting_of t)) (undue_since reached h)
 undue-netting f reached day [] = refl
 undue-netting f reached day (Accepted t ∷ h) =
-    let now = other-sum f (is_reached (latest reached day) t.settle) t (undue_since (latest reached day) h) in
-    let was = other-sum (if_left day f) (is_reached reached t.settle) t (undue_since reached h) in
-    omega (arith, now, was, undue-netting f reached day h, one (is_reached (latest reached day) t.settle) (nat_le t.settle day) (is_reached reached t.settle) (f t) (is_reached-latest reached day t.settle))
+    let now = other-sum (λ s. f (waiting_of s)) (is_reached (latest reached day) t.settle) t (undue_since (latest reached day) h) in
+    let was = other-sum (λ s. if_left day f (waiting_of s)) (is_reached reached t.settle) t (undue_since reached h) in
+    omega (arith, now, was, undue-netting f reached day h, one (is_reached (latest reached day) t.settle) (nat_le t.settle day) (is_reached reached t.settle) (f (waiting_of t)) (is_reached-latest reached day t.settle))
   where
     one : (a b c : Bool) (q : ℕ) → a ≡ (b || c) → (if a then 0 else q) ≡ (if c then 0 else (if b then 0 else q))
     one a true true q e = Prim.rw e refl
     one a true false q e = Prim.rw e refl
     one a false true q e = Prim.rw e refl
     one a false false q e = Prim.rw e refl
-undue-netting f reached day (Netted d ∷ h) = ap (λ r. sum_by f (undue_since r h)) (latest-swap reached day d) ∙ undue-netting f (latest reached d) day h
+undue-netting f reached day (Netted d ∷ h) = ap (λ r. sum_by (λ t. f (waiting_of t)) (undue_since r h)) (latest-swap reached day d) ∙ undue-netting f (latest reached d) day h
 undue-netting f reached day (Settled m i z ∷ h) = undue-netting f reached day h
 
 -- a number of each trade that settles by a day, and of each other one, make the number of all
-pub settled-left : (day : ℕ) (f : Trade → ℕ) (ts : List Trade) → sum_by (if_settled day f) ts + sum_by (if_left day f) ts ≡ sum_by f ts
+pub settled-left : (day : ℕ) (f : Undue → ℕ) (ts : List Undue) → sum_by (if_settled day f) ts + sum_by (if_left day f) ts ≡ sum_by f ts
 settled-left day f [] = refl
 settled-left day f (t ∷ ts) =
     omega (arith, sum_by-cons (if_settled day f) t ts, sum_by-cons (if_left day f) t ts, sum_by-cons f t ts, settled-left day f ts, either-other (nat_le t.settle day) (f t))

@@ -2,16 +2,16 @@
 use Rattle.std.specs.Prelude.{◌≡◌, ℕ, ◌+◌, ◌≤◌, ◌&&◌, nat_le, List, [], ◌∷◌, All, length, ℤ, pos, neg_ℤ, ◌≤ℤ◌, sum_by, if◌then◌else◌}
 use Rattle.std.specs.BinaryHeap.{IsHeap}
 use Rattle.std.specs.HashMap.{HashMap}
-use Rattle.cns_trades.specs.declared.trade.Trade.{Trade}
 use Rattle.cns_netting.specs.History.{accepted, credit_part, debit_part, settled_in, settled_out}
-use Rattle.cns_netting.specs.Sides.{AreOfMembers, AreSidesOf, IsNamed}
+use Rattle.cns_netting.specs.Positions.{AreOfMembers, ArePositionsOf, IsNamed}
 use Rattle.cns_netting.specs.Totals.{AreTotalsOf, HasIssue}
-use Rattle.cns_netting.specs.Undue.{earlier, undue}
+use Rattle.cns_netting.specs.Undue.{earlier, waiting_of, undue}
 use Rattle.cns_netting.specs.declared.entry.NetEntry.{NetEntry}
 use Rattle.cns_netting.specs.declared.entry.NetEntry.TheVariants.{Accepted, Netted, Settled}
 use Rattle.cns_ids.specs.declared.holding.Holding.{Holding}
-use Rattle.cns_netting.specs.declared.sides.Sides.{Sides}
+use Rattle.cns_netting.specs.declared.positions.Position.{Position}
 use Rattle.cns_netting.specs.declared.totals.Totals.{Totals}
+use Rattle.cns_netting.specs.declared.undue.Undue.{Undue}
 
 -- the history, the newest entry first, and for how many more entries there is room
 pub record NetRoom : Type 0 where
@@ -49,13 +49,13 @@ pub record IsBook (h : List NetEntry) : Type 0 where
   pub amounts : AmountsFit h
   pub settled : (member issue : ℕ) → IsSettled h member issue
 
--- what a book keeps beside its history: the sides of each holding, the totals of each issue, and the trades that are not due,
--- in a heap; the holdings and the issue of each such trade are named, and each holding that is named is one of a member
-pub record IsKept {S T : Type 0} (h : List NetEntry) (holdings : HashMap Holding Sides S) (issues : HashMap ℕ Totals T) (waiting : List Trade) : Type 0 where
+-- what a book keeps beside its history: the position of each holding, the totals of each issue, and of the trades that are not due
+-- what netting needs, in a heap; the holdings and the issue of each such trade are named, and each holding that is named is one of a member
+pub record IsKept {S T : Type 0} (h : List NetEntry) (holdings : HashMap Holding Position S) (issues : HashMap ℕ Totals T) (waiting : List Undue) : Type 0 where
   pub book : IsBook h
-  pub sides : AreSidesOf holdings h
+  pub positions : ArePositionsOf holdings h
   pub totals : AreTotalsOf issues holdings
-  pub undue : (f : Trade → ℕ) → sum_by f waiting ≡ sum_by f (undue h)
+  pub undue : (f : Undue → ℕ) → sum_by f waiting ≡ sum_by (λ t. f (waiting_of t)) (undue h)
   pub named : All (IsNamed holdings) waiting
   pub named_issues : All (HasIssue issues) waiting
   pub members : AreOfMembers holdings

@@ -1,6 +1,6 @@
 pub mod History
 pub mod Rows
 pub mod Undue
-pub mod Sides
+pub mod Positions
 pub mod Totals
 pub mod Book

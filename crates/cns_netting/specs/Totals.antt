@@ -1,10 +1,10 @@
 -- The shares of an issue's positions above 0 and of those below 0, by look-up.
 use Rattle.std.specs.Prelude.{◌≡◌, ℕ, zero, suc, ◌+◌, ◌-◌, nat_eq, Option, Some, None, IsSome}
 use Rattle.std.specs.HashMap.{HashMap, get}
-use Rattle.cns_trades.specs.declared.trade.Trade.{Trade}
-use Rattle.cns_netting.specs.Sides.{credit_in, debit_in}
+use Rattle.cns_netting.specs.declared.undue.Undue.{Undue}
+use Rattle.cns_netting.specs.Positions.{credit_in, debit_in}
 use Rattle.cns_ids.specs.declared.holding.Holding.{Holding}
-use Rattle.cns_netting.specs.declared.sides.Sides.{Sides}
+use Rattle.cns_netting.specs.declared.positions.Position.{Position}
 use Rattle.cns_netting.specs.declared.totals.Totals.{Totals}
 
 -- the sum of a number for each member 1 to n
@@ -30,10 +30,10 @@ module _ {T : Type 0} where
   shorts_in totals issue = shorts_at (get nat_eq totals issue)
 
   -- the issue of a trade is named
-  abbrev pub HasIssue : HashMap ℕ Totals T → Trade → Type 0
+  abbrev pub HasIssue : HashMap ℕ Totals T → Undue → Type 0
   HasIssue totals t = IsSome (get nat_eq totals t.issue)
 
--- the totals of each issue are those of the positions that the members have by their sides
-pub record AreTotalsOf {S T : Type 0} (totals : HashMap ℕ Totals T) (sides : HashMap Holding Sides S) : Type 0 where
-  pub longs : (issue : ℕ) → longs_in totals issue ≡ total 9999 (λ member. credit_in sides member issue - debit_in sides member issue)
-  pub shorts : (issue : ℕ) → shorts_in totals issue ≡ total 9999 (λ member. debit_in sides member issue - credit_in sides member issue)
+-- the totals of each issue are those of the positions that the members have in it
+pub record AreTotalsOf {S T : Type 0} (totals : HashMap ℕ Totals T) (positions : HashMap Holding Position S) : Type 0 where
+  pub longs : (issue : ℕ) → longs_in totals issue ≡ total 9999 (λ member. credit_in positions member issue - debit_in positions member issue)
+  pub shorts : (issue : ℕ) → shorts_in totals issue ≡ total 9999 (λ member. debit_in positions member issue - credit_in positions member issue)

@@ -6,6 +6,7 @@ use Rattle.cns_trades.specs.declared.trade.Trade.{Trade}
 use Rattle.cns_netting.specs.History.{is_reached, latest}
 use Rattle.cns_netting.specs.declared.entry.NetEntry.{NetEntry}
 use Rattle.cns_netting.specs.declared.entry.NetEntry.TheVariants.{Accepted, Netted, Settled}
+use Rattle.cns_netting.specs.declared.undue.Undue.{Undue}
 
 -- the trades of a history that no netting recorded after them has made due; `reached` is the latest date of the nettings
 -- recorded after the whole list
@@ -19,13 +20,17 @@ undue_since reached (Settled m i z ∷ h) = undue_since reached h
 abbrev pub undue : List NetEntry → List Trade
 undue h = undue_since None h
 
+-- what netting needs of a trade
+abbrev pub waiting_of : Trade → Undue
+waiting_of t = record { settle = t.settle; buyer = t.buyer; seller = t.seller; issue = t.issue; quantity = t.quantity }
+
 -- a number of each trade that settles by a day, and of each other one
-abbrev pub if_settled : ℕ → (Trade → ℕ) → Trade → ℕ
+abbrev pub if_settled : ℕ → (Undue → ℕ) → Undue → ℕ
 if_settled day f t = if nat_le t.settle day then f t else 0
 
-abbrev pub if_left : ℕ → (Trade → ℕ) → Trade → ℕ
+abbrev pub if_left : ℕ → (Undue → ℕ) → Undue → ℕ
 if_left day f t = if nat_le t.settle day then 0 else f t
 
 -- the order of trades by settlement, the later one first
-abbrev pub earlier : Trade → Trade → Ordering
+abbrev pub earlier : Undue → Undue → Ordering
 earlier a b = nat_cmp b.settle a.settle

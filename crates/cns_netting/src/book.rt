@@ -12,11 +12,11 @@ ghost use Rattle.cns_netting.specs.declared.entry.NetEntry.TheVariants.{Accepted
 ghost use Rattle.cns_ids.specs.declared.holding.Holding.{Holding};
 
 use crate::count::{RowTest, count_rows};
-use crate::due::{add_due, make_due, sides_after, take_due};
+use crate::due::{add_due, has_due, make_due, positions_after, take_due, waiting_of};
 use crate::entry::NetEntry;
 use crate::position::PositionRow;
+use crate::positions::{Position, name, name_trade, position_at};
 use crate::rows::{position_rows, position_rows_in};
-use crate::sides::{Sides, name, name_trade, sides_of};
 use crate::totals::{Totals, add_counted, name_issue, totals_of};
 use crate::undue::Undue;
 use cns_ids::{Cusip, Day, Holding, MemberNo};
@@ -28,12 +28,12 @@ use std::marker::Model;
 /// Accepted trades, due or not, with the nettings and settlements since.
 ///
 /// Contracts see the history of entries, the newest first, and for how many more there is room. Beside
-/// the history the book keeps what stands for each holding and against it, the totals of each issue's
-/// positions, and the trades that are not due, the earliest settlement first.
+/// the history the book keeps the position of each holding, the totals of each issue's positions, and
+/// what netting needs of the trades that are not due, the earliest settlement first.
 #[derive(Drop)]
 pub struct NetBook {
     entries: Vec<NetEntry>,
-    sides: HashMap<Holding, Sides>,
+    positions: HashMap<Holding, Position>,
     totals: HashMap<Cusip, Totals>,
     undue: BinaryHeap<Undue>,
 }
@@ -48,44 +48,44 @@ impl Model for NetBook {
 
     ghost view = { λ b. record {
       history = reverse b.entries.items;
-      room = room_of (vec_capacity b.entries - length b.entries.items) (spare b.sides) (spare b.totals) (heap_capacity b.undue - heap_len b.undue);
+      room = room_of (vec_capacity b.entries - length b.entries.items) (spare b.positions) (spare b.totals) (heap_capacity b.undue - heap_len b.undue);
     } };
 
-    ghost invariant = { λ b. IsKept (reverse b.entries.items) b.sides b.totals (heap_items b.undue) };
+    ghost invariant = { λ b. IsKept (reverse b.entries.items) b.positions b.totals (heap_items b.undue) };
 }
 
 // Takes the memory that any entry needs.
 fn reserve(
     entries: &mut Vec<NetEntry>,
-    sides: &mut HashMap<Holding, Sides>,
+    positions: &mut HashMap<Holding, Position>,
     totals: &mut HashMap<Cusip, Totals>,
     undue: &mut BinaryHeap<Undue>,
 ) -> Result<(), AllocError>
     ensures entries { entries.new.items ≡ entries.old.items }
-    ensures sides { (k : Holding) → get holding_eq sides.new k ≡ get holding_eq sides.old k }
+    ensures positions { (k : Holding) → get holding_eq positions.new k ≡ get holding_eq positions.old k }
     ensures totals { (i : ℕ) → get nat_eq totals.new i ≡ get nat_eq totals.old i }
     ensures undue { heap_items undue.new ≡ heap_items undue.old }
     ensures entry_room { OnOk result (length entries.new.items < vec_capacity entries.new) }
-    ensures side_room { OnOk result (2 ≤ spare sides.new) }
+    ensures holding_room { OnOk result (2 ≤ spare positions.new) }
     ensures issue_room { OnOk result (1 ≤ spare totals.new) }
     ensures undue_room { OnOk result (heap_len undue.new < heap_capacity undue.new) }
-    ensures none { OnErr result (room_of (vec_capacity entries.old - length entries.old.items) (spare sides.old) (spare totals.old) (heap_capacity undue.old - heap_len undue.old) ≡ 0) }
-    ensures left { room_of (vec_capacity entries.old - length entries.old.items) (spare sides.old) (spare totals.old) (heap_capacity undue.old - heap_len undue.old) ≤ room_of (vec_capacity entries.new - length entries.new.items) (spare sides.new) (spare totals.new) (heap_capacity undue.new - heap_len undue.new) }
+    ensures none { OnErr result (room_of (vec_capacity entries.old - length entries.old.items) (spare positions.old) (spare totals.old) (heap_capacity undue.old - heap_len undue.old) ≡ 0) }
+    ensures left { room_of (vec_capacity entries.old - length entries.old.items) (spare positions.old) (spare totals.old) (heap_capacity undue.old - heap_len undue.old) ≤ room_of (vec_capacity entries.new - length entries.new.items) (spare positions.new) (spare totals.new) (heap_capacity undue.new - heap_len undue.new) }
 {
     entries.reserve(1)?;
-    sides.reserve(2)?;
+    positions.reserve(2)?;
     totals.reserve(1)?;
     undue.reserve(1)
 }
 
 // Enters a trade that is not due, for which there is room.
-fn enter(undue: &mut BinaryHeap<Undue>, trade: Trade)
+fn enter(undue: &mut BinaryHeap<Undue>, trade: Undue)
     requires room { heap_len undue.old < heap_capacity undue.old }
     requires heap { IsHeap earlier (heap_items undue.old) }
     ensures entered { IsPermutation (trade ∷ heap_items undue.old) (heap_items undue.new) }
     ensures heap { IsHeap earlier (heap_items undue.new) }
 {
-    let Ok(()) = undue.push(Undue { trade }) else {
+    let Ok(()) = undue.push(trade) else {
         unreachable!()
     };
 }
@@ -100,15 +100,30 @@ fn write(entries: &mut Vec<NetEntry>, entry: NetEntry)
     };
 }
 
+// Gives back memory where more than half of what was taken is not used, as after many trades became due.
+fn free_unused(undue: &mut BinaryHeap<Undue>)
+    ensures { heap_items undue.new ≡ heap_items undue.old }
+{
+    undue.shrink_to(undue.len().saturating_mul(2));
+}
+
+// A settled amount as an entry holds it.
+fn held(amount: i128) -> i64
+    requires { (credit_part amount ≤ 2000000000000000000) × (debit_part amount ≤ 2000000000000000000) }
+    ensures { result ≡ amount }
+{
+    amount as i64
+}
+
 // The shares that a settlement brought.
-fn brought(amount: i128) -> u128
+fn brought(amount: i64) -> u64
     ensures { result ≡ credit_part amount }
 {
     if amount > 0 { amount.unsigned_abs() } else { 0 }
 }
 
 // The shares that a settlement took.
-fn taken(amount: i128) -> u128
+fn taken(amount: i64) -> u64
     ensures { result ≡ debit_part amount }
 {
     if amount < 0 { amount.unsigned_abs() } else { 0 }
@@ -122,7 +137,7 @@ impl NetBook {
     {
         NetBook {
             entries: Vec::new(alloc),
-            sides: HashMap::new(alloc),
+            positions: HashMap::new(alloc),
             totals: HashMap::new(alloc),
             undue: BinaryHeap::new(alloc),
         }
@@ -138,7 +153,7 @@ impl NetBook {
     {
         reserve(
             &mut self.entries,
-            &mut self.sides,
+            &mut self.positions,
             &mut self.totals,
             &mut self.undue,
         )
@@ -164,9 +179,10 @@ impl NetBook {
     {
         let _quantity = trade.quantity.shares();
         self.make_room()?;
-        name_trade(&mut self.sides, &trade);
+        let waiting = waiting_of(&trade);
+        name_trade(&mut self.positions, &waiting);
         name_issue(&mut self.totals, trade.issue);
-        enter(&mut self.undue, trade);
+        enter(&mut self.undue, waiting);
         write(&mut self.entries, NetEntry::Accepted(trade));
         Ok(())
     }
@@ -190,7 +206,8 @@ impl NetBook {
         ensures room { 0 < self.old.room → IsOk result }
     {
         self.make_room()?;
-        let becoming = make_due(&mut self.undue, &mut self.sides, &mut self.totals, day);
+        let becoming = make_due(&mut self.undue, &mut self.positions, &mut self.totals, day);
+        free_unused(&mut self.undue);
         write(&mut self.entries, NetEntry::Netted(day));
         Ok(becoming as u64)
     }
@@ -221,10 +238,11 @@ impl NetBook {
         ensures room { 0 < self.old.room → IsOk result }
     {
         self.make_room()?;
-        name(&mut self.sides, member, issue);
+        let amount = held(amount);
+        name(&mut self.positions, member, issue);
         name_issue(&mut self.totals, issue);
         add_counted(
-            &mut self.sides,
+            &mut self.positions,
             &mut self.totals,
             member,
             issue,
@@ -245,28 +263,31 @@ impl NetBook {
         ensures value { result ≡ position_of self.now.history member issue }
         ensures lawful { IsBook self.now.history }
     {
-        sides_of(&self.sides, member, issue).position()
+        i128::from(position_at(&self.positions, member, issue).shares)
     }
 
     /// The positions other than 0, by issue, then member.
     pub fn rows(&self) -> Result<Vec<PositionRow>, AllocError>
         ensures { IfOk result (λ rows. rows.items ≡ rows_of self.now.history) }
     {
-        position_rows(*self.entries.allocator(), &self.sides, None)
+        position_rows(*self.entries.allocator(), &self.positions, None)
     }
 
     /// The positions other than 0 in an issue, by member.
     pub fn rows_in(&self, issue: Cusip) -> Result<Vec<PositionRow>, AllocError>
         ensures { IfOk result (λ rows. rows.items ≡ filter (is_row_in issue) (rows_of self.now.history)) }
     {
-        position_rows_in(*self.entries.allocator(), &self.sides, issue)
+        position_rows_in(*self.entries.allocator(), &self.positions, issue)
     }
 
     /// The positions other than 0 that `net` of a date would leave, by issue, then member.
     pub fn rows_at(&self, day: Day) -> Result<Vec<PositionRow>, AllocError>
         ensures { IfOk result (λ rows. rows.items ≡ rows_of (Netted day ∷ self.now.history)) }
     {
-        let after = sides_after(&self.sides, self.undue.as_slice(), day)?;
+        if !has_due(&self.undue, day) {
+            return self.rows();
+        }
+        let after = positions_after(&self.positions, self.undue.as_slice(), day)?;
         position_rows(*self.entries.allocator(), &after, None)
     }
 
@@ -279,9 +300,9 @@ impl NetBook {
         ensures count { result ≡ count_by (T.passing test.now) (rows_of (Netted day ∷ self.old.history)) }
         ensures same { self.new ≡ self.old }
     {
-        add_due(&mut self.sides, self.undue.as_slice(), day);
-        let count = count_rows(&self.sides, test);
-        take_due(&mut self.sides, self.undue.as_slice(), day);
+        add_due(&mut self.positions, self.undue.as_slice(), day);
+        let count = count_rows(&self.positions, test);
+        take_due(&mut self.positions, self.undue.as_slice(), day);
         count
     }
 

@@ -1,12 +1,12 @@
-ghost use Rattle.std.specs.Prelude.{◌≡◌, ℕ, ◌^◌, ◌<◌, Bool, List, None, Some, count_by};
+ghost use Rattle.std.specs.Prelude.{◌≡◌, Bool, List, None, Some, count_by};
 ghost use Rattle.cns_netting.specs.Rows.{rows_of};
-ghost use Rattle.cns_netting.specs.Sides.{AreSidesOf, credit_in, debit_in, row_if, row_passes};
+ghost use Rattle.cns_netting.specs.Positions.{ArePositionsOf, row_if, row_passes};
 ghost use Rattle.cns_netting.specs.declared.entry.NetEntry.{NetEntry};
 ghost use Rattle.cns_netting.specs.declared.position.PositionRow.{PositionRow};
 
 use crate::position::PositionRow;
+use crate::positions::Position;
 use crate::rows::row_of;
-use crate::sides::Sides;
 use cns_ids::Holding;
 use std::collections::HashMap;
 
@@ -20,27 +20,25 @@ pub trait RowTest {
         ensures { result ≡ passing self.now row.now };
 }
 
-// Whether a holding has a position other than 0, by its sides, that passes.
-fn counts<T: RowTest>(test: &T, holding: &Holding, sides: &Sides) -> bool
-    requires { (sides.now.credit < 2 ^ 127) × (sides.now.debit < 2 ^ 127) }
-    ensures { result ≡ row_passes (T.passing test.now) (row_if None holding.now (Some sides.now)) }
+// Whether a holding has a position other than 0, by its position, that passes.
+fn counts<T: RowTest>(test: &T, holding: &Holding, position: &Position) -> bool
+    ensures { result ≡ row_passes (T.passing test.now) (row_if None holding.now (Some position.now)) }
 {
-    match row_of(holding, sides, None) {
+    match row_of(holding, position, None) {
         Some(row) => test.passes(&row),
         None => false,
     }
 }
 
 /// How many of the positions other than 0 pass a test. It takes no memory.
-pub(crate) fn count_rows<T: RowTest>(all: &HashMap<Holding, Sides>, test: &T) -> usize
-    requires { (m i : ℕ) → (credit_in all.now m i < 2 ^ 127) × (debit_in all.now m i < 2 ^ 127) }
-    ensures { (h : List NetEntry) → AreSidesOf all.now h → result ≡ count_by (T.passing test.now) (rows_of h) }
+pub(crate) fn count_rows<T: RowTest>(all: &HashMap<Holding, Position>, test: &T) -> usize
+    ensures { (h : List NetEntry) → ArePositionsOf all.now h → result ≡ count_by (T.passing test.now) (rows_of h) }
 {
     // No more of them pass than there are.
     let _most = all.len();
     let mut count = 0;
-    for (holding, sides) in all {
-        if counts(test, holding, sides) {
+    for (holding, position) in all {
+        if counts(test, holding, position) {
             count += 1;
         }
     }

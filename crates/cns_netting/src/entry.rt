@@ -12,6 +12,6 @@ pub enum NetEntry {
     Settled {
         member: MemberNo,
         issue: Cusip,
-        amount: i128,
+        amount: i64,
     },
 }

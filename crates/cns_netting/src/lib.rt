@@ -6,8 +6,8 @@ mod count;
 mod due;
 mod entry;
 mod position;
+mod positions;
 mod rows;
-mod sides;
 mod totals;
 mod undue;
 

@@ -1,14 +1,14 @@
-ghost use Rattle.std.specs.Prelude.{◌≡◌, ℕ, ◌+◌, ◌^◌, ◌<◌, filter, IfOk, List, OnOk, Some, sum_by};
+ghost use Rattle.std.specs.Prelude.{◌≡◌, ℕ, ◌+◌, ◌<◌, filter, IfOk, List, OnOk, Some, sum_by};
 ghost use Rattle.std.specs.HashMap.{get, IsUnique};
 ghost use Rattle.std.specs.List.Sorted.{IsNonDecreasingBy};
 ghost use Rattle.cns_ids.specs.Holding.{holding_eq};
 ghost use Rattle.cns_netting.specs.Rows.{is_row_in, rows_of};
-ghost use Rattle.cns_netting.specs.Sides.{AreInOrder, AreOfMembers, AreSidesOf, credit_in, debit_in, holdings_up_to, row_if, row_part, rows_if};
+ghost use Rattle.cns_netting.specs.Positions.{AreInOrder, AreOfMembers, ArePositionsOf, holdings_up_to, row_if, row_part, rows_if};
 ghost use Rattle.cns_netting.specs.declared.entry.NetEntry.{NetEntry};
 ghost use Rattle.cns_netting.specs.declared.position.PositionRow.{PositionRow};
 
 use crate::position::PositionRow;
-use crate::sides::{Sides, sides_of};
+use crate::positions::{Position, position_at};
 use cns_ids::{Cusip, Holding, MemberNo};
 use std::alloc::{AllocError, Global};
 use std::collections::HashMap;
@@ -17,22 +17,25 @@ use std::collections::HashMap;
 const MEMBERS: u16 = 9999;
 
 /// The row of a holding, where its position is not 0; of one issue, where it is given.
-pub(crate) fn row_of(holding: &Holding, sides: &Sides, issue: Option<Cusip>) -> Option<PositionRow>
-    requires { (sides.now.credit < 2 ^ 127) × (sides.now.debit < 2 ^ 127) }
-    ensures { result ≡ row_if issue holding.now (Some sides.now) }
+pub(crate) fn row_of(
+    holding: &Holding,
+    position: &Position,
+    issue: Option<Cusip>,
+) -> Option<PositionRow>
+    ensures { result ≡ row_if issue holding.now (Some position.now) }
 {
     if let Some(issue) = issue
         && holding.issue != issue
     {
         return None;
     }
-    if sides.credit == sides.debit {
+    if position.shares == 0 {
         return None;
     }
     Some(PositionRow {
         issue: holding.issue,
         member: holding.member,
-        position: sides.position(),
+        position: i128::from(position.shares),
     })
 }
 
@@ -40,13 +43,12 @@ pub(crate) fn row_of(holding: &Holding, sides: &Sides, issue: Option<Cusip>) -> 
 fn put_row(
     rows: &mut Vec<PositionRow>,
     holding: &Holding,
-    sides: &Sides,
+    position: &Position,
     issue: Option<Cusip>,
 ) -> Result<(), AllocError>
-    requires { (sides.now.credit < 2 ^ 127) × (sides.now.debit < 2 ^ 127) }
-    ensures { OnOk result ((f : PositionRow → ℕ) → sum_by f rows.new.items ≡ sum_by f rows.old.items + row_part f (row_if issue holding.now (Some sides.now))) }
+    ensures { OnOk result ((f : PositionRow → ℕ) → sum_by f rows.new.items ≡ sum_by f rows.old.items + row_part f (row_if issue holding.now (Some position.now))) }
 {
-    if let Some(row) = row_of(holding, sides, issue) {
+    if let Some(row) = row_of(holding, position, issue) {
         rows.push(row)?;
     }
     Ok(())
@@ -55,16 +57,16 @@ fn put_row(
 // The rows, in any order.
 fn rows_found(
     alloc: Global,
-    all: &HashMap<Holding, Sides>,
+    all: &HashMap<Holding, Position>,
     issue: &Option<Cusip>,
 ) -> Result<Vec<PositionRow>, AllocError>
-    requires { (m i : ℕ) → (credit_in all.now m i < 2 ^ 127) × (debit_in all.now m i < 2 ^ 127) }
     ensures unique { OnOk result (IsUnique holding_eq all.now) }
     ensures sums { IfOk result (λ rows. (f : PositionRow → ℕ) → sum_by f rows.items ≡ sum_by (λ e. row_part f (row_if issue.now e.0 (Some e.1))) all.now.entries) }
 {
-    let mut rows = Vec::new(alloc);
-    for (holding, sides) in all {
-        put_row(&mut rows, holding, sides, *issue)?;
+    // Room for all at once, so that no row is moved as they grow.
+    let mut rows = Vec::with_capacity(alloc, all.len())?;
+    for (holding, position) in all {
+        put_row(&mut rows, holding, position, *issue)?;
     }
     Ok(rows)
 }
@@ -81,13 +83,12 @@ fn member_after(number: u16) -> MemberNo
 }
 
 // The rows of an issue, in any order, by a look-up of each member.
-#[tactic(auto, unfolding(crate::specs::Sides::holdings_up_to))]
+#[tactic(auto, unfolding(crate::specs::Positions::holdings_up_to))]
 fn rows_of_members(
     alloc: Global,
-    all: &HashMap<Holding, Sides>,
+    all: &HashMap<Holding, Position>,
     issue: Cusip,
 ) -> Result<Vec<PositionRow>, AllocError>
-    requires { (m i : ℕ) → (credit_in all.now m i < 2 ^ 127) × (debit_in all.now m i < 2 ^ 127) }
     ensures { IfOk result (λ rows. (f : PositionRow → ℕ) → sum_by f rows.items
         ≡ sum_by (λ k. row_part f (row_if (Some issue) k (get holding_eq all.now k))) (holdings_up_to 9999 issue)) }
 {
@@ -95,8 +96,8 @@ fn rows_of_members(
     for number in 0..MEMBERS {
         let member = member_after(number);
         let holding = Holding { issue, member };
-        let sides = sides_of(all, member, issue);
-        put_row(&mut rows, &holding, &sides, Some(issue))?;
+        let position = position_at(all, member, issue);
+        put_row(&mut rows, &holding, &position, Some(issue))?;
     }
     Ok(rows)
 }
@@ -128,13 +129,12 @@ fn put_in_order(rows: &mut Vec<PositionRow>)
 /// The positions other than 0, by issue, then member; of one issue, where it is given.
 pub(crate) fn position_rows(
     alloc: Global,
-    sides: &HashMap<Holding, Sides>,
+    positions: &HashMap<Holding, Position>,
     issue: Option<Cusip>,
 ) -> Result<Vec<PositionRow>, AllocError>
-    requires { (m i : ℕ) → (credit_in sides.now m i < 2 ^ 127) × (debit_in sides.now m i < 2 ^ 127) }
-    ensures { IfOk result (λ rows. (h : List NetEntry) → AreSidesOf sides.now h → rows.items ≡ rows_if issue (rows_of h)) }
+    ensures { IfOk result (λ rows. (h : List NetEntry) → ArePositionsOf positions.now h → rows.items ≡ rows_if issue (rows_of h)) }
 {
-    let mut rows = rows_found(alloc, sides, &issue)?;
+    let mut rows = rows_found(alloc, positions, &issue)?;
     put_in_order(&mut rows);
     Ok(rows)
 }
@@ -142,14 +142,13 @@ pub(crate) fn position_rows(
 // The positions other than 0 in an issue, by member, by a look-up of each member.
 fn rows_by_member(
     alloc: Global,
-    sides: &HashMap<Holding, Sides>,
+    positions: &HashMap<Holding, Position>,
     issue: Cusip,
 ) -> Result<Vec<PositionRow>, AllocError>
-    requires small { (m i : ℕ) → (credit_in sides.now m i < 2 ^ 127) × (debit_in sides.now m i < 2 ^ 127) }
-    requires members { AreOfMembers sides.now }
-    ensures { IfOk result (λ rows. (h : List NetEntry) → AreSidesOf sides.now h → rows.items ≡ filter (is_row_in issue) (rows_of h)) }
+    requires { AreOfMembers positions.now }
+    ensures { IfOk result (λ rows. (h : List NetEntry) → ArePositionsOf positions.now h → rows.items ≡ filter (is_row_in issue) (rows_of h)) }
 {
-    let mut found = rows_of_members(alloc, sides, issue)?;
+    let mut found = rows_of_members(alloc, positions, issue)?;
     put_in_order(&mut found);
     Ok(found)
 }
@@ -158,16 +157,15 @@ fn rows_by_member(
 /// looks up each member, so that it costs no more than that.
 pub(crate) fn position_rows_in(
     alloc: Global,
-    sides: &HashMap<Holding, Sides>,
+    positions: &HashMap<Holding, Position>,
     issue: Cusip,
 ) -> Result<Vec<PositionRow>, AllocError>
-    requires small { (m i : ℕ) → (credit_in sides.now m i < 2 ^ 127) × (debit_in sides.now m i < 2 ^ 127) }
-    requires members { AreOfMembers sides.now }
-    ensures { IfOk result (λ rows. (h : List NetEntry) → AreSidesOf sides.now h → rows.items ≡ filter (is_row_in issue) (rows_of h)) }
+    requires { AreOfMembers positions.now }
+    ensures { IfOk result (λ rows. (h : List NetEntry) → ArePositionsOf positions.now h → rows.items ≡ filter (is_row_in issue) (rows_of h)) }
 {
-    if sides.len() > usize::from(MEMBERS) {
-        rows_by_member(alloc, sides, issue)
+    if positions.len() > usize::from(MEMBERS) {
+        rows_by_member(alloc, positions, issue)
     } else {
-        position_rows(alloc, sides, Some(issue))
+        position_rows(alloc, positions, Some(issue))
     }
 }

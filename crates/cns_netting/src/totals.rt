@@ -1,12 +1,13 @@
 ghost use Rattle.std.specs.Prelude.{◌≡◌, ℕ, ◌+◌, ◌-◌, ◌*◌, ◌^◌, ◌<◌, ◌≤◌, ◌&&◌, ◌==◌, nat_eq, IsSome, if◌then◌else◌};
 ghost use Rattle.std.specs.HashMap.{get, spare};
 ghost use Rattle.cns_ids.specs.Holding.{holding_at, holding_eq};
-ghost use Rattle.cns_netting.specs.Sides.{bought_by, credit_in, debit_in, AreOfMembers, IsNamed, sold_by};
+ghost use Rattle.cns_netting.specs.History.{credit_part, debit_part};
+ghost use Rattle.cns_netting.specs.Positions.{bought_by, credit_in, debit_in, AreOfMembers, IsNamed, sold_by};
 ghost use Rattle.cns_netting.specs.Totals.{AreTotalsOf, HasIssue, longs_in, shorts_in};
 
-use crate::sides::{Sides, add};
+use crate::positions::{Position, add};
+use crate::undue::Undue;
 use cns_ids::{Cusip, Holding, MemberNo};
-use cns_trades::Trade;
 use std::collections::HashMap;
 
 /// The shares of all positions above 0 in an issue, and of all below 0, as sizes.
@@ -17,18 +18,18 @@ pub(crate) struct Totals {
 }
 
 impl Totals {
-    // The totals after a position among them went from these sides to those.
-    fn after(self, was: Sides, is: Sides) -> Totals
-        requires longs { was.credit - was.debit ≤ self.longs }
-        requires shorts { was.debit - was.credit ≤ self.shorts }
-        requires more_longs { self.longs + (is.credit - is.debit) < 2 ^ 128 }
-        requires more_shorts { self.shorts + (is.debit - is.credit) < 2 ^ 128 }
-        ensures longs { result.longs + (was.credit - was.debit) ≡ self.longs + (is.credit - is.debit) }
-        ensures shorts { result.shorts + (was.debit - was.credit) ≡ self.shorts + (is.debit - is.credit) }
+    // The totals after a position among them changed.
+    fn after(self, was: Position, is: Position) -> Totals
+        requires longs { credit_part was.shares ≤ self.longs }
+        requires shorts { debit_part was.shares ≤ self.shorts }
+        requires more_longs { self.longs + credit_part is.shares < 2 ^ 128 }
+        requires more_shorts { self.shorts + debit_part is.shares < 2 ^ 128 }
+        ensures longs { result.longs + credit_part was.shares ≡ self.longs + credit_part is.shares }
+        ensures shorts { result.shorts + debit_part was.shares ≡ self.shorts + debit_part is.shares }
     {
         Totals {
-            longs: self.longs - was.long() + is.long(),
-            shorts: self.shorts - was.short() + is.short(),
+            longs: self.longs - u128::from(was.long()) + u128::from(is.long()),
+            shorts: self.shorts - u128::from(was.short()) + u128::from(is.short()),
         }
     }
 }
@@ -68,14 +69,14 @@ pub(crate) fn name_issue(totals: &mut HashMap<Cusip, Totals>, issue: Cusip)
 }
 
 // Counts a position anew in its issue, which is named.
-fn recount(totals: &mut HashMap<Cusip, Totals>, issue: Cusip, was: Sides, is: Sides)
+fn recount(totals: &mut HashMap<Cusip, Totals>, issue: Cusip, was: Position, is: Position)
     requires named { IsSome (get nat_eq totals.old issue) }
-    requires longs { was.credit - was.debit ≤ longs_in totals.old issue }
-    requires shorts { was.debit - was.credit ≤ shorts_in totals.old issue }
-    requires more_longs { longs_in totals.old issue + (is.credit - is.debit) < 2 ^ 128 }
-    requires more_shorts { shorts_in totals.old issue + (is.debit - is.credit) < 2 ^ 128 }
-    ensures longs { (i : ℕ) → longs_in totals.new i + (if issue == i then was.credit - was.debit else 0) ≡ longs_in totals.old i + (if issue == i then is.credit - is.debit else 0) }
-    ensures shorts { (i : ℕ) → shorts_in totals.new i + (if issue == i then was.debit - was.credit else 0) ≡ shorts_in totals.old i + (if issue == i then is.debit - is.credit else 0) }
+    requires longs { credit_part was.shares ≤ longs_in totals.old issue }
+    requires shorts { debit_part was.shares ≤ shorts_in totals.old issue }
+    requires more_longs { longs_in totals.old issue + credit_part is.shares < 2 ^ 128 }
+    requires more_shorts { shorts_in totals.old issue + debit_part is.shares < 2 ^ 128 }
+    ensures longs { (i : ℕ) → longs_in totals.new i + (if issue == i then credit_part was.shares else 0) ≡ longs_in totals.old i + (if issue == i then credit_part is.shares else 0) }
+    ensures shorts { (i : ℕ) → shorts_in totals.new i + (if issue == i then debit_part was.shares else 0) ≡ shorts_in totals.old i + (if issue == i then debit_part is.shares else 0) }
     ensures named { (i : ℕ) → IsSome (get nat_eq totals.old i) → IsSome (get nat_eq totals.new i) }
 {
     let Some(totals) = totals.get_mut(&issue) else {
@@ -87,30 +88,28 @@ fn recount(totals: &mut HashMap<Cusip, Totals>, issue: Cusip, was: Sides, is: Si
 /// Adds shares for a named holding, and against it, and counts its position anew in its issue, which
 /// is named. No position goes further than 3 * 10^18 shares from 0, so that the totals fit.
 pub(crate) fn add_counted(
-    sides: &mut HashMap<Holding, Sides>,
+    positions: &mut HashMap<Holding, Position>,
     totals: &mut HashMap<Cusip, Totals>,
     member: MemberNo,
     issue: Cusip,
-    credit: u128,
-    debit: u128,
+    credit: u64,
+    debit: u64,
 )
-    requires named { IsSome (get holding_eq sides.old (holding_at issue member)) }
+    requires named { IsSome (get holding_eq positions.old (holding_at issue member)) }
     requires issue { IsSome (get nat_eq totals.old issue) }
-    requires credit { credit_in sides.old member issue + credit < 2 ^ 128 }
-    requires debit { debit_in sides.old member issue + debit < 2 ^ 128 }
-    requires long { (m i : ℕ) → credit_in sides.old m i + (if (member == m) && (issue == i) then credit else 0) ≤ debit_in sides.old m i + 3 * 10 ^ 18 }
-    requires short { (m i : ℕ) → debit_in sides.old m i + (if (member == m) && (issue == i) then debit else 0) ≤ credit_in sides.old m i + 3 * 10 ^ 18 }
-    requires totals { AreTotalsOf totals.old sides.old }
-    ensures credit { (m i : ℕ) → credit_in sides.new m i ≡ credit_in sides.old m i + (if (member == m) && (issue == i) then credit else 0) }
-    ensures debit { (m i : ℕ) → debit_in sides.new m i ≡ debit_in sides.old m i + (if (member == m) && (issue == i) then debit else 0) }
-    ensures named { (k : Holding) → IsSome (get holding_eq sides.old k) → IsSome (get holding_eq sides.new k) }
-    ensures members { AreOfMembers sides.old → AreOfMembers sides.new }
+    requires long { (m i : ℕ) → credit_in positions.old m i + (if (member == m) && (issue == i) then credit else 0) ≤ debit_in positions.old m i + 3 * 10 ^ 18 }
+    requires short { (m i : ℕ) → debit_in positions.old m i + (if (member == m) && (issue == i) then debit else 0) ≤ credit_in positions.old m i + 3 * 10 ^ 18 }
+    requires totals { AreTotalsOf totals.old positions.old }
+    ensures balance { (m i : ℕ) → credit_in positions.new m i + (debit_in positions.old m i + (if (member == m) && (issue == i) then debit else 0))
+        ≡ debit_in positions.new m i + (credit_in positions.old m i + (if (member == m) && (issue == i) then credit else 0)) }
+    ensures named { (k : Holding) → IsSome (get holding_eq positions.old k) → IsSome (get holding_eq positions.new k) }
+    ensures members { AreOfMembers positions.old → AreOfMembers positions.new }
     ensures issues { (i : ℕ) → IsSome (get nat_eq totals.old i) → IsSome (get nat_eq totals.new i) }
-    ensures totals { AreTotalsOf totals.new sides.new }
+    ensures totals { AreTotalsOf totals.new positions.new }
 {
     // The totals count the members 1 to 9999.
     let _number = member.number();
-    let was = add(sides, member, issue, credit, debit);
+    let was = add(positions, member, issue, credit, debit);
     let is = was.with(credit, debit);
     recount(totals, issue, was, is);
 }
@@ -118,25 +117,22 @@ pub(crate) fn add_counted(
 /// Adds what a trade brings its buyer and takes from its seller, and counts both positions anew. No
 /// position goes further than 3 * 10^18 shares from 0, so that the totals fit.
 pub(crate) fn add_trade_counted(
-    sides: &mut HashMap<Holding, Sides>,
+    positions: &mut HashMap<Holding, Position>,
     totals: &mut HashMap<Cusip, Totals>,
-    trade: &Trade,
+    trade: &Undue,
 )
-    requires named { IsNamed sides.old trade.now }
+    requires named { IsNamed positions.old trade.now }
     requires issue { HasIssue totals.old trade.now }
-    requires credit { (m i : ℕ) → credit_in sides.old m i + bought_by m i trade.now < 2 ^ 128 }
-    requires debit { (m i : ℕ) → debit_in sides.old m i + sold_by m i trade.now < 2 ^ 128 }
-    requires long { (m i : ℕ) → credit_in sides.old m i + bought_by m i trade.now ≤ debit_in sides.old m i + 3 * 10 ^ 18 }
-    requires short { (m i : ℕ) → debit_in sides.old m i + sold_by m i trade.now ≤ credit_in sides.old m i + 3 * 10 ^ 18 }
-    requires totals { AreTotalsOf totals.old sides.old }
-    ensures credit { (m i : ℕ) → credit_in sides.new m i ≡ credit_in sides.old m i + bought_by m i trade.now }
-    ensures debit { (m i : ℕ) → debit_in sides.new m i ≡ debit_in sides.old m i + sold_by m i trade.now }
-    ensures named { (k : Holding) → IsSome (get holding_eq sides.old k) → IsSome (get holding_eq sides.new k) }
-    ensures members { AreOfMembers sides.old → AreOfMembers sides.new }
+    requires long { (m i : ℕ) → credit_in positions.old m i + bought_by m i trade.now ≤ debit_in positions.old m i + 3 * 10 ^ 18 }
+    requires short { (m i : ℕ) → debit_in positions.old m i + sold_by m i trade.now ≤ credit_in positions.old m i + 3 * 10 ^ 18 }
+    requires totals { AreTotalsOf totals.old positions.old }
+    ensures balance { (m i : ℕ) → credit_in positions.new m i + (debit_in positions.old m i + sold_by m i trade.now) ≡ debit_in positions.new m i + (credit_in positions.old m i + bought_by m i trade.now) }
+    ensures named { (k : Holding) → IsSome (get holding_eq positions.old k) → IsSome (get holding_eq positions.new k) }
+    ensures members { AreOfMembers positions.old → AreOfMembers positions.new }
     ensures issues { (i : ℕ) → IsSome (get nat_eq totals.old i) → IsSome (get nat_eq totals.new i) }
-    ensures totals { AreTotalsOf totals.new sides.new }
+    ensures totals { AreTotalsOf totals.new positions.new }
 {
-    let shares = u128::from(trade.quantity.shares());
-    add_counted(sides, totals, trade.buyer, trade.issue, shares, 0);
-    add_counted(sides, totals, trade.seller, trade.issue, 0, shares);
+    let shares = trade.quantity.shares();
+    add_counted(positions, totals, trade.buyer, trade.issue, shares, 0);
+    add_counted(positions, totals, trade.seller, trade.issue, 0, shares);
 }

@@ -4,27 +4,18 @@ ghost use Rattle.std.specs.Cmp.Rules.{comparing};
 ghost use Rattle.std.specs.Ordering.{as_partial_cmp, flip_args, nat_cmp, on};
 ghost use Rattle.std.specs.Prelude.{◌==◌};
 
-use cns_trades::Trade;
+use cns_ids::{Cusip, Day, MemberNo, Quantity};
 use std::cmp::Ordering;
-use std::marker::Model;
 
-/// A trade that waits to become due. The greater of two is the one that settles earlier.
+/// What netting needs of a trade that waits to become due. The greater of two is the one that settles
+/// earlier.
 #[derive(Clone, Copy)]
 pub(crate) struct Undue {
-    pub(crate) trade: Trade,
-}
-
-impl Model for Undue {
-    ghost use Rattle.std.proofs.Common.{refl};
-    ghost use Rattle.cns_trades.specs.declared.trade.Trade.{Trade};
-
-    ghost Value = { Trade };
-
-    ghost view = { λ u. u.trade };
-
-    ghost inverse = { λ t. record { trade = t } };
-
-    ghost inverse_ok = { λ u h. refl };
+    pub(crate) settle: Day,
+    pub(crate) buyer: MemberNo,
+    pub(crate) seller: MemberNo,
+    pub(crate) issue: Cusip,
+    pub(crate) quantity: Quantity,
 }
 
 impl PartialEq for Undue {
@@ -33,7 +24,7 @@ impl PartialEq for Undue {
     ghost laws = { Prim.search (comparing, rules) };
 
     fn eq(&self, other: &Undue) -> bool {
-        self.trade.settle == other.trade.settle
+        self.settle == other.settle
     }
 }
 
@@ -51,7 +42,7 @@ impl Ord for Undue {
     ghost matches_eq = { Prim.search (comparing, rules) };
 
     fn cmp(&self, other: &Undue) -> Ordering {
-        other.trade.settle.cmp(&self.trade.settle)
+        other.settle.cmp(&self.settle)
     }
 }
 

@@ -4,8 +4,8 @@ use Rattle.cns_netting.specs.Undue.{if_left}
 use Rattle.std.specs.BinaryHeap.{heap_items}
 use Rattle.std.proofs.lemmas.List.Elements.{All-weaker}
 use Rattle.std.proofs.lemmas.List.Sorted.{sum_by_popped}
-use Rattle.cns_trades.specs.declared.trade.Trade.{Trade}
-use Rattle.cns_netting.specs.Sides.{bought_by, IsNamed, sold_by}
+use Rattle.cns_netting.specs.declared.undue.Undue.{Undue}
+use Rattle.cns_netting.specs.Positions.{bought_by, IsNamed, sold_by}
 use Rattle.cns_netting.specs.Totals.{HasIssue}
 use Rattle.cns_netting.proofs.QueueLemmas.{left-popped, none-settled, popped-head, popped-tail}
 use Rattle.cns_netting.proofs.due.make_due.Goals as goal
@@ -20,8 +20,7 @@ loop-trade-init c = record {
   left = λ f. refl;
   count = omega arith;
   fits = omega arith;
-  credit = λ m i. refl;
-  debit = λ m i. refl;
+  balance = λ m i. omega arith;
   long = c.requires.long;
   short = c.requires.short;
 }
@@ -34,10 +33,8 @@ add_trade_counted-requires c =
     let is = heap_items c.next_due.new.undue in
     let before = c.loop-trade.invariant in
     record {
-      named = popped-head (IsNamed c.loop-trade.sides) t was is taken before.named;
+      named = popped-head (IsNamed c.loop-trade.positions) t was is taken before.named;
       issue = popped-head (HasIssue c.loop-trade.totals) t was is taken before.issues;
-      credit = λ m i. omega (arith, before.credit m i, c.requires.credit m i, sum_by_popped (bought_by m i) t was is taken);
-      debit = λ m i. omega (arith, before.debit m i, c.requires.debit m i, sum_by_popped (sold_by m i) t was is taken);
       long = λ m i. omega (arith, before.long m i, sum_by_popped (bought_by m i) t was is taken);
       short = λ m i. omega (arith, before.short m i, sum_by_popped (sold_by m i) t was is taken);
       totals = before.totals;
@@ -54,20 +51,19 @@ loop-trade-preserved c =
     record {
       heap = c.next_due.ensures.heap;
       named =
-          All-weaker (IsNamed c.loop-trade.sides) (IsNamed c.add_trade_counted.new.sides) (λ u both. (added.named _ both.0, added.named _ both.1)) is
-          (popped-tail (IsNamed c.loop-trade.sides) t was is taken before.named);
+          All-weaker (IsNamed c.loop-trade.positions) (IsNamed c.add_trade_counted.new.positions) (λ u both. (added.named _ both.0, added.named _ both.1)) is
+          (popped-tail (IsNamed c.loop-trade.positions) t was is taken before.named);
       issues =
           All-weaker (HasIssue c.loop-trade.totals) (HasIssue c.add_trade_counted.new.totals) (λ u one. added.issues _ one) is
           (popped-tail (HasIssue c.loop-trade.totals) t was is taken before.issues);
       members = λ are. added.members (before.members are);
       totals = added.totals;
       left = λ f. left-popped c.args.day f t was is taken c.in-Some.ensures.due ∙ before.left f;
-      count = let one = sum_by_popped (λ (u : Trade). 1) t was is taken in omega (arith, one, before.count);
+      count = let one = sum_by_popped (λ (u : Undue). 1) t was is taken in omega (arith, one, before.count);
       fits = let less = c.in-Some.ensures.len in let all = before.fits in omega arith;
-      credit = λ m i. omega (arith, before.credit m i, added.credit m i, sum_by_popped (bought_by m i) t was is taken);
-      debit = λ m i. omega (arith, before.debit m i, added.debit m i, sum_by_popped (sold_by m i) t was is taken);
-      long = λ m i. omega (arith, before.long m i, added.credit m i, added.debit m i, sum_by_popped (bought_by m i) t was is taken);
-      short = λ m i. omega (arith, before.short m i, added.credit m i, added.debit m i, sum_by_popped (sold_by m i) t was is taken);
+      balance = λ m i. omega (arith, before.balance m i, added.balance m i, sum_by_popped (bought_by m i) t was is taken, sum_by_popped (sold_by m i) t was is taken);
+      long = λ m i. omega (arith, before.long m i, added.balance m i, sum_by_popped (bought_by m i) t was is taken);
+      short = λ m i. omega (arith, before.short m i, added.balance m i, sum_by_popped (sold_by m i) t was is taken);
     }
 
 pub returns-clause-left : goal.returns-clause-left

@@ -1,8 +1,8 @@
 use Rattle.std.proofs.Common.{◌≡◌, ℕ, ◌+◌, ◌*◌, ◌^◌, ◌≤◌}
 use Rattle.std.specs.Prelude.{All, sum_by}
 use Rattle.std.specs.BinaryHeap.{heap_items, heap_len, IsHeap}
-use Rattle.cns_trades.specs.declared.trade.Trade.{Trade}
-use Rattle.cns_netting.specs.Sides.{bought_by, credit_in, debit_in, AreOfMembers, IsNamed, sold_by}
+use Rattle.cns_netting.specs.declared.undue.Undue.{Undue}
+use Rattle.cns_netting.specs.Positions.{bought_by, credit_in, debit_in, AreOfMembers, IsNamed, sold_by}
 use Rattle.cns_netting.specs.Totals.{AreTotalsOf, HasIssue}
 use Rattle.cns_netting.specs.Undue.{earlier, if_left}
 use Rattle.cns_netting.proofs.due.make_due.Given as goal
@@ -10,17 +10,17 @@ use Rattle.cns_netting.proofs.due.make_due.Given as goal
 abbrev pub invariant-loop-trade : goal.invariant-loop-trade
 invariant-loop-trade l = record {
   heap : IsHeap earlier (heap_items l.undue);
-  named : All (IsNamed l.sides) (heap_items l.undue);
+  named : All (IsNamed l.positions) (heap_items l.undue);
   issues : All (HasIssue l.totals) (heap_items l.undue);
-  members : AreOfMembers l.fn.sides → AreOfMembers l.sides;
-  totals : AreTotalsOf l.totals l.sides;
-  left : (f : Trade → ℕ) → sum_by (if_left l.fn.day f) (heap_items l.undue) ≡ sum_by (if_left l.fn.day f) (heap_items l.fn.undue);
-  count : l.count + sum_by (λ (t : Trade). 1) (heap_items l.undue) ≡ sum_by (λ (t : Trade). 1) (heap_items l.fn.undue);
+  members : AreOfMembers l.fn.positions → AreOfMembers l.positions;
+  totals : AreTotalsOf l.totals l.positions;
+  left : (f : Undue → ℕ) → sum_by (if_left l.fn.day f) (heap_items l.undue) ≡ sum_by (if_left l.fn.day f) (heap_items l.fn.undue);
+  count : l.count + sum_by (λ (t : Undue). 1) (heap_items l.undue) ≡ sum_by (λ (t : Undue). 1) (heap_items l.fn.undue);
   fits : l.count + heap_len l.undue ≡ heap_len l.fn.undue;
-  credit : (m i : ℕ) → credit_in l.sides m i + sum_by (bought_by m i) (heap_items l.undue) ≡ credit_in l.fn.sides m i + sum_by (bought_by m i) (heap_items l.fn.undue);
-  debit : (m i : ℕ) → debit_in l.sides m i + sum_by (sold_by m i) (heap_items l.undue) ≡ debit_in l.fn.sides m i + sum_by (sold_by m i) (heap_items l.fn.undue);
-  long : (m i : ℕ) → credit_in l.sides m i + sum_by (bought_by m i) (heap_items l.undue) ≤ debit_in l.sides m i + 3 * 10 ^ 18;
-  short : (m i : ℕ) → debit_in l.sides m i + sum_by (sold_by m i) (heap_items l.undue) ≤ credit_in l.sides m i + 3 * 10 ^ 18;
+  balance : (m i : ℕ) → credit_in l.positions m i + sum_by (bought_by m i) (heap_items l.undue) + (debit_in l.fn.positions m i + sum_by (sold_by m i) (heap_items l.fn.undue))
+      ≡ debit_in l.positions m i + sum_by (sold_by m i) (heap_items l.undue) + (credit_in l.fn.positions m i + sum_by (bought_by m i) (heap_items l.fn.undue));
+  long : (m i : ℕ) → credit_in l.positions m i + sum_by (bought_by m i) (heap_items l.undue) ≤ debit_in l.positions m i + 3 * 10 ^ 18;
+  short : (m i : ℕ) → debit_in l.positions m i + sum_by (sold_by m i) (heap_items l.undue) ≤ credit_in l.positions m i + 3 * 10 ^ 18;
 }
 
 abbrev pub decreases-loop-trade : goal.decreases-loop-trade

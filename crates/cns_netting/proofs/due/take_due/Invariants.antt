@@ -1,20 +1,22 @@
-use Rattle.std.proofs.Common.{◌≡◌, ℕ, ◌+◌, length}
+use Rattle.std.proofs.Common.{◌≡◌, ℕ, ◌+◌, ◌*◌, ◌^◌, ◌≤◌, length}
 use Rattle.std.specs.Prelude.{All, IsSome, sum_by}
 use Rattle.std.specs.HashMap.{get, spare}
 use Rattle.cns_ids.specs.Holding.{holding_eq}
 use Rattle.cns_ids.specs.declared.holding.Holding.{Holding}
-use Rattle.cns_netting.specs.Sides.{bought_by, credit_in, debit_in, AreOfMembers, IsNamed, sold_by}
+use Rattle.cns_netting.specs.Positions.{bought_by, credit_in, debit_in, AreOfMembers, IsNamed, sold_by}
 use Rattle.cns_netting.specs.Undue.{if_settled}
 use Rattle.cns_netting.proofs.due.take_due.Given as goal
 
 abbrev pub invariant-loop-one : goal.invariant-loop-one
 invariant-loop-one l = record {
-  named : All (IsNamed l.sides) l.left;
-  credit : (m i : ℕ) → credit_in l.sides m i + sum_by (if_settled l.fn.day (bought_by m i)) l.fn.undue ≡ credit_in l.fn.sides m i + sum_by (if_settled l.fn.day (bought_by m i)) l.left;
-  debit : (m i : ℕ) → debit_in l.sides m i + sum_by (if_settled l.fn.day (sold_by m i)) l.fn.undue ≡ debit_in l.fn.sides m i + sum_by (if_settled l.fn.day (sold_by m i)) l.left;
-  still : (k : Holding) → IsSome (get holding_eq l.fn.sides k) → IsSome (get holding_eq l.sides k);
-  members : AreOfMembers l.fn.sides → AreOfMembers l.sides;
-  spare : spare l.sides ≡ spare l.fn.sides;
+  named : All (IsNamed l.positions) l.left;
+  balance : (m i : ℕ) → credit_in l.positions m i + sum_by (if_settled l.fn.day (sold_by m i)) l.left + (debit_in l.fn.positions m i + sum_by (if_settled l.fn.day (bought_by m i)) l.fn.undue)
+      ≡ debit_in l.positions m i + sum_by (if_settled l.fn.day (bought_by m i)) l.left + (credit_in l.fn.positions m i + sum_by (if_settled l.fn.day (sold_by m i)) l.fn.undue);
+  long : (m i : ℕ) → credit_in l.positions m i + sum_by (if_settled l.fn.day (sold_by m i)) l.left ≤ debit_in l.positions m i + 3 * 10 ^ 18;
+  short : (m i : ℕ) → debit_in l.positions m i + sum_by (if_settled l.fn.day (bought_by m i)) l.left ≤ credit_in l.positions m i + 3 * 10 ^ 18;
+  still : (k : Holding) → IsSome (get holding_eq l.fn.positions k) → IsSome (get holding_eq l.positions k);
+  members : AreOfMembers l.fn.positions → AreOfMembers l.positions;
+  spare : spare l.positions ≡ spare l.fn.positions;
 }
 
 abbrev pub decreases-loop-one : goal.decreases-loop-one

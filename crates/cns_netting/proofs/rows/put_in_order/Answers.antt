@@ -1,6 +1,6 @@
 use Rattle.std.proofs.Common.{rules}
 use Rattle.std.proofs.lemmas.List.Sorted.{answers_always, ranks_by, sorted_far, sum_by-IsPermutation}
-use Rattle.cns_netting.specs.Sides.{holding_of}
+use Rattle.cns_netting.specs.Positions.{holding_of}
 use Rattle.cns_netting.proofs.HoldingLemmas.{holding_order}
 use Rattle.cns_netting.proofs.OrderLemmas.{in_order}
 use Rattle.cns_netting.proofs.rows.put_in_order.Goals as goal

@@ -4,4 +4,4 @@ use Rattle.cns_netting.proofs.rows.rows_by_member.Goals as goal
 
 pub returns : goal.returns
 returns c = λ h are.
-    rows_by_members c.args.issue c.args.sides.now h c.put_in_order.new.rows.items c.requires.members are (λ f. c.put_in_order.ensures.sums f ∙ c.in_ok-found.ensures f) c.put_in_order.ensures.order
+    rows_by_members c.args.issue c.args.positions.now h c.put_in_order.new.rows.items c.requires are (λ f. c.put_in_order.ensures.sums f ∙ c.in_ok-found.ensures f) c.put_in_order.ensures.order

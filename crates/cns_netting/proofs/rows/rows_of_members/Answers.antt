@@ -1,8 +1,8 @@
-use Rattle.std.proofs.Common.{◌≡◌, ◌+◌, ◌∙◌, ap, arith, Some}
+use Rattle.std.proofs.Common.{◌≡◌, ap, arith, Some}
 use Rattle.std.specs.HashMap.{get}
 use Rattle.cns_ids.specs.Holding.{holding_at, holding_eq}
 use Rattle.cns_ids.specs.declared.holding.Holding.{Holding}
-use Rattle.cns_netting.specs.Sides.{row_if, row_part}
+use Rattle.cns_netting.specs.Positions.{row_if, row_part}
 use Rattle.cns_netting.proofs.MemberLemmas.{looked_up, member_more}
 use Rattle.cns_netting.proofs.rows.rows_of_members.Goals as goal
 
@@ -11,7 +11,7 @@ loop-number-preserved c = λ f.
     let k = holding_at c.args.issue c.member_after-member.result in
     member_more (λ (q : Holding). row_part f (row_if (Some c.args.issue) q (get holding_eq c.args.all.now q))) c.loop-number.number c.args.issue c.member_after-member.result _ _ _
     c.member_after-member.ensures
-    (ap (row_part f) (looked_up c.args.issue (get holding_eq c.args.all.now k) c.sides_of-sides.result k c.sides_of-sides.ensures.credit c.sides_of-sides.ensures.debit))
+    (ap (row_part f) (looked_up c.args.issue (get holding_eq c.args.all.now k) c.position_at-position.result k c.position_at-position.ensures.credit c.position_at-position.ensures.debit))
     (c.in_ok-put_row.ensures f) (c.loop-number.invariant f)
 
 pub returns : goal.returns

@@ -3,7 +3,7 @@ use Rattle.std.specs.Prelude.{sum_by}
 use Rattle.std.specs.HashMap.{get}
 use Rattle.cns_ids.specs.Holding.{holding_eq}
 use Rattle.cns_ids.specs.declared.holding.Holding.{Holding}
-use Rattle.cns_netting.specs.Sides.{holdings_up_to, row_if, row_part}
+use Rattle.cns_netting.specs.Positions.{holdings_up_to, row_if, row_part}
 use Rattle.cns_netting.specs.declared.position.PositionRow.{PositionRow}
 use Rattle.cns_netting.proofs.rows.rows_of_members.Given as goal
 

@@ -6,5 +6,5 @@ use Rattle.cns_netting.proofs.book.NetBook.longs.Goals as goal
 
 pub returns : goal.returns
 returns c =
-    c.totals_of.ensures.longs ∙ kept_longs (reverse c.self.inside.entries.items) c.self.inside.sides c.self.inside.totals (heap_items c.self.inside.undue) c.args.issue c.self.invariant
+    c.totals_of.ensures.longs ∙ kept_longs (reverse c.self.inside.entries.items) c.self.inside.positions c.self.inside.totals (heap_items c.self.inside.undue) c.args.issue c.self.invariant
     ∙ ap (λ b. longs_of b.history c.args.issue) c.self.view_is

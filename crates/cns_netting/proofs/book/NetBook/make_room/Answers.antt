@@ -7,5 +7,5 @@ pub invariant_of-self : goal.invariant_of-self
 invariant_of-self c =
     let reserved = c.reserve.ensures in
     rw reserved.entries
-    (kept_room (reverse c.self.inside.entries.items) c.self.inside.sides c.reserve.new.sides c.self.inside.totals c.reserve.new.totals (heap_items c.self.inside.undue) (heap_items c.reserve.new.undue)
-    reserved.sides reserved.totals reserved.undue c.self.invariant)
+    (kept_room (reverse c.self.inside.entries.items) c.self.inside.positions c.reserve.new.positions c.self.inside.totals c.reserve.new.totals (heap_items c.self.inside.undue) (heap_items c.reserve.new.undue)
+    reserved.positions reserved.totals reserved.undue c.self.invariant)

@@ -1,23 +1,20 @@
-use Rattle.std.proofs.Common.{◌≡◌, ◌∙◌, ap, reverse, arith}
+use Rattle.std.proofs.Common.{◌≡◌, ◌∙◌, ap, reverse}
 use Rattle.std.specs.BinaryHeap.{heap_items}
 use Rattle.cns_netting.proofs.BookLemmas.{book_netted}
-use Rattle.cns_netting.proofs.KeptLemmas.{kept_fit, kept_netted, netted-count}
+use Rattle.cns_netting.proofs.KeptLemmas.{kept_near, kept_netted, netted-count}
 use Rattle.cns_netting.proofs.TradeLemmas.{reverse-last}
 use Rattle.cns_netting.proofs.book.NetBook.net.Goals as goal
 
 pub make_due-becoming-requires : goal.make_due-becoming-requires
 make_due-becoming-requires c =
     let kept = c.self.invariant in
-    let fit =
-    kept_fit c.self.inside.entries.items c.self.inside.sides c.self.inside.totals (heap_items c.self.inside.undue) kept (omega (arith, c.self.inside.entries.ok.0, c.self.inside.entries.ok.1, c.self.inside.entries.small)) in
+    let near = kept_near (reverse c.self.inside.entries.items) c.self.inside.positions c.self.inside.totals (heap_items c.self.inside.undue) kept in
     record {
       heap = kept.heap;
       named = kept.named;
       issues = kept.named_issues;
-      credit = λ m i. let small = fit.credit m i in omega arith;
-      debit = λ m i. let small = fit.debit m i in omega arith;
-      long = fit.long;
-      short = fit.short;
+      long = near.long;
+      short = near.short;
       totals = kept.totals;
     }
 
@@ -25,9 +22,9 @@ pub invariant_of-self : goal.invariant_of-self
 invariant_of-self c =
     let h = reverse c.self.inside.entries.items in
     let due = c.make_due-becoming.ensures in
-    rw (c.write.ensures, reverse-last)
-    (kept_netted h c.args.day c.self.inside.sides c.make_due-becoming.new.sides c.self.inside.totals c.make_due-becoming.new.totals (heap_items c.self.inside.undue) (heap_items c.make_due-becoming.new.undue)
-    c.self.invariant (book_netted h c.args.day c.self.invariant.book) due.left due.credit due.debit due.totals due.named due.issues due.members due.heap)
+    rw (c.write.ensures, reverse-last, c.free_unused.ensures)
+    (kept_netted h c.args.day c.self.inside.positions c.make_due-becoming.new.positions c.self.inside.totals c.make_due-becoming.new.totals (heap_items c.self.inside.undue) (heap_items c.make_due-becoming.new.undue)
+    c.self.invariant (book_netted h c.args.day c.self.invariant.book) due.left due.balance due.totals due.named due.issues due.members due.heap)
 
 pub returns-clause-count : goal.returns-clause-count
 returns-clause-count c =
@@ -35,4 +32,4 @@ returns-clause-count c =
     let same : h ≡ c.args.self.now.history = ap (λ b. b.history) c.self.view_is ∙ c.in_ok-make_room.ensures.same in
     let due = c.make_due-becoming.ensures in
     rw (← same)
-    (netted-count h c.args.day c.make_due-becoming.result c.self.inside.sides c.self.inside.totals (heap_items c.self.inside.undue) (heap_items c.make_due-becoming.new.undue) c.self.invariant due.left due.count)
+    (netted-count h c.args.day c.make_due-becoming.result c.self.inside.positions c.self.inside.totals (heap_items c.self.inside.undue) (heap_items c.make_due-becoming.new.undue) c.self.invariant due.left due.count)

@@ -1,13 +1,12 @@
-use Rattle.std.proofs.Common.{◌≡◌, ◌∙◌, ◌+◌, ℕ, ap, reverse, arith}
+use Rattle.std.proofs.Common.{◌≡◌, ◌∙◌, ℕ, ap, reverse, arith, rules}
 use Rattle.std.specs.Prelude.{◌&&◌, ◌==◌, if◌then◌else◌}
-use Rattle.std.specs.Int.{w128}
+use Rattle.std.specs.Int.{w128, w64}
 use Rattle.std.specs.BinaryHeap.{heap_items}
 use Rattle.std.proofs.lemmas.Int.{to_z-of_z}
 use Rattle.cns_netting.specs.Book.{AmountsFit}
 use Rattle.cns_netting.specs.History.{credit_part, debit_part}
-use Rattle.cns_netting.specs.Sides.{credit_in, debit_in}
 use Rattle.cns_netting.proofs.BookLemmas.{book_settled, settled-near}
-use Rattle.cns_netting.proofs.KeptLemmas.{kept_fit, kept_settled}
+use Rattle.cns_netting.proofs.KeptLemmas.{kept_settled}
 use Rattle.cns_netting.proofs.TotalLemmas.{totals_kept}
 use Rattle.cns_netting.proofs.TradeLemmas.{reverse-last}
 use Rattle.cns_netting.proofs.book.NetBook.settle.Goals as goal
@@ -20,29 +19,24 @@ add_counted-requires c =
     let before = rw (← same) at c.requires.before in
     let after = rw (← same) at c.requires.after in
     let book = book_settled h c.args.member c.args.issue c.args.amount c.self.invariant.book before after in
-    let fit =
-    kept_fit c.self.inside.entries.items c.self.inside.sides c.self.inside.totals (heap_items c.self.inside.undue) c.self.invariant
-    (omega (arith, c.self.inside.entries.ok.0, c.self.inside.entries.ok.1, c.self.inside.entries.small)) in
-    let amount = to_z-of_z w128 c.args.amount c.ranges.amount in
+    let amount = to_z-of_z w64 c.held-amount.result (search rules) ∙ c.held-amount.ensures ∙ to_z-of_z w128 c.args.amount c.ranges.amount in
     let brought = c.brought.ensures ∙ ap credit_part amount in
     let taken = c.taken.ensures ∙ ap debit_part amount in
     let names = c.name.ensures in
     let issues = c.name_issue.ensures in
-    let sides = c.self.invariant.sides in
+    let positions = c.self.invariant.positions in
     record {
       named = names.named;
       issue = issues.named;
-      credit = omega (arith, fit.credit c.args.member c.args.issue, names.credit c.args.member c.args.issue, brought, book.amounts.0);
-      debit = omega (arith, fit.debit c.args.member c.args.issue, names.debit c.args.member c.args.issue, taken, book.amounts.1);
       long = λ m i.
           let near = settled-near h c.args.member c.args.issue c.args.amount m i c.self.invariant.book before after in
           let part = ap (λ n. if (c.args.member == m) && (c.args.issue == i) then n else 0) brought in
-          omega (arith, near.0, part, names.credit m i, names.debit m i, sides.credit m i, sides.debit m i);
+          omega (arith, near.0, part, names.credit m i, names.debit m i, positions.balance m i);
       short = λ m i.
           let near = settled-near h c.args.member c.args.issue c.args.amount m i c.self.invariant.book before after in
           let part = ap (λ n. if (c.args.member == m) && (c.args.issue == i) then n else 0) taken in
-          omega (arith, near.1, part, names.credit m i, names.debit m i, sides.credit m i, sides.debit m i);
-      totals = totals_kept c.self.inside.sides c.name.new.sides c.self.inside.totals c.name_issue.new.totals names.credit names.debit issues.longs issues.shorts c.self.invariant.totals;
+          omega (arith, near.1, part, names.credit m i, names.debit m i, positions.balance m i);
+      totals = totals_kept c.self.inside.positions c.name.new.positions c.self.inside.totals c.name_issue.new.totals (λ m i. omega (arith, names.credit m i, names.debit m i)) issues.longs issues.shorts c.self.invariant.totals;
     }
 
 pub invariant_of-self : goal.invariant_of-self
@@ -51,13 +45,12 @@ invariant_of-self c =
     let same : h ≡ c.args.self.now.history = ap (λ b. b.history) c.self.view_is ∙ c.in_ok-make_room.ensures.same in
     let before = rw (← same) at c.requires.before in
     let after = rw (← same) at c.requires.after in
-    let amount = to_z-of_z w128 c.args.amount c.ranges.amount in
+    let amount = to_z-of_z w64 c.held-amount.result (search rules) ∙ c.held-amount.ensures ∙ to_z-of_z w128 c.args.amount c.ranges.amount in
     let book = book_settled h c.args.member c.args.issue c.args.amount c.self.invariant.book before after in
     let part : ℕ → ℕ → ℕ → ℕ = λ n m i. if (c.args.member == m) && (c.args.issue == i) then n else 0 in
     let added = c.add_counted.ensures in
     rw (c.write.ensures, reverse-last, amount)
-    (kept_settled h c.args.member c.args.issue c.args.amount c.self.inside.sides c.add_counted.new.sides c.self.inside.totals c.add_counted.new.totals (heap_items c.self.inside.undue) c.self.invariant book
-    (λ m i. added.credit m i ∙ ap (λ n. n + part c.brought.result m i) (c.name.ensures.credit m i) ∙ ap (λ n. credit_in c.self.inside.sides m i + part n m i) (c.brought.ensures ∙ ap credit_part amount))
-    (λ m i. added.debit m i ∙ ap (λ n. n + part c.taken.result m i) (c.name.ensures.debit m i) ∙ ap (λ n. debit_in c.self.inside.sides m i + part n m i) (c.taken.ensures ∙ ap debit_part amount))
+    (kept_settled h c.args.member c.args.issue c.args.amount c.self.inside.positions c.add_counted.new.positions c.self.inside.totals c.add_counted.new.totals (heap_items c.self.inside.undue) c.self.invariant book
+    (λ m i. omega (arith, added.balance m i, c.name.ensures.credit m i, c.name.ensures.debit m i, ap (λ n. part n m i) (c.brought.ensures ∙ ap credit_part amount), ap (λ n. part n m i) (c.taken.ensures ∙ ap debit_part amount)))
     added.totals
     (record { still = λ k some. added.named k (c.name.ensures.still k some); issues = λ i some. added.issues i (c.name_issue.ensures.still i some); members = λ are. added.members (c.name.ensures.members are) }))
