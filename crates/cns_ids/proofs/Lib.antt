@@ -1,3 +1,4 @@
 pub mod NumberLemmas
 pub mod CusipLemmas
 pub mod HoldingLemmas
+pub mod ShareLemmas

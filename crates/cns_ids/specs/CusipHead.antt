@@ -1,5 +1,5 @@
 -- A CUSIP's number gives back that of its first eight bytes.
-use Rattle.std.proofs.Common.{◌≡◌, ℕ, ◌+◌, ◌*◌, ◌/◌, ◌%◌, ◌-◌, ◌<◌, ◌≤◌, List, arith}
+use Rattle.std.proofs.Common.{◌≡◌, ℕ, ◌/◌, ◌<◌, List, arith}
 use Rattle.std.specs.Int.{to_be_bytes, w64}
 use Rattle.cns_ids.specs.Cusip.{check_digit, with_check_digit}
 

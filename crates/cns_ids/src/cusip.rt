@@ -68,14 +68,36 @@ fn value(character: u8) -> Option<u8>
     }
 }
 
+// What each character from # to Z adds to the sum in an odd place: the digits of its value added up.
+const ODD_SHARES: [u8; 56] = [
+    11, 0, 0, 0, 0, 0, 0, 9, 0, 0, 0, 0, 0, 0, 1, 2, 3, 4, 5, 6, 7, 8, 9, 0, 0, 0, 0, 0, 0, 10, 1,
+    2, 3, 4, 5, 6, 7, 8, 9, 10, 2, 3, 4, 5, 6, 7, 8, 9, 10, 11, 3, 4, 5, 6, 7, 8,
+];
+
+// And in an even place, where its value is doubled first.
+const EVEN_SHARES: [u8; 56] = [
+    13, 0, 0, 0, 0, 0, 0, 9, 0, 0, 0, 0, 0, 0, 2, 4, 6, 8, 1, 3, 5, 7, 9, 0, 0, 0, 0, 0, 0, 11, 2,
+    4, 6, 8, 10, 3, 5, 7, 9, 11, 4, 6, 8, 10, 12, 5, 7, 9, 11, 13, 6, 8, 10, 12, 14, 7,
+];
+
+// What a character has in such a table: nothing where it stands outside of it.
+fn share_in(shares: &[u8; 56], character: u8) -> u8
+    ensures { result ≡ slice_index shares.now ((character + 221) % 256) }
+{
+    let place = usize::from(character.wrapping_sub(b'#'));
+    shares.get(place).copied().unwrap_or(0)
+}
+
 // What a character in a place, counted from 1, adds to the sum.
 fn share_at(place: u8, character: u8) -> u8
     ensures share { result ≡ share_of_place place character }
     ensures small { result < 17 }
 {
-    let value = value(character).unwrap_or(0);
-    let doubled = if place % 2 == 0 { 2 * value } else { value };
-    doubled / 10 + doubled % 10
+    if place % 2 == 0 {
+        share_in(&EVEN_SHARES, character)
+    } else {
+        share_in(&ODD_SHARES, character)
+    }
 }
 
 fn is_listed(place: u8, character: u8) -> bool
