@@ -1,14 +1,15 @@
 -- What keeps a book in order.
-use Rattle.std.proofs.Common.{◌≡◌, ℕ, suc, zero, ◌+◌, ◌<◌, ◌≤◌, List, [], ◌∷◌, ◌++◌, length, map, Option, Some, None, sym, refl, ap, ◌∙◌, arith, length-append}
-use Rattle.std.specs.Prelude.{slice_get, slice_set, option_map, replicate}
+use Rattle.std.proofs.Common.{◌≡◌, ℕ, suc, zero, ◌+◌, ◌<◌, ◌≤◌, List, [], ◌∷◌, ◌++◌, cond, drop, get_or, length, map, set, Option, Some, None, sym, refl, ap, ◌∙◌, arith, length-append}
+use borrow.Author.Count.{below_more}
+use Rattle.std.specs.Prelude.{IsSome, is_some, slice_get, slice_set, option_map, replicate}
 use Rattle.std.specs.Option.{option_flatten}
 use Rattle.std.proofs.lemmas.Option.{slice_get-map}
-use Rattle.std.proofs.lemmas.List.{map-append, length-map}
+use Rattle.std.proofs.lemmas.List.{map-append, length-map, length-set}
 use Rattle.cns_movements.specs.declared.order.Order.{Order}
 use Rattle.cns_movements.specs.declared.order.Ask.{Ask}
 use Rattle.cns_movements.specs.declared.order.Reply.{Reply}
-use Rattle.cns_movements.specs.Order.{order_of, moved_of, numbered, IsNumbered, AreKnown}
-use Rattle.cns_movements.specs.Book.{Orders, with_asks, with_reply, IsOrderBook, IsStored}
+use Rattle.cns_movements.specs.Order.{order_of, moved_of, numbered, unconfirmed_of, IsNumbered, AreKnown}
+use Rattle.cns_movements.specs.Book.{Orders, with_asks, with_reply, AreSettled, IsOrderBook, IsStored}
 use Rattle.cns_movements.proofs.OrderLemmas.{order_of_number, order_of-slice_get, IsNumbered-append, IsNumbered-numbered, length-numbered}
 use Rattle.cns_movements.proofs.ReplyLemmas.{moved_of_same, moved_of_other, moved_of_unknown, moved_of_above, AreKnown-append}
 
@@ -108,3 +109,45 @@ stored_asks book ms asks stored fits =
           ∙ ap (λ (l : List (Option ℕ)). map (λ (o : Order). moved_of rs o.number) os ++ l) (sym new)
           ∙ sym (map-append (λ (o : Order). moved_of rs o.number) os (numbered (length os + 1) asks));
     }
+
+-- ---- the first orders, which are all confirmed
+
+-- a choice by something that is there
+some_chosen : {A : Type 0} (m : Option ℕ) (a b : A) → IsSome m → cond (is_some m) a b ≡ a
+some_chosen None a b h = absurd (cc h)
+some_chosen (Some x) a b h = refl
+
+-- where the first so many orders are confirmed, the unconfirmed ones are those of the rest
+pub unconfirmed_behind : (os : List Order) (rs : List Reply) (n : ℕ) → n ≤ length os
+    → ((k : ℕ) → k < n → IsSome (get_or (map (λ (o : Order). moved_of rs o.number) os) k None)) → unconfirmed_of (drop n os) rs ≡ unconfirmed_of os rs
+unconfirmed_behind os rs zero le h = refl
+unconfirmed_behind [] rs (suc n) le h = refl
+unconfirmed_behind (o ∷ os) rs (suc n) le h =
+    unconfirmed_behind os rs n (omega arith) (λ k lt. h (suc k) (omega arith)) ∙ sym (some_chosen (moved_of rs o.number) _ _ (h 0 (omega arith)))
+
+-- one more confirmation leaves them confirmed
+set_settled : (ms : List (Option ℕ)) (k i x : ℕ) → IsSome (get_or ms k None) → IsSome (get_or (set ms i (Some x)) k None)
+set_settled [] k i x h = h
+set_settled (m ∷ ms) zero zero x h = refl
+set_settled (m ∷ ms) zero (suc i) x h = h
+set_settled (m ∷ ms) (suc k) zero x h = h
+set_settled (m ∷ ms) (suc k) (suc i) x h = set_settled ms k i x h
+
+pub settled_by_reply : (n : ℕ) (ms : List (Option ℕ)) (i x : ℕ) → AreSettled n ms → AreSettled n (set ms i (Some x))
+settled_by_reply n ms i x settled = record { within = simp length-set settled.within; all = λ k lt. set_settled ms k i x (settled.all k lt) }
+
+-- and so do more orders
+add_settled : (ms xs : List (Option ℕ)) (k : ℕ) → k < length ms → IsSome (get_or ms k None) → IsSome (get_or (ms ++ xs) k None)
+add_settled [] xs k lt h = absurd (omega arith)
+add_settled (m ∷ ms) xs zero lt h = h
+add_settled (m ∷ ms) xs (suc k) lt h = add_settled ms xs k (omega arith) h
+
+pub settled_by_asks : (n : ℕ) (ms xs : List (Option ℕ)) → AreSettled n ms → AreSettled n (ms ++ xs)
+settled_by_asks n ms xs settled = record {
+  within = simp length-append (omega (arith, settled.within));
+  all = λ k lt. add_settled ms xs k (omega (arith, settled.within)) (settled.all k lt);
+}
+
+-- one more behind them is confirmed
+pub settled_more : (n : ℕ) (ms : List (Option ℕ)) → AreSettled n ms → n < length ms → IsSome (get_or ms n None) → AreSettled (n + 1) ms
+settled_more n ms settled lt here = record { within = omega arith; all = below_more (λ k. IsSome (get_or ms k None)) n settled.all here }

@@ -1,5 +1,5 @@
 -- What contracts see of an order book.
-use Rattle.std.specs.Prelude.{◌≡◌, ℕ, ◌+◌, ◌≤◌, List, ◌∷◌, ◌++◌, length, map, Option}
+use Rattle.std.specs.Prelude.{◌≡◌, ℕ, ◌+◌, ◌<◌, ◌≤◌, List, ◌∷◌, ◌++◌, length, map, slice_index_or, IsSome, Option, None}
 use Rattle.cns_movements.specs.declared.order.Ask.{Ask}
 use Rattle.cns_movements.specs.declared.order.Order.{Order}
 use Rattle.cns_movements.specs.declared.order.Reply.{Reply}
@@ -35,3 +35,8 @@ pub record IsOrderBook (book : Orders) : Type 0 where
 pub record IsStored (book : Orders) (moved : List (Option ℕ)) : Type 0 where
   pub lawful : IsOrderBook book
   pub moves : moved ≡ map (λ o. moved_of book.replies o.number) book.orders
+
+-- the first so many orders are all confirmed, by what each order moved
+pub record AreSettled (count : ℕ) (moved : List (Option ℕ)) : Type 0 where
+  pub within : count ≤ length moved
+  pub all : (k : ℕ) → k < count → IsSome (slice_index_or moved k None)

@@ -3,7 +3,7 @@ use Rattle.std.specs.Prelude.{◌≡◌, ℕ, ◌+◌, ◌*◌, ◌^◌, ◌≤�
 use Rattle.std.specs.HashMap.{HashMap, get}
 use Rattle.cns_ids.specs.Holding.{holding_at, holding_eq}
 use Rattle.cns_ids.specs.declared.holding.Holding.{Holding}
-use Rattle.cns_movements.specs.Book.{IsStored, Orders}
+use Rattle.cns_movements.specs.Book.{AreSettled, IsStored, Orders}
 use Rattle.cns_movements.specs.Order.{open_sum, same_kind}
 use Rattle.cns_movements.specs.declared.open_shares.OpenShares.{OpenShares}
 use Rattle.cns_movements.specs.declared.order.Ask.{Ask}
@@ -36,7 +36,9 @@ pub record AreOpenIn (shares : MoveKind → ℕ → ℕ → ℕ) (book : Orders)
   pub sums : (kind : MoveKind) (member issue : ℕ) → shares kind member issue ≡ open_sum book.orders book.replies kind member issue
   pub most : sum_by (λ (o : Order). o.asked) book.orders ≤ 10 ^ 18 * length book.orders
 
--- a book with what each of its orders moved, and with what the unconfirmed ones of each holding ask for
-pub record IsKept (book : Orders) (moved : List (Option ℕ)) (shares : MoveKind → ℕ → ℕ → ℕ) : Type 0 where
+-- a book with what each of its orders moved, how many of the first are all confirmed, and what the unconfirmed ones of each holding
+-- ask for
+pub record IsKept (book : Orders) (moved : List (Option ℕ)) (settled : ℕ) (shares : MoveKind → ℕ → ℕ → ℕ) : Type 0 where
   pub stored : IsStored book moved
+  pub settled_first : AreSettled settled moved
   pub summed : AreOpenIn shares book

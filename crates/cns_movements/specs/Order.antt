@@ -55,6 +55,12 @@ open_sum orders replies kind member issue = sum_by (λ o. if is_of kind member i
 unfoldable pub moved_sum : List Order → List Reply → MoveKind → ℕ → ℕ → ℕ
 moved_sum orders replies kind member issue = sum_by (λ o. if is_of kind member issue o then moved_part replies o else 0) orders
 
+-- the numbers of the orders that are not confirmed
+abbrev pub unconfirmed_of : List Order → List Reply → List ℕ
+unconfirmed_of [] replies = []
+unconfirmed_of (o ∷ orders) replies =
+    if is_some (moved_of replies o.number) then unconfirmed_of orders replies else o.number ∷ unconfirmed_of orders replies
+
 -- the asks as orders with the numbers n, n + 1, and so on
 abbrev pub numbered : ℕ → List Ask → List Order
 numbered n [] = []

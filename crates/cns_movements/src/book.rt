@@ -1,7 +1,7 @@
 ghost use Rattle.std.specs.Prelude.{◌≡◌, ℕ, ◌+◌, ◌-◌, ◌^◌, ◌<◌, ◌≤◌, min, nat_lt, if◌then◌else◌, [], ◌++◌, length, replicate, reverse, Some, None, IfOk, IfErr, OnOk, OnErr, IsTrue, ◌↔◌, vec_capacity};
-ghost use Rattle.cns_movements.specs.Order.{moved_of, numbered, open_sum, order_of};
+ghost use Rattle.cns_movements.specs.Order.{moved_of, numbered, open_sum, order_of, unconfirmed_of};
 ghost use Rattle.std.specs.HashMap.{spare};
-ghost use Rattle.cns_movements.specs.Book.{with_asks, IsOrderBook};
+ghost use Rattle.cns_movements.specs.Book.{with_asks, IsOrderBook, AreSettled};
 ghost use Rattle.cns_movements.specs.OpenShares.{open_in};
 ghost use Rattle.cns_movements.specs.declared.order.MoveKind.{MoveKind};
 ghost use Rattle.cns_movements.specs.Confirm.{confirm_answer, after_reply, added_by};
@@ -55,6 +55,8 @@ pub struct OrderBook {
     replies: Vec<Reply>,
     // What the order in the same place of `orders` moved, where it is confirmed.
     moved: Vec<Option<Shares>>,
+    // So many orders, from the first one on, are all confirmed.
+    settled: usize,
     // What the unconfirmed orders of each holding ask for.
     sums: HashMap<Holding, OpenShares>,
 }
@@ -76,7 +78,7 @@ impl Model for OrderBook {
 
     ghost invariant = { λ a. IsKept
         (record { orders = a.orders.items; replies = reverse a.replies.items })
-        a.moved.items (open_in a.sums) };
+        a.moved.items a.settled (open_in a.sums) };
 }
 
 impl OrderBook {
@@ -90,6 +92,7 @@ impl OrderBook {
             orders: Vec::new(alloc),
             replies: Vec::new(alloc),
             moved: Vec::new(alloc),
+            settled: 0,
             sums: HashMap::new(alloc),
         }
     }
@@ -193,6 +196,7 @@ impl OrderBook {
         }
         self.replies.push(reply)?;
         self.moved[reply.number.place()] = Some(reply.moved);
+        self.settled = settled_from(self.settled, &self.moved);
         settle(&mut self.sums, &order);
         Ok(Confirm::Done)
     }
@@ -224,6 +228,30 @@ impl OrderBook {
         ensures lawful { IsOrderBook self.now.book }
     {
         self.moved.get(number.place()).copied().flatten()
+    }
+
+    /// The numbers of the orders that are not confirmed.
+    ///
+    /// Costs the orders from the first one on that is not confirmed.
+    pub fn unconfirmed(&self, alloc: Global) -> Result<Vec<MoveNo>, AllocError>
+        ensures { let book = self.now.book in
+            IfOk result (λ numbers. numbers.items ≡ unconfirmed_of book.orders book.replies) }
+    {
+        let mut numbers = Vec::new(alloc);
+        for order in self.unsettled() {
+            if self.confirmed(order.number).is_none() {
+                numbers.push(order.number)?;
+            }
+        }
+        Ok(numbers)
+    }
+
+    // The orders behind those that are all confirmed.
+    fn unsettled(&self) -> &[Order]
+        ensures { let book = self.now.book in
+            unconfirmed_of result.now book.replies ≡ unconfirmed_of book.orders book.replies }
+    {
+        self.orders.split_at(self.settled).1
     }
 
     /// The number that the next order gets, where one is left.
@@ -264,6 +292,18 @@ impl OrderBook {
     {
         &self.replies
     }
+}
+
+// How many orders, from the first one on, are all confirmed: so many of them are known to be so.
+fn settled_from(known: usize, moved: &[Option<Shares>]) -> usize
+    requires { AreSettled known moved.now }
+    ensures { AreSettled result moved.now }
+{
+    let mut count = known;
+    while count < moved.len() && moved[count].is_some() {
+        count += 1;
+    }
+    count
 }
 
 // Takes the memory for this many more orders, for what they move, and for what they ask for.

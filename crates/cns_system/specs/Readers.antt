@@ -1,8 +1,6 @@
 -- What a system tells of itself between events, and what a planned failure leaves (this project's own rules).
-use Rattle.std.specs.Prelude.{◌≡◌, ℕ, Bool, List, [], ◌∷◌, length, Result, is_some, if◌then◌else◌}
-use Rattle.cns_movements.specs.Order.{moved_of}
-use Rattle.cns_movements.specs.declared.order.Order.{Order}
-use Rattle.cns_movements.specs.declared.order.Reply.{Reply}
+use Rattle.std.specs.Prelude.{◌≡◌, ℕ, Bool, List, length, Result}
+use Rattle.cns_movements.specs.Order.{unconfirmed_of}
 use Rattle.cns_journal.specs.declared.keeper.NotPlanned.{NotPlanned}
 use Rattle.cns_records.specs.declared.clear_record.ClearRecord.{ClearRecord}
 use Rattle.cns_clearing.specs.Books.{orders_of}
@@ -14,13 +12,8 @@ use Rattle.cns_system.specs.declared.event.NodeName.TheVariants as node
 use Rattle.cns_system.specs.declared.system.Counts.{Counts}
 
 -- the numbers of the orders that are not confirmed
-abbrev pub without_reply : List Order → List Reply → List ℕ
-without_reply [] replies = []
-without_reply (o ∷ orders) replies =
-    if is_some (moved_of replies o.number) then without_reply orders replies else o.number ∷ without_reply orders replies
-
 abbrev pub unconfirmed : List ClearRecord → List ℕ
-unconfirmed c = without_reply (orders_of c).orders (orders_of c).replies
+unconfirmed c = unconfirmed_of (orders_of c).orders (orders_of c).replies
 
 -- how many orders the clearing node has, and how many packets were put on each link
 abbrev pub counts_of : World → Counts

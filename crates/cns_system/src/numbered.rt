@@ -8,7 +8,7 @@ ghost use Rattle.cns_clearing.specs.Pools.{lent_of};
 ghost use Rattle.cns_system.specs.Lot.{planned_sum, with_end, with_seal};
 ghost use Rattle.cns_system.specs.Lots.{LotGives, LotLeaves, ReserveLeaves};
 ghost use Rattle.cns_system.specs.Numbered.{AreTied, CloseLeaves, OpenLeaves, PourLeaves};
-ghost use Rattle.cns_system.specs.Readers.{unconfirmed, without_reply};
+ghost use Rattle.cns_system.specs.Readers.{unconfirmed};
 ghost use Rattle.cns_system.specs.Step.{shown};
 
 use crate::entry::Look;
@@ -17,7 +17,7 @@ use cns_allocate::Plan;
 use cns_clearing::{Clearing, Closed, Cycled, Taken};
 use cns_ids::{Cusip, CycleId, MemberNo, Shares};
 use cns_journal::{Keeper, NotPlanned, ReplayFault, Restarted};
-use cns_movements::{MoveNo, OrderBook, Reply};
+use cns_movements::{MoveNo, Reply};
 use cns_pool::Ticket;
 use cns_records::Refusal;
 use cns_trades::Trade;
@@ -110,7 +110,7 @@ impl<K: Keeper> NumberedClearing<K> {
     pub fn unconfirmed(&self, alloc: Global) -> Result<Vec<MoveNo>, AllocError>
         ensures { IfOk result (λ numbers. numbers.items ≡ unconfirmed self.now.clear.log.records) }
     {
-        unconfirmed_in(alloc, self.node.orders())
+        self.node.orders().unconfirmed(alloc)
     }
 
     /// Opens a lot of an issue: all its free shares are poured into it, its plan is fixed, and it has
@@ -296,17 +296,4 @@ pub(crate) fn plan_of<K: Keeper>(node: &Clearing<K>, issue: Cusip) -> Result<Pla
     // As the book is small, so is what the plan asks for in all, and of each member.
     let _book = node.book();
     Ok(plan)
-}
-
-// The orders of a book that are not confirmed, by number.
-fn unconfirmed_in(alloc: Global, book: &OrderBook) -> Result<Vec<MoveNo>, AllocError>
-    ensures { IfOk result (λ numbers. numbers.items ≡ without_reply book.now.book.orders book.now.book.replies) }
-{
-    let mut numbers = Vec::new(alloc);
-    for order in book.orders() {
-        if book.confirmed(order.number).is_none() {
-            numbers.push(order.number)?;
-        }
-    }
-    Ok(numbers)
 }

@@ -5,7 +5,7 @@ use Rattle.cns_movements.specs.Order.{order_of, moved_of}
 use Rattle.cns_movements.proofs.OrderLemmas.{place_of_found}
 use Rattle.cns_movements.specs.OpenShares.{open_in}
 use Rattle.cns_movements.proofs.OpenLemmas.{open_confirmed, open_has}
-use Rattle.cns_movements.proofs.BookLemmas.{moves_length, stored_reply}
+use Rattle.cns_movements.proofs.BookLemmas.{moves_length, settled_by_reply, stored_reply}
 use Rattle.cns_movements.proofs.book.OrderBook.confirm.Goals as goal
 
 pub index_mut-requires : goal.index_mut-requires
@@ -37,5 +37,9 @@ invariant_of-self-2 c =
     rw (c.in_ok-push.ensures.items, reverse-append)
     (record {
       stored = stored_reply _ fields.moved.items c.args.reply c.in-Some.order c.place.result c.self.invariant.stored c.place.ensures found first within;
+      settled_first = rw c.deref.ensures.value at c.settled_from-self-inside.ensures;
       summed = open_confirmed (open_in fields.sums) (open_in c.settle.new.sums) _ c.args.reply c.in-Some.order c.self.invariant.stored.lawful c.self.invariant.summed found first c.settle.ensures.shares;
     })
+
+pub settled_from-self-inside-requires : goal.settled_from-self-inside-requires
+settled_from-self-inside-requires c = rw c.deref.ensures.value (settled_by_reply _ _ _ _ c.self.invariant.settled_first)

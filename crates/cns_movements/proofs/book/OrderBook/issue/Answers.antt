@@ -4,7 +4,7 @@ use Rattle.cns_movements.specs.OpenShares.{asked_by, open_in}
 use Rattle.cns_movements.specs.declared.order.MoveKind.{MoveKind}
 use Rattle.cns_movements.proofs.OpenLemmas.{open_most, open_ordered}
 use Rattle.cns_movements.proofs.OrderLemmas.{length-numbered}
-use Rattle.cns_movements.proofs.BookLemmas.{stored_asks}
+use Rattle.cns_movements.proofs.BookLemmas.{settled_by_asks, stored_asks}
 use Rattle.cns_movements.proofs.book.OrderBook.issue.Goals as goal
 
 pub ask_all-requires-clause-small : goal.ask_all-requires-clause-small
@@ -20,6 +20,7 @@ invariant_of-self-2 c =
     rw (c.append.ensures.orders, c.append.ensures.moved, room.orders, room.moved)
     (record {
       stored = stored_asks _ c.self.inside.moved.items c.args.asks.now stored (omega arith);
+      settled_first = settled_by_asks _ _ _ c.self.invariant.settled_first;
       summed = open_ordered (open_in c.self.inside.sums) (open_in c.ask_all.new.sums) _ c.args.asks.now stored.lawful c.self.invariant.summed adds c.ask_all.ensures.most;
     })
 
