@@ -1,4 +1,4 @@
--- The rows of an issue among rows that stand by issue.
+-- The rows of an issue among rows that stand by issue, and its holdings among holdings that do.
 use Rattle.std.proofs.Common.{◌≡◌, ◌≤◌, ◌<◌, ◌+◌, ℕ, zero, suc, List, [], ◌∷◌, length, take, drop, get_or, Bool, true, false, cond, refl, sym, ap, ◌∙◌, arith, Less, leb, ltb, leb-true}
 use Rattle.std.specs.Prelude.{◌==◌, All, filter}
 use Rattle.std.specs.List.Sorted.{IsNonDecreasingBy, IsPartitionPoint}
@@ -7,7 +7,7 @@ use Rattle.std.proofs.lemmas.Bool.Decides.{nat_tests}
 use Rattle.std.proofs.lemmas.List.{get_or-drop, length-drop}
 use Rattle.std.proofs.lemmas.List.Elements.{All-head, All-tail, All-weaker}
 use Rattle.cns_ids.specs.Holding.{holding_cmp}
-use Rattle.cns_netting.specs.Rows.{is_row_in, rows_of}
+use Rattle.cns_netting.specs.Rows.{rows_of}
 use Rattle.cns_netting.specs.Positions.{holding_of}
 use Rattle.cns_netting.specs.declared.entry.NetEntry.{NetEntry}
 use Rattle.cns_netting.specs.declared.position.PositionRow.{PositionRow}
@@ -37,50 +37,60 @@ rows_stand_by_issue h = by_issue (rows_of h) (rising h)
 
 -- ---- the part of an issue
 
--- rows before the first one of an issue are none of it
-after_first : (issue : ℕ) (rows : List PositionRow) (n : ℕ) → ((k : ℕ) (d : PositionRow) → k < n → k < length rows → (get_or rows k d).issue < issue)
-    → filter (is_row_in issue) (drop n rows) ≡ filter (is_row_in issue) rows
-after_first issue [] zero earlier = refl
-after_first issue [] (suc n) earlier = refl
-after_first issue (r ∷ rows) zero earlier = refl
-after_first issue (r ∷ rows) (suc n) earlier =
-    let other : is_row_in issue r ≡ false = false_from_ne_true (r.issue == issue) (λ e. absurd (omega (arith, earlier 0 r (omega arith) (omega arith), eqb-true r.issue issue e))) in
-    after_first issue rows n (λ k d less below. earlier (suc k) d (omega (arith, less)) (omega (arith, below)))
-    ∙ sym (ap (λ (b : Bool). cond b (r ∷ filter (is_row_in issue) rows) (filter (is_row_in issue) rows)) other)
+module _ {A : Type 0} (issue_of : A → ℕ) (issue : ℕ) where
+  -- whether an item is of the issue
+  abbrev is_in : A → Bool
+  is_in x = issue_of x == issue
 
-none_after : (issue : ℕ) (rows : List PositionRow) → ((k : ℕ) (d : PositionRow) → k < length rows → issue < (get_or rows k d).issue) → filter (is_row_in issue) rows ≡ []
-none_after issue [] later = refl
-none_after issue (r ∷ rows) later =
-    let other : is_row_in issue r ≡ false = false_from_ne_true (r.issue == issue) (λ e. absurd (omega (arith, later 0 r (omega arith), eqb-true r.issue issue e))) in
-    ap (λ (b : Bool). cond b (r ∷ filter (is_row_in issue) rows) (filter (is_row_in issue) rows)) other ∙ none_after issue rows (λ k d below. later (suc k) d (omega (arith, below)))
+  -- items before the first one of an issue are none of it
+  after_first : (xs : List A) (n : ℕ) → ((k : ℕ) (d : A) → k < n → k < length xs → issue_of (get_or xs k d) < issue)
+      → filter is_in (drop n xs) ≡ filter is_in xs
+  after_first [] zero earlier = refl
+  after_first [] (suc n) earlier = refl
+  after_first (x ∷ xs) zero earlier = refl
+  after_first (x ∷ xs) (suc n) earlier =
+      let other : is_in x ≡ false =
+      false_from_ne_true (is_in x) (λ e. absurd (omega (arith, earlier 0 x (omega arith) (omega arith), eqb-true (issue_of x) issue e))) in
+      after_first xs n (λ k d less below. earlier (suc k) d (omega (arith, less)) (omega (arith, below)))
+      ∙ sym (ap (λ (b : Bool). cond b (x ∷ filter is_in xs) (filter is_in xs)) other)
 
--- rows of an issue, and later ones behind them
-first_ones : (issue : ℕ) (rows : List PositionRow) (n : ℕ) → ((k : ℕ) (d : PositionRow) → k < n → k < length rows → (get_or rows k d).issue ≡ issue)
-    → ((k : ℕ) (d : PositionRow) → n ≤ k → k < length rows → issue < (get_or rows k d).issue) → take n rows ≡ filter (is_row_in issue) rows
-first_ones issue [] zero same later = refl
-first_ones issue [] (suc n) same later = refl
-first_ones issue (r ∷ rows) zero same later = sym (none_after issue (r ∷ rows) (λ k d below. later k d (omega arith) below))
-first_ones issue (r ∷ rows) (suc n) same later =
-    let one : is_row_in issue r ≡ true = eq-eqb r.issue issue (same 0 r (omega arith) (omega arith)) in
-    ap (λ ys. r ∷ ys) (first_ones issue rows n (λ k d less below. same (suc k) d (omega (arith, less)) (omega (arith, below))) (λ k d less below. later (suc k) d (omega (arith, less)) (omega (arith, below))))
-    ∙ sym (ap (λ (b : Bool). cond b (r ∷ filter (is_row_in issue) rows) (filter (is_row_in issue) rows)) one)
+  none_after : (xs : List A) → ((k : ℕ) (d : A) → k < length xs → issue < issue_of (get_or xs k d)) → filter is_in xs ≡ []
+  none_after [] later = refl
+  none_after (x ∷ xs) later =
+      let other : is_in x ≡ false = false_from_ne_true (is_in x) (λ e. absurd (omega (arith, later 0 x (omega arith), eqb-true (issue_of x) issue e))) in
+      ap (λ (b : Bool). cond b (x ∷ filter is_in xs) (filter is_in xs)) other ∙ none_after xs (λ k d below. later (suc k) d (omega (arith, below)))
 
-pub part_of_issue : (issue : ℕ) (rows : List PositionRow) (first count : ℕ)
-    → IsPartitionPoint (λ (y : PositionRow). ltb y.issue issue ≡ true) (λ (y : PositionRow). ltb y.issue issue ≡ false) rows first
-    → IsPartitionPoint (λ (y : PositionRow). leb y.issue issue ≡ true) (λ (y : PositionRow). leb y.issue issue ≡ false) (drop first rows) count
-    → take count (drop first rows) ≡ filter (is_row_in issue) rows
-part_of_issue issue rows first count start end =
-    first_ones issue (drop first rows) count
-    (λ k d less below. same k d less below)
-    (λ k d le below. leb-false_less ((get_or (drop first rows) k d).issue) issue (end.1 k d le below))
-    ∙ after_first issue rows first (λ k d less below. ltb-true _ _ (start.0 k d (omega arith) less))
-  where
-    leb-false_less : (a b : ℕ) → leb a b ≡ false → b < a
-    leb-false_less a b e = grind (arith, nat_tests)
+  -- items of an issue, and later ones behind them
+  first_ones : (xs : List A) (n : ℕ) → ((k : ℕ) (d : A) → k < n → k < length xs → issue_of (get_or xs k d) ≡ issue)
+      → ((k : ℕ) (d : A) → n ≤ k → k < length xs → issue < issue_of (get_or xs k d)) → take n xs ≡ filter is_in xs
+  first_ones [] zero same later = refl
+  first_ones [] (suc n) same later = refl
+  first_ones (x ∷ xs) zero same later = sym (none_after (x ∷ xs) (λ k d below. later k d (omega arith) below))
+  first_ones (x ∷ xs) (suc n) same later =
+      let one : is_in x ≡ true = eq-eqb (issue_of x) issue (same 0 x (omega arith) (omega arith)) in
+      let rest =
+      first_ones xs n (λ k d less below. same (suc k) d (omega (arith, less)) (omega (arith, below)))
+      (λ k d less below. later (suc k) d (omega (arith, less)) (omega (arith, below))) in
+      ap (λ ys. x ∷ ys) rest
+      ∙ sym (ap (λ (b : Bool). cond b (x ∷ filter is_in xs) (filter is_in xs)) one)
 
-    same : (k : ℕ) (d : PositionRow) → k < count → k < length (drop first rows) → (get_or (drop first rows) k d).issue ≡ issue
-    same k d less below =
-        let most : (get_or (drop first rows) k d).issue ≤ issue = leb-true _ _ (end.0 k d (omega arith) less) in
-        let here : get_or (drop first rows) k d ≡ get_or rows (first + k) d = get_or-drop first rows k d in
-        let there : issue ≤ (get_or rows (first + k) d).issue = ltb-false _ _ (start.1 (first + k) d (omega arith) (omega (arith, below, length-drop first rows))) in
-        omega (arith, most, there, ap (λ (r : PositionRow). r.issue) here)
+  pub part_of_issue : (xs : List A) (first count : ℕ)
+      → IsPartitionPoint (λ (y : A). ltb (issue_of y) issue ≡ true) (λ (y : A). ltb (issue_of y) issue ≡ false) xs first
+      → IsPartitionPoint (λ (y : A). leb (issue_of y) issue ≡ true) (λ (y : A). leb (issue_of y) issue ≡ false) (drop first xs) count
+      → take count (drop first xs) ≡ filter (λ (x : A). issue_of x == issue) xs
+  part_of_issue xs first count start end =
+      first_ones (drop first xs) count
+      (λ k d less below. same k d less below)
+      (λ k d le below. leb-false_less (issue_of (get_or (drop first xs) k d)) (end.1 k d le below))
+      ∙ after_first xs first (λ k d less below. ltb-true _ _ (start.0 k d (omega arith) less))
+    where
+      leb-false_less : (a : ℕ) → leb a issue ≡ false → issue < a
+      leb-false_less a e = grind (arith, nat_tests)
+
+      same : (k : ℕ) (d : A) → k < count → k < length (drop first xs) → issue_of (get_or (drop first xs) k d) ≡ issue
+      same k d less below =
+          let most : issue_of (get_or (drop first xs) k d) ≤ issue = leb-true _ _ (end.0 k d (omega arith) less) in
+          let here : get_or (drop first xs) k d ≡ get_or xs (first + k) d = get_or-drop first xs k d in
+          let there : issue ≤ issue_of (get_or xs (first + k) d) =
+          ltb-false _ _ (start.1 (first + k) d (omega arith) (omega (arith, below, length-drop first xs))) in
+          omega (arith, most, there, ap issue_of here)

@@ -1,7 +1,9 @@
 -- The position of each holding, by look-up.
-use Rattle.std.specs.Prelude.{◌≡◌, ℕ, zero, suc, ◌+◌, ◌&&◌, ◌==◌, Bool, false, List, [], ◌∷◌, All, Option, Some, None, IsSome, filter, if◌then◌else◌}
+use Rattle.std.specs.Prelude.{◌≡◌, ℕ, zero, suc, ◌+◌, ◌≤◌, ◌&&◌, ◌==◌, Bool, false, List, [], ◌∷◌, All, Option, Some, None, IsSome, filter}
+use Rattle.std.specs.Prelude.{length, take, if◌then◌else◌}
 use Rattle.std.specs.declared.cmp.Ordering.TheVariants.{Less}
-use Rattle.std.specs.HashMap.{HashMap, get}
+use Rattle.std.specs.HashMap.{HashMap, get, keys}
+use Rattle.std.specs.List.Sorted.{IsSorted}
 use Rattle.cns_netting.specs.declared.undue.Undue.{Undue}
 use Rattle.cns_netting.specs.History.{credit, credit_part, debit, debit_part}
 use Rattle.cns_ids.specs.Holding.{holding_at, holding_cmp, holding_eq}
@@ -43,6 +45,11 @@ module _ {S : Type 0} where
   -- each holding that is named is one of a member
   abbrev pub AreOfMembers : HashMap Holding Position S → Type 0
   AreOfMembers positions = (k : Holding) → IsSome (get holding_eq positions k) → IsMember k.member
+
+-- the first n of the holdings that are named stand in order, by issue, then member
+pub record AreSortedUpTo {S : Type 0} (n : ℕ) (positions : HashMap Holding Position S) : Type 0 where
+  pub most : n ≤ length positions.entries
+  pub order : IsSorted holding_cmp (take n (keys positions))
 
 -- each position is that of a history: what it has above 0 and below 0 differ as its credit and debit there
 pub record ArePositionsOf {S : Type 0} (positions : HashMap Holding Position S) (h : List NetEntry) : Type 0 where

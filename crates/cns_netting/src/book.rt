@@ -15,12 +15,13 @@ use crate::count::{RowTest, count_rows};
 use crate::due::{add_due, has_due, make_due, positions_after, take_due, waiting_of};
 use crate::entry::NetEntry;
 use crate::position::PositionRow;
-use crate::positions::{Position, name, name_trade, position_at};
+use crate::positions::{Position, name, name_trade, position_at, put_in_order};
 use crate::rows::{position_rows, position_rows_in};
 use crate::totals::{Totals, add_counted, name_issue, totals_of};
 use crate::undue::Undue;
 use cns_ids::{Cusip, Day, Holding, MemberNo};
 use cns_trades::Trade;
+use indexmap::IndexMap;
 use std::alloc::{AllocError, Global};
 use std::collections::{BinaryHeap, HashMap};
 use std::marker::Model;
@@ -29,11 +30,13 @@ use std::marker::Model;
 ///
 /// Contracts see the history of entries, the newest first, and for how many more there is room. Beside
 /// the history the book keeps the position of each holding, the totals of each issue's positions, and
-/// what netting needs of the trades that are not due, the earliest settlement first.
+/// what netting needs of the trades that are not due, the earliest settlement first. The first
+/// `sorted` holdings stand in order, by issue, then member; those named since stand behind them.
 #[derive(Drop)]
 pub struct NetBook {
     entries: Vec<NetEntry>,
-    positions: HashMap<Holding, Position>,
+    positions: IndexMap<Holding, Position>,
+    sorted: usize,
     totals: HashMap<Cusip, Totals>,
     undue: BinaryHeap<Undue>,
 }
@@ -51,18 +54,18 @@ impl Model for NetBook {
       room = room_of (vec_capacity b.entries - length b.entries.items) (spare b.positions) (spare b.totals) (heap_capacity b.undue - heap_len b.undue);
     } };
 
-    ghost invariant = { λ b. IsKept (reverse b.entries.items) b.positions b.totals (heap_items b.undue) };
+    ghost invariant = { λ b. IsKept (reverse b.entries.items) b.positions b.sorted b.totals (heap_items b.undue) };
 }
 
 // Takes the memory that any entry needs.
 fn reserve(
     entries: &mut Vec<NetEntry>,
-    positions: &mut HashMap<Holding, Position>,
+    positions: &mut IndexMap<Holding, Position>,
     totals: &mut HashMap<Cusip, Totals>,
     undue: &mut BinaryHeap<Undue>,
 ) -> Result<(), AllocError>
     ensures entries { entries.new.items ≡ entries.old.items }
-    ensures positions { (k : Holding) → get holding_eq positions.new k ≡ get holding_eq positions.old k }
+    ensures positions { positions.new.entries ≡ positions.old.entries }
     ensures totals { (i : ℕ) → get nat_eq totals.new i ≡ get nat_eq totals.old i }
     ensures undue { heap_items undue.new ≡ heap_items undue.old }
     ensures entry_room { OnOk result (length entries.new.items < vec_capacity entries.new) }
@@ -137,7 +140,8 @@ impl NetBook {
     {
         NetBook {
             entries: Vec::new(alloc),
-            positions: HashMap::new(alloc),
+            positions: IndexMap::new(alloc),
+            sorted: 0,
             totals: HashMap::new(alloc),
             undue: BinaryHeap::new(alloc),
         }
@@ -258,6 +262,17 @@ impl NetBook {
         Ok(())
     }
 
+    /// Puts the holdings into order, so that rows are listed without a sort until new holdings are named.
+    /// Where there is no memory for it they stay as they are.
+    ///
+    /// Costs a sort of all holdings where one was named since the last time, and nothing otherwise.
+    pub fn put_in_order(&mut self)
+        ensures same { self.new.history ≡ self.old.history }
+        ensures left { self.old.room ≤ self.new.room }
+    {
+        self.sorted = put_in_order(&mut self.positions, self.sorted);
+    }
+
     /// The position of a member in an issue: bought less sold over the due trades, and settlements.
     pub fn position(&self, member: MemberNo, issue: Cusip) -> i128
         ensures value { result ≡ position_of self.now.history member issue }
@@ -267,17 +282,27 @@ impl NetBook {
     }
 
     /// The positions other than 0, by issue, then member.
+    ///
+    /// Costs one pass over all holdings and a sort of the rows, which is one pass where they stand in order.
     pub fn rows(&self) -> Result<Vec<PositionRow>, AllocError>
         ensures { IfOk result (λ rows. rows.items ≡ rows_of self.now.history) }
     {
-        position_rows(*self.entries.allocator(), &self.positions, None)
+        position_rows(*self.entries.allocator(), &self.positions)
     }
 
     /// The positions other than 0 in an issue, by member.
+    ///
+    /// Costs two searches by halves, the holdings of the issue, and one pass over the holdings that were
+    /// named since the last `put_in_order`; or where these are more than members, a look-up of each member.
     pub fn rows_in(&self, issue: Cusip) -> Result<Vec<PositionRow>, AllocError>
         ensures { IfOk result (λ rows. rows.items ≡ filter (is_row_in issue) (rows_of self.now.history)) }
     {
-        position_rows_in(*self.entries.allocator(), &self.positions, issue)
+        position_rows_in(
+            *self.entries.allocator(),
+            &self.positions,
+            self.sorted,
+            issue,
+        )
     }
 
     /// The positions other than 0 that `net` of a date would leave, by issue, then member.
@@ -288,7 +313,25 @@ impl NetBook {
             return self.rows();
         }
         let after = positions_after(&self.positions, self.undue.as_slice(), day)?;
-        position_rows(*self.entries.allocator(), &after, None)
+        position_rows(*self.entries.allocator(), &after)
+    }
+
+    /// The positions other than 0 that `net` of a date would leave, by issue, then member, as `rows_at`
+    /// lists them. It copies no position, and leaves the book as it was.
+    ///
+    /// Costs what `rows` does, and where some trade would become due, two passes over the trades that are
+    /// not due, with look-ups for those that would.
+    pub fn rows_after(&mut self, day: Day) -> Result<Vec<PositionRow>, AllocError>
+        ensures rows { IfOk result (λ rows. rows.items ≡ rows_of (Netted day ∷ self.old.history)) }
+        ensures same { self.new ≡ self.old }
+    {
+        if !has_due(&self.undue, day) {
+            return self.rows();
+        }
+        add_due(&mut self.positions, self.undue.as_slice(), day);
+        let rows = position_rows(*self.entries.allocator(), &self.positions);
+        take_due(&mut self.positions, self.undue.as_slice(), day);
+        rows
     }
 
     /// How many of the positions other than 0 that `net` of a date would leave pass a test. It takes no

@@ -8,7 +8,7 @@ use crate::position::PositionRow;
 use crate::positions::Position;
 use crate::rows::row_of;
 use cns_ids::Holding;
-use std::collections::HashMap;
+use indexmap::IndexMap;
 
 /// A test of positions, each by itself.
 pub trait RowTest {
@@ -31,7 +31,7 @@ fn counts<T: RowTest>(test: &T, holding: &Holding, position: &Position) -> bool
 }
 
 /// How many of the positions other than 0 pass a test. It takes no memory.
-pub(crate) fn count_rows<T: RowTest>(all: &HashMap<Holding, Position>, test: &T) -> usize
+pub(crate) fn count_rows<T: RowTest>(all: &IndexMap<Holding, Position>, test: &T) -> usize
     ensures { (h : List NetEntry) → ArePositionsOf all.now h → result ≡ count_by (T.passing test.now) (rows_of h) }
 {
     // No more of them pass than there are.

@@ -1,9 +1,9 @@
 ghost use Rattle.std.specs.Prelude.{◌≡◌, ℕ, ◌+◌, ◌*◌, ◌^◌, ◌<◌, ◌≤◌, ◌∷◌, All, false, IfNone, IfOk, IfSome, IsSome, sum_by};
-ghost use Rattle.std.specs.HashMap.{get, spare};
+ghost use Rattle.std.specs.HashMap.{get, keys, spare};
 ghost use Rattle.cns_ids.specs.Holding.{holding_eq};
 ghost use Rattle.std.specs.BinaryHeap.{heap_items, heap_len, IsHeap};
 ghost use Rattle.std.specs.List.Sorted.{IsPermutation};
-ghost use Rattle.cns_netting.specs.Positions.{bought_by, credit_in, debit_in, AreOfMembers, IsNamed, sold_by};
+ghost use Rattle.cns_netting.specs.Positions.{bought_by, credit_in, debit_in, IsNamed, sold_by};
 ghost use Rattle.cns_netting.specs.Totals.{AreTotalsOf, HasIssue};
 ghost use Rattle.cns_netting.specs.Undue.{earlier, if_left, if_settled, waiting_of};
 ghost use Rattle.cns_netting.specs.declared.undue.Undue.{Undue};
@@ -13,6 +13,7 @@ use crate::totals::{Totals, add_trade_counted};
 use crate::undue::Undue;
 use cns_ids::{Cusip, Day, Holding};
 use cns_trades::Trade;
+use indexmap::IndexMap;
 use std::alloc::AllocError;
 use std::collections::{BinaryHeap, HashMap};
 
@@ -61,7 +62,7 @@ pub(crate) fn has_due(undue: &BinaryHeap<Undue>, day: Day) -> bool
 /// position is further than 3 * 10^18 shares from 0.
 pub(crate) fn make_due(
     undue: &mut BinaryHeap<Undue>,
-    positions: &mut HashMap<Holding, Position>,
+    positions: &mut IndexMap<Holding, Position>,
     totals: &mut HashMap<Cusip, Totals>,
     day: Day,
 ) -> usize
@@ -79,7 +80,7 @@ pub(crate) fn make_due(
     ensures named { All (IsNamed positions.new) (heap_items undue.new) }
     ensures issues { All (HasIssue totals.new) (heap_items undue.new) }
     ensures totals { AreTotalsOf totals.new positions.new }
-    ensures members { AreOfMembers positions.old → AreOfMembers positions.new }
+    ensures keys { keys positions.new ≡ keys positions.old }
 {
     let mut count = 0;
     while let Some(trade) = next_due(undue, day) {
@@ -90,7 +91,9 @@ pub(crate) fn make_due(
 }
 
 // A copy of the positions.
-fn copy_of(positions: &HashMap<Holding, Position>) -> Result<HashMap<Holding, Position>, AllocError>
+fn copy_of(
+    positions: &IndexMap<Holding, Position>,
+) -> Result<IndexMap<Holding, Position>, AllocError>
     ensures { IfOk result (λ copy. copy.entries ≡ positions.now.entries) }
 {
     positions.clone()
@@ -98,13 +101,12 @@ fn copy_of(positions: &HashMap<Holding, Position>) -> Result<HashMap<Holding, Po
 
 /// Adds to the positions what those of the trades bring and take that settle by a day. It takes no
 /// memory. Whichever of them are added, no position is further than 3 * 10^18 shares from 0.
-pub(crate) fn add_due(positions: &mut HashMap<Holding, Position>, undue: &[Undue], day: Day)
+pub(crate) fn add_due(positions: &mut IndexMap<Holding, Position>, undue: &[Undue], day: Day)
     requires named { All (IsNamed positions.old) undue.now }
     requires long { (m i : ℕ) → credit_in positions.old m i + sum_by (if_settled day (bought_by m i)) undue.now ≤ debit_in positions.old m i + 3 * 10 ^ 18 }
     requires short { (m i : ℕ) → debit_in positions.old m i + sum_by (if_settled day (sold_by m i)) undue.now ≤ credit_in positions.old m i + 3 * 10 ^ 18 }
     ensures balance { (m i : ℕ) → credit_in positions.new m i + (debit_in positions.old m i + sum_by (if_settled day (sold_by m i)) undue.now) ≡ debit_in positions.new m i + (credit_in positions.old m i + sum_by (if_settled day (bought_by m i)) undue.now) }
-    ensures named { (k : Holding) → IsSome (get holding_eq positions.old k) → IsSome (get holding_eq positions.new k) }
-    ensures members { AreOfMembers positions.old → AreOfMembers positions.new }
+    ensures keys { keys positions.new ≡ keys positions.old }
     ensures spare { spare positions.new ≡ spare positions.old }
 {
     let mut left = undue;
@@ -117,13 +119,12 @@ pub(crate) fn add_due(positions: &mut HashMap<Holding, Position>, undue: &[Undue
 }
 
 /// Takes back what `add_due` of the same trades and day adds.
-pub(crate) fn take_due(positions: &mut HashMap<Holding, Position>, undue: &[Undue], day: Day)
+pub(crate) fn take_due(positions: &mut IndexMap<Holding, Position>, undue: &[Undue], day: Day)
     requires named { All (IsNamed positions.old) undue.now }
     requires long { (m i : ℕ) → credit_in positions.old m i + sum_by (if_settled day (sold_by m i)) undue.now ≤ debit_in positions.old m i + 3 * 10 ^ 18 }
     requires short { (m i : ℕ) → debit_in positions.old m i + sum_by (if_settled day (bought_by m i)) undue.now ≤ credit_in positions.old m i + 3 * 10 ^ 18 }
     ensures balance { (m i : ℕ) → credit_in positions.new m i + (debit_in positions.old m i + sum_by (if_settled day (bought_by m i)) undue.now) ≡ debit_in positions.new m i + (credit_in positions.old m i + sum_by (if_settled day (sold_by m i)) undue.now) }
-    ensures named { (k : Holding) → IsSome (get holding_eq positions.old k) → IsSome (get holding_eq positions.new k) }
-    ensures members { AreOfMembers positions.old → AreOfMembers positions.new }
+    ensures keys { keys positions.new ≡ keys positions.old }
     ensures spare { spare positions.new ≡ spare positions.old }
 {
     let mut left = undue;
@@ -138,10 +139,10 @@ pub(crate) fn take_due(positions: &mut HashMap<Holding, Position>, undue: &[Undu
 /// The positions as after a netting of a day. Whichever trades are due by then, none is further than
 /// 3 * 10^18 shares from 0.
 pub(crate) fn positions_after(
-    positions: &HashMap<Holding, Position>,
+    positions: &IndexMap<Holding, Position>,
     undue: &[Undue],
     day: Day,
-) -> Result<HashMap<Holding, Position>, AllocError>
+) -> Result<IndexMap<Holding, Position>, AllocError>
     requires named { All (IsNamed positions.now) undue.now }
     requires long { (m i : ℕ) → credit_in positions.now m i + sum_by (if_settled day (bought_by m i)) undue.now ≤ debit_in positions.now m i + 3 * 10 ^ 18 }
     requires short { (m i : ℕ) → debit_in positions.now m i + sum_by (if_settled day (sold_by m i)) undue.now ≤ credit_in positions.now m i + 3 * 10 ^ 18 }

@@ -1,13 +1,14 @@
 ghost use Rattle.std.specs.Prelude.{◌≡◌, ℕ, ◌+◌, ◌-◌, ◌*◌, ◌^◌, ◌<◌, ◌≤◌, ◌&&◌, ◌==◌, nat_eq, IsSome, if◌then◌else◌};
-ghost use Rattle.std.specs.HashMap.{get, spare};
+ghost use Rattle.std.specs.HashMap.{get, keys, spare};
 ghost use Rattle.cns_ids.specs.Holding.{holding_at, holding_eq};
 ghost use Rattle.cns_netting.specs.History.{credit_part, debit_part};
-ghost use Rattle.cns_netting.specs.Positions.{bought_by, credit_in, debit_in, AreOfMembers, IsNamed, sold_by};
+ghost use Rattle.cns_netting.specs.Positions.{bought_by, credit_in, debit_in, IsNamed, sold_by};
 ghost use Rattle.cns_netting.specs.Totals.{AreTotalsOf, HasIssue, longs_in, shorts_in};
 
 use crate::positions::{Position, add};
 use crate::undue::Undue;
 use cns_ids::{Cusip, Holding, MemberNo};
+use indexmap::IndexMap;
 use std::collections::HashMap;
 
 /// The shares of all positions above 0 in an issue, and of all below 0, as sizes.
@@ -56,16 +57,13 @@ pub(crate) fn name_issue(totals: &mut HashMap<Cusip, Totals>, issue: Cusip)
     ensures named { IsSome (get nat_eq totals.new issue) }
     ensures still { (i : ℕ) → IsSome (get nat_eq totals.old i) → IsSome (get nat_eq totals.new i) }
 {
-    if totals.contains_key(&issue) {
-        return;
-    }
-    let none = Totals {
-        longs: 0,
-        shorts: 0,
-    };
-    let Ok(_) = totals.insert(issue, none) else {
+    let Ok(entry) = totals.entry(issue) else {
         unreachable!()
     };
+    entry.or_insert(Totals {
+        longs: 0,
+        shorts: 0,
+    });
 }
 
 // Counts a position anew in its issue, which is named.
@@ -88,7 +86,7 @@ fn recount(totals: &mut HashMap<Cusip, Totals>, issue: Cusip, was: Position, is:
 /// Adds shares for a named holding, and against it, and counts its position anew in its issue, which
 /// is named. No position goes further than 3 * 10^18 shares from 0, so that the totals fit.
 pub(crate) fn add_counted(
-    positions: &mut HashMap<Holding, Position>,
+    positions: &mut IndexMap<Holding, Position>,
     totals: &mut HashMap<Cusip, Totals>,
     member: MemberNo,
     issue: Cusip,
@@ -103,7 +101,7 @@ pub(crate) fn add_counted(
     ensures balance { (m i : ℕ) → credit_in positions.new m i + (debit_in positions.old m i + (if (member == m) && (issue == i) then debit else 0))
         ≡ debit_in positions.new m i + (credit_in positions.old m i + (if (member == m) && (issue == i) then credit else 0)) }
     ensures named { (k : Holding) → IsSome (get holding_eq positions.old k) → IsSome (get holding_eq positions.new k) }
-    ensures members { AreOfMembers positions.old → AreOfMembers positions.new }
+    ensures keys { keys positions.new ≡ keys positions.old }
     ensures issues { (i : ℕ) → IsSome (get nat_eq totals.old i) → IsSome (get nat_eq totals.new i) }
     ensures totals { AreTotalsOf totals.new positions.new }
 {
@@ -117,7 +115,7 @@ pub(crate) fn add_counted(
 /// Adds what a trade brings its buyer and takes from its seller, and counts both positions anew. No
 /// position goes further than 3 * 10^18 shares from 0, so that the totals fit.
 pub(crate) fn add_trade_counted(
-    positions: &mut HashMap<Holding, Position>,
+    positions: &mut IndexMap<Holding, Position>,
     totals: &mut HashMap<Cusip, Totals>,
     trade: &Undue,
 )
@@ -128,7 +126,7 @@ pub(crate) fn add_trade_counted(
     requires totals { AreTotalsOf totals.old positions.old }
     ensures balance { (m i : ℕ) → credit_in positions.new m i + (debit_in positions.old m i + sold_by m i trade.now) ≡ debit_in positions.new m i + (credit_in positions.old m i + bought_by m i trade.now) }
     ensures named { (k : Holding) → IsSome (get holding_eq positions.old k) → IsSome (get holding_eq positions.new k) }
-    ensures members { AreOfMembers positions.old → AreOfMembers positions.new }
+    ensures keys { keys positions.new ≡ keys positions.old }
     ensures issues { (i : ℕ) → IsSome (get nat_eq totals.old i) → IsSome (get nat_eq totals.new i) }
     ensures totals { AreTotalsOf totals.new positions.new }
 {

@@ -15,7 +15,7 @@ loop-trade-init c = record {
   heap = c.requires.heap;
   named = c.requires.named;
   issues = c.requires.issues;
-  members = λ are. are;
+  keys = refl;
   totals = c.requires.totals;
   left = λ f. refl;
   count = omega arith;
@@ -56,7 +56,7 @@ loop-trade-preserved c =
       issues =
           All-weaker (HasIssue c.loop-trade.totals) (HasIssue c.add_trade_counted.new.totals) (λ u one. added.issues _ one) is
           (popped-tail (HasIssue c.loop-trade.totals) t was is taken before.issues);
-      members = λ are. added.members (before.members are);
+      keys = added.keys ∙ before.keys;
       totals = added.totals;
       left = λ f. left-popped c.args.day f t was is taken c.in-Some.ensures.due ∙ before.left f;
       count = let one = sum_by_popped (λ (u : Undue). 1) t was is taken in omega (arith, one, before.count);

@@ -33,8 +33,7 @@ loop-one-preserved-then-le c =
       balance = λ m i. omega (arith, before.balance m i, done.balance m i, settled-first c.args.day (bought_by m i) _ t rest list due, settled-first c.args.day (sold_by m i) _ t rest list due);
       long = λ m i. omega (arith, before.long m i, done.balance m i, settled-first c.args.day (sold_by m i) _ t rest list due);
       short = λ m i. omega (arith, before.short m i, done.balance m i, settled-first c.args.day (bought_by m i) _ t rest list due);
-      still = λ k some. done.named k (before.still k some);
-      members = λ are. done.members (before.members are);
+      keys = done.keys ∙ before.keys;
       spare = done.spare ∙ before.spare;
     }
 
@@ -50,7 +49,6 @@ loop-one-preserved c =
       balance = λ m i. omega (arith, before.balance m i, later-first c.args.day (bought_by m i) _ t rest list later, later-first c.args.day (sold_by m i) _ t rest list later);
       long = λ m i. omega (arith, before.long m i, later-first c.args.day (sold_by m i) _ t rest list later);
       short = λ m i. omega (arith, before.short m i, later-first c.args.day (bought_by m i) _ t rest list later);
-      still = before.still;
-      members = before.members;
+      keys = before.keys;
       spare = before.spare;
     }

@@ -1,9 +1,7 @@
 use Rattle.std.proofs.Common.{◌≡◌, ℕ, ◌+◌, ◌*◌, ◌^◌, ◌≤◌, length}
-use Rattle.std.specs.Prelude.{All, IsSome, sum_by}
-use Rattle.std.specs.HashMap.{get, spare}
-use Rattle.cns_ids.specs.Holding.{holding_eq}
-use Rattle.cns_ids.specs.declared.holding.Holding.{Holding}
-use Rattle.cns_netting.specs.Positions.{bought_by, credit_in, debit_in, AreOfMembers, IsNamed, sold_by}
+use Rattle.std.specs.Prelude.{All, sum_by}
+use Rattle.std.specs.HashMap.{keys, spare}
+use Rattle.cns_netting.specs.Positions.{bought_by, credit_in, debit_in, IsNamed, sold_by}
 use Rattle.cns_netting.specs.Undue.{if_settled}
 use Rattle.cns_netting.proofs.due.take_due.Given as goal
 
@@ -14,8 +12,7 @@ invariant-loop-one l = record {
       ≡ debit_in l.positions m i + sum_by (if_settled l.fn.day (bought_by m i)) l.left + (credit_in l.fn.positions m i + sum_by (if_settled l.fn.day (sold_by m i)) l.fn.undue);
   long : (m i : ℕ) → credit_in l.positions m i + sum_by (if_settled l.fn.day (sold_by m i)) l.left ≤ debit_in l.positions m i + 3 * 10 ^ 18;
   short : (m i : ℕ) → debit_in l.positions m i + sum_by (if_settled l.fn.day (bought_by m i)) l.left ≤ credit_in l.positions m i + 3 * 10 ^ 18;
-  still : (k : Holding) → IsSome (get holding_eq l.fn.positions k) → IsSome (get holding_eq l.positions k);
-  members : AreOfMembers l.fn.positions → AreOfMembers l.positions;
+  keys : keys l.positions ≡ keys l.fn.positions;
   spare : spare l.positions ≡ spare l.fn.positions;
 }
 

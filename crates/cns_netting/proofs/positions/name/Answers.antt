@@ -1,24 +1,43 @@
-use Rattle.std.proofs.Common.{rules}
+use Rattle.std.proofs.Common.{◌∙◌, ap, rules, Some, unwrap_or}
 use Rattle.std.specs.HashMap.{get}
 use Rattle.std.specs.Prelude.{pos}
-use Rattle.cns_ids.specs.Holding.{holding_eq}
+use Rattle.indexmap.specs.Entry.{map_with_value}
+use Rattle.cns_ids.specs.Holding.{holding_at, holding_eq}
 use Rattle.cns_netting.specs.Positions.{credit_at, debit_at}
 use Rattle.cns_ids.proofs.HoldingLemmas.{put-named, put-same}
-use Rattle.cns_netting.proofs.PositionLemmas.{put-members, position_by}
+use Rattle.cns_netting.proofs.PositionLemmas.{credit_of_none, debit_of_none, position_by, put-members}
+use Rattle.cns_netting.proofs.SortedLemmas.{sorted_named}
 use Rattle.cns_netting.proofs.positions.name.Goals as goal
 
 pub returns-clause-credit : goal.returns-clause-credit
 returns-clause-credit c =
-    put-same credit_at c.args.member c.args.issue (position_by (pos 0)) (get holding_eq c.args.positions.now) (get holding_eq c.insert.new.self) c.in-Ok.ensures.updates.0 (search rules)
+    let w = c.or_insert.result.now in
+    let is = c.or_insert.ensures.value ∙ ap (λ o. unwrap_or o (position_by (pos 0))) c.in-Ok.ensures.value in
+    let same =
+    put-same credit_at c.args.member c.args.issue w (get holding_eq c.args.positions.now) (get holding_eq (map_with_value c.in-Ok.entry w))
+    (c.in-Ok.ensures.update.0 w).0 (ap (λ p. credit_at (Some p)) is ∙ credit_of_none (get holding_eq c.args.positions.now (holding_at c.args.issue c.args.member))) in
+    λ m i. search (rules, same m i)
 
 pub returns-clause-debit : goal.returns-clause-debit
 returns-clause-debit c =
-    put-same debit_at c.args.member c.args.issue (position_by (pos 0)) (get holding_eq c.args.positions.now) (get holding_eq c.insert.new.self) c.in-Ok.ensures.updates.0 (search rules)
+    let w = c.or_insert.result.now in
+    let is = c.or_insert.ensures.value ∙ ap (λ o. unwrap_or o (position_by (pos 0))) c.in-Ok.ensures.value in
+    let same =
+    put-same debit_at c.args.member c.args.issue w (get holding_eq c.args.positions.now) (get holding_eq (map_with_value c.in-Ok.entry w))
+    (c.in-Ok.ensures.update.0 w).0 (ap (λ p. debit_at (Some p)) is ∙ debit_of_none (get holding_eq c.args.positions.now (holding_at c.args.issue c.args.member))) in
+    λ m i. search (rules, same m i)
 
 pub returns-clause-still : goal.returns-clause-still
 returns-clause-still c =
-    put-named c.args.member c.args.issue (position_by (pos 0)) (get holding_eq c.args.positions.now) (get holding_eq c.insert.new.self) c.in-Ok.ensures.updates.0
+    let w = c.or_insert.result.now in
+    put-named c.args.member c.args.issue w (get holding_eq c.args.positions.now) _ (λ k. search (rules, (c.in-Ok.ensures.update.0 w).0))
 
 pub returns-clause-members : goal.returns-clause-members
 returns-clause-members c =
-    put-members c.args.member c.args.issue (position_by (pos 0)) (get holding_eq c.args.positions.now) (get holding_eq c.insert.new.self) c.in-Ok.ensures.updates.0 (search rules)
+    let w = c.or_insert.result.now in
+    put-members c.args.member c.args.issue w (get holding_eq c.args.positions.now) _ (λ k. search (rules, (c.in-Ok.ensures.update.0 w).0)) (search rules)
+
+pub returns-clause-order : goal.returns-clause-order
+returns-clause-order c = λ n sorted.
+    let w = c.or_insert.result.now in
+    sorted_named c.args.positions.now _ (holding_at c.args.issue c.args.member) w (search (rules, c.in-Ok.ensures.update.1 w)) n sorted

@@ -20,4 +20,4 @@ returns c =
     let end =
     IsPartitionPoint-from_clause (λ (r : PositionRow). leb r.issue c.args.issue) _ _ c.partition_point-count.ensures.partitioned (IsPartitionedBy-leb by_issue _ c.args.issue sorted) (λ a r q k. search rules) in
     let end_of = rw rest at end in
-    rw rest (part_of_issue c.args.issue rows first c.partition_point-count.result start end_of)
+    rw rest (part_of_issue by_issue c.args.issue rows first c.partition_point-count.result start end_of)

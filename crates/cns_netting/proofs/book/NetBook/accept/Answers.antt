@@ -18,5 +18,7 @@ invariant_of-self c =
     let issues = c.name_issue.ensures in
     rw (c.write.ensures, reverse-last)
     (kept_accepted h c.args.trade c.self.inside.positions c.name_trade.new.positions c.self.inside.totals c.name_issue.new.totals (heap_items c.self.inside.undue) (heap_items c.enter.new.undue) c.self.invariant
-    (book_accepted h c.args.trade c.self.invariant.book few quantity) names.credit names.debit issues.longs issues.shorts (record { still = names.still; issues = issues.still; members = names.members }) (subst (IsNamed c.name_trade.new.positions) waits names.named) issues.named
+    (book_accepted h c.args.trade c.self.invariant.book few quantity) names.credit names.debit issues.longs issues.shorts
+    (record { still = names.still; issues = issues.still; members = names.members; order = names.order })
+    (subst (IsNamed c.name_trade.new.positions) waits names.named) issues.named
     (subst (λ t. IsPermutation (t ∷ heap_items c.self.inside.undue) (heap_items c.enter.new.undue)) waits c.enter.ensures.entered) c.enter.ensures.heap)

@@ -8,7 +8,7 @@ use Rattle.cns_netting.proofs.book.NetBook.net.Goals as goal
 pub make_due-becoming-requires : goal.make_due-becoming-requires
 make_due-becoming-requires c =
     let kept = c.self.invariant in
-    let near = kept_near (reverse c.self.inside.entries.items) c.self.inside.positions c.self.inside.totals (heap_items c.self.inside.undue) kept in
+    let near = kept_near kept in
     record {
       heap = kept.heap;
       named = kept.named;
@@ -24,7 +24,7 @@ invariant_of-self c =
     let due = c.make_due-becoming.ensures in
     rw (c.write.ensures, reverse-last, c.free_unused.ensures)
     (kept_netted h c.args.day c.self.inside.positions c.make_due-becoming.new.positions c.self.inside.totals c.make_due-becoming.new.totals (heap_items c.self.inside.undue) (heap_items c.make_due-becoming.new.undue)
-    c.self.invariant (book_netted h c.args.day c.self.invariant.book) due.left due.balance due.totals due.named due.issues due.members due.heap)
+    c.self.invariant (book_netted h c.args.day c.self.invariant.book) due.left due.balance due.totals due.named due.issues due.keys due.heap)
 
 pub returns-clause-count : goal.returns-clause-count
 returns-clause-count c =

@@ -6,7 +6,7 @@ use Rattle.std.proofs.lemmas.Int.{to_z-of_z}
 use Rattle.cns_netting.specs.Book.{AmountsFit}
 use Rattle.cns_netting.specs.History.{credit_part, debit_part}
 use Rattle.cns_netting.proofs.BookLemmas.{book_settled, settled-near}
-use Rattle.cns_netting.proofs.KeptLemmas.{kept_settled}
+use Rattle.cns_netting.proofs.KeptLemmas.{kept_settled, names_then}
 use Rattle.cns_netting.proofs.TotalLemmas.{totals_kept}
 use Rattle.cns_netting.proofs.TradeLemmas.{reverse-last}
 use Rattle.cns_netting.proofs.book.NetBook.settle.Goals as goal
@@ -53,4 +53,10 @@ invariant_of-self c =
     (kept_settled h c.args.member c.args.issue c.args.amount c.self.inside.positions c.add_counted.new.positions c.self.inside.totals c.add_counted.new.totals (heap_items c.self.inside.undue) c.self.invariant book
     (λ m i. omega (arith, added.balance m i, c.name.ensures.credit m i, c.name.ensures.debit m i, ap (λ n. part n m i) (c.brought.ensures ∙ ap credit_part amount), ap (λ n. part n m i) (c.taken.ensures ∙ ap debit_part amount)))
     added.totals
-    (record { still = λ k some. added.named k (c.name.ensures.still k some); issues = λ i some. added.issues i (c.name_issue.ensures.still i some); members = λ are. added.members (c.name.ensures.members are) }))
+    (names_then c.self.inside.positions c.name.new.positions c.add_counted.new.positions c.self.inside.totals c.add_counted.new.totals
+    (record {
+      still = c.name.ensures.still;
+      issues = λ i some. added.issues i (c.name_issue.ensures.still i some);
+      members = c.name.ensures.members;
+      order = c.name.ensures.order;
+    }) added.keys))
