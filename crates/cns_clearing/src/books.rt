@@ -104,12 +104,19 @@ impl Books {
         }
     }
 
-    /// What a cycle makes besides itself: the covers, and the positions directly after it.
-    pub(crate) fn cycle_effects(&self, alloc: Global, id: &CycleId) -> Result<Effects, AllocError>
-        requires { AreSound self.now.books }
-        ensures { IfOk result (AreEffects self.now.books (ClearRecord.Cycle id.now)) }
+    /// What a cycle makes besides itself: the covers, and the positions directly after it. It leaves the
+    /// books as they were, but for the order in which the book keeps its holdings.
+    pub(crate) fn cycle_effects(
+        &mut self,
+        alloc: Global,
+        id: &CycleId,
+    ) -> Result<Effects, AllocError>
+        requires { AreSound self.old.books }
+        ensures effects { IfOk result (AreEffects self.old.books (ClearRecord.Cycle id.now)) }
+        ensures same { self.new.books ≡ self.old.books }
     {
-        let rows = self.book.rows_at(id.day)?;
+        self.book.put_in_order();
+        let rows = self.book.rows_after(id.day)?;
         let asks = covers_of_rows(alloc, &rows, self.orders(), &self.exemptions)?;
         Ok(Effects { asks, rows })
     }

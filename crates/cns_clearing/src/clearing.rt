@@ -154,8 +154,9 @@ impl<K: Keeper> Clearing<K> {
     /// Want of memory is told only where none of these refusals applies: where the covers cannot be listed
     /// they are counted, which takes none.
     ///
-    /// Costs one pass over all holdings that trades or movements named, the trades that become due, a
-    /// sort of the positions, a look-up for each short one, and one commit.
+    /// Costs one pass over all holdings that trades or movements named, a sort of them where some were
+    /// named since the latest cycle, look-ups for the trades that become due and for each short position,
+    /// and one commit.
     pub fn cycle(&mut self, id: CycleId) -> Result<Cycled, Refusal>
         ensures { CycleLeaves id result self.old self.new }
     {
@@ -167,7 +168,7 @@ impl<K: Keeper> Clearing<K> {
         if !self.lots().is_empty() {
             return Err(Refusal::LotsOpen);
         }
-        let Ok(effects) = books.cycle_effects(alloc, &id) else {
+        let Ok(effects) = self.books.cycle_effects(alloc, &id) else {
             return Err(self.refusal_without_memory(id.day));
         };
         let books = self.books();

@@ -1,4 +1,4 @@
-ghost use Rattle.std.specs.Prelude.{IfOk};
+ghost use Rattle.std.specs.Prelude.{◌≡◌, IfOk};
 ghost use Rattle.cns_clearing.specs.Books.{AdmittedBy, AreSound};
 
 use crate::admission::may_allocate;
@@ -36,14 +36,15 @@ impl Ledger for Books {
     }
 }
 
-// What a record makes besides itself, where it may follow those of the books.
+// What a record makes besides itself, where it may follow those of the books, which are left as they were.
 fn admitted(
     alloc: Global,
-    books: &Books,
+    books: &mut Books,
     entry: &ClearRecord,
 ) -> Result<Option<Effects>, AllocError>
-    requires { AreSound books.now.books }
-    ensures { IfOk result (AdmittedBy books.now.books entry.now) }
+    requires { AreSound books.old.books }
+    ensures admitted { IfOk result (AdmittedBy books.old.books entry.now) }
+    ensures same { books.new.books ≡ books.old.books }
 {
     let may = match entry {
         ClearRecord::Accept(trade) => books.verdict(trade) == Verdict::New,

@@ -35,7 +35,7 @@ pub fn covers(
 /// The covers of positions, in their order: of the positions that `NetBook::rows_at` gives for a date,
 /// those that a cycle of that date orders.
 ///
-/// No position may be short of more than 10^18 shares. It costs two look-ups for each position.
+/// No position may be short of more than 10^18 shares. It costs two look-ups for each position below 0.
 pub fn covers_of_rows(
     alloc: Global,
     rows: &[PositionRow],
@@ -86,12 +86,15 @@ impl<'a> RowTest for CoverTest<'a> {
     }
 }
 
-// The cover of a position, where one is left.
+// The cover of a position, where one is left. Nothing is looked up where it is not short.
 #[tactic(auto, unfolding(crate::specs::Covers::row_ask))]
 fn cover_of_row(row: &PositionRow, orders: &OrderBook, exemptions: &Exemptions) -> Option<Ask>
     requires { short_shares row.now ≤ 10 ^ 18 }
     ensures { result ≡ row_ask orders.now.book exemptions.now.settings row.now }
 {
+    if short_of(row) == 0 {
+        return None;
+    }
     let asked = Asked::new(left_to_cover(row, orders, exemptions) as u64)?;
     Some(Ask {
         kind: MoveKind::Cover,
