@@ -1,4 +1,4 @@
-ghost use Rattle.std.specs.Prelude.{◌≡◌, ◌+◌, ◌<◌, ◌≤◌, ◌⊎◌, [], Ok, MatchResult, IfSome, OnOk, IfErr, List, ℕ, string_bytes};
+ghost use Rattle.std.specs.Prelude.{◌≡◌, ◌+◌, ◌<◌, ◌≤◌, ◌⊎◌, [], Ok, MatchResult, IfOk, IfSome, OnOk, IfErr, List, ℕ, drop, length, string_bytes};
 ghost use Rattle.std.specs.Io.KnownBytes.{Appends, IsAtEnd};
 ghost use Rattle.cns_trades.specs.Openings.{opening_rows};
 ghost use Rattle.cns_trades.specs.Rows.{trade_rows};
@@ -38,8 +38,8 @@ pub(crate) struct Rows {
     pub(crate) trades: Vec<Row>,
 }
 
-// What an input holds: its rows and its script. They own what they hold, so that the text of the input can
-// be let go before the script runs.
+// What an input holds: its rows and its script. They own what they hold, so that nothing else of the input
+// is held while the script runs.
 #[derive(Drop)]
 pub(crate) struct Parts {
     pub(crate) rows: Rows,
@@ -92,22 +92,45 @@ fn read_rows(alloc: Global, openings: &[u8], trades: &[u8]) -> Result<Rows, Batc
     })
 }
 
-// What the text of an input holds.
-pub(crate) fn read_parts(alloc: Global, text: &[u8]) -> Result<Parts, BatchFault>
-    ensures { MatchResult result
-        (λ parts. input_of text.now
-        ≡ Ok (record { openings = parts.rows.openings; told = string_bytes parts.rows.told; rows = parts.rows.trades.items; script = parts.script.items }))
+// The rows of an input text, and where its script begins, which is the last part of the text.
+fn read_front(alloc: Global, text: &[u8]) -> Result<(Rows, usize), BatchFault>
+    ensures parts { MatchResult result
+        (λ front. input_of text.now
+        ≡ Ok (record { openings = front.0.openings; told = string_bytes front.0.told; rows = front.0.trades.items; script = drop front.1 text.now }))
         (λ e. Tells e (input_of text.now)) }
+    ensures within { IfOk result (λ front. front.1 ≤ length text.now) }
 {
     let Some(sections) = split_input(text) else {
         return Err(BatchFault::Sections);
     };
     let rows = read_rows(alloc, sections.openings, sections.trades)?;
-    let Ok(script) = sections.script.to_vec(alloc) else {
-        drop(rows);
-        return Err(BatchFault::Memory);
-    };
-    Ok(Parts { rows, script })
+    Ok((rows, text.len() - sections.script.len()))
+}
+
+// Cuts so many bytes off the front of a text, and gives back the room that this leaves, where the allocator
+// takes it. Only the bytes that stay are moved.
+fn cut_front(text: &mut Vec<u8>, size: usize)
+    requires { size ≤ length text.old.items }
+    ensures { text.new.items ≡ drop size text.old.items }
+{
+    let left = text.len() - size;
+    text.copy_within(size.., 0);
+    text.truncate(left);
+    text.shrink_to_fit();
+}
+
+// What the text of an input holds. The text is cut down to its script where it stands: a copy would take as
+// much memory again, and once a block as large as a text is freed, the allocator of the C library copies
+// other large blocks as they grow.
+pub(crate) fn read_parts(alloc: Global, mut text: Vec<u8>) -> Result<Parts, BatchFault>
+    ensures { MatchResult result
+        (λ parts. input_of text.items
+        ≡ Ok (record { openings = parts.rows.openings; told = string_bytes parts.rows.told; rows = parts.rows.trades.items; script = parts.script.items }))
+        (λ e. Tells e (input_of text.items)) }
+{
+    let (rows, start) = read_front(alloc, text.as_slice())?;
+    cut_front(&mut text, start);
+    Ok(Parts { rows, script: text })
 }
 
 // What a run comes to, as a batch.
@@ -210,9 +233,7 @@ pub fn run_batch_kept<R: Read, W: Write, L: Ledger, C: Keeper + Drop, D: Keeper 
             };
         }
     };
-    let parts = read_parts(alloc, bytes.as_slice());
-    drop(bytes);
-    match parts {
+    match read_parts(alloc, bytes) {
         Ok(Parts { rows, script }) => {
             run_input(alloc, rows, script.as_slice(), clear, depot, writer)
         }

@@ -335,8 +335,6 @@ pub fn run_desk<
         return kept.result;
     }
     let bytes = read_input(alloc, reader, steps)?;
-    let parts = read_parts(alloc, bytes.as_slice());
-    drop(bytes);
     let Parts {
         rows: Rows {
             openings,
@@ -344,7 +342,7 @@ pub fn run_desk<
             trades,
         },
         script,
-    } = parts?;
+    } = read_parts(alloc, bytes)?;
     let system = match System::open(alloc, clear, depot, openings) {
         Ok(system) => system,
         Err(refused) => return Err(start_fault(refused.fault)),

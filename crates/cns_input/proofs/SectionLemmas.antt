@@ -1,9 +1,11 @@
 -- Lines of a text, one after another.
-use Rattle.std.proofs.Common.{◌≡◌, ◌<◌, ◌+◌, ℕ, zero, suc, List, [], ◌∷◌, ◌++◌, length, take, drop, Option, Some, None, Bool, true, false, refl, sym, ap, ◌∙◌, arith, append_assoc, take-add, add-one}
-use Rattle.std.specs.Prelude.{◌==◌, if◌then◌else◌, slice_index}
+use Rattle.std.proofs.Common.{◌≡◌, ◌<◌, ◌≤◌, ◌+◌, ◌-◌, ℕ, zero, suc, List, [], ◌∷◌, ◌++◌, length, take, drop, Option, Some, None, Bool, true, false, refl, sym, ap, ◌∙◌, subst, arith, append_assoc, length-append, take-add, add-one}
+use Rattle.std.specs.Prelude.{◌==◌, IfSome, codes, if◌then◌else◌, slice_index}
+use Rattle.std.proofs.Math.Seq.{drop-append_seam}
 use Rattle.std.proofs.lemmas.List.{append-nil, drop-drop}
+use Rattle.std.proofs.lemmas.Option.{IfSome_then}
 use Rattle.memchr.specs.Find.{NoneBefore, Nowhere, Passes, is_byte}
-use Rattle.cns_input.specs.Sections.{find_head, is_head, joined, line_size, onto_first, raw_lines, split_at_head, with_front}
+use Rattle.cns_input.specs.Sections.{find_head, is_head, joined, line_size, onto_first, opened, raw_lines, script_of, sections, split_at_head, trades_of, with_front}
 
 pub joined_lines : (xs : List ℕ) → joined (raw_lines xs) ≡ xs
 unfolding joined raw_lines
@@ -99,3 +101,58 @@ passed head text rest line at n all r pos size l h inv =
     let twice = sym (with_front-twice (take at text) (take n rest) (split_at_head head (drop n rest))) in
     let here = ap (with_front (take at text)) (sym (ap (split_at_head head) (sym r) ∙ step)) ∙ inv in
     rw (front, back) (twice ∙ here)
+
+-- ---- where the script stands
+
+-- a text ends with another
+abbrev EndsWith : List ℕ → List ℕ → Type 0
+EndsWith text last = (front : List ℕ) × (text ≡ front ++ last)
+
+ends_within : (text rest last : List ℕ) → EndsWith text rest → EndsWith rest last → EndsWith text last
+ends_within text rest last (front, is) (more, at) = (front ++ more, is ∙ ap (λ l. front ++ l) at ∙ sym (append_assoc front more last))
+
+-- what is behind a head is the last part of the lines
+lines_end : (head : List ℕ) (lines : List (List ℕ)) → IfSome (find_head head lines) (λ p. EndsWith (joined lines) p.1)
+unfolding find_head joined
+lines_end head [] = tt
+lines_end head (l ∷ ls) = by (is_head head l) (find_head head ls) (lines_end head ls)
+  where
+    by : (b : Bool) (split : Option (List ℕ × List ℕ)) → IfSome split (λ p. EndsWith (joined ls) p.1)
+        → IfSome (if b then Some ([], joined ls) else with_front l split) (λ p. EndsWith (l ++ joined ls) p.1)
+    by true split ends = (l, refl)
+    by false None ends = tt
+    by false (Some p) ends = ends_within (l ++ joined ls) (joined ls) p.1 (l, refl) ends
+
+-- and of a text
+head_ends : (head text : List ℕ) → IfSome (split_at_head head text) (λ p. EndsWith text p.1)
+head_ends head text = subst (λ t. IfSome (split_at_head head text) (λ p. EndsWith t p.1)) (joined_lines text) (lines_end head (raw_lines text))
+
+script_ends : (text openings rest : List ℕ) (split : Option (List ℕ × List ℕ)) → EndsWith text rest → IfSome split (λ p. EndsWith rest p.1)
+    → IfSome (script_of openings rest split) (λ p. EndsWith text p.2)
+script_ends text openings rest None here ends = tt
+script_ends text openings rest (Some p) here ends = ends_within text rest p.1 here ends
+
+trades_end : (text : List ℕ) (split : Option (List ℕ × List ℕ)) → IfSome split (λ p. EndsWith text p.1) → IfSome (trades_of split) (λ p. EndsWith text p.2)
+trades_end text None ends = tt
+trades_end text (Some p) ends = script_ends text p.0 p.1 (split_at_head (codes "[script]") p.1) ends (head_ends (codes "[script]") p.1)
+
+opened_ends : (text : List ℕ) (split : Option (List ℕ × List ℕ)) → IfSome split (λ p. EndsWith text p.1) → IfSome (opened split) (λ p. EndsWith text p.2)
+opened_ends text None ends = tt
+opened_ends text (Some p) ends = by (length p.0 == 0)
+  where
+    next : Option (List ℕ × List ℕ)
+    next = split_at_head (codes "[trades]") p.1
+
+    by : (b : Bool) → IfSome (if b then trades_of next else None) (λ q. EndsWith text q.2)
+    by true = trades_end text next (IfSome_then next (head_ends (codes "[trades]") p.1) (λ q here. ends_within text p.1 q.1 ends here))
+    by false = tt
+
+-- the script is the last part of a text
+pub script_is_last : (text openings trades script : List ℕ) → sections text ≡ Some (openings, trades, script)
+    → (length script ≤ length text) × (script ≡ drop (length text - length script) text)
+script_is_last text openings trades script is =
+    let all = opened_ends text (split_at_head (codes "[openings]") text) (head_ends (codes "[openings]") text) in
+    let ends : EndsWith text script = subst (λ o. IfSome o (λ p. EndsWith text p.2)) is all in
+    let size : length text ≡ length ends.0 + length script = ap length ends.1 ∙ length-append ends.0 script in
+    let start : length text - length script ≡ length ends.0 = omega arith in
+    (omega arith, rw start (sym (drop-append_seam ends.0 script) ∙ ap (drop (length ends.0)) (sym ends.1)))

@@ -3,15 +3,13 @@ use Rattle.cns_batch.proofs.desk.run_desk.Goals as goal
 
 pub returns-in-Err-clause-says : goal.returns-in-Err-clause-says
 returns-in-Err-clause-says g c =
-    let same = c.as_slice.ensures.value in
     rw c.start_fault.ensures
-    (says_unopened _ c.as_slice.result.now _ c.in-Err.refused.fault _ _ _ _ (rw same c.in_ok-bytes.ensures.text) c.in_ok-openings.ensures c.in-Err.ensures.err)
+    (says_unopened _ c.in_ok-bytes.bytes.items _ c.in-Err.refused.fault _ _ _ _ c.in_ok-bytes.ensures.text c.in_ok-openings.ensures c.in-Err.ensures.err)
 
 pub returns-clause-says : goal.returns-clause-says
 returns-clause-says g c =
-    let same = c.as_slice.ensures.value in
     rw c.batch_result.ensures
-    (says_ran _ c.run_script.result c.as_slice.result.now _ _ _ c.in-Ok.system (rw same c.in_ok-bytes.ensures.text) (rw same c.in_ok-bytes.ensures.size) c.in_ok-openings.ensures
+    (says_ran _ c.run_script.result c.in_ok-bytes.bytes.items _ _ _ c.in-Ok.system c.in_ok-bytes.ensures.text c.in_ok-bytes.ensures.size c.in_ok-openings.ensures
     c.in-Ok.ensures.ok)
 
 pub returns-clause-none : goal.returns-clause-none
