@@ -1,7 +1,7 @@
 # The proved program, where `make build` and `make test` leave it.
 program := crates/cnsd/out/cnsd
 
-.PHONY: demo run test build fuzz bench works wrong crash limits stress format
+.PHONY: demo run test build fuzz bench works profile wrong crash limits stress format
 
 # Runs the worked example, by the built program where it is up to date, else unproved: a minute or two.
 demo:
@@ -35,6 +35,10 @@ bench: build
 # Instructions on works that grow, and on hostile ones, beside those of plain Rust (needs valgrind); FULL=1 also runs them whole.
 works: build
 	bench/works.py $(program) $(if $(FULL),--full)
+
+# What these instructions go into, in parts of a hundred.
+profile: build
+	bench/profile.py $(program)
 
 # Wrong bodies beside those of the gate, each of which the proofs must refuse; of one crate by CRATE=NAME.
 wrong:
