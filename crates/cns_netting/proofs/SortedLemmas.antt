@@ -5,7 +5,6 @@ use Rattle.std.specs.HashMap.{HashMap, keys}
 use Rattle.std.specs.List.Sorted.{IsNonDecreasingBy, IsSorted}
 use Rattle.std.specs.Map.{keys_of}
 use Rattle.std.specs.Ordering.{is_lt}
-use Rattle.std.proofs.Math.Seq.{take-length}
 use Rattle.std.proofs.lemmas.Bool.Decides.{nat_tests}
 use Rattle.std.proofs.lemmas.List.{get_or-map, take-map}
 use Rattle.std.proofs.lemmas.List.Sorted.{ranks_by, sorted_far}
@@ -22,13 +21,6 @@ module _ {S : Type 0} where
   -- none of the holdings need stand in order
   pub sorted_none : (positions : HashMap Holding Position S) → AreSortedUpTo 0 positions
   sorted_none positions = record { most = omega arith; order = λ k d low high. absurd (omega (arith, high)) }
-
-  -- all of them do once they are sorted
-  pub sorted_all : (positions : HashMap Holding Position S) → IsSorted holding_cmp (keys positions) → AreSortedUpTo (length positions.entries) positions
-  sorted_all positions order = record {
-    most = omega arith;
-    order = subst (IsSorted holding_cmp) (sym (ap (λ n. take n (keys positions)) (sym (length-keys_of positions.entries)) ∙ take-length (keys positions))) order;
-  }
 
   -- the order is that of the holdings alone
   pub sorted_still : (old new : HashMap Holding Position S) → keys new ≡ keys old → (n : ℕ) → AreSortedUpTo n old → AreSortedUpTo n new

@@ -1,6 +1,5 @@
-use Rattle.std.proofs.Common.{◌≡◌, ◌+◌, ◌∙◌, ap, arith, drop, rules}
+use Rattle.std.proofs.Common.{rules}
 use Rattle.std.proofs.lemmas.List.{drop-drop}
-use Rattle.cns_trades.specs.declared.row.Row.{Row}
 use Rattle.cns_batch.proofs.untaken.Untaken.pass.Goals as goal
 
 pub returns-else-self-len : goal.returns-else-self-len
