@@ -6,7 +6,7 @@
 Edits of wrong-bodies/CRATE (of every crate, where none is named) are set into copies of the crate, several at once where
 they change different functions, and `rt check` must say of each of these functions that a goal of its own is not proved. An
 edit of which that is not said (the text cannot be read, a callee is not proved, it changes no single function) is tried
-once more with others, and then by itself by `rt must-fail`, which has the last word; with --alone each is. All goes on in
+three times more with others, and then by itself by `rt must-fail`, which has the last word; with --alone each is. All goes on in
 as many lanes as there are processors and memory; --only takes the edits whose names have WORD. What the crates below a crate need is
 built first, from what earlier checks of the tree left where that is up to date. Prints each edit that is refused, then for each
 crate its edits, minutes and processor minutes. The last line is `N passed, M failed`; the exit status is 0 where M is 0 and N is
@@ -32,7 +32,7 @@ MEMORY_OF_A_LANE = 4 << 30
 LEAST_OF_A_LANE = 12
 # How many edits a check tries at once at most, and how often an edit is tried so.
 MOST_AT_ONCE = 16
-ROUNDS = 2
+ROUNDS = 4
 PARTS = ("src", "specs", "proofs")
 
 
