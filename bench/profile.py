@@ -12,10 +12,9 @@ import os
 import re
 import subprocess
 import sys
-import tempfile
 
 from make_works import WORKS
-from works import Failed, run, write_work
+from works import print_rows, run, write_work
 
 # A kind, and the words of the names of its functions.
 KINDS = [
@@ -67,18 +66,11 @@ def main():
     parser.add_argument('works', nargs='*', metavar='WORK', help=', '.join(WORKS))
     parser.add_argument('--scale', default='1/64')
     given = parser.parse_args()
-    program, bad = os.path.abspath(given.program), 0
+    program = os.path.abspath(given.program)
     if set(given.works) - set(WORKS):
         parser.error('the works are ' + ', '.join(WORKS))
     print('| ' + ' | '.join(['work', 'millions', *(kind for kind, _ in KINDS), 'other', 'dearest functions']) + ' |')
-    with tempfile.TemporaryDirectory() as folder:
-        for name in given.works or WORKS:
-            try:
-                cells = row_of(program, name, given.scale, folder)
-            except Failed as fault:
-                cells, bad = [name, 'FAILED: %s' % fault], 1
-            print('| ' + ' | '.join(cells) + ' |', flush=True)
-    return bad
+    return print_rows(given.works or WORKS, lambda name, folder: row_of(program, name, given.scale, folder))
 
 
 if __name__ == '__main__':

@@ -87,25 +87,31 @@ def row_of(program, name, full, path):
     return cells
 
 
+def print_rows(names, row):
+    """Prints the line that `row` gives of each work and a folder of its own; answers 1 where a run ended in a fault, else 0."""
+    bad = 0
+    with tempfile.TemporaryDirectory() as folder:
+        for name in names:
+            try:
+                cells = row(name, folder)
+            except Failed as fault:
+                cells, bad = [name, 'FAILED: %s' % fault], 1
+            print('| ' + ' | '.join(cells) + ' |', flush=True)
+    return bad
+
+
 def main():
     parser = argparse.ArgumentParser(description='Counts what a program costs on the works of make_works.py.')
     parser.add_argument('program')
     parser.add_argument('works', nargs='*', metavar='WORK', help=', '.join(WORKS))
     parser.add_argument('--full', action='store_true')
     given = parser.parse_args()
-    program, bad = os.path.abspath(given.program), 0
+    program = os.path.abspath(given.program)
     if set(given.works) - set(WORKS):
         parser.error('the works are ' + ', '.join(WORKS))
     heads = ['work', *('1/%d' % scale.denominator for scale in SCALES), 'exponent', 'times plain Rust']
     print('| ' + ' | '.join(heads + (['seconds', 'MiB', 'plain MiB'] if given.full else [])) + ' |')
-    with tempfile.TemporaryDirectory() as folder:
-        for name in given.works or WORKS:
-            try:
-                cells = row_of(program, name, given.full, os.path.join(folder, 'work'))
-            except Failed as fault:
-                cells, bad = [name, 'FAILED: %s' % fault], 1
-            print('| ' + ' | '.join(cells) + ' |', flush=True)
-    return bad
+    return print_rows(given.works or WORKS, lambda name, folder: row_of(program, name, given.full, os.path.join(folder, 'work')))
 
 
 if __name__ == '__main__':
