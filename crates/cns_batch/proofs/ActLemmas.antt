@@ -1,6 +1,6 @@
 -- Acts that come to pass one after another, and what is written of their text.
-use Rattle.std.proofs.Common.{◌≡◌, ◌<◌, ◌≤◌, ℕ, suc, zero, ◌+◌, ◌-◌, Bool, true, false, get_or, List, [], ◌∷◌, ◌++◌, length, take, drop, Option, Some, None, Result, Ok, Err, refl, sym, ap, ◌∙◌, subst, append_assoc, arith}
-use Rattle.std.proofs.lemmas.List.{append-nil, drop_all, drop_more}
+use Rattle.std.proofs.Common.{◌≡◌, ◌<◌, ◌≤◌, ℕ, suc, ◌+◌, ◌-◌, Bool, true, false, get_or, List, [], ◌∷◌, ◌++◌, length, take, drop, Option, Some, None, Result, Ok, Err, refl, sym, ap, ◌∙◌, subst, append_assoc, arith}
+use Rattle.std.proofs.lemmas.List.{append-nil, drop_all}
 use Rattle.std.specs.Result.{IsErr}
 use Rattle.std.specs.Io.KnownBytes.{Appends}
 use Rattle.cns_trades.specs.declared.row.Row.{Row}
@@ -17,37 +17,8 @@ use Rattle.cns_system.specs.declared.outcome.Outcome.{Outcome}
 use Rattle.cns_report.specs.Outcomes.{outcome_line}
 use Rattle.cns_batch.specs.Acts.{Act, Told, after_text, continued, done, each, gives, happened, tells, followed, times, with_outcome}
 use Rattle.cns_batch.specs.Commands.{ends_with, failed, learned, next_reserved, next_taken, reserved, row_taken}
-use Rattle.cns_batch.specs.Runs.{Continues, IsNextRow, Place, RunState, Runs, Stops, Writes, course_at}
-
--- ---- what is written
-
-pub appends_nothing : (a : Option (List ℕ)) → Appends a a []
-appends_nothing None = tt
-appends_nothing (Some xs) = sym (append-nil xs)
-
-pub appends_more : (a b d : Option (List ℕ)) (s t : List ℕ) → Appends a b s → Appends b d t → Appends a d (s ++ t)
-appends_more None b d s t f g = tt
-appends_more (Some xs) None d s t f g = absurd f
-appends_more (Some xs) (Some ys) None s t f g = absurd g
-appends_more (Some xs) (Some ys) (Some zs) s t f g = g ∙ ap (λ l. l ++ t) f ∙ append_assoc xs s t
-
-writes_more : (p q r : Place) (s t : List ℕ) → Writes s p q → Writes t q r → Writes (s ++ t) p r
-writes_more p q r s t (one, a, e) (two, b, f) = (
-  one ++ two,
-  appends_more p.sent q.sent r.sent one two a b,
-  append_assoc one two r.run.held ∙ ap (λ l. one ++ l) f ∙ sym (append_assoc one q.run.held t) ∙ ap (λ l. l ++ t) e ∙ append_assoc p.run.held s t,
-)
-
--- as much is at the front of a longer list
-take_front : (n : ℕ) (xs ys : List ℕ) → (m : ℕ) × (take m (xs ++ ys) ≡ take n xs)
-take_front zero xs ys = (0, refl)
-take_front (suc n) [] ys = (0, refl)
-take_front (suc n) (x ∷ xs) ys = let (m, e) = take_front n xs ys in (suc m, ap (λ l. x ∷ l) e)
-
-take_past : (n : ℕ) (xs ys : List ℕ) → take (length xs + n) (xs ++ ys) ≡ xs ++ take n ys
-take_past n [] ys = let none : 0 + n ≡ n = omega arith in ap (λ k. take k ys) none
-take_past n (x ∷ xs) ys =
-    let one : suc (length xs) + n ≡ suc (length xs + n) = omega arith in ap (λ k. take k (x ∷ (xs ++ ys))) one ∙ ap (λ l. x ∷ l) (take_past n xs ys)
+use Rattle.cns_batch.specs.Runs.{BreaksOff, Continues, IsNextRow, Place, Prints, RunState, Runs, Stops, Writes, course_at, output_at}
+use Rattle.cns_batch.proofs.PrintLemmas.{appends_nothing, breaks_after, breaks_front, first_left, writes_more}
 
 -- ---- acts
 
@@ -65,7 +36,7 @@ continues_more {A} a b d p q r one two = record {
       ap (λ cs. a (course_at p.run cs)) (append_assoc one.chances two.chances more)
       ∙ one.act_is (two.chances ++ more) ∙ ap (after_text one.text) (two.act_is more)
       ∙ ap (λ t. record (d (course_at r.run more)) { text = t }) (sym (append_assoc one.text two.text (d (course_at r.run more)).text));
-  writes = writes_more p q r one.text two.text one.writes two.writes;
+  writes = writes_more (output_at p) (output_at q) (output_at r) one.text two.text one.writes two.writes;
 }
 
 -- what an act does, and then another one
@@ -93,16 +64,13 @@ followed_gives a v next p q one = record {
 -- a call does the rest of an act that has come so far
 pub stops_after : {A : Type 0} (a b : Act A) (p q r : Place) → Continues a b p q → Stops b q r → Stops a p r
 stops_after {A} a b p q r one stop =
-    let part = one.writes.0 in
     let rest = (b (course_at q.run stop.chances)).text in
     let told : (a (course_at p.run (one.chances ++ stop.chances))).text ≡ one.text ++ rest = ap (λ (t : Told A). t.text) (one.act_is stop.chances) in
-    let all : p.run.held ++ (a (course_at p.run (one.chances ++ stop.chances))).text ≡ part ++ (q.run.held ++ rest) =
-    ap (λ t. p.run.held ++ t) told ∙ sym (append_assoc p.run.held one.text rest) ∙ ap (λ t. t ++ rest) (sym one.writes.2) ∙ append_assoc part q.run.held rest in
+    let (size, written) = breaks_after (output_at p) (output_at q) r.sent one.text rest one.writes (stop.size, stop.writes) in
     record {
       chances = one.chances ++ stop.chances;
-      size = length part + stop.size;
-      writes = subst (λ t. Appends p.sent r.sent t) (sym (ap (take (length part + stop.size)) all ∙ take_past stop.size part (q.run.held ++ rest)))
-          (appends_more p.sent q.sent r.sent part (take stop.size (q.run.held ++ rest)) one.writes.1 stop.writes);
+      size = size;
+      writes = subst (λ t. Appends p.sent r.sent (take size (p.run.held ++ t))) (sym told) written;
     }
 
 pub runs_after : {A E : Type 0} (a b : Act A) (result : Result A E) (p q r : Place) → Continues a b p q → Runs b result q r → Runs a result p r
@@ -120,12 +88,7 @@ unfolding followed
 stops_followed a next p q stop =
     let told = a (course_at p.run stop.chances) in
     let rest = (next told.value told.course).text in
-    let (size, same) = take_front stop.size (p.run.held ++ told.text) rest in
-    record {
-      chances = stop.chances;
-      size = size;
-      writes = subst (λ t. Appends p.sent q.sent t) (sym (ap (take size) (sym (append_assoc p.run.held told.text rest)) ∙ same)) stop.writes;
-    }
+    let (size, written) = breaks_front (output_at p) q.sent told.text rest (stop.size, stop.writes) in record { chances = stop.chances; size = size; writes = written }
 
 -- nothing was written
 pub stops_here : {A : Type 0} (a : Act A) (p q : Place) → q.sent ≡ p.sent → Stops a p q
@@ -133,29 +96,48 @@ stops_here a p q same = record { chances = []; size = 0; writes = subst (λ s. A
 
 -- ---- single acts
 
--- a text is held, and nothing else changes
-pub told_line : (line : List ℕ) (p q : Place) → q ≡ record p { run = record p.run { held = p.run.held ++ line } } → Continues (tells line) done p q
-told_line line p q is = subst (λ q. Continues (tells line) done p q) (sym is)
-    (record {
-      chances = [];
-      text = line;
-      act_is = λ more. ap (λ t. record { course = course_at p.run more; text = t; value = tt }) (sym (append-nil line));
-      writes = ([], appends_nothing p.sent, refl);
-    })
+-- a text was told, and nothing else changed
+tells_text : (text : List ℕ) (p q : Place) → Writes text (output_at p) (output_at q) → q.run ≡ record p.run { held = q.run.held } → Continues (tells text) done p q
+tells_text text p q writes is = record {
+  chances = [];
+  text = text;
+  act_is = λ more.
+      ap (λ t. record { course = course_at p.run more; text = t; value = tt }) (sym (append-nil text))
+      ∙ ap (λ (r : RunState). after_text text (done (course_at r more))) (sym is);
+  writes = writes;
+}
 
--- an event happened, and its line is held
-pub told_event : (e : Event) (o : Outcome) (p q : Place) (old new : World) → p.run.world ≡ old → Comes e o old new
-    → q ≡ record p { run = record p.run { world = new; held = p.run.held ++ outcome_line e o } } → Continues (happened e) (gives o) p q
+pub prints_runs : {E : Type 0} (text : List ℕ) (result : Result (Unit {0}) E) (p q : Place) → Prints text result (output_at p) (output_at q) → q.run ≡ record p.run { held = q.run.held }
+    → Runs (tells text) result p q
+prints_runs text (Ok u) p q writes is = tells_text text p q writes is
+prints_runs text (Err e) p q (size, written) is = record { chances = []; size = size; writes = written }
+
+-- an event happened, and its line was told
+came_as : (e : Event) (o : Outcome) (p : Place) (old new : World) (chance : Chance) (more : List Chance) → p.run.world ≡ old → comes_to chance e (scene_of old) ≡ (o, scene_of new)
+    → happened e (course_at p.run (chance ∷ more)) ≡ record { course = record (course_at p.run more) { scene = scene_of new }; text = outcome_line e o; value = o }
 unfolding happened
-told_event e o p q old new before (chance, came) is = subst (λ q. Continues (happened e) (gives o) p q) (sym is)
-    (record {
-      chances = chance ∷ [];
-      text = outcome_line e o;
-      act_is = λ more.
-          ap (with_outcome e (course_at p.run (chance ∷ more))) (ap (λ w. comes_to chance e (scene_of w)) before ∙ came)
-          ∙ ap (λ t. record { course = record (course_at p.run more) { scene = scene_of new }; text = t; value = o }) (sym (append-nil (outcome_line e o)));
-      writes = ([], appends_nothing p.sent, refl);
-    })
+came_as e o p old new chance more before came = ap (with_outcome e (course_at p.run (chance ∷ more))) (ap (λ w. comes_to chance e (scene_of w)) before ∙ came)
+
+pub told_event : (e : Event) (o : Outcome) (p q : Place) (old new : World) → p.run.world ≡ old → Comes e o old new → q.run ≡ record p.run { world = new; held = q.run.held }
+    → Writes (outcome_line e o) (output_at p) (output_at q) → Continues (happened e) (gives o) p q
+told_event e o p q old new before (chance, came) is writes = record {
+  chances = chance ∷ [];
+  text = outcome_line e o;
+  act_is = λ more.
+      came_as e o p old new chance more before came
+      ∙ ap (λ t. record { course = record (course_at p.run more) { scene = scene_of new }; text = t; value = o }) (sym (append-nil (outcome_line e o)))
+      ∙ ap (λ (r : RunState). after_text (outcome_line e o) (gives o (course_at r more))) (sym is);
+  writes = writes;
+}
+
+-- or a first part of it
+pub half_told_event : (e : Event) (o : Outcome) (p q : Place) (old new : World) → p.run.world ≡ old → Comes e o old new → BreaksOff (outcome_line e o) (output_at p) q.sent
+    → Stops (happened e) p q
+half_told_event e o p q old new before (chance, came) (size, written) = record {
+  chances = chance ∷ [];
+  size = size;
+  writes = subst (λ t. Appends p.sent q.sent (take size (p.run.held ++ t))) (sym (ap (λ (t : Told Outcome). t.text) (came_as e o p old new chance [] before came))) written;
+}
 
 -- ---- acts for each of a list, and so many times
 
@@ -175,31 +157,6 @@ pub times_stops : (n : ℕ) (act : Act (Unit {0})) (p q : Place) → Stops act p
 unfolding times
 times_stops n act p q stop = stops_followed act (λ _. times n act) p q stop
 
--- ---- what was told is written
-
-pub flushed : (p q : Place) → Appends p.sent q.sent p.run.held → q.run ≡ record p.run { held = [] } → Continues done (gives tt) p q
-flushed p q all is = record {
-  chances = [];
-  text = [];
-  act_is = λ more. ap (λ r. gives tt (course_at r more)) (sym (ap (λ (r : RunState). record r { held = p.run.held }) is));
-  writes = (p.run.held, all, ap (λ (r : RunState). p.run.held ++ r.held) is);
-}
-
-pub flush_stops : (p q : Place) (size : ℕ) → Appends p.sent q.sent (take size p.run.held) → Stops done p q
-flush_stops p q size part = record { chances = []; size = size; writes = subst (λ t. Appends p.sent q.sent (take size t)) (sym (append-nil p.run.held)) part }
-
--- nothing is told, whatever is given
-pub gives_any : {A : Type 0} (v : A) (p q : Place) → Continues done done p q → Continues (gives v) (gives v) p q
-gives_any v p q one = record {
-  chances = one.chances;
-  text = one.text;
-  act_is = λ more. ap (λ (t : Told (Unit {0})). record { course = t.course; text = t.text; value = v }) (one.act_is more);
-  writes = one.writes;
-}
-
-pub stops_any : {A : Type 0} (v : A) (p q : Place) → Stops done p q → Stops (gives v) p q
-stops_any v p q stop = record { chances = stop.chances; size = stop.size; writes = stop.writes }
-
 -- a call that answers a fault stops
 pub runs_fault : {A E : Type 0} (act : Act A) (result : Result A E) (p q : Place) → IsErr result → Stops act p q → Runs act result p q
 runs_fault act (Ok v) p q is stop = absurd (cc is)
@@ -216,10 +173,6 @@ unfolding learned
 learns_not e part p q stop = stops_followed (happened e) (λ outcome. gives (part outcome)) p q stop
 
 -- ---- loops
-
--- what is left of a list begins with the next one
-first_left : {A : Type 0} (xs : List A) (i : ℕ) (x : A) → i < length xs → x ≡ get_or xs i x → drop i xs ≡ x ∷ drop (i + 1) xs
-first_left xs i x lt is = drop_more xs i x lt ∙ ap (λ y. y ∷ drop (i + 1) xs) (sym is)
 
 pub each_next : {A : Type 0} (act : A → Act (Unit {0})) (xs : List A) (i : ℕ) (x : A) (p q r : Place) → i < length xs → x ≡ get_or xs i x
     → Continues (each act xs) (each act (drop i xs)) p q → Continues (act x) done q r → Continues (each act xs) (each act (drop (i + 1) xs)) p r

@@ -1,4 +1,5 @@
 pub mod WriteLemmas
+pub mod PrintLemmas
 pub mod ActLemmas
 pub mod RunLemmas
 pub mod OpenedLemmas

@@ -7,14 +7,14 @@ use Rattle.cns_report.specs.declared.line.Line.TheVariants as line
 use Rattle.cns_system.specs.declared.event.Event.TheVariants as event
 use Rattle.cns_batch.specs.Acts.{Act, done, followed, tells}
 use Rattle.cns_batch.specs.Commands.{learned, opened_in}
-use Rattle.cns_batch.specs.Run.{begun, beside_begun, command_run, ended, line_counted, line_run, lines_run, waited}
+use Rattle.cns_batch.specs.Run.{begun, beside_begun, command_run, ended, ended_when_due, line_counted, line_run, lines_run, waited}
 use Rattle.cns_batch.specs.Runs.{Continues, Place, Runs, Stops, course_at}
 use Rattle.cns_input.specs.Script.{command_of}
 use Rattle.cns_input.specs.Sections.{line_size, line_text, raw_lines}
 use Rattle.cns_input.specs.declared.command.Command.{Command}
 use Rattle.cns_input.specs.declared.command.Command.TheVariants as command
 use Rattle.cns_batch.specs.declared.runner.Beside.{Beside}
-use Rattle.cns_batch.proofs.ActLemmas.{continues_more, followed_gives, runs_as, stops_after, stops_followed}
+use Rattle.cns_batch.proofs.ActLemmas.{continues_more, followed_gives, moves, runs_as, stops_after, stops_followed}
 use Rattle.cns_input.proofs.SectionLemmas.{lines_step}
 
 -- a line that is neither passed over nor opens a lot beside others
@@ -31,6 +31,15 @@ line_plain n (command.Fail name stands) skip beside = refl
 line_plain n command.Pump skip beside = refl
 line_plain n command.Report skip beside = refl
 line_plain n command.Bad skip beside = refl
+
+none_waits : (waits : Option Beside) → is_some waits ≡ false → waits ≡ None
+none_waits None is = refl
+none_waits (Some beside) is = absurd (cc is)
+
+-- no line is counted where no lot waits
+pub counts_none : (p : Place) → is_some p.run.beside ≡ false → Continues line_counted done p p
+unfolding line_counted ended_when_due
+counts_none p none = moves line_counted done p p (λ more. rw (none_waits p.run.beside none) refl) refl refl
 
 -- BESIDE where a lot waits, and where none does
 begun_again : (waits : Option Beside) (n issue lines : ℕ) → is_some waits ≡ true → begun waits n issue lines ≡ followed (tells (line_bytes (line.BadCommand n))) (λ _. line_counted)

@@ -8,6 +8,24 @@ use Rattle.cns_system.specs.World.{World}
 use Rattle.cns_batch.specs.Acts.{Act, Course, after_text, gives}
 use Rattle.cns_batch.specs.declared.runner.Beside.{Beside}
 
+-- what was told and is not yet written, and what its writer holds
+pub record Output : Type 0 where
+  pub held : List ℕ
+  pub sent : Option (List ℕ)
+
+-- a text was told: a part of what is told is written, and the rest is held
+abbrev pub Writes : List ℕ → Output → Output → Type 0
+Writes text old new = (part : List ℕ) × Appends old.sent new.sent part × (part ++ new.held ≡ old.held ++ text)
+
+-- a first part of what is held and of a text was written
+abbrev pub BreaksOff : List ℕ → Output → Option (List ℕ) → Type 0
+BreaksOff text old sent = (size : ℕ) × Appends old.sent sent (take size (old.held ++ text))
+
+-- a call tells a text, or breaks off
+abbrev pub Prints : {E : Type 0} → List ℕ → Result (Unit {0}) E → Output → Output → Type 0
+Prints text (Ok _) old new = Writes text old new
+Prints text (Err e) old new = BreaksOff text old new.sent
+
 -- both nodes and the link, the rows that are not taken, the lot that waits to be served, and what was told and is not yet written
 pub record RunState : Type 0 where
   pub world : World
@@ -24,16 +42,15 @@ pub record Place : Type 0 where
 abbrev pub course_at : RunState → List Chance → Course
 course_at r chances = record { scene = scene_of r.world; rows = r.rows; beside = r.beside; chances = chances }
 
--- a text was told: a part of what is told is written, and the rest is held
-abbrev pub Writes : List ℕ → Place → Place → Type 0
-Writes text old new = (part : List ℕ) × Appends old.sent new.sent part × (part ++ new.run.held ≡ old.run.held ++ text)
+abbrev pub output_at : Place → Output
+output_at p = record { held = p.run.held; sent = p.sent }
 
 -- an act has come so far that another one is left of it
 pub record Continues {A : Type 0} (act left : Act A) (old new : Place) : Type 0 where
   pub chances : List Chance
   pub text : List ℕ
   pub act_is : (more : List Chance) → act (course_at old.run (chances ++ more)) ≡ after_text text (left (course_at new.run more))
-  pub writes : Writes text old new
+  pub writes : Writes text (output_at old) (output_at new)
 
 -- a first part of what is held and of what an act tells was written
 pub record Stops {A : Type 0} (act : Act A) (old new : Place) : Type 0 where

@@ -10,6 +10,7 @@ ghost use Rattle.cns_batch.specs.Text.{BatchLeaves, KeptLeaves, RunsInput, Tells
 
 use crate::fault::Told;
 use crate::opening::take_openings;
+use crate::page::Page;
 use crate::runner::Runner;
 use cns_depository::Openings;
 use cns_input::{BatchFault, Steps, read_input, split_input};
@@ -188,7 +189,7 @@ fn run_input<C: Keeper + Drop, D: Keeper + Drop, W: Write>(
             };
         }
     };
-    let mut runner = Runner::new(alloc, system, trades, told);
+    let mut runner = Runner::new(alloc, system, trades, Page::new(told));
     let ran = run_whole(&mut runner, script, writer);
     let (clear, depot) = runner.into_keepers();
     Kept {

@@ -3,7 +3,7 @@
 ghost use Rattle.std.specs.Prelude.{◌≡◌};
 ghost use Rattle.cns_system.specs.declared.event.Event.TheVariants as event;
 ghost use Rattle.cns_batch.specs.Acts.{each, times};
-ghost use Rattle.cns_batch.specs.Commands.{all_taken, allocated, ends_with, event_run, failed, is_busy as is_busy_of, is_refused, learned, looked, names_busy as names_busy_of, next_taken, opened_in, order_pumped, pumped, pumped_one, reply_packet, reply_pumped, reported, reserved, sent_packet, served, served_if_open, taken};
+ghost use Rattle.cns_batch.specs.Commands.{all_taken, allocated, ends_with, event_run, failed, is_busy as is_busy_of, is_refused, learned, looked, names_busy as names_busy_of, next_taken, opened_in, order_pumped, pumped, pumped_one, reply_packet, reply_pumped, reserved, sent_packet, served, served_if_open, taken};
 ghost use Rattle.cns_batch.specs.Runs.{Runs};
 
 use crate::fault::Told;
@@ -298,13 +298,5 @@ impl<C: Keeper, D: Keeper> Runner<C, D> {
             return self.tell(Line::FailurePlanned, writer);
         }
         self.tell(Line::FailureNotPlanned, writer)
-    }
-
-    /// Tells the report.
-    pub(crate) fn report<W: Write>(&mut self, writer: &mut W) -> Told
-        ensures { Runs reported result (record { run = self.old; sent = W.contents writer.old }) (record { run = self.new; sent = W.contents writer.new }) }
-    {
-        self.write_report()?;
-        self.flush_when_full(writer)
     }
 }

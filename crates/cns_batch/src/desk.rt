@@ -137,10 +137,9 @@ impl<'a, C: Keeper, D: Keeper, G: Gate + Sync, R: Threads + Wait + Sync> DeskRun
     // Tells the report.
     fn report<W: Write>(&mut self, writer: &mut W) -> Told {
         let floor = self.desk.lock(self.rt);
-        let told = self.page.report(self.alloc, floor.system());
+        let told = self.page.report(self.alloc, floor.system(), writer);
         drop(floor);
-        told?;
-        self.page.flush_when_full(writer)
+        told
     }
 
     // Opens a lot of an issue, and lets workers serve it.

@@ -67,6 +67,9 @@ impl<C: Keeper, D: Keeper> Runner<C, D> {
     fn count_line<W: Write>(&mut self, writer: &mut W) -> Told
         ensures { Runs line_counted result (record { run = self.old; sent = W.contents writer.old }) (record { run = self.new; sent = W.contents writer.new }) }
     {
+        if !self.is_beside() {
+            return Ok(());
+        }
         let beside = self.take_beside();
         self.set_beside(one_line_fewer(beside));
         self.end_when_due(writer)

@@ -1,15 +1,35 @@
-//! What a run with workers told and has not yet written.
+//! What a run told and has not yet written.
+
+ghost use Rattle.std.specs.Prelude.{◌≡◌, [], OnOk, string_bytes};
+ghost use Rattle.cns_report.specs.Lines.{line_text, lines_of};
+ghost use Rattle.cns_report.specs.Outcomes.{outcome_line};
+ghost use Rattle.cns_report.specs.Report.{balance_lines, cycle_report_text, report_end, report_head};
+ghost use Rattle.cns_clearing.specs.Books.{history_of, latest_of, orders_of};
+ghost use Rattle.cns_clearing.specs.Pools.{rows_of as pools_of};
+ghost use Rattle.cns_depository.specs.Balances.{balance_rows};
+ghost use Rattle.cns_netting.specs.Rows.{rows_of};
+ghost use Rattle.cns_system.specs.Shown.{shown_of};
+ghost use Rattle.cns_batch.specs.Commands.{report_text};
+ghost use Rattle.cns_batch.specs.Runs.{Prints};
 
 use crate::fault::Told;
 use crate::output::write_text;
-use crate::runner::{FULL, add_report};
-use cns_ids::Cusip;
+use cns_clearing::Clearing;
+use cns_depository::Depository;
+use cns_ids::{Cusip, CycleId};
 use cns_journal::Keeper;
 use cns_records::Refusal;
-use cns_report::{Line, LotLine, Subject, outcome_line, write_line, write_orders};
+use cns_report::{
+    Line, LotLine, Subject, TextRow, line_of, orders_of, write_line, write_report_end,
+    write_report_head,
+};
 use cns_system::{Allocated, Cut, Drawn, Event, Outcome, System};
 use std::alloc::{AllocError, Global};
 use std::io::Write;
+use std::marker::Model;
+
+// How many bytes of text are held at most before they are written, beside those of one line.
+const FULL: usize = 65_536;
 
 // The refusal that tells what cut workers off.
 fn refusal_of(cut: Cut) -> Refusal {
@@ -19,44 +39,43 @@ fn refusal_of(cut: Cut) -> Refusal {
     }
 }
 
-// Adds what entering a ticket, or ending a lot, came to. A seal is not told unless it is refused.
-fn add_entered(text: &mut String, command: Subject, outcome: &Outcome) -> Result<(), AllocError> {
-    match outcome {
-        Outcome::Drawn(ticket) => write_line(text, Line::Lot(LotLine::Drawn(*ticket))),
-        Outcome::Closed(closed) => {
-            let granted = closed.granted;
-            write_line(text, Line::Lot(LotLine::Closed { granted }))?;
-            write_orders(text, closed.orders.as_slice())
-        }
-        Outcome::Refused(refusal) => {
-            let (subject, refusal) = (command, *refusal);
-            write_line(text, Line::Refused { subject, refusal })
-        }
-        _ => Ok(()),
-    }
-}
-
-/// A text that is written where it has grown much, and at the end.
+/// A text that is written where it has grown much, and at the end. Contracts see what was told and is not
+/// yet written.
 #[derive(Drop)]
 pub(crate) struct Page {
     text: String,
 }
 
+impl Model for Page {
+    ghost use Rattle.std.specs.Prelude.{List, ℕ, string_bytes};
+
+    ghost Value = { List ℕ };
+
+    ghost view = { λ p. string_bytes p.text };
+}
+
 impl Page {
     /// A text that is to be written first.
-    pub(crate) fn new(text: String) -> Page {
+    pub(crate) fn new(text: String) -> Page
+        ensures { result ≡ string_bytes text }
+    {
         Page { text }
     }
 
     /// Writes what was told.
-    pub(crate) fn flush<W: Write>(&mut self, writer: &mut W) -> Told {
+    pub(crate) fn flush<W: Write>(&mut self, writer: &mut W) -> Told
+        ensures prints { Prints [] result (record { held = self.old; sent = W.contents writer.old }) (record { held = self.new; sent = W.contents writer.new }) }
+        ensures none { OnOk result (self.new ≡ []) }
+    {
         write_text(writer, self.text.as_bytes())?;
         self.text.clear();
         Ok(())
     }
 
     /// Writes what was told where that is much.
-    pub(crate) fn flush_when_full<W: Write>(&mut self, writer: &mut W) -> Told {
+    fn flush_when_full<W: Write>(&mut self, writer: &mut W) -> Told
+        ensures { Prints [] result (record { held = self.old; sent = W.contents writer.old }) (record { held = self.new; sent = W.contents writer.new }) }
+    {
         if self.text.len() < FULL {
             return Ok(());
         }
@@ -69,13 +88,20 @@ impl Page {
         event: &Event,
         outcome: &Outcome,
         writer: &mut W,
-    ) -> Told {
-        outcome_line(&mut self.text, event, outcome)?;
-        self.flush_when_full(writer)
+    ) -> Told
+        ensures { Prints (outcome_line event.now outcome.now) result (record { held = self.old; sent = W.contents writer.old }) (record { held = self.new; sent = W.contents writer.new }) }
+    {
+        let Some(line) = line_of(event, outcome) else {
+            return Ok(());
+        };
+        self.tell(line, writer)?;
+        self.rows(orders_of(outcome), writer)
     }
 
     /// Tells a line.
-    pub(crate) fn tell<W: Write>(&mut self, line: Line, writer: &mut W) -> Told {
+    pub(crate) fn tell<W: Write>(&mut self, line: Line, writer: &mut W) -> Told
+        ensures { Prints (line_text line) result (record { held = self.old; sent = W.contents writer.old }) (record { held = self.new; sent = W.contents writer.new }) }
+    {
         write_line(&mut self.text, line)?;
         self.flush_when_full(writer)
     }
@@ -90,13 +116,76 @@ impl Page {
         self.tell(line, writer)
     }
 
-    /// Tells the report of both nodes; it is not yet written.
-    pub(crate) fn report<C: Keeper, D: Keeper>(
+    // Tells the lines of rows.
+    fn rows<R: TextRow, W: Write>(&mut self, rows: &[R], writer: &mut W) -> Told
+        ensures { Prints (lines_of R.line rows.now) result (record { held = self.old; sent = W.contents writer.old }) (record { held = self.new; sent = W.contents writer.new }) }
+    {
+        for row in rows {
+            row.write(&mut self.text)?;
+            self.flush_when_full(writer)?;
+        }
+        Ok(())
+    }
+
+    // Tells the first line of the report.
+    fn report_head<W: Write>(&mut self, latest: Option<CycleId>, writer: &mut W) -> Told
+        ensures { Prints (report_head latest) result (record { held = self.old; sent = W.contents writer.old }) (record { held = self.new; sent = W.contents writer.new }) }
+    {
+        write_report_head(&mut self.text, latest)?;
+        self.flush_when_full(writer)
+    }
+
+    // Tells the last line of the report.
+    fn report_end<W: Write>(&mut self, writer: &mut W) -> Told
+        ensures { Prints report_end result (record { held = self.old; sent = W.contents writer.old }) (record { held = self.new; sent = W.contents writer.new }) }
+    {
+        write_report_end(&mut self.text)?;
+        self.flush_when_full(writer)
+    }
+
+    // Tells the clearing node's part of the report.
+    fn cycle_report<C: Keeper, W: Write>(
+        &mut self,
+        alloc: Global,
+        clearing: &Clearing<C>,
+        writer: &mut W,
+    ) -> Told
+        ensures { Prints (cycle_report_text (latest_of clearing.now.log.records) (rows_of (history_of clearing.now.log.records)) (pools_of (orders_of clearing.now.log.records) clearing.now.lots))
+            result (record { held = self.old; sent = W.contents writer.old }) (record { held = self.new; sent = W.contents writer.new }) }
+    {
+        self.report_head(clearing.latest(), writer)?;
+        let positions = clearing.book().rows()?;
+        self.rows(positions.as_slice(), writer)?;
+        drop(positions);
+        let pools = clearing.pools(alloc)?;
+        self.rows(pools.as_slice(), writer)
+    }
+
+    // Tells the depository's part of the report.
+    fn balance_report<D: Keeper, W: Write>(
+        &mut self,
+        alloc: Global,
+        depository: &Depository<D>,
+        writer: &mut W,
+    ) -> Told
+        ensures { Prints (balance_lines (balance_rows depository.now.openings depository.now.log.records)) result (record { held = self.old; sent = W.contents writer.old }) (record { held = self.new; sent = W.contents writer.new }) }
+    {
+        let balances = depository.balances(alloc)?;
+        self.rows(balances.as_slice(), writer)
+    }
+
+    /// Tells the report of both nodes. Its rows are told one by one, so that it is never held whole.
+    pub(crate) fn report<C: Keeper, D: Keeper, W: Write>(
         &mut self,
         alloc: Global,
         system: &System<C, D>,
-    ) -> Result<(), AllocError> {
-        add_report(&mut self.text, alloc, system)
+        writer: &mut W,
+    ) -> Told
+        ensures { Prints (report_text (shown_of system.now)) result (record { held = self.old; sent = W.contents writer.old }) (record { held = self.new; sent = W.contents writer.new }) }
+    {
+        self.cycle_report(alloc, system.clearing(), writer)?;
+        self.balance_report(alloc, system.depository(), writer)?;
+        self.report_end(writer)
     }
 
     /// Tells that a lot was opened, by its number, the shares that were poured into it and its longs; it is
@@ -110,10 +199,21 @@ impl Page {
         write_line(&mut self.text, Line::Lot(opened))
     }
 
-    // Tells what entering a ticket, or ending a lot, came to.
+    // Tells what entering a ticket, or ending a lot, came to. A seal is not told unless it is refused.
     fn entered<W: Write>(&mut self, command: Subject, outcome: &Outcome, writer: &mut W) -> Told {
-        add_entered(&mut self.text, command, outcome)?;
-        self.flush_when_full(writer)
+        match outcome {
+            Outcome::Drawn(ticket) => self.tell(Line::Lot(LotLine::Drawn(*ticket)), writer),
+            Outcome::Closed(closed) => {
+                let granted = closed.granted;
+                self.tell(Line::Lot(LotLine::Closed { granted }), writer)?;
+                self.rows(closed.orders.as_slice(), writer)
+            }
+            Outcome::Refused(refusal) => {
+                let (subject, refusal) = (command, *refusal);
+                self.tell(Line::Refused { subject, refusal }, writer)
+            }
+            _ => Ok(()),
+        }
     }
 
     // Tells what entering tickets came to.

@@ -1,28 +1,22 @@
-ghost use Rattle.std.specs.Prelude.{◌≡◌, ◌++◌, [], None, OnOk, is_some, length, string_bytes};
+ghost use Rattle.std.specs.Prelude.{◌≡◌, [], None, OnOk, is_some, length};
 ghost use Rattle.cns_report.specs.Lines.{line_text};
 ghost use Rattle.cns_records.specs.Clear.{spelling};
 ghost use Rattle.cns_records.specs.Dep.{dep_spelling};
-ghost use Rattle.cns_system.specs.Shown.{shown_of};
 ghost use Rattle.cns_system.specs.Start.{IsGivenUp};
 ghost use Rattle.cns_batch.specs.Acts.{done, happened, single, tells};
-ghost use Rattle.cns_batch.specs.Commands.{report_text};
+ghost use Rattle.cns_batch.specs.Commands.{reported};
 ghost use Rattle.cns_batch.specs.Runs.{IsNextRow, IsPlanned, Runs};
 
 use crate::fault::Told;
-use crate::output::write_text;
+use crate::page::Page;
 use crate::untaken::Untaken;
 use cns_journal::Keeper;
-use cns_report::{
-    Line, outcome_line, write_balance_report, write_cycle_report, write_line, write_report_end,
-};
+use cns_report::Line;
 use cns_system::{Event, NodeName, Opened, Outcome, System};
 use cns_trades::Row;
-use std::alloc::{AllocError, Global};
+use std::alloc::Global;
 use std::io::Write;
 use std::marker::Model;
-
-// How many bytes of text are held at most before they are written, beside those of one outcome.
-pub(crate) const FULL: usize = 65_536;
 
 /// The lot that a command opened beside the next lines, where it was opened, and how many of these
 /// lines are still to run before it is served.
@@ -39,12 +33,11 @@ pub(crate) struct Runner<C: Keeper, D: Keeper> {
     pub(crate) system: System<C, D>,
     trades: Untaken,
     pub(crate) beside: Option<Beside>,
-    pub(crate) text: String,
+    page: Page,
     pub(crate) alloc: Global,
 }
 
 impl<C: Keeper, D: Keeper> Model for Runner<C, D> {
-    ghost use Rattle.std.specs.Prelude.{string_bytes};
     ghost use Rattle.cns_batch.specs.Runs.{RunState};
 
     ghost Value = { RunState };
@@ -53,7 +46,7 @@ impl<C: Keeper, D: Keeper> Model for Runner<C, D> {
       world = r.system;
       rows = r.trades;
       beside = r.beside;
-      held = string_bytes r.text;
+      held = r.page;
     } };
 }
 
@@ -70,20 +63,20 @@ impl<C: Keeper + Drop, D: Keeper + Drop> Runner<C, D> {
 }
 
 impl<C: Keeper, D: Keeper> Runner<C, D> {
-    /// Both nodes, no row taken yet, and a text that is to be written first.
+    /// Both nodes, no row taken yet, and a page with what is to be written first.
     pub(crate) fn new(
         alloc: Global,
         system: System<C, D>,
         trades: Vec<Row>,
-        text: String,
+        page: Page,
     ) -> Runner<C, D>
-        ensures { result ≡ record { world = system; rows = trades.items; beside = None; held = string_bytes text } }
+        ensures { result ≡ record { world = system; rows = trades.items; beside = None; held = page } }
     {
         Runner {
             system,
             trades: Untaken::of(trades),
             beside: None,
-            text,
+            page,
             alloc,
         }
     }
@@ -93,19 +86,7 @@ impl<C: Keeper, D: Keeper> Runner<C, D> {
         ensures runs { Runs done result (record { run = self.old; sent = W.contents writer.old }) (record { run = self.new; sent = W.contents writer.new }) }
         ensures none { OnOk result (self.new.held ≡ []) }
     {
-        write_text(writer, self.text.as_bytes())?;
-        self.text.clear();
-        Ok(())
-    }
-
-    /// Writes what was told where that is much.
-    pub(crate) fn flush_when_full<W: Write>(&mut self, writer: &mut W) -> Told
-        ensures { Runs done result (record { run = self.old; sent = W.contents writer.old }) (record { run = self.new; sent = W.contents writer.new }) }
-    {
-        if self.text.len() < FULL {
-            return Ok(());
-        }
-        self.flush(writer)
+        self.page.flush(writer)
     }
 
     /// Lets an event happen, and tells and answers its outcome.
@@ -113,8 +94,7 @@ impl<C: Keeper, D: Keeper> Runner<C, D> {
         ensures { Runs (happened event) result (record { run = self.old; sent = W.contents writer.old }) (record { run = self.new; sent = W.contents writer.new }) }
     {
         let outcome = self.system.step(event);
-        outcome_line(&mut self.text, &event, &outcome)?;
-        self.flush_when_full(writer)?;
+        self.page.outcome(&event, &outcome, writer)?;
         Ok(outcome)
     }
 
@@ -130,8 +110,14 @@ impl<C: Keeper, D: Keeper> Runner<C, D> {
     pub(crate) fn tell<W: Write>(&mut self, line: Line, writer: &mut W) -> Told
         ensures { Runs (tells (line_text line)) result (record { run = self.old; sent = W.contents writer.old }) (record { run = self.new; sent = W.contents writer.new }) }
     {
-        write_line(&mut self.text, line)?;
-        self.flush_when_full(writer)
+        self.page.tell(line, writer)
+    }
+
+    /// Tells the report.
+    pub(crate) fn report<W: Write>(&mut self, writer: &mut W) -> Told
+        ensures { Runs reported result (record { run = self.old; sent = W.contents writer.old }) (record { run = self.new; sent = W.contents writer.new }) }
+    {
+        self.page.report(self.alloc, &self.system, writer)
     }
 
     /// Takes the next row, where one is left.
@@ -176,33 +162,4 @@ impl<C: Keeper, D: Keeper> Runner<C, D> {
     {
         self.beside = beside;
     }
-
-    /// Adds the report to what is told.
-    pub(crate) fn write_report(&mut self) -> Result<(), AllocError>
-        ensures { OnOk result (self.new ≡ record self.old { held = self.old.held ++ report_text (shown_of self.old.world) }) }
-    {
-        add_report(&mut self.text, self.alloc, &self.system)
-    }
-}
-
-/// Adds the report of both nodes to a text.
-pub(crate) fn add_report<C: Keeper, D: Keeper>(
-    text: &mut String,
-    alloc: Global,
-    system: &System<C, D>,
-) -> Result<(), AllocError>
-    ensures { OnOk result (string_bytes text.new ≡ string_bytes text.old ++ report_text (shown_of system.now)) }
-{
-    let clearing = system.clearing();
-    let positions = clearing.book().rows()?;
-    let pools = clearing.pools(alloc)?;
-    write_cycle_report(
-        text,
-        clearing.latest(),
-        positions.as_slice(),
-        pools.as_slice(),
-    )?;
-    let balances = system.depository().balances(alloc)?;
-    write_balance_report(text, balances.as_slice())?;
-    write_report_end(text)
 }

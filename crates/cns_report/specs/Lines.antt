@@ -19,6 +19,11 @@ use Rattle.cns_report.specs.declared.line.OrderLine.TheVariants as order
 abbrev pub line_end : List ℕ
 line_end = 10 ∷ []
 
+-- a line for each of a list, one after another
+unfoldable pub lines_of : {A : Type 0} → (A → List ℕ) → List A → List ℕ
+lines_of line [] = []
+lines_of line (x ∷ xs) = line x ++ lines_of line xs
+
 abbrev pub yes_or_no : Bool → List ℕ
 yes_or_no true = codes "yes"
 yes_or_no false = codes "no"
@@ -39,9 +44,11 @@ order_line_text (order.Confirmed r) = codes "confirm " ++ decimal r.number ++ co
 order_line_text (order.ConfirmedAgain r) = codes "confirm " ++ decimal r.number ++ codes " moved " ++ decimal r.moved ++ codes " again" ++ line_end
 
 -- lines of orders, one after another
-unfoldable pub order_lines : List Order → List ℕ
-order_lines [] = []
-order_lines (o ∷ orders) = order_line_text (order.Ordered o) ++ order_lines orders
+abbrev pub ordered_line : Order → List ℕ
+ordered_line o = order_line_text (order.Ordered o)
+
+abbrev pub order_lines : List Order → List ℕ
+order_lines = lines_of ordered_line
 
 unfoldable pub lot_line_text : LotLine → List ℕ
 -- lot N poured Q longs N

@@ -1,8 +1,6 @@
 -- What is told of an event and what it came to (this project's own format). An outcome that the event never has tells nothing.
 use Rattle.std.specs.Prelude.{ℕ, Bool, List, [], ◌++◌, length, Option, Some, None, option_map}
 use Rattle.std.specs.Option.{option_or}
-use Rattle.cns_clearing.specs.declared.answer.Closed.{Closed}
-use Rattle.cns_clearing.specs.declared.answer.Cycled.{Cycled}
 use Rattle.cns_movements.specs.declared.order.Order.{Order}
 use Rattle.cns_records.specs.declared.refusal.Refusal.{Refusal}
 use Rattle.cns_system.specs.declared.event.Event.{Event}

@@ -1,5 +1,5 @@
 -- The report (this project's own format).
-use Rattle.std.specs.Prelude.{ℕ, List, [], ◌∷◌, ◌++◌, codes, Option, Some, None}
+use Rattle.std.specs.Prelude.{ℕ, List, ◌∷◌, ◌++◌, codes, Option, Some, None}
 use Rattle.std.specs.Fmt.{decimal, signed_decimal}
 use Rattle.cns_ids.specs.Cusip.{cusip_text}
 use Rattle.cns_ids.specs.Cycle.{kind_text}
@@ -11,7 +11,7 @@ use Rattle.cns_clearing.specs.declared.pools.PoolRow.{PoolRow}
 use Rattle.cns_depository.specs.declared.account.Account.{Account}
 use Rattle.cns_depository.specs.declared.account.Account.TheVariants.{Cns, Member}
 use Rattle.cns_depository.specs.declared.balances.BalanceRow.{BalanceRow}
-use Rattle.cns_report.specs.Lines.{line_end}
+use Rattle.cns_report.specs.Lines.{line_end, lines_of}
 use Rattle.cns_report.specs.Right.{right_20}
 
 -- REPORT cycle none, or: REPORT cycle DATE KIND
@@ -23,20 +23,12 @@ report_head (Some cycle) = codes "REPORT cycle " ++ day_text cycle.day ++ 32 ∷
 unfoldable pub position_line : PositionRow → List ℕ
 position_line row = codes "POS " ++ cusip_text row.issue ++ 32 ∷ member_text row.member ++ 32 ∷ right_20 (signed_decimal row.position) ++ line_end
 
-unfoldable pub position_lines : List PositionRow → List ℕ
-position_lines [] = []
-position_lines (row ∷ rows) = position_line row ++ position_lines rows
-
 -- POOL CUSIP free Q lent Q out Q
 unfoldable pub pool_line : PoolRow → List ℕ
 pool_line row = codes "POOL " ++ cusip_text row.issue ++ codes " free " ++ decimal row.free ++ codes " lent " ++ decimal row.lent ++ codes " out " ++ decimal row.out ++ line_end
 
-unfoldable pub pool_lines : List PoolRow → List ℕ
-pool_lines [] = []
-pool_lines (row ∷ rows) = pool_line row ++ pool_lines rows
-
 unfoldable pub cycle_report_text : Option CycleId → List PositionRow → List PoolRow → List ℕ
-cycle_report_text latest positions pools = report_head latest ++ position_lines positions ++ pool_lines pools
+cycle_report_text latest positions pools = report_head latest ++ lines_of position_line positions ++ lines_of pool_line pools
 
 -- an account's four digits
 abbrev pub account_text : Account → List ℕ
@@ -47,9 +39,8 @@ account_text (Member m) = member_text m
 unfoldable pub balance_line : BalanceRow → List ℕ
 balance_line row = codes "BAL " ++ cusip_text row.issue ++ 32 ∷ account_text row.account ++ 32 ∷ right_20 (decimal row.shares) ++ line_end
 
-unfoldable pub balance_lines : List BalanceRow → List ℕ
-balance_lines [] = []
-balance_lines (row ∷ rows) = balance_line row ++ balance_lines rows
+abbrev pub balance_lines : List BalanceRow → List ℕ
+balance_lines = lines_of balance_line
 
 unfoldable pub report_end : List ℕ
 report_end = codes "END" ++ line_end

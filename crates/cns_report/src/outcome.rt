@@ -32,8 +32,8 @@ pub fn outcome_line(out: &mut String, event: &Event, outcome: &Outcome) -> Resul
     out.push_str(&lines)
 }
 
-// The orders that a cycle or a close made.
-fn orders_of(outcome: &Outcome) -> &[Order]
+/// The orders that a cycle or a close made; none of another outcome.
+pub fn orders_of(outcome: &Outcome) -> &[Order]
     ensures { result.now ≡ orders_of outcome.now }
 {
     match outcome {
@@ -43,8 +43,9 @@ fn orders_of(outcome: &Outcome) -> &[Order]
     }
 }
 
-// The line of an event and what it came to, before those of orders.
-fn line_of(event: &Event, outcome: &Outcome) -> Option<Line>
+/// The line of an event and what it came to, before those of orders. There is none of an outcome that the
+/// event never has.
+pub fn line_of(event: &Event, outcome: &Outcome) -> Option<Line>
     ensures { result ≡ line_of event.now outcome.now }
 {
     match outcome {

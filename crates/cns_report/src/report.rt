@@ -1,17 +1,68 @@
 ghost use Rattle.std.specs.Prelude.{◌≡◌, ◌++◌, OnOk, OnErr, string_bytes};
-ghost use Rattle.cns_report.specs.Report.{report_head, position_line, position_lines, pool_line, pool_lines, balance_line, balance_lines, cycle_report_text, report_end};
+ghost use Rattle.cns_report.specs.Report.{report_head, balance_lines, cycle_report_text, report_end};
 
 use crate::account::AccountName;
 use crate::position::{RightIn20, SharesIn20};
+use crate::row::{TextRow, write_rows};
 use cns_clearing::PoolRow;
 use cns_depository::BalanceRow;
 use cns_ids::CycleId;
 use cns_netting::PositionRow;
 use std::alloc::AllocError;
 
-// The first line: the latest recorded cycle.
+/// A position, right in 20 places.
+impl TextRow for PositionRow {
+    ghost use Rattle.cns_report.specs.Report.{position_line};
+
+    ghost line = { position_line };
+
+    #[tactic(auto, unfolding(crate::specs::Report::position_line))]
+    fn write(&self, out: &mut String) -> Result<(), AllocError> {
+        let issue = self.issue;
+        let member = self.member;
+        let position = RightIn20(self.position);
+        write!(out, "POS {issue} {member} {position}\n")
+    }
+}
+
+/// The shares of a pool: free, lent and out.
+impl TextRow for PoolRow {
+    ghost use Rattle.cns_report.specs.Report.{pool_line};
+
+    ghost line = { pool_line };
+
+    #[tactic(auto, unfolding(crate::specs::Report::pool_line))]
+    fn write(&self, out: &mut String) -> Result<(), AllocError> {
+        let issue = self.issue;
+        let free = self.free;
+        let lent = self.lent;
+        let shares_out = self.out;
+        write!(
+            out,
+            "POOL {issue} free {free} lent {lent} out {shares_out}\n"
+        )
+    }
+}
+
+/// A balance, right in 20 places.
+impl TextRow for BalanceRow {
+    ghost use Rattle.cns_report.specs.Report.{balance_line};
+
+    ghost line = { balance_line };
+
+    #[tactic(auto, unfolding(crate::specs::Report::balance_line))]
+    fn write(&self, out: &mut String) -> Result<(), AllocError> {
+        let issue = self.issue;
+        let account = AccountName(self.account);
+        let shares = SharesIn20(self.shares);
+        write!(out, "BAL {issue} {account} {shares}\n")
+    }
+}
+
+/// The report's first line: the latest recorded cycle. Where memory is wanting, a part of the line may
+/// stand in `out`.
 #[tactic(auto, unfolding(crate::specs::Report::report_head))]
-fn write_head(out: &mut String, latest: Option<CycleId>) -> Result<(), AllocError>
+pub fn write_report_head(out: &mut String, latest: Option<CycleId>) -> Result<(), AllocError>
     ensures { OnOk result (string_bytes out.new ≡ string_bytes out.old ++ report_head latest) }
 {
     match latest {
@@ -24,76 +75,14 @@ fn write_head(out: &mut String, latest: Option<CycleId>) -> Result<(), AllocErro
     }
 }
 
-// The line of a position, right in 20 places.
-#[tactic(auto, unfolding(crate::specs::Report::position_line))]
-fn write_position(out: &mut String, row: &PositionRow) -> Result<(), AllocError>
-    ensures { OnOk result (string_bytes out.new ≡ string_bytes out.old ++ position_line row.now) }
-{
-    let issue = row.issue;
-    let member = row.member;
-    let position = RightIn20(row.position);
-    write!(out, "POS {issue} {member} {position}\n")
-}
-
-// The lines of positions, one after another.
-#[tactic(auto, unfolding(crate::specs::Report::position_lines))]
-fn write_positions(out: &mut String, rows: &[PositionRow]) -> Result<(), AllocError>
-    ensures { OnOk result (string_bytes out.new ≡ string_bytes out.old ++ position_lines rows.now) }
-{
-    for row in rows {
-        write_position(out, row)?;
-    }
-    Ok(())
-}
-
-// The line of a pool.
-#[tactic(auto, unfolding(crate::specs::Report::pool_line))]
-fn write_pool(out: &mut String, row: &PoolRow) -> Result<(), AllocError>
-    ensures { OnOk result (string_bytes out.new ≡ string_bytes out.old ++ pool_line row.now) }
-{
-    let issue = row.issue;
-    let free = row.free;
-    let lent = row.lent;
-    let shares_out = row.out;
-    write!(
-        out,
-        "POOL {issue} free {free} lent {lent} out {shares_out}\n"
-    )
-}
-
-// The lines of pools, one after another.
-#[tactic(auto, unfolding(crate::specs::Report::pool_lines))]
-fn write_pools(out: &mut String, rows: &[PoolRow]) -> Result<(), AllocError>
-    ensures { OnOk result (string_bytes out.new ≡ string_bytes out.old ++ pool_lines rows.now) }
-{
-    for row in rows {
-        write_pool(out, row)?;
-    }
-    Ok(())
-}
-
-// The line of a balance, right in 20 places.
-#[tactic(auto, unfolding(crate::specs::Report::balance_line))]
-fn write_balance(out: &mut String, row: &BalanceRow) -> Result<(), AllocError>
-    ensures { OnOk result (string_bytes out.new ≡ string_bytes out.old ++ balance_line row.now) }
-{
-    let issue = row.issue;
-    let account = AccountName(row.account);
-    let shares = SharesIn20(row.shares);
-    write!(out, "BAL {issue} {account} {shares}\n")
-}
-
 /// The depository's part of the report: the balances other than 0, which the caller hands in by
 /// issue, then account.
-#[tactic(auto, unfolding(crate::specs::Report::balance_lines))]
 pub fn write_balance_report(out: &mut String, rows: &[BalanceRow]) -> Result<(), AllocError>
     ensures ok { OnOk result (string_bytes out.new ≡ string_bytes out.old ++ balance_lines rows.now) }
     ensures err { OnErr result (string_bytes out.new ≡ string_bytes out.old) }
 {
     let mut lines = String::new(*out.allocator());
-    for row in rows {
-        write_balance(&mut lines, row)?;
-    }
+    write_rows(&mut lines, rows)?;
     out.push_str(&lines)
 }
 
@@ -110,9 +99,9 @@ pub fn write_cycle_report(
     ensures err { OnErr result (string_bytes out.new ≡ string_bytes out.old) }
 {
     let mut report = String::new(*out.allocator());
-    write_head(&mut report, latest)?;
-    write_positions(&mut report, positions)?;
-    write_pools(&mut report, pools)?;
+    write_report_head(&mut report, latest)?;
+    write_rows(&mut report, positions)?;
+    write_rows(&mut report, pools)?;
     out.push_str(&report)
 }
 

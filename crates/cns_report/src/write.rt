@@ -2,6 +2,7 @@ ghost use Rattle.std.specs.Prelude.{◌≡◌, ◌++◌, OnOk, OnErr, string_byt
 ghost use Rattle.cns_report.specs.Lines.{line_text, order_lines};
 
 use crate::line::{Line, OrderLine};
+use crate::row::{TextRow, write_rows};
 use arrayvec::ArrayString;
 use cns_movements::Order;
 use std::alloc::AllocError;
@@ -24,16 +25,24 @@ pub fn write_line(out: &mut String, line: Line) -> Result<(), AllocError>
     out.push_str(text.as_str())
 }
 
+/// An order, as it was made.
+impl TextRow for Order {
+    ghost use Rattle.cns_report.specs.Lines.{ordered_line};
+
+    ghost line = { ordered_line };
+
+    fn write(&self, out: &mut String) -> Result<(), AllocError> {
+        let line = OrderLine::Ordered(*self);
+        write!(out, "{line}")
+    }
+}
+
 /// Adds the lines of orders, one after another, or nothing where memory is wanting.
-#[tactic(auto, unfolding(crate::specs::Lines::order_lines))]
 pub fn write_orders(out: &mut String, orders: &[Order]) -> Result<(), AllocError>
     ensures ok { OnOk result (string_bytes out.new ≡ string_bytes out.old ++ order_lines orders.now) }
     ensures err { OnErr result (string_bytes out.new ≡ string_bytes out.old) }
 {
     let mut lines = String::new(*out.allocator());
-    for order in orders {
-        let line = OrderLine::Ordered(*order);
-        write!(lines, "{line}")?;
-    }
+    write_rows(&mut lines, orders)?;
     out.push_str(&lines)
 }

@@ -1,0 +1,144 @@
+-- What is written of texts that are told one after another.
+use Rattle.std.proofs.Common.{◌≡◌, ◌<◌, ◌≤◌, ℕ, suc, zero, ◌+◌, get_or, List, [], ◌∷◌, ◌++◌, length, take, drop, Option, Some, None, Result, Ok, Err, refl, sym, ap, ◌∙◌, subst, append_assoc, arith}
+use Rattle.std.proofs.lemmas.List.{append-nil, drop_all, drop_more}
+use Rattle.std.specs.Result.{IsErr}
+use Rattle.std.specs.Io.KnownBytes.{Appends}
+use Rattle.cns_movements.specs.declared.order.Order.{Order}
+use Rattle.cns_system.specs.declared.event.Event.{Event}
+use Rattle.cns_system.specs.declared.outcome.Outcome.{Outcome}
+use Rattle.cns_report.specs.Lines.{line_text, lines_of, order_lines}
+use Rattle.cns_report.specs.Outcomes.{line_of, orders_of, outcome_line, with_orders}
+use Rattle.cns_report.specs.declared.line.Line.{Line}
+use Rattle.cns_batch.specs.Runs.{BreaksOff, Output, Prints, Writes}
+
+pub appends_nothing : (a : Option (List ℕ)) → Appends a a []
+appends_nothing None = tt
+appends_nothing (Some xs) = sym (append-nil xs)
+
+appends_more : (a b d : Option (List ℕ)) (s t : List ℕ) → Appends a b s → Appends b d t → Appends a d (s ++ t)
+appends_more None b d s t f g = tt
+appends_more (Some xs) None d s t f g = absurd f
+appends_more (Some xs) (Some ys) None s t f g = absurd g
+appends_more (Some xs) (Some ys) (Some zs) s t f g = g ∙ ap (λ l. l ++ t) f ∙ append_assoc xs s t
+
+pub writes_more : (p q r : Output) (s t : List ℕ) → Writes s p q → Writes t q r → Writes (s ++ t) p r
+writes_more p q r s t (one, a, e) (two, b, f) = (
+  one ++ two,
+  appends_more p.sent q.sent r.sent one two a b,
+  append_assoc one two r.held ∙ ap (λ l. one ++ l) f ∙ sym (append_assoc one q.held t) ∙ ap (λ l. l ++ t) e ∙ append_assoc p.held s t,
+)
+
+-- as much is at the front of a longer list
+take_front : (n : ℕ) (xs ys : List ℕ) → (m : ℕ) × (take m (xs ++ ys) ≡ take n xs)
+take_front zero xs ys = (0, refl)
+take_front (suc n) [] ys = (0, refl)
+take_front (suc n) (x ∷ xs) ys = let (m, e) = take_front n xs ys in (suc m, ap (λ l. x ∷ l) e)
+
+take_past : (n : ℕ) (xs ys : List ℕ) → take (length xs + n) (xs ++ ys) ≡ xs ++ take n ys
+take_past n [] ys = let none : 0 + n ≡ n = omega arith in ap (λ k. take k ys) none
+take_past n (x ∷ xs) ys =
+    let one : suc (length xs) + n ≡ suc (length xs + n) = omega arith in ap (λ k. take k (x ∷ (xs ++ ys))) one ∙ ap (λ l. x ∷ l) (take_past n xs ys)
+
+-- a text was told, and the next one breaks off
+pub breaks_after : (p q : Output) (sent : Option (List ℕ)) (s t : List ℕ) → Writes s p q → BreaksOff t q sent → BreaksOff (s ++ t) p sent
+breaks_after p q sent s t (part, a, e) (size, b) =
+    let all : p.held ++ (s ++ t) ≡ part ++ (q.held ++ t) = sym (append_assoc p.held s t) ∙ ap (λ l. l ++ t) (sym e) ∙ append_assoc part q.held t in (
+      length part + size,
+      subst (λ l. Appends p.sent sent l) (sym (ap (take (length part + size)) all ∙ take_past size part (q.held ++ t)))
+          (appends_more p.sent q.sent sent part (take size (q.held ++ t)) a b),
+    )
+
+-- the first of two texts breaks off
+pub breaks_front : (p : Output) (sent : Option (List ℕ)) (s t : List ℕ) → BreaksOff s p sent → BreaksOff (s ++ t) p sent
+breaks_front p sent s t (size, a) =
+    let (more, same) = take_front size (p.held ++ s) t in (more, subst (λ l. Appends p.sent sent l) (sym (ap (take more) (sym (append_assoc p.held s t)) ∙ same)) a)
+
+-- nothing of a text was written
+pub breaks_here : (text : List ℕ) (p : Output) → BreaksOff text p p.sent
+breaks_here text p = (0, appends_nothing p.sent)
+
+pub prints_after : {E : Type 0} (result : Result (Unit {0}) E) (p q r : Output) (s t : List ℕ) → Writes s p q → Prints t result q r → Prints (s ++ t) result p r
+prints_after (Ok u) p q r s t one two = writes_more p q r s t one two
+prints_after (Err e) p q r s t one two = breaks_after p q r.sent s t one two
+
+-- nothing is told
+pub prints_nothing : (p : Output) → Writes [] p p
+prints_nothing p = ([], appends_nothing p.sent, sym (append-nil p.held))
+
+-- a call that answers a fault breaks off
+pub prints_fault : {E : Type 0} (text : List ℕ) (result : Result (Unit {0}) E) (p q : Output) → IsErr result → BreaksOff text p q.sent → Prints text result p q
+prints_fault text (Ok u) p q is breaks = absurd (cc is)
+prints_fault text (Err e) p q is breaks = breaks
+
+-- what is held is written
+pub flush_writes : (p q : Output) → Appends p.sent q.sent p.held → q.held ≡ [] → Writes [] p q
+flush_writes p q all none = (p.held, all, ap (λ l. p.held ++ l) none)
+
+pub flush_breaks : (p : Output) (sent : Option (List ℕ)) (size : ℕ) → Appends p.sent sent (take size p.held) → BreaksOff [] p sent
+flush_breaks p sent size part = (size, subst (λ l. Appends p.sent sent (take size l)) (sym (append-nil p.held)) part)
+
+-- a text is held, and then written where much is held
+holds : (text : List ℕ) (p q : Output) → q ≡ record p { held = p.held ++ text } → Writes text p q
+holds text p q is = subst (λ q. Writes text p q) (sym is) ([], appends_nothing p.sent, refl)
+
+pub prints_held : {E : Type 0} (text : List ℕ) (result : Result (Unit {0}) E) (p q r : Output) → q ≡ record p { held = p.held ++ text } → Prints [] result q r → Prints text result p r
+prints_held text result p q r is flushed = subst (λ t. Prints t result p r) (append-nil text) (prints_after result p q r text [] (holds text p q is) flushed)
+
+pub held_writes : (text : List ℕ) (p q r : Output) → q ≡ record p { held = p.held ++ text } → Writes [] q r → Writes text p r
+held_writes text p q r is flushed = subst (λ t. Writes t p r) (append-nil text) (writes_more p q r text [] (holds text p q is) flushed)
+
+pub held_breaks : (text : List ℕ) (p q : Output) (sent : Option (List ℕ)) → q ≡ record p { held = p.held ++ text } → BreaksOff [] q sent → BreaksOff text p sent
+held_breaks text p q sent is flushed = subst (λ t. BreaksOff t p sent) (append-nil text) (breaks_after p q sent text [] (holds text p q is) flushed)
+
+-- ---- the line of an outcome and those of its orders
+
+pub prints_outcome : {E : Type 0} (e : Event) (o : Outcome) (line : Line) (orders : List Order) (result : Result (Unit {0}) E) (p q r : Output) → line_of e o ≡ Some line → orders ≡ orders_of o
+    → Writes (line_text line) p q → Prints (order_lines orders) result q r → Prints (outcome_line e o) result p r
+prints_outcome e o line orders result p q r some are one more =
+    subst (λ l. Prints (with_orders l (orders_of o)) result p r) (sym some)
+    (subst (λ os. Prints (line_text line ++ order_lines os) result p r) are (prints_after result p q r (line_text line) (order_lines orders) one more))
+
+pub half_outcome : (e : Event) (o : Outcome) (line : Line) (p : Output) (sent : Option (List ℕ)) → line_of e o ≡ Some line → BreaksOff (line_text line) p sent → BreaksOff (outcome_line e o) p sent
+half_outcome e o line p sent some one =
+    subst (λ l. BreaksOff (with_orders l (orders_of o)) p sent) (sym some) (breaks_front p sent (line_text line) (order_lines (orders_of o)) one)
+
+-- ---- rows, one after another
+
+-- what is left of a list begins with the next one
+pub first_left : {A : Type 0} (xs : List A) (i : ℕ) (x : A) → i < length xs → x ≡ get_or xs i x → drop i xs ≡ x ∷ drop (i + 1) xs
+first_left xs i x lt is = drop_more xs i x lt ∙ ap (λ y. y ∷ drop (i + 1) xs) (sym is)
+
+-- the lines of the first so many rows were told
+pub record AreTold {A : Type 0} (line : A → List ℕ) (rows : List A) (i : ℕ) (p q : Output) : Type 0 where
+  pub told : List ℕ
+  pub rest_is : told ++ lines_of line (drop i rows) ≡ lines_of line rows
+  pub writes : Writes told p q
+
+pub none_told : {A : Type 0} (line : A → List ℕ) (rows : List A) (p : Output) → AreTold line rows 0 p p
+none_told line rows p = record { told = []; rest_is = refl; writes = prints_nothing p }
+
+lines_left : {A : Type 0} (line : A → List ℕ) (rows : List A) (i : ℕ) (x : A) → i < length rows → x ≡ get_or rows i x
+    → lines_of line (drop i rows) ≡ line x ++ lines_of line (drop (i + 1) rows)
+unfolding lines_of
+lines_left line rows i x lt is = ap (lines_of line) (first_left rows i x lt is)
+
+pub row_told : {A : Type 0} (line : A → List ℕ) (rows : List A) (i : ℕ) (x : A) (p q r : Output) → i < length rows → x ≡ get_or rows i x
+    → AreTold line rows i p q → Writes (line x) q r → AreTold line rows (i + 1) p r
+row_told line rows i x p q r lt is so one = record {
+  told = so.told ++ line x;
+  rest_is = append_assoc so.told (line x) (lines_of line (drop (i + 1) rows)) ∙ ap (λ l. so.told ++ l) (sym (lines_left line rows i x lt is)) ∙ so.rest_is;
+  writes = writes_more p q r so.told (line x) so.writes one;
+}
+
+pub row_breaks : {A : Type 0} (line : A → List ℕ) (rows : List A) (i : ℕ) (x : A) (p q : Output) (sent : Option (List ℕ)) → i < length rows → x ≡ get_or rows i x
+    → AreTold line rows i p q → BreaksOff (line x) q sent → BreaksOff (lines_of line rows) p sent
+row_breaks line rows i x p q sent lt is so one =
+    let rest = lines_of line (drop (i + 1) rows) in
+    subst (λ l. BreaksOff l p sent) (ap (λ l. so.told ++ l) (sym (lines_left line rows i x lt is)) ∙ so.rest_is)
+    (breaks_after p q sent so.told (line x ++ rest) so.writes (breaks_front q sent (line x) rest one))
+
+pub all_told : {A : Type 0} (line : A → List ℕ) (rows : List A) (i : ℕ) (p q : Output) → length rows ≤ i → AreTold line rows i p q → Writes (lines_of line rows) p q
+unfolding lines_of
+all_told line rows i p q le so =
+    let all : so.told ≡ lines_of line rows = sym (append-nil so.told) ∙ ap (λ l. so.told ++ lines_of line l) (sym (drop_all i rows le)) ∙ so.rest_is in
+    subst (λ l. Writes l p q) all so.writes
