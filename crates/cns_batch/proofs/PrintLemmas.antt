@@ -6,7 +6,8 @@ use Rattle.std.specs.Io.KnownBytes.{Appends}
 use Rattle.cns_movements.specs.declared.order.Order.{Order}
 use Rattle.cns_system.specs.declared.event.Event.{Event}
 use Rattle.cns_system.specs.declared.outcome.Outcome.{Outcome}
-use Rattle.cns_report.specs.Lines.{line_text, lines_of, order_lines}
+use Rattle.cns_report.specs.Ends.{lines_of}
+use Rattle.cns_report.specs.Lines.{line_text, order_lines}
 use Rattle.cns_report.specs.Outcomes.{line_of, orders_of, outcome_line, with_orders}
 use Rattle.cns_report.specs.declared.line.Line.{Line}
 use Rattle.cns_batch.specs.Runs.{BreaksOff, Output, Prints, Writes}

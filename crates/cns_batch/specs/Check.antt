@@ -4,7 +4,7 @@ use Rattle.std.specs.Io.KnownBytes.{Appends}
 use Rattle.cns_ids.specs.Cusip.{read_cusip}
 use Rattle.cns_ids.specs.declared.cusip.CusipFault.{CusipFault}
 use Rattle.cns_report.specs.Faults.{cusip_fault_text}
-use Rattle.cns_report.specs.Lines.{line_end}
+use Rattle.cns_report.specs.Ends.{line_end}
 use Rattle.cns_input.specs.declared.fault.BatchFault.{BatchFault}
 use Rattle.cns_input.specs.declared.fault.BatchFault.TheVariants as fault
 

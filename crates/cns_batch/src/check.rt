@@ -1,7 +1,7 @@
 ghost use Rattle.std.specs.Prelude.{◌≡◌, ◌++◌, IfOk, IfErr, OnOk, is_ok, string_bytes};
 ghost use Rattle.std.specs.Io.KnownBytes.{Appends};
 ghost use Rattle.cns_ids.specs.Cusip.{read_cusip};
-ghost use Rattle.cns_report.specs.Lines.{line_end};
+ghost use Rattle.cns_report.specs.Ends.{line_end};
 ghost use Rattle.cns_batch.specs.Check.{answer_text, cusip_line, EndsLine};
 
 use crate::output::write_text;

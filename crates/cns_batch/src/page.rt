@@ -1,9 +1,10 @@
 //! What a run told and has not yet written.
 
 ghost use Rattle.std.specs.Prelude.{◌≡◌, [], OnOk, string_bytes};
-ghost use Rattle.cns_report.specs.Lines.{line_text, lines_of};
+ghost use Rattle.cns_report.specs.Ends.{lines_of};
+ghost use Rattle.cns_report.specs.Lines.{line_text};
 ghost use Rattle.cns_report.specs.Outcomes.{outcome_line};
-ghost use Rattle.cns_report.specs.Report.{balance_lines, cycle_report_text, report_end, report_head};
+ghost use Rattle.cns_report.specs.Report.{balance_lines, cycle_report_text};
 ghost use Rattle.cns_clearing.specs.Books.{history_of, latest_of, orders_of};
 ghost use Rattle.cns_clearing.specs.Pools.{rows_of as pools_of};
 ghost use Rattle.cns_depository.specs.Balances.{balance_rows};
@@ -16,13 +17,10 @@ use crate::fault::Told;
 use crate::output::write_text;
 use cns_clearing::Clearing;
 use cns_depository::Depository;
-use cns_ids::{Cusip, CycleId};
+use cns_ids::Cusip;
 use cns_journal::Keeper;
 use cns_records::Refusal;
-use cns_report::{
-    Line, LotLine, Subject, TextRow, line_of, orders_of, write_line, write_report_end,
-    write_report_head,
-};
+use cns_report::{Line, LotLine, ReportLine, Subject, TextRow, line_of, orders_of, write_line};
 use cns_system::{Allocated, Cut, Drawn, Event, Outcome, System};
 use std::alloc::{AllocError, Global};
 use std::io::Write;
@@ -118,29 +116,12 @@ impl Page {
 
     // Tells the lines of rows.
     fn rows<R: TextRow, W: Write>(&mut self, rows: &[R], writer: &mut W) -> Told
-        ensures { Prints (lines_of R.line rows.now) result (record { held = self.old; sent = W.contents writer.old }) (record { held = self.new; sent = W.contents writer.new }) }
+        ensures { Prints (lines_of R.text rows.now) result (record { held = self.old; sent = W.contents writer.old }) (record { held = self.new; sent = W.contents writer.new }) }
     {
         for row in rows {
-            row.write(&mut self.text)?;
-            self.flush_when_full(writer)?;
+            self.tell(row.line(), writer)?;
         }
         Ok(())
-    }
-
-    // Tells the first line of the report.
-    fn report_head<W: Write>(&mut self, latest: Option<CycleId>, writer: &mut W) -> Told
-        ensures { Prints (report_head latest) result (record { held = self.old; sent = W.contents writer.old }) (record { held = self.new; sent = W.contents writer.new }) }
-    {
-        write_report_head(&mut self.text, latest)?;
-        self.flush_when_full(writer)
-    }
-
-    // Tells the last line of the report.
-    fn report_end<W: Write>(&mut self, writer: &mut W) -> Told
-        ensures { Prints report_end result (record { held = self.old; sent = W.contents writer.old }) (record { held = self.new; sent = W.contents writer.new }) }
-    {
-        write_report_end(&mut self.text)?;
-        self.flush_when_full(writer)
     }
 
     // Tells the clearing node's part of the report.
@@ -153,7 +134,8 @@ impl Page {
         ensures { Prints (cycle_report_text (latest_of clearing.now.log.records) (rows_of (history_of clearing.now.log.records)) (pools_of (orders_of clearing.now.log.records) clearing.now.lots))
             result (record { held = self.old; sent = W.contents writer.old }) (record { held = self.new; sent = W.contents writer.new }) }
     {
-        self.report_head(clearing.latest(), writer)?;
+        let latest = clearing.latest();
+        self.tell(Line::Report(ReportLine::Head(latest)), writer)?;
         let positions = clearing.book().rows()?;
         self.rows(positions.as_slice(), writer)?;
         drop(positions);
@@ -185,7 +167,7 @@ impl Page {
     {
         self.cycle_report(alloc, system.clearing(), writer)?;
         self.balance_report(alloc, system.depository(), writer)?;
-        self.report_end(writer)
+        self.tell(Line::Report(ReportLine::End), writer)
     }
 
     /// Tells that a lot was opened, by its number, the shares that were poured into it and its longs; it is

@@ -4,7 +4,8 @@ use Rattle.std.specs.Prelude.{◌==◌}
 use Rattle.std.proofs.lemmas.Bool.{eqb-true}
 use Rattle.std.proofs.lemmas.List.{append-nil}
 use Rattle.cns_movements.specs.declared.order.Order.{Order}
-use Rattle.cns_report.specs.Lines.{line_text, lines_of}
+use Rattle.cns_report.specs.Ends.{lines_of}
+use Rattle.cns_report.specs.Lines.{line_text}
 use Rattle.cns_report.specs.Outcomes.{with_orders}
 use Rattle.cns_report.specs.declared.line.Line.{Line}
 

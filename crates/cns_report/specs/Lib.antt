@@ -1,6 +1,7 @@
+pub mod Ends
 pub mod Right
 pub mod Faults
 pub mod Refusals
+pub mod Report
 pub mod Lines
 pub mod Outcomes
-pub mod Report

@@ -1,5 +1,5 @@
--- The lines of the output, but for those of the report (this project's own format). Each ends with LF.
-use Rattle.std.specs.Prelude.{ℕ, Bool, true, false, List, [], ◌∷◌, ◌++◌, codes}
+-- The lines of the output (this project's own format). Each ends with LF.
+use Rattle.std.specs.Prelude.{ℕ, Bool, true, false, List, ◌∷◌, ◌++◌, codes}
 use Rattle.std.specs.Fmt.{decimal}
 use Rattle.cns_ids.specs.Cusip.{cusip_text}
 use Rattle.cns_ids.specs.Cycle.{kind_text}
@@ -7,6 +7,8 @@ use Rattle.cns_ids.specs.Member.{member_text}
 use Rattle.cns_ids.specs.Day.{day_text}
 use Rattle.cns_movements.specs.Order.{kind_text as move_kind_text}
 use Rattle.cns_movements.specs.declared.order.Order.{Order}
+use Rattle.cns_report.specs.Ends.{line_end, lines_of}
+use Rattle.cns_report.specs.Report.{report_line_text}
 use Rattle.cns_report.specs.Refusals.{subject_text, refusal_text, node_text}
 use Rattle.cns_report.specs.Faults.{opening_fault_text, row_fault_text}
 use Rattle.cns_report.specs.declared.line.Line.{Line}
@@ -15,14 +17,6 @@ use Rattle.cns_report.specs.declared.line.LotLine.{LotLine}
 use Rattle.cns_report.specs.declared.line.LotLine.TheVariants as lot
 use Rattle.cns_report.specs.declared.line.OrderLine.{OrderLine}
 use Rattle.cns_report.specs.declared.line.OrderLine.TheVariants as order
-
-abbrev pub line_end : List ℕ
-line_end = 10 ∷ []
-
--- a line for each of a list, one after another
-unfoldable pub lines_of : {A : Type 0} → (A → List ℕ) → List A → List ℕ
-lines_of line [] = []
-lines_of line (x ∷ xs) = line x ++ lines_of line xs
 
 abbrev pub yes_or_no : Bool → List ℕ
 yes_or_no true = codes "yes"
@@ -96,3 +90,4 @@ line_text (line.Restarted node records kept) =
     codes "restart " ++ node_text node ++ codes " records " ++ decimal records ++ codes " kept " ++ yes_or_no kept ++ line_end
 line_text (line.Order l) = order_line_text l
 line_text (line.Lot l) = lot_line_text l
+line_text (line.Report l) = report_line_text l

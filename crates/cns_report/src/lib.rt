@@ -1,7 +1,7 @@
 //! Texts: the exact bytes of each outcome line and of the report.
 //!
 //! Each function adds its whole text to what stands in `out`. Where memory is wanting, it adds nothing,
-//! and `out` reads as before; but for the first line of a report and for rows, of which a part may stand there then.
+//! and `out` reads as before.
 #![tactic(auto)]
 
 mod account;
@@ -14,9 +14,9 @@ mod row;
 mod subject;
 mod write;
 
-pub use line::{Line, LotLine, OrderLine};
+pub use line::{Line, LotLine, OrderLine, ReportLine};
 pub use outcome::{line_of, orders_of, outcome_line};
-pub use report::{write_balance_report, write_cycle_report, write_report_end, write_report_head};
+pub use report::{write_balance_report, write_cycle_report, write_report_end};
 pub use row::TextRow;
 pub use subject::Subject;
 pub use write::{write_line, write_orders};

@@ -1,19 +1,24 @@
 ghost use Rattle.std.specs.Prelude.{◌≡◌, Some};
 ghost use Rattle.cns_report.specs.Lines.{line_text, lot_line_text, order_line_text, yes_or_no};
 ghost use Rattle.cns_report.specs.Refusals.{node_text};
+ghost use Rattle.cns_report.specs.Report.{report_line_text};
 
+use crate::account::AccountName;
 use crate::fault::{RowFaultName, opening_fault_name, refusal_name};
+use crate::position::{RightIn20, SharesIn20};
 use crate::subject::Subject;
-use cns_depository::OpeningFault;
+use cns_clearing::PoolRow;
+use cns_depository::{BalanceRow, OpeningFault};
 use cns_ids::CycleId;
 use cns_movements::{Order, Reply};
+use cns_netting::PositionRow;
 use cns_pool::Ticket;
 use cns_records::Refusal;
 use cns_system::NodeName;
 use cns_trades::{RowFault, TradeId};
 use std::fmt;
 
-/// A line of the output, but for those of the report. It prints with LF at its end.
+/// A line of the output. It prints with LF at its end.
 #[derive(Clone, Copy, Debug)]
 pub enum Line {
     /// `trade ID accepted`
@@ -70,6 +75,8 @@ pub enum Line {
     Order(OrderLine),
     /// A line of a lot.
     Lot(LotLine),
+    /// A line of the report.
+    Report(ReportLine),
 }
 
 /// A line of a movement order, by its number N.
@@ -121,6 +128,21 @@ pub enum LotLine {
     },
 }
 
+/// A line of the report. The shares of a position and of a balance stand right in 20 places.
+#[derive(Clone, Copy, Debug)]
+pub enum ReportLine {
+    /// `REPORT cycle DATE KIND`, of the latest recorded cycle, or `REPORT cycle none`
+    Head(Option<CycleId>),
+    /// `POS CUSIP MEMBER Q`
+    Position(PositionRow),
+    /// `POOL CUSIP free Q lent Q out Q`
+    Pool(PoolRow),
+    /// `BAL CUSIP ACCOUNT Q`
+    Balance(BalanceRow),
+    /// `END`
+    End,
+}
+
 impl fmt::Display for Line {
     ghost output = { λ line. Some (line_text line) };
 
@@ -159,6 +181,7 @@ impl fmt::Display for Line {
             }
             Line::Order(line) => write!(f, "{line}"),
             Line::Lot(line) => write!(f, "{line}"),
+            Line::Report(line) => write!(f, "{line}"),
         }
     }
 }
@@ -220,6 +243,35 @@ impl fmt::Display for LotLine {
             }
             LotLine::Sealed => f.write_str("seal ok\n"),
             LotLine::Closed { granted } => write!(f, "close granted {granted}\n"),
+        }
+    }
+}
+
+impl fmt::Display for ReportLine {
+    ghost output = { λ line. Some (report_line_text line) };
+
+    #[tactic(auto, unfolding(crate::specs::Report::report_line_text, crate::specs::Report::report_head, crate::specs::Report::position_line, crate::specs::Report::pool_line, crate::specs::Report::balance_line, crate::specs::Report::report_end))]
+    fn fmt<W: fmt::Write>(&self, f: &mut fmt::Formatter<W>) -> fmt::Result {
+        match *self {
+            ReportLine::Head(None) => f.write_str("REPORT cycle none\n"),
+            ReportLine::Head(Some(cycle)) => write!(
+                f,
+                "REPORT cycle {} {}\n",
+                cycle.day, cycle.kind
+            ),
+            ReportLine::Position(row) => {
+                let position = RightIn20(row.position);
+                write!(f, "POS {} {} {position}\n", row.issue, row.member)
+            }
+            ReportLine::Pool(row) => {
+                write!(f, "POOL {} free {} ", row.issue, row.free)?;
+                write!(f, "lent {} out {}\n", row.lent, row.out)
+            }
+            ReportLine::Balance(row) => {
+                let (account, shares) = (AccountName(row.account), SharesIn20(row.shares));
+                write!(f, "BAL {} {account} {shares}\n", row.issue)
+            }
+            ReportLine::End => f.write_str("END\n"),
         }
     }
 }

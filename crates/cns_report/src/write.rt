@@ -1,8 +1,8 @@
 ghost use Rattle.std.specs.Prelude.{◌≡◌, ◌++◌, OnOk, OnErr, string_bytes};
 ghost use Rattle.cns_report.specs.Lines.{line_text, order_lines};
 
-use crate::line::{Line, OrderLine};
-use crate::row::{TextRow, write_rows};
+use crate::line::Line;
+use crate::row::write_rows;
 use arrayvec::ArrayString;
 use cns_movements::Order;
 use std::alloc::AllocError;
@@ -23,18 +23,6 @@ pub fn write_line(out: &mut String, line: Line) -> Result<(), AllocError>
         return out.push_str(&text);
     };
     out.push_str(text.as_str())
-}
-
-/// An order, as it was made.
-impl TextRow for Order {
-    ghost use Rattle.cns_report.specs.Lines.{ordered_line};
-
-    ghost line = { ordered_line };
-
-    fn write(&self, out: &mut String) -> Result<(), AllocError> {
-        let line = OrderLine::Ordered(*self);
-        write!(out, "{line}")
-    }
 }
 
 /// Adds the lines of orders, one after another, or nothing where memory is wanting.
