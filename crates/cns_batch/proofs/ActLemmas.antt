@@ -22,9 +22,6 @@ use Rattle.cns_batch.proofs.PrintLemmas.{appends_nothing, breaks_after, breaks_f
 
 -- ---- acts
 
-text_of_nothing : {A : Type 0} (t : Told A) → after_text [] t ≡ t
-text_of_nothing t = refl
-
 pub continues_here : {A : Type 0} (act : Act A) (p : Place) → Continues act act p p
 continues_here act p = record { chances = []; text = []; act_is = λ more. refl; writes = ([], appends_nothing p.sent, sym (append-nil p.run.held)) }
 

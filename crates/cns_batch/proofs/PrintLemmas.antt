@@ -85,12 +85,6 @@ holds text p q is = subst (λ q. Writes text p q) (sym is) ([], appends_nothing 
 pub prints_held : {E : Type 0} (text : List ℕ) (result : Result (Unit {0}) E) (p q r : Output) → q ≡ record p { held = p.held ++ text } → Prints [] result q r → Prints text result p r
 prints_held text result p q r is flushed = subst (λ t. Prints t result p r) (append-nil text) (prints_after result p q r text [] (holds text p q is) flushed)
 
-pub held_writes : (text : List ℕ) (p q r : Output) → q ≡ record p { held = p.held ++ text } → Writes [] q r → Writes text p r
-held_writes text p q r is flushed = subst (λ t. Writes t p r) (append-nil text) (writes_more p q r text [] (holds text p q is) flushed)
-
-pub held_breaks : (text : List ℕ) (p q : Output) (sent : Option (List ℕ)) → q ≡ record p { held = p.held ++ text } → BreaksOff [] q sent → BreaksOff text p sent
-held_breaks text p q sent is flushed = subst (λ t. BreaksOff t p sent) (append-nil text) (breaks_after p q sent text [] (holds text p q is) flushed)
-
 -- ---- the line of an outcome and those of its orders
 
 pub prints_outcome : {E : Type 0} (e : Event) (o : Outcome) (line : Line) (orders : List Order) (result : Result (Unit {0}) E) (p q r : Output) → line_of e o ≡ Some line → orders ≡ orders_of o

@@ -37,7 +37,7 @@ order_line_text (order.Confirmed r) = codes "confirm " ++ decimal r.number ++ co
 -- confirm N moved Q again
 order_line_text (order.ConfirmedAgain r) = codes "confirm " ++ decimal r.number ++ codes " moved " ++ decimal r.moved ++ codes " again" ++ line_end
 
--- lines of orders, one after another
+-- an order as it was made, and the lines of such orders one after another
 abbrev pub ordered_line : Order → List ℕ
 ordered_line o = order_line_text (order.Ordered o)
 
