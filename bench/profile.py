@@ -22,7 +22,7 @@ KINDS = [
     ('copies and memory', ['memcpy', 'memmove', 'memset', 'malloc', 'realloc', 'free', 'rattle_alloc', 'rattle_dealloc']),
     ('sorting', ['::sort']),
     ('maps', ['core::hash', 'index_table', 'HashMap', 'IndexMap', 'hash_map', 'indexmap', 'BTree', 'btree', 'words::']),
-    ('lines', ['core::fmt', 'core::str', 'cns_report', 'String', 'arrayvec', 'to_bytes']),
+    ('lines', ['core::fmt', 'core::str', 'cns_report', 'String', 'itoa', 'to_bytes']),
     ('rows', ['cns_trades', 'cns_ids', 'read_rows', 'read_parts', 'read_front', 'read_input']),
     ('script', ['cns_input', 'memchr', 'command']),
     ('records', ['cns_records', 'cns_journal']),

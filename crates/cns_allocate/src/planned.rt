@@ -65,7 +65,7 @@ fn shares_wanted(row: &PositionRow, orders: &OrderBook) -> u64
 {
     let open = orders.open_of(MoveKind::Delivery, row.member, row.issue);
     let long = if row.position > 0 {
-        row.position.unsigned_abs()
+        u128::from(row.position.unsigned_abs())
     } else {
         0
     };

@@ -1,4 +1,4 @@
-ghost use Rattle.std.specs.Prelude.{◌≡◌, ◌+◌, ◌<◌, ◌≤◌, ◌⊎◌, [], Ok, MatchResult, IfOk, IfSome, OnOk, IfErr, List, ℕ, drop, length, string_bytes};
+ghost use Rattle.std.specs.Prelude.{◌≡◌, ◌+◌, ◌<◌, ◌≤◌, ◌⊎◌, [], Ok, MatchResult, IfOk, IfSome, OnOk, IfErr, List, ℕ, drop, length};
 ghost use Rattle.std.specs.Io.KnownBytes.{Appends, IsAtEnd};
 ghost use Rattle.cns_trades.specs.Openings.{opening_rows};
 ghost use Rattle.cns_trades.specs.Rows.{trade_rows};
@@ -15,8 +15,9 @@ use crate::runner::Runner;
 use cns_depository::Openings;
 use cns_input::{BatchFault, Steps, read_input, split_input};
 use cns_journal::{Keeper, ListKeeper, ReplayFault};
+use cns_report::Text;
 use cns_system::{StartFault, System};
-use cns_trades::{CsvFault, Row, read_openings, read_trades};
+use cns_trades::{CsvFault, TradeRows, read_openings};
 use std::alloc::Global;
 use std::io::{Read, Write};
 use std::sync::ledger::Ledger;
@@ -35,8 +36,8 @@ pub struct Kept<C, D> {
 #[derive(Drop)]
 pub(crate) struct Rows {
     pub(crate) openings: Openings,
-    pub(crate) told: String,
-    pub(crate) trades: Vec<Row>,
+    pub(crate) told: Text,
+    pub(crate) trades: TradeRows,
 }
 
 // What an input holds: its rows and its script. They own what they hold, so that nothing else of the input
@@ -73,18 +74,18 @@ pub(crate) fn start_fault(fault: StartFault) -> BatchFault
 fn read_rows(alloc: Global, openings: &[u8], trades: &[u8]) -> Result<Rows, BatchFault>
     ensures { MatchResult result
         (λ rows. (script : List ℕ) → input_under script (opening_rows openings.now) (trade_rows trades.now)
-        ≡ Ok (record { openings = rows.openings; told = string_bytes rows.told; rows = rows.trades.items; script = script }))
+        ≡ Ok (record { openings = rows.openings; told = rows.told; rows = rows.trades; script = script }))
         (λ e. (script : List ℕ) → Tells e (input_under script (opening_rows openings.now) (trade_rows trades.now))) }
 {
     let rows = match read_openings(alloc, openings) {
         Ok(rows) => rows,
         Err(fault) => return Err(rows_fault(fault)),
     };
-    let trades = match read_trades(alloc, trades) {
+    let trades = match TradeRows::read(alloc, trades) {
         Ok(rows) => rows,
         Err(fault) => return Err(rows_fault(fault)),
     };
-    let mut told = String::new(alloc);
+    let mut told = Text::new(alloc);
     let openings = take_openings(alloc, rows.as_slice(), &mut told)?;
     Ok(Rows {
         openings,
@@ -97,7 +98,7 @@ fn read_rows(alloc: Global, openings: &[u8], trades: &[u8]) -> Result<Rows, Batc
 fn read_front(alloc: Global, text: &[u8]) -> Result<(Rows, usize), BatchFault>
     ensures parts { MatchResult result
         (λ front. input_of text.now
-        ≡ Ok (record { openings = front.0.openings; told = string_bytes front.0.told; rows = front.0.trades.items; script = drop front.1 text.now }))
+        ≡ Ok (record { openings = front.0.openings; told = front.0.told; rows = front.0.trades; script = drop front.1 text.now }))
         (λ e. Tells e (input_of text.now)) }
     ensures within { IfOk result (λ front. front.1 ≤ length text.now) }
 {
@@ -126,7 +127,7 @@ fn cut_front(text: &mut Vec<u8>, size: usize)
 pub(crate) fn read_parts(alloc: Global, mut text: Vec<u8>) -> Result<Parts, BatchFault>
     ensures { MatchResult result
         (λ parts. input_of text.items
-        ≡ Ok (record { openings = parts.rows.openings; told = string_bytes parts.rows.told; rows = parts.rows.trades.items; script = parts.script.items }))
+        ≡ Ok (record { openings = parts.rows.openings; told = parts.rows.told; rows = parts.rows.trades; script = parts.script.items }))
         (λ e. Tells e (input_of text.items)) }
 {
     let (rows, start) = read_front(alloc, text.as_slice())?;
@@ -167,7 +168,7 @@ fn run_input<C: Keeper + Drop, D: Keeper + Drop, W: Write>(
     writer: &mut W,
 ) -> Kept<C, D>
     ensures { RunsInput result.result
-        (record { openings = rows.openings; told = string_bytes rows.told; rows = rows.trades.items; script = script.now })
+        (record { openings = rows.openings; told = rows.told; rows = rows.trades; script = script.now })
         (record { honest = C.honest clear; run = C.run clear; journal = C.journal clear; foresight = C.foresight clear })
         (record { honest = D.honest depot; run = D.run depot; journal = D.journal depot; foresight = D.foresight depot })
         (record { honest = C.honest result.clear; run = C.run result.clear; journal = C.journal result.clear; foresight = C.foresight result.clear })

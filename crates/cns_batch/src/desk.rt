@@ -13,14 +13,13 @@ use crate::commands::{reply_packet, sent_packet};
 use crate::fault::{OutputFault, Told};
 use crate::lines::Lines;
 use crate::page::Page;
-use crate::untaken::Untaken;
 use cns_allocate::Gate;
 use cns_ids::Cusip;
 use cns_input::{BatchFault, Command, Steps, read_input};
 use cns_journal::Keeper;
 use cns_report::Line;
 use cns_system::{Begun, Desk, Drawn, Event, NodeName, Outcome, System, serve_lot};
-use cns_trades::Row;
+use cns_trades::{Row, TradeRows};
 use std::alloc::{AllocError, Global};
 use std::io::{Read, Write};
 use std::sync::Wait;
@@ -39,7 +38,7 @@ struct Busy {
 #[derive(Drop)]
 struct DeskRun<'a, C: Keeper, D: Keeper, G, R> {
     desk: Desk<C, D>,
-    trades: Untaken,
+    trades: TradeRows,
     busy: Option<Busy>,
     page: Page,
     alloc: Global,
@@ -348,7 +347,7 @@ pub fn run_desk<
     };
     let mut run = DeskRun {
         desk: Desk::new(alloc, system),
-        trades: Untaken::of(trades),
+        trades,
         busy: None,
         page: Page::new(told),
         alloc,

@@ -18,7 +18,6 @@ mod output;
 mod page;
 mod runner;
 mod script;
-mod untaken;
 
 pub use batch::{Kept, run_batch, run_batch_kept};
 pub use check::check_cusip;

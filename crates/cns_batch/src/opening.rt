@@ -1,8 +1,8 @@
-ghost use Rattle.std.specs.Prelude.{◌≡◌, ◌++◌, ℕ, [], length, IfOk, OnOk, string_bytes};
+ghost use Rattle.std.specs.Prelude.{◌≡◌, ◌++◌, ℕ, [], length, IfOk, OnOk};
 ghost use Rattle.cns_batch.specs.Opened.{told_opening, told_openings};
 
 use cns_depository::{OpeningFault, Openings};
-use cns_report::{Line, write_line};
+use cns_report::{Line, Text, write_line};
 use cns_trades::OpeningRow;
 use std::alloc::{AllocError, Global};
 
@@ -11,10 +11,10 @@ fn take_opening(
     openings: &mut Openings,
     number: u64,
     row: &OpeningRow,
-    out: &mut String,
+    out: &mut Text,
 ) -> Result<(), AllocError>
     ensures after { OnOk result (openings.new ≡ (told_opening number openings.old row.now).0) }
-    ensures text { OnOk result (string_bytes out.new ≡ string_bytes out.old ++ (told_opening number openings.old row.now).1) }
+    ensures text { OnOk result (out.new ≡ out.old ++ (told_opening number openings.old row.now).1) }
 {
     match row {
         OpeningRow::Fault { row, fault } => {
@@ -34,10 +34,10 @@ fn take_opening(
 pub(crate) fn take_openings(
     alloc: Global,
     rows: &[OpeningRow],
-    out: &mut String,
+    out: &mut Text,
 ) -> Result<Openings, AllocError>
     ensures held { IfOk result (λ openings. openings ≡ (told_openings 1 [] rows.now).0) }
-    ensures text { OnOk result (string_bytes out.new ≡ string_bytes out.old ++ (told_openings 1 [] rows.now).1) }
+    ensures text { OnOk result (out.new ≡ out.old ++ (told_openings 1 [] rows.now).1) }
 {
     let mut openings = Openings::new(alloc);
     let mut number = 1;

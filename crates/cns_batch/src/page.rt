@@ -1,6 +1,6 @@
 //! What a run told and has not yet written.
 
-ghost use Rattle.std.specs.Prelude.{◌≡◌, [], OnOk, string_bytes};
+ghost use Rattle.std.specs.Prelude.{◌≡◌, [], OnOk};
 ghost use Rattle.cns_report.specs.Ends.{lines_of};
 ghost use Rattle.cns_report.specs.Lines.{line_text};
 ghost use Rattle.cns_report.specs.Outcomes.{outcome_line};
@@ -20,7 +20,9 @@ use cns_depository::Depository;
 use cns_ids::Cusip;
 use cns_journal::Keeper;
 use cns_records::Refusal;
-use cns_report::{Line, LotLine, ReportLine, Subject, TextRow, line_of, orders_of, write_line};
+use cns_report::{
+    Line, LotLine, ReportLine, Subject, Text, TextRow, line_of, orders_of, write_line,
+};
 use cns_system::{Allocated, Cut, Drawn, Event, Outcome, System};
 use std::alloc::{AllocError, Global};
 use std::io::Write;
@@ -41,21 +43,21 @@ fn refusal_of(cut: Cut) -> Refusal {
 /// yet written.
 #[derive(Drop)]
 pub(crate) struct Page {
-    text: String,
+    text: Text,
 }
 
 impl Model for Page {
-    ghost use Rattle.std.specs.Prelude.{List, ℕ, string_bytes};
+    ghost use Rattle.std.specs.Prelude.{List, ℕ};
 
     ghost Value = { List ℕ };
 
-    ghost view = { λ p. string_bytes p.text };
+    ghost view = { λ p. p.text };
 }
 
 impl Page {
     /// A text that is to be written first.
-    pub(crate) fn new(text: String) -> Page
-        ensures { result ≡ string_bytes text }
+    pub(crate) fn new(text: Text) -> Page
+        ensures { result ≡ text }
     {
         Page { text }
     }

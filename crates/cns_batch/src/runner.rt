@@ -9,11 +9,10 @@ ghost use Rattle.cns_batch.specs.Runs.{IsNextRow, IsPlanned, Runs};
 
 use crate::fault::Told;
 use crate::page::Page;
-use crate::untaken::Untaken;
 use cns_journal::Keeper;
 use cns_report::Line;
 use cns_system::{Event, NodeName, Opened, Outcome, System};
-use cns_trades::Row;
+use cns_trades::{Row, TradeRows};
 use std::alloc::Global;
 use std::io::Write;
 use std::marker::Model;
@@ -31,7 +30,7 @@ pub(crate) struct Beside {
 #[derive(Drop)]
 pub(crate) struct Runner<C: Keeper, D: Keeper> {
     pub(crate) system: System<C, D>,
-    trades: Untaken,
+    trades: TradeRows,
     pub(crate) beside: Option<Beside>,
     page: Page,
     pub(crate) alloc: Global,
@@ -67,14 +66,14 @@ impl<C: Keeper, D: Keeper> Runner<C, D> {
     pub(crate) fn new(
         alloc: Global,
         system: System<C, D>,
-        trades: Vec<Row>,
+        trades: TradeRows,
         page: Page,
     ) -> Runner<C, D>
-        ensures { result ≡ record { world = system; rows = trades.items; beside = None; held = page } }
+        ensures { result ≡ record { world = system; rows = trades; beside = None; held = page } }
     {
         Runner {
             system,
-            trades: Untaken::of(trades),
+            trades,
             beside: None,
             page,
             alloc,

@@ -120,7 +120,7 @@ fn short_of(row: &PositionRow) -> u128
     ensures { result ≡ short_shares row.now }
 {
     if row.position < 0 {
-        row.position.unsigned_abs()
+        u128::from(row.position.unsigned_abs())
     } else {
         0
     }

@@ -12,14 +12,23 @@ pub enum CycleKind {
     Day,
 }
 
+impl CycleKind {
+    /// Its name: `NIGHT` or `DAY`.
+    pub fn name(self) -> &'static str
+        ensures { result.now ≡ kind_text self }
+    {
+        match self {
+            CycleKind::Night => "NIGHT",
+            CycleKind::Day => "DAY",
+        }
+    }
+}
+
 impl fmt::Display for CycleKind {
     ghost output = { λ k. Some (kind_text k) };
 
     fn fmt<W: fmt::Write>(&self, f: &mut fmt::Formatter<W>) -> fmt::Result {
-        f.write_str(match self {
-            CycleKind::Night => "NIGHT",
-            CycleKind::Day => "DAY",
-        })
+        f.write_str(self.name())
     }
 }
 

@@ -115,6 +115,25 @@ impl Day {
     {
         u32::from(self.year) * 10000 + u32::from(self.month) * 100 + u32::from(self.day)
     }
+
+    /// The ten characters of the form yyyy-mm-dd.
+    pub fn to_bytes(self) -> [u8; 10]
+        ensures { result ≡ day_text self }
+    {
+        let number = self.number();
+        [
+            last_digit(number / 10_000_000),
+            last_digit(number / 1_000_000),
+            last_digit(number / 100_000),
+            last_digit(number / 10_000),
+            b'-',
+            last_digit(number / 1000),
+            last_digit(number / 100),
+            b'-',
+            last_digit(number / 10),
+            last_digit(number),
+        ]
+    }
 }
 
 impl PartialEq for Day {
@@ -159,20 +178,7 @@ impl fmt::Display for Day {
     ghost output = { λ d. Some (day_text d) };
 
     fn fmt<W: fmt::Write>(&self, f: &mut fmt::Formatter<W>) -> fmt::Result {
-        let number = self.number();
-        let characters = [
-            last_digit(number / 10_000_000),
-            last_digit(number / 1_000_000),
-            last_digit(number / 100_000),
-            last_digit(number / 10_000),
-            b'-',
-            last_digit(number / 1000),
-            last_digit(number / 100),
-            b'-',
-            last_digit(number / 10),
-            last_digit(number),
-        ];
-        match str::from_utf8(&characters) {
+        match str::from_utf8(&self.to_bytes()) {
             Ok(text) => f.write_str(text),
             Err(_) => Err(fmt::Error),
         }

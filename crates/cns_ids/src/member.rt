@@ -61,6 +61,19 @@ impl MemberNo {
     {
         self.number
     }
+
+    /// The number's four digits.
+    pub fn to_bytes(self) -> [u8; 4]
+        ensures { result ≡ member_text self }
+    {
+        let number = u32::from(self.number());
+        [
+            last_digit(number / 1000),
+            last_digit(number / 100),
+            last_digit(number / 10),
+            last_digit(number),
+        ]
+    }
 }
 
 // The digit at the lowest place, as a byte.
@@ -75,14 +88,7 @@ impl fmt::Display for MemberNo {
     ghost output = { λ m. Some (member_text m) };
 
     fn fmt<W: fmt::Write>(&self, f: &mut fmt::Formatter<W>) -> fmt::Result {
-        let number = u32::from(self.number());
-        let digits = [
-            last_digit(number / 1000),
-            last_digit(number / 100),
-            last_digit(number / 10),
-            last_digit(number),
-        ];
-        match str::from_utf8(&digits) {
+        match str::from_utf8(&self.to_bytes()) {
             Ok(text) => f.write_str(text),
             Err(_) => Err(fmt::Error),
         }

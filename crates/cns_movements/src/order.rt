@@ -1,4 +1,4 @@
-ghost use Rattle.std.specs.Prelude.{Some};
+ghost use Rattle.std.specs.Prelude.{◌≡◌, Some};
 ghost use Rattle.cns_movements.specs.Order.{kind_text};
 
 use crate::asked::Asked;
@@ -15,14 +15,23 @@ pub enum MoveKind {
     Delivery,
 }
 
+impl MoveKind {
+    /// Its name: `COVER` or `DELIVERY`.
+    pub fn name(self) -> &'static str
+        ensures { result.now ≡ kind_text self }
+    {
+        match self {
+            MoveKind::Cover => "COVER",
+            MoveKind::Delivery => "DELIVERY",
+        }
+    }
+}
+
 impl fmt::Display for MoveKind {
     ghost output = { λ k. Some (kind_text k) };
 
     fn fmt<W: fmt::Write>(&self, f: &mut fmt::Formatter<W>) -> fmt::Result {
-        f.write_str(match self {
-            MoveKind::Cover => "COVER",
-            MoveKind::Delivery => "DELIVERY",
-        })
+        f.write_str(self.name())
     }
 }
 

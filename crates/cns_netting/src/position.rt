@@ -5,5 +5,5 @@ use cns_ids::{Cusip, MemberNo};
 pub struct PositionRow {
     pub issue: Cusip,
     pub member: MemberNo,
-    pub position: i128,
+    pub position: i64,
 }

@@ -38,7 +38,7 @@ pub(crate) fn row_of(
     Some(PositionRow {
         issue: holding.issue,
         member: holding.member,
-        position: i128::from(position.shares),
+        position: position.shares,
     })
 }
 

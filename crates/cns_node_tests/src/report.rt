@@ -8,7 +8,7 @@ use cns_movements::{Asked, MoveKind, MoveNo, Order};
 use cns_netting::PositionRow;
 use cns_records::Refusal;
 use cns_report::{
-    Line, LotLine, OrderLine, Subject, write_balance_report, write_cycle_report, write_line,
+    Line, LotLine, OrderLine, Subject, Text, write_balance_report, write_cycle_report, write_line,
     write_orders, write_report_end,
 };
 use cns_system::NodeName;
@@ -20,9 +20,9 @@ mod outcome;
 
 // That this line has these bytes.
 fn see(rt: &impl Abort, alloc: Global, line: Line, want: &str) {
-    let mut out = String::new(alloc);
+    let mut out = Text::new(alloc);
     write_line(&mut out, line).expect(rt, "memory");
-    assert_same(rt, &out.as_str(), &want);
+    assert_same(rt, &out.as_bytes(), &want.as_bytes());
     drop(out);
 }
 
@@ -204,12 +204,12 @@ fn order_lines(rt: HostRuntime) {
     for (line, want) in &lines {
         see(&rt, rt.alloc(), Line::Order(*line), want);
     }
-    let mut out = String::new(rt.alloc());
+    let mut out = Text::new(rt.alloc());
     write_orders(&mut out, &two_orders(&rt)).expect(&rt, "memory");
     let want = "\
         order 1 COVER 0001 037833100 60\n\
         order 1000000 DELIVERY 0042 037833100 1000000000000000000\n";
-    assert_same(&rt, &out.as_str(), &want);
+    assert_same(&rt, &out.as_bytes(), &want.as_bytes());
     drop(out);
 }
 
@@ -276,7 +276,7 @@ fn a_report(rt: HostRuntime) {
             shares: 1_000_000_000_000_000_000,
         },
     ];
-    let mut out = String::new(rt.alloc());
+    let mut out = Text::new(rt.alloc());
     write_cycle_report(&mut out, None, &[], &[]).expect(&rt, "memory");
     write_report_end(&mut out).expect(&rt, "memory");
     write_cycle_report(&mut out, Some(day), &rows, &pools).expect(&rt, "memory");
@@ -292,6 +292,6 @@ fn a_report(rt: HostRuntime) {
         BAL 037833100 0000                   20\n\
         BAL 037833100 0042  1000000000000000000\n\
         END\n";
-    assert_same(&rt, &out.as_str(), &want);
+    assert_same(&rt, &out.as_bytes(), &want.as_bytes());
     drop(out);
 }

@@ -1,3 +1,0 @@
-pub mod RightLemmas
-pub mod LineLemmas
-pub mod OutcomeLemmas

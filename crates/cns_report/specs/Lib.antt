@@ -5,3 +5,4 @@ pub mod Refusals
 pub mod Report
 pub mod Lines
 pub mod Outcomes
+pub mod Draft

@@ -1,20 +1,18 @@
-ghost use Rattle.std.specs.Prelude.{Some};
 ghost use Rattle.cns_report.specs.Report.{account_text};
 
+use crate::put::Put;
+use crate::text::Draft;
 use cns_depository::Account;
-use std::fmt;
+use std::alloc::AllocError;
 
 /// An account as lines show it: four digits, of which the CNS account has zeros alone.
-#[derive(Clone, Copy)]
-pub(crate) struct AccountName(pub(crate) Account);
+impl Put for Account {
+    ghost text = { account_text };
 
-impl fmt::Display for AccountName {
-    ghost output = { λ name. Some (account_text name.0) };
-
-    fn fmt<W: fmt::Write>(&self, f: &mut fmt::Formatter<W>) -> fmt::Result {
-        match self.0 {
-            Account::Cns => f.write_str("0000"),
-            Account::Member(member) => write!(f, "{member}"),
+    fn put(&self, draft: &mut Draft) -> Result<(), AllocError> {
+        match self {
+            Account::Cns => draft.add(b"0000"),
+            Account::Member(member) => member.put(draft),
         }
     }
 }

@@ -1,12 +1,14 @@
-ghost use Rattle.std.specs.Prelude.{◌≡◌, Some};
+ghost use Rattle.std.specs.Prelude.{◌≡◌};
 ghost use Rattle.cns_report.specs.Faults.{read_fault_text, opening_fault_text, row_fault_text, verdict_text};
 ghost use Rattle.cns_report.specs.Refusals.{refusal_text};
 
+use crate::put::Put;
+use crate::text::Draft;
 use cns_depository::OpeningFault;
 use cns_ids::{CusipFault, ReadFault};
 use cns_records::Refusal;
 use cns_trades::{RowFault, Verdict};
-use std::fmt;
+use std::alloc::AllocError;
 
 // The name of a number's fault.
 fn read_fault_name(fault: ReadFault) -> &'static str
@@ -18,28 +20,25 @@ fn read_fault_name(fault: ReadFault) -> &'static str
     }
 }
 
-/// The name of a row's fault: the field and what is wrong with it.
-#[derive(Clone, Copy)]
-pub(crate) struct RowFaultName(pub(crate) RowFault);
+/// A row's fault by its name: the field and what is wrong with it.
+impl Put for RowFault {
+    ghost text = { row_fault_text };
 
-impl fmt::Display for RowFaultName {
-    ghost output = { λ name. Some (row_fault_text name.0) };
-
-    fn fmt<W: fmt::Write>(&self, f: &mut fmt::Formatter<W>) -> fmt::Result {
-        match self.0 {
-            RowFault::Fields => f.write_str("Fields"),
-            RowFault::Id => f.write_str("Id"),
-            RowFault::Settle => f.write_str("Settle BadDate"),
-            RowFault::Buyer(fault) => write!(f, "Buyer {}", read_fault_name(fault)),
-            RowFault::Seller(fault) => write!(f, "Seller {}", read_fault_name(fault)),
-            RowFault::Cusip(CusipFault::Length) => f.write_str("Cusip Length"),
-            RowFault::Cusip(CusipFault::BadChar { place }) => write!(f, "Cusip BadChar {place}"),
+    fn put(&self, draft: &mut Draft) -> Result<(), AllocError> {
+        match *self {
+            RowFault::Fields => draft.add(b"Fields"),
+            RowFault::Id => draft.add(b"Id"),
+            RowFault::Settle => draft.add(b"Settle BadDate"),
+            RowFault::Buyer(fault) => ("Buyer ", read_fault_name(fault)).put(draft),
+            RowFault::Seller(fault) => ("Seller ", read_fault_name(fault)).put(draft),
+            RowFault::Cusip(CusipFault::Length) => draft.add(b"Cusip Length"),
+            RowFault::Cusip(CusipFault::BadChar { place }) => ("Cusip BadChar ", place).put(draft),
             RowFault::Cusip(CusipFault::CheckDigit { want }) => {
-                write!(f, "Cusip CheckDigit {want}")
+                ("Cusip CheckDigit ", want).put(draft)
             }
-            RowFault::Quantity(fault) => write!(f, "Quantity {}", read_fault_name(fault)),
-            RowFault::Account(fault) => write!(f, "Account {}", read_fault_name(fault)),
-            RowFault::Shares(fault) => write!(f, "Shares {}", read_fault_name(fault)),
+            RowFault::Quantity(fault) => ("Quantity ", read_fault_name(fault)).put(draft),
+            RowFault::Account(fault) => ("Account ", read_fault_name(fault)).put(draft),
+            RowFault::Shares(fault) => ("Shares ", read_fault_name(fault)).put(draft),
         }
     }
 }

@@ -1,7 +1,7 @@
 //! Texts: the exact bytes of each outcome line and of the report.
 //!
-//! Each function adds its whole text to what stands in `out`. Where memory is wanting, it adds nothing,
-//! and `out` reads as before.
+//! Each function adds its whole text to what stands in `out`, a [`Text`]. Where memory is wanting, it adds
+//! nothing, and `out` reads as before.
 #![tactic(auto)]
 
 mod account;
@@ -9,9 +9,11 @@ mod fault;
 mod line;
 mod outcome;
 mod position;
+mod put;
 mod report;
 mod row;
 mod subject;
+mod text;
 mod write;
 
 pub use line::{Line, LotLine, OrderLine, ReportLine};
@@ -19,4 +21,5 @@ pub use outcome::{line_of, orders_of, outcome_line};
 pub use report::{write_balance_report, write_cycle_report, write_report_end};
 pub use row::TextRow;
 pub use subject::Subject;
+pub use text::Text;
 pub use write::{write_line, write_orders};

@@ -1,12 +1,13 @@
-ghost use Rattle.std.specs.Prelude.{◌≡◌, Some};
+ghost use Rattle.std.specs.Prelude.{◌≡◌, codes};
 ghost use Rattle.cns_report.specs.Lines.{line_text, lot_line_text, order_line_text, yes_or_no};
 ghost use Rattle.cns_report.specs.Refusals.{node_text};
 ghost use Rattle.cns_report.specs.Report.{report_line_text};
 
-use crate::account::AccountName;
-use crate::fault::{RowFaultName, opening_fault_name, refusal_name};
-use crate::position::{RightIn20, SharesIn20};
+use crate::fault::{opening_fault_name, refusal_name};
+use crate::position::RightIn20;
+use crate::put::Put;
 use crate::subject::Subject;
+use crate::text::Draft;
 use cns_clearing::PoolRow;
 use cns_depository::{BalanceRow, OpeningFault};
 use cns_ids::CycleId;
@@ -16,7 +17,7 @@ use cns_pool::Ticket;
 use cns_records::Refusal;
 use cns_system::NodeName;
 use cns_trades::{RowFault, TradeId};
-use std::fmt;
+use std::alloc::AllocError;
 
 /// A line of the output. It prints with LF at its end.
 #[derive(Clone, Copy, Debug)]
@@ -143,135 +144,137 @@ pub enum ReportLine {
     End,
 }
 
-impl fmt::Display for Line {
-    ghost output = { λ line. Some (line_text line) };
+impl Put for Line {
+    ghost text = { line_text };
 
     #[tactic(auto, unfolding(crate::specs::Lines::line_text))]
-    fn fmt<W: fmt::Write>(&self, f: &mut fmt::Formatter<W>) -> fmt::Result {
+    fn put(&self, draft: &mut Draft) -> Result<(), AllocError> {
         match *self {
-            Line::TradeAccepted(id) => write!(f, "trade {id} accepted\n"),
+            Line::TradeAccepted(id) => ("trade ", id, " accepted\n").put(draft),
             Line::TradeRefused { id, refusal } => {
-                write!(f, "trade {id} refused {}\n", refusal_name(refusal))
+                ("trade ", id, " refused ", refusal_name(refusal), "\n").put(draft)
             }
-            Line::RowFault { row, fault } => {
-                write!(f, "row {row} fault {}\n", RowFaultName(fault))
-            }
+            Line::RowFault { row, fault } => ("row ", row, " fault ", fault, "\n").put(draft),
             Line::OpeningRowFault { row, fault } => {
-                write!(f, "opening row {row} fault {}\n", RowFaultName(fault))
+                ("opening row ", row, " fault ", fault, "\n").put(draft)
             }
             Line::OpeningRefused { row, fault } => {
-                write!(f, "opening row {row} fault {}\n", opening_fault_name(fault))
+                let name = opening_fault_name(fault);
+                ("opening row ", row, " fault ", name, "\n").put(draft)
             }
-            Line::BadCommand { line } => write!(f, "line {line} bad command\n"),
+            Line::BadCommand { line } => ("line ", line, " bad command\n").put(draft),
             Line::Refused { subject, refusal } => {
-                write!(f, "{subject} refused {}\n", refusal_name(refusal))
+                (subject.name(), " refused ", refusal_name(refusal), "\n").put(draft)
             }
-            Line::ExemptionSet => f.write_str("exempt ok\n"),
-            Line::PrioritySet => f.write_str("priority ok\n"),
-            Line::FailurePlanned => f.write_str("fail ok\n"),
-            Line::FailureNotPlanned => f.write_str("fail refused NotPlanned\n"),
-            Line::Cycle { id, due } => write!(f, "cycle {} {} due {due}\n", id.day, id.kind),
+            Line::ExemptionSet => draft.add(b"exempt ok\n"),
+            Line::PrioritySet => draft.add(b"priority ok\n"),
+            Line::FailurePlanned => draft.add(b"fail ok\n"),
+            Line::FailureNotPlanned => draft.add(b"fail refused NotPlanned\n"),
+            Line::Cycle { id, due } => {
+                (("cycle ", id.day, " ", id.kind), " due ", due, "\n").put(draft)
+            }
             Line::Restarted {
                 node,
                 records,
                 kept,
             } => {
-                let (node, kept) = (node_word(node), yes_or_no(kept));
-                write!(f, "restart {node} records {records} kept {kept}\n")
+                let told = ("restart ", node_word(node), " records ", records);
+                (told, " kept ", yes_or_no(kept), "\n").put(draft)
             }
-            Line::Order(line) => write!(f, "{line}"),
-            Line::Lot(line) => write!(f, "{line}"),
-            Line::Report(line) => write!(f, "{line}"),
+            Line::Order(line) => line.put(draft),
+            Line::Lot(line) => line.put(draft),
+            Line::Report(line) => line.put(draft),
         }
     }
 }
 
-impl fmt::Display for OrderLine {
-    ghost output = { λ line. Some (order_line_text line) };
+impl Put for OrderLine {
+    ghost text = { order_line_text };
 
     #[tactic(auto, unfolding(crate::specs::Lines::order_line_text))]
-    fn fmt<W: fmt::Write>(&self, f: &mut fmt::Formatter<W>) -> fmt::Result {
+    fn put(&self, draft: &mut Draft) -> Result<(), AllocError> {
         match *self {
             OrderLine::Ordered(order) => {
-                write!(f, "order {} {} {} ", order.number, order.kind, order.member)?;
-                write!(f, "{} {}\n", order.issue, order.asked)
+                let of = ("order ", order.number.number(), " ", order.kind);
+                let from = (" ", order.member, " ", order.issue);
+                (of, from, " ", order.asked.shares(), "\n").put(draft)
             }
-            OrderLine::Sent { number, packet } => write!(f, "send {number} packet {packet}\n"),
+            OrderLine::Sent { number, packet } => {
+                ("send ", number, " packet ", packet, "\n").put(draft)
+            }
             OrderLine::Executed { reply, packet } => {
-                let (number, moved) = (reply.number, reply.moved.count());
-                write!(f, "exec {number} moved {moved} packet {packet}\n")
+                (("exec ", moved(reply)), " packet ", packet, "\n").put(draft)
             }
             OrderLine::ExecutedAgain { reply, packet } => {
-                let (number, moved) = (reply.number, reply.moved.count());
-                write!(f, "again {number} moved {moved} packet {packet}\n")
+                (("again ", moved(reply)), " packet ", packet, "\n").put(draft)
             }
-            OrderLine::Confirmed(reply) => {
-                let (number, moved) = (reply.number, reply.moved.count());
-                write!(f, "confirm {number} moved {moved} done\n")
-            }
-            OrderLine::ConfirmedAgain(reply) => {
-                let (number, moved) = (reply.number, reply.moved.count());
-                write!(f, "confirm {number} moved {moved} again\n")
-            }
+            OrderLine::Confirmed(reply) => ("confirm ", moved(reply), " done\n").put(draft),
+            OrderLine::ConfirmedAgain(reply) => ("confirm ", moved(reply), " again\n").put(draft),
         }
     }
 }
 
-impl fmt::Display for LotLine {
-    ghost output = { λ line. Some (lot_line_text line) };
+// The number of an order, and what was moved.
+fn moved(reply: Reply) -> (u64, &'static str, u64)
+    ensures { (result.0 ≡ reply.number) × (result.1.now ≡ codes " moved ") × (result.2 ≡ reply.moved) }
+{
+    (reply.number.number(), " moved ", reply.moved.count())
+}
+
+impl Put for LotLine {
+    ghost text = { lot_line_text };
 
     #[tactic(auto, unfolding(crate::specs::Lines::lot_line_text))]
-    fn fmt<W: fmt::Write>(&self, f: &mut fmt::Formatter<W>) -> fmt::Result {
+    fn put(&self, draft: &mut Draft) -> Result<(), AllocError> {
         match *self {
             LotLine::Opened {
                 number,
                 poured,
                 longs,
-            } => { write!(f, "lot {number} poured {poured} longs {longs}\n") }
-            LotLine::Poured { shares } => write!(f, "pour {shares}\n"),
+            } => (("lot ", number, " poured ", poured), " longs ", longs, "\n").put(draft),
+            LotLine::Poured { shares } => ("pour ", shares, "\n").put(draft),
             LotLine::Drawn(ticket) => {
                 let Ticket {
                     member,
                     start,
                     asked,
                 } = ticket;
-                write!(f, "ticket {member} start {start} asked {asked}\n")
+                let drawn = ("ticket ", member, " start ", start);
+                (drawn, " asked ", asked, "\n").put(draft)
             }
-            LotLine::LookedPoured { poured } => write!(f, "look poured {poured}"),
+            LotLine::LookedPoured { poured } => ("look poured ", poured).put(draft),
             LotLine::LookedAsked { asked, sealed } => {
-                write!(f, " asked {asked} sealed {}\n", yes_or_no(sealed))
+                (" asked ", asked, " sealed ", yes_or_no(sealed), "\n").put(draft)
             }
-            LotLine::Sealed => f.write_str("seal ok\n"),
-            LotLine::Closed { granted } => write!(f, "close granted {granted}\n"),
+            LotLine::Sealed => draft.add(b"seal ok\n"),
+            LotLine::Closed { granted } => ("close granted ", granted, "\n").put(draft),
         }
     }
 }
 
-impl fmt::Display for ReportLine {
-    ghost output = { λ line. Some (report_line_text line) };
+impl Put for ReportLine {
+    ghost text = { report_line_text };
 
     #[tactic(auto, unfolding(crate::specs::Report::report_line_text, crate::specs::Report::report_head, crate::specs::Report::position_line, crate::specs::Report::pool_line, crate::specs::Report::balance_line, crate::specs::Report::report_end))]
-    fn fmt<W: fmt::Write>(&self, f: &mut fmt::Formatter<W>) -> fmt::Result {
+    fn put(&self, draft: &mut Draft) -> Result<(), AllocError> {
         match *self {
-            ReportLine::Head(None) => f.write_str("REPORT cycle none\n"),
-            ReportLine::Head(Some(cycle)) => write!(
-                f,
-                "REPORT cycle {} {}\n",
-                cycle.day, cycle.kind
-            ),
+            ReportLine::Head(None) => draft.add(b"REPORT cycle none\n"),
+            ReportLine::Head(Some(cycle)) => {
+                ("REPORT cycle ", cycle.day, " ", cycle.kind, "\n").put(draft)
+            }
             ReportLine::Position(row) => {
-                let position = RightIn20(row.position);
-                write!(f, "POS {} {} {position}\n", row.issue, row.member)
+                let of = ("POS ", row.issue, " ", row.member);
+                (of, " ", RightIn20(row.position), "\n").put(draft)
             }
             ReportLine::Pool(row) => {
-                write!(f, "POOL {} free {} ", row.issue, row.free)?;
-                write!(f, "lent {} out {}\n", row.lent, row.out)
+                let free = ("POOL ", row.issue, " free ", row.free);
+                ((free, " lent ", row.lent), " out ", row.out, "\n").put(draft)
             }
             ReportLine::Balance(row) => {
-                let (account, shares) = (AccountName(row.account), SharesIn20(row.shares));
-                write!(f, "BAL {} {account} {shares}\n", row.issue)
+                let of = ("BAL ", row.issue, " ", row.account);
+                (of, " ", RightIn20(row.shares), "\n").put(draft)
             }
-            ReportLine::End => f.write_str("END\n"),
+            ReportLine::End => draft.add(b"END\n"),
         }
     }
 }

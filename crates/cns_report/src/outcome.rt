@@ -1,9 +1,10 @@
-ghost use Rattle.std.specs.Prelude.{◌≡◌, ◌++◌, OnOk, OnErr, string_bytes};
+ghost use Rattle.std.specs.Prelude.{◌≡◌, ◌++◌, OnOk, OnErr};
 ghost use Rattle.cns_report.specs.Outcomes.{accepted_line, cycled_line, done_line, line_of, lot_line, order_line, orders_of, outcome_line, refused_line, restarted_line, sent_line};
 
 use crate::line::{Line, LotLine, OrderLine};
+use crate::row::Rows;
 use crate::subject::Subject;
-use crate::write::{write_line, write_orders};
+use crate::text::Text;
 use cns_movements::Order;
 use cns_records::Refusal;
 use cns_system::{Event, Outcome};
@@ -15,21 +16,14 @@ use std::alloc::AllocError;
 /// The two looks at a lot share a line: the look at what was poured writes `look poured Q` with no
 /// end of line, and the look at what is asked writes the rest. An outcome that the event never has
 /// writes nothing. Where memory is wanting, `out` is left as it was.
-pub fn outcome_line(out: &mut String, event: &Event, outcome: &Outcome) -> Result<(), AllocError>
-    ensures line { OnOk result (string_bytes out.new ≡ string_bytes out.old ++ outcome_line event.now outcome.now) }
-    ensures err { OnErr result (string_bytes out.new ≡ string_bytes out.old) }
+pub fn outcome_line(out: &mut Text, event: &Event, outcome: &Outcome) -> Result<(), AllocError>
+    ensures line { OnOk result (out.new ≡ out.old ++ outcome_line event.now outcome.now) }
+    ensures err { OnErr result (out.new ≡ out.old) }
 {
     let Some(line) = line_of(event, outcome) else {
         return Ok(());
     };
-    let orders = orders_of(outcome);
-    if orders.is_empty() {
-        return write_line(out, line);
-    }
-    let mut lines = String::new(*out.allocator());
-    write_line(&mut lines, line)?;
-    write_orders(&mut lines, orders)?;
-    out.push_str(&lines)
+    out.tell(&(line, Rows(orders_of(outcome))))
 }
 
 /// The orders that a cycle or a close made; none of another outcome.

@@ -1,31 +1,31 @@
-ghost use Rattle.std.specs.Prelude.{Some};
-ghost use Rattle.std.specs.Fmt.{decimal, signed_decimal};
+ghost use Rattle.std.specs.Prelude.{◌≡◌, ◌-◌, length, replicate};
 ghost use Rattle.cns_report.specs.Right.{right_20};
 
-use std::fmt;
+use crate::put::Put;
+use crate::text::Draft;
+use itoa::{Buffer, Integer};
+use std::alloc::AllocError;
 
-/// The shares of a position, right in 20 places.
-#[derive(Clone, Copy)]
-pub(crate) struct RightIn20(pub(crate) i128);
+// As many spaces as a number has places.
+const SPACES: &str = "                    ";
 
-impl fmt::Display for RightIn20 {
-    ghost output = { λ shares. Some (right_20 (signed_decimal shares.0)) };
-
-    fn fmt<W: fmt::Write>(&self, f: &mut fmt::Formatter<W>) -> fmt::Result {
-        let shares = self.0;
-        write!(f, "{shares:>20}")
-    }
+// The spaces before digits that stand right in 20 places.
+fn spaces_before(digits: &str) -> &str
+    ensures { result.now ≡ replicate (20 - length digits.now) 32 }
+{
+    SPACES.get(digits.len()..).unwrap_or("")
 }
 
-/// Shares of a balance, right in 20 places.
+/// Shares, right in 20 places.
 #[derive(Clone, Copy)]
-pub(crate) struct SharesIn20(pub(crate) u128);
+pub(crate) struct RightIn20<I: Integer>(pub(crate) I);
 
-impl fmt::Display for SharesIn20 {
-    ghost output = { λ shares. Some (right_20 (decimal shares.0)) };
+impl<I: Integer> Put for RightIn20<I> {
+    ghost text = { λ shares. right_20 (I.text shares.0) };
 
-    fn fmt<W: fmt::Write>(&self, f: &mut fmt::Formatter<W>) -> fmt::Result {
-        let balance = self.0;
-        write!(f, "{balance:>20}")
+    fn put(&self, draft: &mut Draft) -> Result<(), AllocError> {
+        let mut buffer = Buffer::new();
+        let digits = buffer.format(self.0);
+        (spaces_before(digits), digits).put(draft)
     }
 }

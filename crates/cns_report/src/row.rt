@@ -1,9 +1,10 @@
-ghost use Rattle.std.specs.Prelude.{◌≡◌, ◌++◌, List, OnOk, string_bytes, ℕ};
+ghost use Rattle.std.specs.Prelude.{◌≡◌, List, ℕ};
 ghost use Rattle.cns_report.specs.Ends.{lines_of};
 ghost use Rattle.cns_report.specs.Lines.{line_text};
 
 use crate::line::{Line, OrderLine, ReportLine};
-use crate::write::write_line;
+use crate::put::Put;
+use crate::text::Draft;
 use cns_clearing::PoolRow;
 use cns_depository::BalanceRow;
 use cns_movements::Order;
@@ -68,13 +69,18 @@ impl TextRow for Order {
     }
 }
 
-/// Adds the lines of rows, one after another, or some of them where memory is wanting.
-#[tactic(auto, unfolding(crate::specs::Ends::lines_of))]
-pub(crate) fn write_rows<R: TextRow>(out: &mut String, rows: &[R]) -> Result<(), AllocError>
-    ensures { OnOk result (string_bytes out.new ≡ string_bytes out.old ++ lines_of R.text rows.now) }
-{
-    for row in rows {
-        write_line(out, row.line())?;
+/// Rows, each in its line, one after another.
+#[derive(Clone, Copy)]
+pub(crate) struct Rows<'a, R>(pub(crate) &'a [R]);
+
+impl<R: TextRow> Put for Rows<'_, R> {
+    ghost text = { λ rows. lines_of R.text rows.0.now };
+
+    #[tactic(auto, unfolding(crate::specs::Ends::lines_of))]
+    fn put(&self, draft: &mut Draft) -> Result<(), AllocError> {
+        for row in self.0 {
+            row.line().put(draft)?;
+        }
+        Ok(())
     }
-    Ok(())
 }

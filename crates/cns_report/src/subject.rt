@@ -1,9 +1,8 @@
-ghost use Rattle.std.specs.Prelude.{◌≡◌, Some};
+ghost use Rattle.std.specs.Prelude.{◌≡◌};
 ghost use Rattle.cns_report.specs.Outcomes.{subject_of};
 ghost use Rattle.cns_report.specs.Refusals.{subject_text};
 
 use cns_system::Event;
-use std::fmt;
 
 /// What a line tells of, as the word that its refusals begin with.
 #[derive(Clone, Copy, PartialEq, Eq, Debug)]
@@ -46,13 +45,12 @@ impl Subject {
             Event::Restart(_) => Subject::Restart,
         }
     }
-}
 
-impl fmt::Display for Subject {
-    ghost output = { λ s. Some (subject_text s) };
-
-    fn fmt<W: fmt::Write>(&self, f: &mut fmt::Formatter<W>) -> fmt::Result {
-        f.write_str(match self {
+    /// The word.
+    pub fn name(self) -> &'static str
+        ensures { result.now ≡ subject_text self }
+    {
+        match self {
             Subject::Trade => "trade",
             Subject::Exempt => "exempt",
             Subject::Priority => "priority",
@@ -67,6 +65,6 @@ impl fmt::Display for Subject {
             Subject::Seal => "seal",
             Subject::Close => "close",
             Subject::Restart => "restart",
-        })
+        }
     }
 }

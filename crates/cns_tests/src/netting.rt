@@ -11,7 +11,7 @@ const FIRST: Deal = (b"A1", 2, 1, 100);
 const SECOND: Deal = (b"A2", 1, 2, 40);
 
 // A position: its member's number, and its shares.
-type Held = (u16, i128);
+type Held = (u16, i64);
 
 // Whether the rows of an issue are these positions.
 fn are_held(rows: &[PositionRow], issue: Cusip, wanted: &[Held]) -> bool {

@@ -1,31 +1,47 @@
 -- A list of trades by their ids.
-use Rattle.std.proofs.Common.{◌≡◌, ◌<◌, ℕ, suc, List, [], ◌∷◌, ◌++◌, length, Option, Some, None, Bool, true, false, refl, sym, ap, ◌∙◌, arith, length-append}
+use Rattle.std.proofs.Common.{◌≡◌, ◌<◌, ℕ, suc, List, [], ◌∷◌, ◌++◌, length, Option, Some, None, Bool, true, false, refl, sym, ap, ◌∙◌}
 use Rattle.std.specs.Prelude.{map, ◌==◌, nat_lt, if◌then◌else◌}
 use Rattle.std.specs.Map.{lookup}
 use borrow.Author.Tests.{ltb-true}
 use Rattle.std.proofs.lemmas.List.{map-append}
-use Rattle.cns_trades.specs.Listed.{IsKeyed, keyed, same_trade}
+use lib.Pointwise.{bytes_decides}
+use Rattle.std.specs.Option.{option_map}
+use Rattle.cns_trades.specs.Listed.{same_trade, trade_in}
+use Rattle.cns_trades.specs.declared.list.Terms.{Terms}
 use Rattle.cns_trades.specs.Fields.{same_text}
 use Rattle.cns_trades.specs.Verdicts.{judged, known, verdict}
 use Rattle.cns_trades.specs.declared.trade.Trade.{Trade}
 use Rattle.cns_trades.specs.declared.list.Verdict.TheVariants as verdicts
 
-lookup-keyed : (id : List ℕ) (ts : List Trade) → lookup (same_text id) (keyed ts) ≡ known id ts
-lookup-keyed id [] = refl
-lookup-keyed id (t ∷ ts) = rw (lookup-keyed id ts) refl
+pub same_self : (id : List ℕ) → same_text id id ≡ true
+same_self id = (bytes_decides id id).1 refl
 
 -- the trade of an id, by a look-up in the entries
-pub known-lookup : (id : List ℕ) (es : List (List ℕ × Trade)) → es ≡ keyed (map (λ e. e.1) es) → known id (map (λ e. e.1) es) ≡ lookup (same_text id) es
-known-lookup id es h = sym (lookup-keyed id (map (λ e. e.1) es)) ∙ ap (lookup (same_text id)) (sym h)
+pub known-lookup : (id : List ℕ) (es : List (List ℕ × Terms)) → known id (map trade_in es) ≡ option_map (λ u. trade_in (id, u)) (lookup (same_text id) es)
+known-lookup id [] = refl
+known-lookup id (e ∷ es) = by (same_text id e.0) refl (known-lookup id es)
+  where
+    by : (b : Bool) → same_text id e.0 ≡ b → known id (map trade_in es) ≡ option_map (λ u. trade_in (id, u)) (lookup (same_text id) es)
+        → known id (map trade_in (e ∷ es)) ≡ option_map (λ u. trade_in (id, u)) (lookup (same_text id) (e ∷ es))
+    by true is more = let same = (bytes_decides id e.0).0 is in rw is (ap (λ k. Some (trade_in (k, e.1))) (sym same))
+    by false is more = rw (is, more) refl
 
 -- what the list says of a trade between two members whose id is found, and of one whose id is not
-pub verdict-found : (es : List (List ℕ × Trade)) (t u : Trade) → es ≡ keyed (map (λ e. e.1) es) → (t.buyer == t.seller) ≡ false → lookup (same_text t.id) es ≡ Some u
-    → verdict (map (λ e. e.1) es) t ≡ (if same_trade u t then verdicts.Same else verdicts.Conflict)
-verdict-found es t u by_id h found = let k = known-lookup t.id es by_id ∙ found in rw (h, k) refl
+pub verdict-found : (es : List (List ℕ × Terms)) (t : Trade) (u : Terms) → (t.buyer == t.seller) ≡ false → lookup (same_text t.id) es ≡ Some u
+    → verdict (map trade_in es) t ≡ (if same_trade (trade_in (t.id, u)) t then verdicts.Same else verdicts.Conflict)
+verdict-found es t u h found = let k = known-lookup t.id es ∙ ap (option_map (λ u. trade_in (t.id, u))) found in rw (h, k) refl
 
-pub verdict-none : (es : List (List ℕ × Trade)) (t : Trade) → es ≡ keyed (map (λ e. e.1) es) → (t.buyer == t.seller) ≡ false → lookup (same_text t.id) es ≡ None
-    → verdict (map (λ e. e.1) es) t ≡ (if nat_lt (length (map (λ e. e.1) es)) 1000000 then verdicts.New else verdicts.Full)
-verdict-none es t by_id h none = let k = known-lookup t.id es by_id ∙ none in rw (h, k) refl
+pub verdict-none : (es : List (List ℕ × Terms)) (t : Trade) → (t.buyer == t.seller) ≡ false → lookup (same_text t.id) es ≡ None
+    → verdict (map trade_in es) t ≡ (if nat_lt (length (map trade_in es)) 1000000 then verdicts.New else verdicts.Full)
+verdict-none es t h none = let k = known-lookup t.id es ∙ ap (option_map (λ u. trade_in (t.id, u))) none in rw (h, k) refl
+
+-- an id that is not known is not found
+pub not_found : (id : List ℕ) (es : List (List ℕ × Terms)) → known id (map trade_in es) ≡ None → lookup (same_text id) es ≡ None
+not_found id es none = by (lookup (same_text id) es) (sym (known-lookup id es) ∙ none)
+  where
+    by : (o : Option Terms) → option_map (λ u. trade_in (id, u)) o ≡ None → o ≡ None
+    by None e = refl
+    by (Some u) e = cc e
 
 -- a new trade has an id that is not known
 pub new-unknown : (held : List Trade) (t : Trade) → verdict held t ≡ verdicts.New → known t.id held ≡ None
@@ -40,12 +56,12 @@ new-unknown held t h = by (t.buyer == t.seller) (known t.id held) h
         same true e = cc e
         same false e = cc e
 
-pub trades_size : (es : List (List ℕ × Trade)) → length (map (λ e. e.1) es) ≡ length es
+pub trades_size : (es : List (List ℕ × Terms)) → length (map trade_in es) ≡ length es
 trades_size [] = refl
 trades_size (e ∷ es) = ap suc (trades_size es)
 
-pub trades-more : (es : List (List ℕ × Trade)) (t : Trade) → map (λ e. e.1) (es ++ (t.id, t) ∷ []) ≡ map (λ e. e.1) es ++ t ∷ []
-trades-more es t = map-append (λ (e : List ℕ × Trade). e.1) es ((t.id, t) ∷ [])
+pub trades-more : (es : List (List ℕ × Terms)) (t : Trade) (u : Terms) → trade_in (t.id, u) ≡ t → map trade_in (es ++ (t.id, u) ∷ []) ≡ map trade_in es ++ t ∷ []
+trades-more es t u is = map-append trade_in es ((t.id, u) ∷ []) ∙ ap (λ t. map trade_in es ++ t ∷ []) is
 
 -- a new trade finds fewer than a million
 pub new-few : (held : List Trade) (t : Trade) → verdict held t ≡ verdicts.New → length held < 1000000
@@ -63,12 +79,3 @@ new-few held t h = by (t.buyer == t.seller) (known t.id held) h
         same : (b : Bool) → (if b then verdicts.Same else verdicts.Conflict) ≡ verdicts.New → length held < 1000000
         same true e = cc e
         same false e = cc e
-
--- one more trade under its id
-pub keyed-more : (es : List (List ℕ × Trade)) (t : Trade) → IsKeyed es → length (map (λ e. e.1) es) < 1000000 → IsKeyed (es ++ (t.id, t) ∷ [])
-keyed-more es t h few =
-    let key : Trade → List ℕ × Trade = λ u. (u.id, u) in
-    record {
-      by_id = rw (trades-more es t, map-append key (map (λ e. e.1) es) (t ∷ []), ← h.by_id) refl;
-      few = omega (arith, trades_size es, length-append es ((t.id, t) ∷ []), few);
-    }

@@ -1,6 +1,7 @@
 -- A list of accepted trades.
-use Rattle.std.specs.Prelude.{◌≡◌, ◌≤◌, ℕ, ◌&&◌, ◌==◌, Bool, List, length, map}
+use Rattle.std.specs.Prelude.{ℕ, ◌&&◌, ◌==◌, Bool, List}
 use Rattle.cns_trades.specs.Fields.{same_text}
+use Rattle.cns_trades.specs.declared.list.Terms.{Terms}
 use Rattle.cns_trades.specs.declared.trade.Trade.{Trade}
 
 -- the accepted trades, the first one first, and for how many more there is room
@@ -8,14 +9,10 @@ pub record Listed : Type 0 where
   pub trades : List Trade
   pub room : ℕ
 
--- each trade under its id
-abbrev pub keyed : List Trade → List (List ℕ × Trade)
-keyed ts = map (λ t. (t.id, t)) ts
-
--- entries that are trades under their ids, at most a million
-pub record IsKeyed (entries : List (List ℕ × Trade)) : Type 0 where
-  pub by_id : entries ≡ keyed (map (λ e. e.1) entries)
-  pub few : length entries ≤ 1000000
+-- the trade of an entry: its id, and what is held under it
+abbrev pub trade_in : List ℕ × Terms → Trade
+trade_in e =
+    record { id = e.0; settle = e.1.settle; buyer = e.1.buyer; seller = e.1.seller; issue = e.1.issue; quantity = e.1.quantity }
 
 -- equal in all fields
 abbrev pub same_trade : Trade → Trade → Bool

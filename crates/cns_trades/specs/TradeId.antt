@@ -1,5 +1,5 @@
 -- Trade ids: 1 to 16 capital letters and digits (this project's own rule).
-use Rattle.std.specs.Prelude.{◌≡◌, ℕ, ◌-◌, ◌&&◌, ◌||◌, nat_le, Bool, true, not, ◌==◌, List, ◌++◌, length, take, replicate}
+use Rattle.std.specs.Prelude.{◌≡◌, ℕ, ◌&&◌, ◌||◌, min, nat_le, Bool, true, not, ◌==◌, List, [], ◌∷◌, ◌++◌, drop, length, replicate, slice_index, take}
 use Rattle.std.specs.List.{list_all}
 
 abbrev pub is_id_byte : ℕ → Bool
@@ -11,12 +11,15 @@ is_id_text t = not (length t == 0) && nat_le (length t) 16 && list_all is_id_byt
 abbrev pub IsId : List ℕ → Type 0
 IsId t = is_id_text t ≡ true
 
--- a text with zeros after it, sixteen bytes in all
-abbrev pub padded : List ℕ → List ℕ
-padded t = t ++ replicate (16 - length t) 0
+-- how many of sixteen stored bytes are the id's: the last one says it, unless it is the id's own, which is more than 16
+abbrev pub size_in : List ℕ → ℕ
+size_in bytes = min 16 (slice_index bytes 15)
 
--- how an id is stored: its length, and its bytes with zeros after them
-pub record IsStored (len : ℕ) (bytes : List ℕ) : Type 0 where
-  pub size : length (take len bytes) ≡ len
-  pub rest : padded (take len bytes) ≡ bytes
-  pub id : IsId (take len bytes)
+-- a text as it is stored, in sixteen bytes: with zeros after it, and then its length, where it leaves room for that
+abbrev pub stored : List ℕ → List ℕ
+stored t = t ++ drop (length t) (replicate 15 0 ++ length t ∷ [])
+
+-- bytes in which an id is stored
+pub record IsStored (bytes : List ℕ) : Type 0 where
+  pub rest : stored (take (size_in bytes) bytes) ≡ bytes
+  pub id : IsId (take (size_in bytes) bytes)

@@ -16,30 +16,33 @@ use thiserror::Error;
 #[error("not 1 to 16 capital letters and digits")]
 pub struct BadId;
 
+// The place of the last byte.
+const LAST: usize = 15;
+
 /// A trade's id: 1 to 16 capital letters and digits. (This project's own rule.)
 ///
 /// Contracts see its bytes.
 #[derive(Clone, Copy, Debug)]
 pub struct TradeId {
-    // The bytes, with zeros after them.
+    // The bytes, with zeros after them, and their number last, where they leave room for it: it is less than
+    // any character of an id.
     bytes: [u8; 16],
-    len: u8,
 }
 
 impl Model for TradeId {
-    ghost use Rattle.std.specs.Prelude.{List, ℕ, take, length};
+    ghost use Rattle.std.specs.Prelude.{List, ℕ, take};
     ghost use Rattle.std.proofs.Common.{refl};
-    ghost use Rattle.cns_trades.specs.TradeId.{IsStored, padded};
+    ghost use Rattle.cns_trades.specs.TradeId.{IsStored, size_in, stored};
 
     ghost Value = { List ℕ };
 
-    ghost view = { λ a. take a.len a.bytes };
+    ghost view = { λ a. take (size_in a.bytes) a.bytes };
 
-    ghost invariant = { λ a. IsStored a.len a.bytes };
+    ghost invariant = { λ a. IsStored a.bytes };
 
-    ghost inverse = { λ v. record { bytes = padded v; len = length v } };
+    ghost inverse = { λ v. record { bytes = stored v } };
 
-    ghost inverse_ok = { λ a h. Prim.rw (h.rest, h.size) refl };
+    ghost inverse_ok = { λ a h. Prim.rw h.rest refl };
 }
 
 fn is_id_character(character: u8) -> bool
@@ -73,11 +76,9 @@ impl TradeId {
         }
         let mut bytes = [0; 16];
         let len = text.len();
+        bytes[LAST] = len as u8;
         bytes[..len].copy_from_slice(text);
-        Ok(TradeId {
-            bytes,
-            len: len as u8,
-        })
+        Ok(TradeId { bytes })
     }
 
     /// The 1 to 16 bytes.
@@ -85,7 +86,8 @@ impl TradeId {
         ensures text { result.now ≡ self.now }
         ensures id { IsId self.now }
     {
-        &self.bytes[..self.len as usize]
+        let len = usize::from(self.bytes[LAST]).min(16);
+        &self.bytes[..len]
     }
 }
 

@@ -10,11 +10,14 @@ mod list;
 mod opening;
 mod record;
 mod row;
+mod rows;
 mod trade;
+mod untaken;
 
 pub use fault::{CsvFault, RowFault};
 pub use id::{BadId, TradeId};
 pub use list::{TradeList, Verdict};
 pub use opening::{Opening, OpeningRow, read_openings};
 pub use row::{Row, read_trades};
+pub use rows::TradeRows;
 pub use trade::Trade;

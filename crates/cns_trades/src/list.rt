@@ -1,8 +1,9 @@
 ghost use Rattle.std.specs.Prelude.{◌≡◌, ◌∷◌, [], ◌++◌, ◌<◌, ◌≤◌, ◌==◌, OnOk, OnErr, IsOk, length};
-ghost use Rattle.cns_trades.specs.Listed.{same_trade};
+ghost use Rattle.cns_trades.specs.Listed.{same_trade, trade_in};
 
 use crate::id::TradeId;
 use crate::trade::Trade;
+use cns_ids::{Cusip, Day, MemberNo, Quantity};
 use indexmap::IndexMap;
 use std::alloc::{AllocError, Global};
 use std::marker::Model;
@@ -22,31 +23,55 @@ pub enum Verdict {
     Full,
 }
 
+// What a trade says beside its id.
+#[derive(Clone, Copy, PartialEq, Eq)]
+struct Terms {
+    settle: Day,
+    buyer: MemberNo,
+    seller: MemberNo,
+    issue: Cusip,
+    quantity: Quantity,
+}
+
+impl Terms {
+    fn of(trade: &Trade) -> Terms
+        ensures { trade_in (trade.now.id, result) ≡ trade.now }
+    {
+        Terms {
+            settle: trade.settle,
+            buyer: trade.buyer,
+            seller: trade.seller,
+            issue: trade.issue,
+            quantity: trade.quantity,
+        }
+    }
+}
+
 /// The accepted trades by id, in the order in which they were accepted.
 ///
 /// Contracts see the trades, and for how many more there is room.
 #[derive(Drop)]
 pub struct TradeList {
-    by_id: IndexMap<TradeId, Trade>,
+    by_id: IndexMap<TradeId, Terms>,
 }
 
 impl Model for TradeList {
-    ghost use Rattle.std.specs.Prelude.{◌≡◌, ◌≤◌, length, map};
+    ghost use Rattle.std.specs.Prelude.{◌≤◌, length, map};
     ghost use Rattle.indexmap.specs.IndexMap.{spare};
-    ghost use Rattle.cns_trades.specs.Listed.{Listed, keyed, IsKeyed};
+    ghost use Rattle.cns_trades.specs.Listed.{Listed, trade_in};
 
     ghost Value = { Listed };
 
-    ghost view = { λ a. record { trades = map (λ e. e.1) a.by_id.entries; room = spare a.by_id } };
+    ghost view = { λ a. record { trades = map trade_in a.by_id.entries; room = spare a.by_id } };
 
-    ghost invariant = { λ a. IsKeyed a.by_id.entries };
+    ghost invariant = { λ a. length a.by_id.entries ≤ 1000000 };
 }
 
-// Whether two trades are equal in all fields.
-fn is_same(a: &Trade, b: &Trade) -> bool
-    ensures { result ≡ same_trade a.now b.now }
+// Whether a trade with this id says the same as another of its id.
+fn is_same(known: &Terms, trade: &Trade) -> bool
+    ensures { result ≡ same_trade (trade_in (trade.now.id, known.now)) trade.now }
 {
-    a == b
+    *known == Terms::of(trade)
 }
 
 impl TradeList {
@@ -123,7 +148,7 @@ impl TradeList {
         ensures err { OnErr result (self.new.trades ≡ self.old.trades) }
         ensures room { 0 < self.old.room → IsOk result }
     {
-        self.by_id.insert(trade.id, trade)?;
+        self.by_id.insert(trade.id, Terms::of(&trade))?;
         Ok(())
     }
 }

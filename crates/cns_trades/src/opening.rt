@@ -73,5 +73,5 @@ impl FromRecord for OpeningRow {
 pub fn read_openings(alloc: Global, text: &[u8]) -> Result<Vec<OpeningRow>, CsvFault>
     ensures exact { MatchResult result (λ v. opening_rows text.now ≡ Some v.items) (λ e. TellsRows e (opening_rows text.now)) }
 {
-    read_rows(alloc, text)
+    read_rows::<OpeningRow, Vec<OpeningRow>>(alloc, text)
 }

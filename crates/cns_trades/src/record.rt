@@ -1,4 +1,4 @@
-ghost use Rattle.std.specs.Prelude.{◌≡◌, ◌≢◌, ◌↔◌, ◌++◌, ◌∷◌, [], ℕ, List, Bool, true, false, Some, MatchResult, OnOk, IfErr};
+ghost use Rattle.std.specs.Prelude.{◌≡◌, ◌≢◌, ◌↔◌, ◌+◌, ◌++◌, ◌∷◌, [], ℕ, List, length, Bool, true, false, Some, MatchResult, OnOk, IfErr};
 ghost use Rattle.csv.specs.Records.{fields_of};
 ghost use Rattle.cns_trades.specs.Fields.{field_or_empty};
 ghost use Rattle.cns_trades.specs.Records.{Records, Fields, under_header, rows_of, TellsRows, StandBefore, IsReaderFault, IsWantOfMemory};
@@ -6,7 +6,7 @@ ghost use Rattle.cns_trades.specs.declared.fault.CsvFault.TheVariants.{Header, O
 
 use crate::fault::CsvFault;
 use csv::{ByteRecord, Error, ErrorKind, ReaderBuilder};
-use std::alloc::Global;
+use std::alloc::{AllocError, Global};
 use std::io;
 
 /// What one record of a text is read as.
@@ -22,6 +22,34 @@ pub(crate) trait FromRecord: Drop {
 
     fn from_record(row: u64, fields: &ByteRecord) -> Self
         ensures { result ≡ row_at row (fields_of fields.now) };
+}
+
+/// A list of the rows that records are.
+pub(crate) trait RowList<R: FromRecord>: Drop {
+    /// The rows.
+    ghost rows: { Self → List R };
+
+    /// No row.
+    fn new(alloc: Global) -> Self
+        ensures { rows result ≡ [] };
+
+    /// Adds the row that a record is; its number is one more than there are rows before it.
+    fn take(&mut self, fields: &ByteRecord) -> Result<(), AllocError>
+        ensures { OnOk result (rows self.new ≡ rows self.old ++ R.row_at (length (rows self.old) + 1) (fields_of fields.now) ∷ []) };
+}
+
+impl<R: FromRecord> RowList<R> for Vec<R> {
+    ghost rows = { λ v. v.items };
+
+    fn new(alloc: Global) -> Vec<R> {
+        Vec::new(alloc)
+    }
+
+    fn take(&mut self, fields: &ByteRecord) -> Result<(), AllocError> {
+        let number = self.len() as u64 + 1;
+        self.push(R::from_record(number, fields))?;
+        Ok(())
+    }
 }
 
 /// A field of a record; empty where there is none.
@@ -46,13 +74,13 @@ fn stopped(error: &Error) -> CsvFault
 }
 
 // Takes the next record: the header, or a row.
-fn take_record<R: FromRecord>(
-    rows: &mut Vec<R>,
+fn take_record<R: FromRecord, L: RowList<R>>(
+    rows: &mut L,
     header_is_next: bool,
     fields: &ByteRecord,
 ) -> Result<(), CsvFault>
-    ensures ok { OnOk result ((before : Records) → StandBefore header_is_next before → under_header R.is_header R.row_at before ≡ Some rows.old.items
-        → under_header R.is_header R.row_at (before ++ fields_of fields.now ∷ []) ≡ Some rows.new.items) }
+    ensures ok { OnOk result ((before : Records) → StandBefore header_is_next before → under_header R.is_header R.row_at before ≡ Some (L.rows rows.old)
+        → under_header R.is_header R.row_at (before ++ fields_of fields.now ∷ []) ≡ Some (L.rows rows.new)) }
     ensures err { IfErr result (λ e. e ≡ Header → (header_is_next ≡ true) × (R.is_header (fields_of fields.now) ≡ false)) }
     ensures reading { IfErr result (λ e. e ≢ Reading) }
 
@@ -66,27 +94,29 @@ fn take_record<R: FromRecord>(
             Err(CsvFault::Header)
         };
     }
-    let number = rows.len() as u64 + 1;
-    if rows.push(R::from_record(number, fields)).is_err() {
-        return Err(CsvFault::OutOfMemory);
+    match rows.take(fields) {
+        Ok(()) => Ok(()),
+        Err(AllocError) => Err(CsvFault::OutOfMemory),
     }
-    Ok(())
 }
 
 /// The rows of a text: the records that `csv` reads as bytes under the header, numbered from 1.
-pub(crate) fn read_rows<R: FromRecord>(alloc: Global, text: &[u8]) -> Result<Vec<R>, CsvFault>
-    ensures exact { MatchResult result (λ v. rows_of R.is_header R.row_at text.now ≡ Some v.items) (λ e. TellsRows e (rows_of R.is_header R.row_at text.now)) }
+pub(crate) fn read_rows<R: FromRecord, L: RowList<R>>(
+    alloc: Global,
+    text: &[u8],
+) -> Result<L, CsvFault>
+    ensures exact { MatchResult result (λ v. rows_of R.is_header R.row_at text.now ≡ Some (L.rows v)) (λ e. TellsRows e (rows_of R.is_header R.row_at text.now)) }
 {
     let mut reader = ReaderBuilder::new()
         .has_headers(false)
         .flexible(true)
         .from_reader(alloc, text);
     let mut fields = ByteRecord::new(alloc);
-    let mut rows = Vec::new(alloc);
+    let mut rows = L::new(alloc);
     let mut header_is_next = true;
     for _record in 0..u64::MAX {
         match reader.read_byte_record(&mut fields) {
-            Ok(true) => take_record(&mut rows, header_is_next, &fields)?,
+            Ok(true) => take_record::<R, L>(&mut rows, header_is_next, &fields)?,
             Ok(false) => return Ok(rows),
             Err(error) => return Err(stopped(&error)),
         }

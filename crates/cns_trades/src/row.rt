@@ -19,9 +19,9 @@ pub enum Row {
     Fault { row: u64, fault: RowFault },
 }
 
-// The trade that a record is, or its first fault.
+/// The trade that a record is, or its first fault.
 #[tactic(auto, unfolding(crate::specs::Rows::trade_of))]
-fn trade_of(fields: &ByteRecord) -> Result<Trade, RowFault>
+pub(crate) fn trade_of(fields: &ByteRecord) -> Result<Trade, RowFault>
     ensures { result ≡ trade_of_fields (fields_of fields.now) }
 {
     if fields.len() != 6 {
@@ -77,5 +77,5 @@ impl FromRecord for Row {
 pub fn read_trades(alloc: Global, text: &[u8]) -> Result<Vec<Row>, CsvFault>
     ensures exact { MatchResult result (λ v. trade_rows text.now ≡ Some v.items) (λ e. TellsRows e (trade_rows text.now)) }
 {
-    read_rows(alloc, text)
+    read_rows::<Row, Vec<Row>>(alloc, text)
 }

@@ -2,15 +2,15 @@
 
 use crate::common::{Deed, assert_same, event_of, new_both};
 use cns_records::Refusal;
-use cns_report::outcome_line;
+use cns_report::{Text, outcome_line};
 use cns_system::{Event, NodeName, Outcome};
 use std::alloc::Global;
 use std::process::Abort;
 
 fn see(rt: &impl Abort, alloc: Global, event: &Event, outcome: &Outcome, want: &str) {
-    let mut out = String::new(alloc);
+    let mut out = Text::new(alloc);
     outcome_line(&mut out, event, outcome).expect(rt, "memory");
-    assert_same(rt, &out.as_str(), &want);
+    assert_same(rt, &out.as_bytes(), &want.as_bytes());
     drop(out);
 }
 

@@ -1,4 +1,4 @@
-use Rattle.std.proofs.Common.{◌≡◌, ◌++◌, ◌+◌, [], drop, string_bytes}
+use Rattle.std.proofs.Common.{◌≡◌, ◌++◌, ◌+◌, [], drop}
 use Rattle.cns_batch.specs.Opened.{told_openings}
 use Rattle.cns_batch.proofs.opening.take_openings.Given as goal
 
@@ -6,4 +6,4 @@ abbrev pub invariant-loop-row : goal.invariant-loop-row
 invariant-loop-row l =
     (l.number ≡ l.row-index + 1)
     × ((told_openings l.number l.openings (drop l.row-index l.rows)).0 ≡ (told_openings 1 [] l.rows).0)
-    × (string_bytes l.out ++ (told_openings l.number l.openings (drop l.row-index l.rows)).1 ≡ string_bytes l.fn.out ++ (told_openings 1 [] l.rows).1)
+    × (l.out ++ (told_openings l.number l.openings (drop l.row-index l.rows)).1 ≡ l.fn.out ++ (told_openings 1 [] l.rows).1)

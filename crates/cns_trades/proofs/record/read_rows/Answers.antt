@@ -15,7 +15,7 @@ loop-record-init g c =
     let fr = c.from_reader-reader.ensures in
     let f = c.flexible.ensures in
     let e = c.has_headers.ensures in
-    rw c.new-rows.ensures.items (
+    rw c.new-rows.ensures (
       rw (f, e) at fr.trim ∙ c.new.ensures.trim,
       inr (inr (rw (f, e) at fr.has_headers, fr.headers)),
       rw (f, e) at fr.config ∙ c.new.ensures.config,

@@ -9,5 +9,5 @@ abbrev pub invariant-loop-record : goal.invariant-loop-record
 invariant-loop-record g l = (l.reader.trim ≡ trim.None) × Ready l.reader × (l.reader.config ≡ default_config)
     × (y : List ℕ) × (source_of (λ s. Some s.now) l.reader ≡ Some y)
     × (recs : Records) × Reached default_config st.StartRecord (strip_bom l.fn.text) recs l.reader.state y
-    × StandBefore l.header_is_next recs × (under_header g.R.FromRecord.is_header g.R.FromRecord.row_at recs ≡ Some l.rows.items)
+    × StandBefore l.header_is_next recs × (under_header g.R.FromRecord.is_header g.R.FromRecord.row_at recs ≡ Some (g.L.RowList.rows l.rows))
     × (is_flexible l.reader ≡ true)

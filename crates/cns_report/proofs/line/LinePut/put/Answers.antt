@@ -1,0 +1,15 @@
+use Rattle.std.proofs.Common.{rules}
+use Rattle.cns_report.specs.Lines.{line_text}
+use Rattle.cns_report.proofs.line.LinePut.put.Goals as goal
+
+pub returns-in-PrioritySet-clause-begun : goal.returns-in-PrioritySet-clause-begun
+unfolding line_text
+returns-in-PrioritySet-clause-begun c = rw c.in-PrioritySet.is c.add-in-PrioritySet.ensures.begun
+
+pub returns-in-OpeningRowFault-clause-begun : goal.returns-in-OpeningRowFault-clause-begun
+unfolding line_text
+returns-in-OpeningRowFault-clause-begun c = rw c.in-OpeningRowFault.is (search rules)
+
+pub returns-in-OpeningRefused-clause-begun : goal.returns-in-OpeningRefused-clause-begun
+unfolding line_text
+returns-in-OpeningRefused-clause-begun c = rw (c.in-OpeningRefused.is, ← c.opening_fault_name.ensures) c.put-in-OpeningRefused.ensures.begun
