@@ -20,9 +20,7 @@ use cns_depository::Depository;
 use cns_ids::Cusip;
 use cns_journal::Keeper;
 use cns_records::Refusal;
-use cns_report::{
-    Line, LotLine, ReportLine, Subject, Text, TextRow, line_of, orders_of, write_line,
-};
+use cns_report::{Line, LotLine, Put, ReportEnd, ReportHead, Subject, Text, line_of, orders_of};
 use cns_system::{Allocated, Cut, Drawn, Event, Outcome, System};
 use std::alloc::{AllocError, Global};
 use std::io::Write;
@@ -98,12 +96,19 @@ impl Page {
         self.rows(orders_of(outcome), writer)
     }
 
+    // Tells what is one line.
+    fn told<T: Put, W: Write>(&mut self, told: &T, writer: &mut W) -> Told
+        ensures { Prints (T.text told.now) result (record { held = self.old; sent = W.contents writer.old }) (record { held = self.new; sent = W.contents writer.new }) }
+    {
+        self.text.tell(told)?;
+        self.flush_when_full(writer)
+    }
+
     /// Tells a line.
     pub(crate) fn tell<W: Write>(&mut self, line: Line, writer: &mut W) -> Told
         ensures { Prints (line_text line) result (record { held = self.old; sent = W.contents writer.old }) (record { held = self.new; sent = W.contents writer.new }) }
     {
-        write_line(&mut self.text, line)?;
-        self.flush_when_full(writer)
+        self.told(&line, writer)
     }
 
     /// Tells whether a failure is planned.
@@ -117,11 +122,11 @@ impl Page {
     }
 
     // Tells the lines of rows.
-    fn rows<R: TextRow, W: Write>(&mut self, rows: &[R], writer: &mut W) -> Told
+    fn rows<R: Put, W: Write>(&mut self, rows: &[R], writer: &mut W) -> Told
         ensures { Prints (lines_of R.text rows.now) result (record { held = self.old; sent = W.contents writer.old }) (record { held = self.new; sent = W.contents writer.new }) }
     {
         for row in rows {
-            self.tell(row.line(), writer)?;
+            self.told(row, writer)?;
         }
         Ok(())
     }
@@ -137,7 +142,7 @@ impl Page {
             result (record { held = self.old; sent = W.contents writer.old }) (record { held = self.new; sent = W.contents writer.new }) }
     {
         let latest = clearing.latest();
-        self.tell(Line::Report(ReportLine::Head(latest)), writer)?;
+        self.told(&ReportHead(latest), writer)?;
         let positions = clearing.book().rows()?;
         self.rows(positions.as_slice(), writer)?;
         drop(positions);
@@ -169,7 +174,7 @@ impl Page {
     {
         self.cycle_report(alloc, system.clearing(), writer)?;
         self.balance_report(alloc, system.depository(), writer)?;
-        self.tell(Line::Report(ReportLine::End), writer)
+        self.told(&ReportEnd, writer)
     }
 
     /// Tells that a lot was opened, by its number, the shares that were poured into it and its longs; it is
@@ -180,7 +185,7 @@ impl Page {
             poured,
             longs,
         };
-        write_line(&mut self.text, Line::Lot(opened))
+        self.text.tell(&Line::Lot(opened))
     }
 
     // Tells what entering a ticket, or ending a lot, came to. A seal is not told unless it is refused.

@@ -8,7 +8,6 @@ use Rattle.cns_ids.specs.Day.{day_text}
 use Rattle.cns_movements.specs.Order.{kind_text as move_kind_text}
 use Rattle.cns_movements.specs.declared.order.Order.{Order}
 use Rattle.cns_report.specs.Ends.{line_end, lines_of}
-use Rattle.cns_report.specs.Report.{report_line_text}
 use Rattle.cns_report.specs.Refusals.{subject_text, refusal_text, node_text}
 use Rattle.cns_report.specs.Faults.{opening_fault_text, row_fault_text}
 use Rattle.cns_report.specs.declared.line.Line.{Line}
@@ -23,9 +22,6 @@ yes_or_no true = codes "yes"
 yes_or_no false = codes "no"
 
 unfoldable pub order_line_text : OrderLine → List ℕ
--- order N KIND MEMBER CUSIP ASKED
-order_line_text (order.Ordered o) =
-    codes "order " ++ decimal o.number ++ 32 ∷ move_kind_text o.kind ++ 32 ∷ member_text o.member ++ 32 ∷ cusip_text o.issue ++ 32 ∷ decimal o.asked ++ line_end
 -- send N packet K
 order_line_text (order.Sent number packet) = codes "send " ++ decimal number ++ codes " packet " ++ decimal packet ++ line_end
 -- exec N moved Q packet K
@@ -37,9 +33,10 @@ order_line_text (order.Confirmed r) = codes "confirm " ++ decimal r.number ++ co
 -- confirm N moved Q again
 order_line_text (order.ConfirmedAgain r) = codes "confirm " ++ decimal r.number ++ codes " moved " ++ decimal r.moved ++ codes " again" ++ line_end
 
--- an order as it was made, and the lines of such orders one after another
-abbrev pub ordered_line : Order → List ℕ
-ordered_line o = order_line_text (order.Ordered o)
+-- order N KIND MEMBER CUSIP ASKED, of an order as it was made, and such lines one after another
+unfoldable pub ordered_line : Order → List ℕ
+ordered_line o =
+    codes "order " ++ decimal o.number ++ 32 ∷ move_kind_text o.kind ++ 32 ∷ member_text o.member ++ 32 ∷ cusip_text o.issue ++ 32 ∷ decimal o.asked ++ line_end
 
 abbrev pub order_lines : List Order → List ℕ
 order_lines = lines_of ordered_line
@@ -90,4 +87,3 @@ line_text (line.Restarted node records kept) =
     codes "restart " ++ node_text node ++ codes " records " ++ decimal records ++ codes " kept " ++ yes_or_no kept ++ line_end
 line_text (line.Order l) = order_line_text l
 line_text (line.Lot l) = lot_line_text l
-line_text (line.Report l) = report_line_text l

@@ -13,8 +13,6 @@ use Rattle.cns_depository.specs.declared.account.Account.TheVariants.{Cns, Membe
 use Rattle.cns_depository.specs.declared.balances.BalanceRow.{BalanceRow}
 use Rattle.cns_report.specs.Ends.{line_end, lines_of}
 use Rattle.cns_report.specs.Right.{right_20}
-use Rattle.cns_report.specs.declared.line.ReportLine.{ReportLine}
-use Rattle.cns_report.specs.declared.line.ReportLine.TheVariants as report
 
 -- REPORT cycle none, or: REPORT cycle DATE KIND
 unfoldable pub report_head : Option CycleId → List ℕ
@@ -46,10 +44,3 @@ balance_lines = lines_of balance_line
 
 unfoldable pub report_end : List ℕ
 report_end = codes "END" ++ line_end
-
-unfoldable pub report_line_text : ReportLine → List ℕ
-report_line_text (report.Head latest) = report_head latest
-report_line_text (report.Position row) = position_line row
-report_line_text (report.Pool row) = pool_line row
-report_line_text (report.Balance row) = balance_line row
-report_line_text report.End = report_end

@@ -16,10 +16,12 @@ mod subject;
 mod text;
 mod write;
 
-pub use line::{Line, LotLine, OrderLine, ReportLine};
+pub use line::{Line, LotLine, OrderLine};
 pub use outcome::{line_of, orders_of, outcome_line};
-pub use report::{write_balance_report, write_cycle_report, write_report_end};
-pub use row::TextRow;
+pub use put::Put;
+pub use report::{
+    ReportEnd, ReportHead, write_balance_report, write_cycle_report, write_report_end,
+};
 pub use subject::Subject;
-pub use text::Text;
+pub use text::{Draft, Text};
 pub use write::{write_line, write_orders};

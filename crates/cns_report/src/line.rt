@@ -1,18 +1,14 @@
 ghost use Rattle.std.specs.Prelude.{◌≡◌, codes};
 ghost use Rattle.cns_report.specs.Lines.{line_text, lot_line_text, order_line_text, yes_or_no};
 ghost use Rattle.cns_report.specs.Refusals.{node_text};
-ghost use Rattle.cns_report.specs.Report.{report_line_text};
 
 use crate::fault::{opening_fault_name, refusal_name};
-use crate::position::RightIn20;
 use crate::put::Put;
 use crate::subject::Subject;
 use crate::text::Draft;
-use cns_clearing::PoolRow;
-use cns_depository::{BalanceRow, OpeningFault};
+use cns_depository::OpeningFault;
 use cns_ids::CycleId;
-use cns_movements::{Order, Reply};
-use cns_netting::PositionRow;
+use cns_movements::Reply;
 use cns_pool::Ticket;
 use cns_records::Refusal;
 use cns_system::NodeName;
@@ -76,15 +72,11 @@ pub enum Line {
     Order(OrderLine),
     /// A line of a lot.
     Lot(LotLine),
-    /// A line of the report.
-    Report(ReportLine),
 }
 
 /// A line of a movement order, by its number N.
 #[derive(Clone, Copy, Debug)]
 pub enum OrderLine {
-    /// `order N KIND MEMBER CUSIP ASKED`
-    Ordered(Order),
     /// `send N packet K`
     Sent { number: u64, packet: u64 },
     /// `exec N moved Q packet K`
@@ -129,21 +121,6 @@ pub enum LotLine {
     },
 }
 
-/// A line of the report. The shares of a position and of a balance stand right in 20 places.
-#[derive(Clone, Copy, Debug)]
-pub enum ReportLine {
-    /// `REPORT cycle DATE KIND`, of the latest recorded cycle, or `REPORT cycle none`
-    Head(Option<CycleId>),
-    /// `POS CUSIP MEMBER Q`
-    Position(PositionRow),
-    /// `POOL CUSIP free Q lent Q out Q`
-    Pool(PoolRow),
-    /// `BAL CUSIP ACCOUNT Q`
-    Balance(BalanceRow),
-    /// `END`
-    End,
-}
-
 impl Put for Line {
     ghost text = { line_text };
 
@@ -183,7 +160,6 @@ impl Put for Line {
             }
             Line::Order(line) => line.put(draft),
             Line::Lot(line) => line.put(draft),
-            Line::Report(line) => line.put(draft),
         }
     }
 }
@@ -194,11 +170,6 @@ impl Put for OrderLine {
     #[tactic(auto, unfolding(crate::specs::Lines::order_line_text))]
     fn put(&self, draft: &mut Draft) -> Result<(), AllocError> {
         match *self {
-            OrderLine::Ordered(order) => {
-                let of = ("order ", order.number.number(), " ", order.kind);
-                let from = (" ", order.member, " ", order.issue);
-                (of, from, " ", order.asked.shares(), "\n").put(draft)
-            }
             OrderLine::Sent { number, packet } => {
                 ("send ", number, " packet ", packet, "\n").put(draft)
             }
@@ -248,33 +219,6 @@ impl Put for LotLine {
             }
             LotLine::Sealed => draft.add(b"seal ok\n"),
             LotLine::Closed { granted } => ("close granted ", granted, "\n").put(draft),
-        }
-    }
-}
-
-impl Put for ReportLine {
-    ghost text = { report_line_text };
-
-    #[tactic(auto, unfolding(crate::specs::Report::report_line_text, crate::specs::Report::report_head, crate::specs::Report::position_line, crate::specs::Report::pool_line, crate::specs::Report::balance_line, crate::specs::Report::report_end))]
-    fn put(&self, draft: &mut Draft) -> Result<(), AllocError> {
-        match *self {
-            ReportLine::Head(None) => draft.add(b"REPORT cycle none\n"),
-            ReportLine::Head(Some(cycle)) => {
-                ("REPORT cycle ", cycle.day, " ", cycle.kind, "\n").put(draft)
-            }
-            ReportLine::Position(row) => {
-                let of = ("POS ", row.issue, " ", row.member);
-                (of, " ", RightIn20(row.position), "\n").put(draft)
-            }
-            ReportLine::Pool(row) => {
-                let free = ("POOL ", row.issue, " free ", row.free);
-                ((free, " lent ", row.lent), " out ", row.out, "\n").put(draft)
-            }
-            ReportLine::Balance(row) => {
-                let of = ("BAL ", row.issue, " ", row.account);
-                (of, " ", RightIn20(row.shares), "\n").put(draft)
-            }
-            ReportLine::End => draft.add(b"END\n"),
         }
     }
 }

@@ -15,7 +15,7 @@ use itoa::{Buffer, Integer};
 use std::alloc::AllocError;
 
 /// What is told as a text. A tuple is told piece after piece.
-pub(crate) trait Put {
+pub trait Put {
     /// The bytes of the text.
     ghost text: { Self → List ℕ };
 

@@ -1,15 +1,43 @@
 ghost use Rattle.std.specs.Prelude.{◌≡◌, ◌++◌, OnOk, OnErr};
-ghost use Rattle.cns_report.specs.Report.{balance_lines, cycle_report_text, report_end};
+ghost use Rattle.cns_report.specs.Report.{balance_lines, cycle_report_text, report_end, report_head};
 
-use crate::line::{Line, ReportLine};
+use crate::put::Put;
 use crate::row::Rows;
-use crate::text::Text;
-use crate::write::write_line;
+use crate::text::{Draft, Text};
 use cns_clearing::PoolRow;
 use cns_depository::BalanceRow;
 use cns_ids::CycleId;
 use cns_netting::PositionRow;
 use std::alloc::AllocError;
+
+/// `REPORT cycle DATE KIND`, of the latest recorded cycle, or `REPORT cycle none`.
+#[derive(Clone, Copy, Debug)]
+pub struct ReportHead(pub Option<CycleId>);
+
+impl Put for ReportHead {
+    ghost text = { λ head. report_head head.0 };
+
+    #[tactic(auto, unfolding(crate::specs::Report::report_head))]
+    fn put(&self, draft: &mut Draft) -> Result<(), AllocError> {
+        match self.0 {
+            None => draft.add(b"REPORT cycle none\n"),
+            Some(cycle) => ("REPORT cycle ", cycle.day, " ", cycle.kind, "\n").put(draft),
+        }
+    }
+}
+
+/// `END`
+#[derive(Clone, Copy, Debug)]
+pub struct ReportEnd;
+
+impl Put for ReportEnd {
+    ghost text = { λ end. report_end };
+
+    #[tactic(auto, unfolding(crate::specs::Report::report_end))]
+    fn put(&self, draft: &mut Draft) -> Result<(), AllocError> {
+        draft.add(b"END\n")
+    }
+}
 
 /// The depository's part of the report: the balances other than 0, which the caller hands in by
 /// issue, then account.
@@ -22,7 +50,7 @@ pub fn write_balance_report(out: &mut Text, rows: &[BalanceRow]) -> Result<(), A
 
 /// The book's part of the report: the latest recorded cycle; the positions other than 0, which the
 /// caller hands in by issue, then member; and the pools, which the caller hands in by issue.
-#[tactic(auto, unfolding(crate::specs::Report::cycle_report_text, crate::specs::Report::report_line_text, crate::specs::Lines::line_text))]
+#[tactic(auto, unfolding(crate::specs::Report::cycle_report_text))]
 pub fn write_cycle_report(
     out: &mut Text,
     latest: Option<CycleId>,
@@ -32,14 +60,13 @@ pub fn write_cycle_report(
     ensures ok { OnOk result (out.new ≡ out.old ++ cycle_report_text latest positions.now pools.now) }
     ensures err { OnErr result (out.new ≡ out.old) }
 {
-    out.tell(&(ReportLine::Head(latest), Rows(positions), Rows(pools)))
+    out.tell(&(ReportHead(latest), Rows(positions), Rows(pools)))
 }
 
 /// The report's last line: `END`.
-#[tactic(auto, unfolding(crate::specs::Report::report_line_text, crate::specs::Lines::line_text))]
 pub fn write_report_end(out: &mut Text) -> Result<(), AllocError>
     ensures ok { OnOk result (out.new ≡ out.old ++ report_end) }
     ensures err { OnErr result (out.new ≡ out.old) }
 {
-    write_line(out, Line::Report(ReportLine::End))
+    out.tell(&ReportEnd)
 }

@@ -1,8 +1,9 @@
-ghost use Rattle.std.specs.Prelude.{◌≡◌, List, ℕ};
+//! Lines of lists: positions, pools, balances and orders.
 ghost use Rattle.cns_report.specs.Ends.{lines_of};
-ghost use Rattle.cns_report.specs.Lines.{line_text};
+ghost use Rattle.cns_report.specs.Lines.{ordered_line};
+ghost use Rattle.cns_report.specs.Report.{balance_line, pool_line, position_line};
 
-use crate::line::{Line, OrderLine, ReportLine};
+use crate::position::RightIn20;
 use crate::put::Put;
 use crate::text::Draft;
 use cns_clearing::PoolRow;
@@ -11,61 +12,48 @@ use cns_movements::Order;
 use cns_netting::PositionRow;
 use std::alloc::AllocError;
 
-/// What is told in a line of its own, of a list of its like.
-pub trait TextRow {
-    /// The bytes of its line.
-    ghost text: { Self → List ℕ };
-
-    /// Its line.
-    fn line(&self) -> Line
-        ensures { line_text result ≡ text self.now };
-}
-
-/// A position other than 0.
-impl TextRow for PositionRow {
-    ghost use Rattle.cns_report.specs.Report.{position_line};
-
+/// `POS CUSIP MEMBER Q`, the shares of the position right in 20 places.
+impl Put for PositionRow {
     ghost text = { position_line };
 
-    #[tactic(auto, unfolding(crate::specs::Lines::line_text, crate::specs::Report::report_line_text))]
-    fn line(&self) -> Line {
-        Line::Report(ReportLine::Position(*self))
+    #[tactic(auto, unfolding(crate::specs::Report::position_line))]
+    fn put(&self, draft: &mut Draft) -> Result<(), AllocError> {
+        let of = ("POS ", self.issue, " ", self.member);
+        (of, " ", RightIn20(self.position), "\n").put(draft)
     }
 }
 
-/// A pool.
-impl TextRow for PoolRow {
-    ghost use Rattle.cns_report.specs.Report.{pool_line};
-
+/// `POOL CUSIP free Q lent Q out Q`
+impl Put for PoolRow {
     ghost text = { pool_line };
 
-    #[tactic(auto, unfolding(crate::specs::Lines::line_text, crate::specs::Report::report_line_text))]
-    fn line(&self) -> Line {
-        Line::Report(ReportLine::Pool(*self))
+    #[tactic(auto, unfolding(crate::specs::Report::pool_line))]
+    fn put(&self, draft: &mut Draft) -> Result<(), AllocError> {
+        let free = ("POOL ", self.issue, " free ", self.free);
+        ((free, " lent ", self.lent), " out ", self.out, "\n").put(draft)
     }
 }
 
-/// A balance other than 0.
-impl TextRow for BalanceRow {
-    ghost use Rattle.cns_report.specs.Report.{balance_line};
-
+/// `BAL CUSIP ACCOUNT Q`, the shares right in 20 places.
+impl Put for BalanceRow {
     ghost text = { balance_line };
 
-    #[tactic(auto, unfolding(crate::specs::Lines::line_text, crate::specs::Report::report_line_text))]
-    fn line(&self) -> Line {
-        Line::Report(ReportLine::Balance(*self))
+    #[tactic(auto, unfolding(crate::specs::Report::balance_line))]
+    fn put(&self, draft: &mut Draft) -> Result<(), AllocError> {
+        let of = ("BAL ", self.issue, " ", self.account);
+        (of, " ", RightIn20(self.shares), "\n").put(draft)
     }
 }
 
-/// An order, as it was made.
-impl TextRow for Order {
-    ghost use Rattle.cns_report.specs.Lines.{ordered_line};
-
+/// `order N KIND MEMBER CUSIP ASKED`, of an order as it was made.
+impl Put for Order {
     ghost text = { ordered_line };
 
-    #[tactic(auto, unfolding(crate::specs::Lines::line_text))]
-    fn line(&self) -> Line {
-        Line::Order(OrderLine::Ordered(*self))
+    #[tactic(auto, unfolding(crate::specs::Lines::ordered_line))]
+    fn put(&self, draft: &mut Draft) -> Result<(), AllocError> {
+        let of = ("order ", self.number.number(), " ", self.kind);
+        let from = (" ", self.member, " ", self.issue);
+        (of, from, " ", self.asked.shares(), "\n").put(draft)
     }
 }
 
@@ -73,13 +61,13 @@ impl TextRow for Order {
 #[derive(Clone, Copy)]
 pub(crate) struct Rows<'a, R>(pub(crate) &'a [R]);
 
-impl<R: TextRow> Put for Rows<'_, R> {
+impl<R: Put> Put for Rows<'_, R> {
     ghost text = { λ rows. lines_of R.text rows.0.now };
 
     #[tactic(auto, unfolding(crate::specs::Ends::lines_of))]
     fn put(&self, draft: &mut Draft) -> Result<(), AllocError> {
         for row in self.0 {
-            row.line().put(draft)?;
+            row.put(draft)?;
         }
         Ok(())
     }

@@ -4,11 +4,12 @@ use crate::put::Put;
 use std::alloc::{AllocError, Global};
 use std::marker::Model;
 
-/// A text that grows at its end: what is whole, and behind it what was begun and may be given up.
+/// A text that grows at its end: what is whole, and behind it what was begun and may be given up. (What is
+/// told adds itself to one; only a [`Text`] holds one.)
 ///
 /// Contracts see both.
 #[derive(Drop)]
-pub(crate) struct Draft {
+pub struct Draft {
     bytes: Vec<u8>,
     // How many of them are whole.
     whole: usize,
@@ -101,7 +102,7 @@ impl Text {
     }
 
     /// Adds what is told, or nothing where memory is wanting.
-    pub(crate) fn tell<T: Put>(&mut self, told: &T) -> Result<(), AllocError>
+    pub fn tell<T: Put>(&mut self, told: &T) -> Result<(), AllocError>
         ensures ok { OnOk result (self.new ≡ self.old ++ T.text told.now) }
         ensures err { OnErr result (self.new ≡ self.old) }
     {

@@ -3,8 +3,7 @@ use Rattle.cns_clearing.specs.Books.{history_of, latest_of, orders_of}
 use Rattle.cns_clearing.specs.Pools.{rows_of as pools_of}
 use Rattle.cns_depository.specs.Balances.{balance_rows}
 use Rattle.cns_netting.specs.Rows.{rows_of}
-use Rattle.cns_report.specs.Lines.{line_text}
-use Rattle.cns_report.specs.Report.{balance_lines, cycle_report_text, report_end, report_line_text}
+use Rattle.cns_report.specs.Report.{balance_lines, cycle_report_text, report_end}
 use Rattle.cns_batch.specs.Runs.{Output}
 use Rattle.cns_batch.proofs.PrintLemmas.{breaks_after, breaks_front, prints_after, prints_fault, writes_more}
 use Rattle.cns_batch.proofs.page.Page.report.Goals as goal
@@ -34,7 +33,6 @@ returns-in_err-balance_report g c =
     (breaks_after p q _ first balances (rw c.clearing.ensures at c.in_ok-cycle_report.ensures) (rw c.depository.ensures at c.in_err-balance_report.ensures)))
 
 pub returns : goal.returns
-unfolding line_text report_line_text
 returns g c =
     let p : Output = record { held = c.args.self.now; sent = g.W.Write.contents c.args.writer.now } in
     let q : Output = record { held = c.cycle_report.new.self; sent = g.W.Write.contents c.cycle_report.new.writer } in
@@ -44,5 +42,5 @@ returns g c =
     let depot = c.args.system.now.depot in
     let first = cycle_report_text (latest_of records) (rows_of (history_of records)) (pools_of (orders_of records) node.lots) in
     let balances = balance_lines (balance_rows depot.openings depot.log.records) in
-    prints_after c.tell.result p r _ (first ++ balances) report_end
-    (writes_more p q r first balances (rw c.clearing.ensures at c.in_ok-cycle_report.ensures) (rw c.depository.ensures at c.in_ok-balance_report.ensures)) c.tell.ensures
+    prints_after c.told.result p r _ (first ++ balances) report_end
+    (writes_more p q r first balances (rw c.clearing.ensures at c.in_ok-cycle_report.ensures) (rw c.depository.ensures at c.in_ok-balance_report.ensures)) c.told.ensures

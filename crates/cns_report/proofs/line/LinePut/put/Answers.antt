@@ -12,4 +12,4 @@ returns-in-OpeningRowFault-clause-begun c = rw c.in-OpeningRowFault.is (search r
 
 pub returns-in-OpeningRefused-clause-begun : goal.returns-in-OpeningRefused-clause-begun
 unfolding line_text
-returns-in-OpeningRefused-clause-begun c = rw (c.in-OpeningRefused.is, ← c.opening_fault_name.ensures) c.put-in-OpeningRefused.ensures.begun
+returns-in-OpeningRefused-clause-begun c = rw (c.in-OpeningRefused.is, ← c.opening_fault_name-name.ensures) c.put-in-OpeningRefused.ensures.begun
