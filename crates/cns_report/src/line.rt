@@ -3,7 +3,7 @@ ghost use Rattle.cns_report.specs.Lines.{line_text, lot_line_text, order_line_te
 ghost use Rattle.cns_report.specs.Refusals.{node_text};
 
 use crate::fault::{opening_fault_name, refusal_name};
-use crate::put::Put;
+use crate::put::{LF, Put, SPACE};
 use crate::subject::Subject;
 use crate::text::Draft;
 use cns_depository::OpeningFault;
@@ -129,26 +129,26 @@ impl Put for Line {
         match *self {
             Line::TradeAccepted(id) => ("trade ", id, " accepted\n").put(draft),
             Line::TradeRefused { id, refusal } => {
-                ("trade ", id, " refused ", refusal_name(refusal), "\n").put(draft)
+                ("trade ", id, " refused ", refusal_name(refusal), LF).put(draft)
             }
-            Line::RowFault { row, fault } => ("row ", row, " fault ", fault, "\n").put(draft),
+            Line::RowFault { row, fault } => ("row ", row, " fault ", fault, LF).put(draft),
             Line::OpeningRowFault { row, fault } => {
-                ("opening row ", row, " fault ", fault, "\n").put(draft)
+                ("opening row ", row, " fault ", fault, LF).put(draft)
             }
             Line::OpeningRefused { row, fault } => {
                 let name = opening_fault_name(fault);
-                ("opening row ", row, " fault ", name, "\n").put(draft)
+                ("opening row ", row, " fault ", name, LF).put(draft)
             }
             Line::BadCommand { line } => ("line ", line, " bad command\n").put(draft),
             Line::Refused { subject, refusal } => {
-                (subject.name(), " refused ", refusal_name(refusal), "\n").put(draft)
+                (subject.name(), " refused ", refusal_name(refusal), LF).put(draft)
             }
             Line::ExemptionSet => draft.add(b"exempt ok\n"),
             Line::PrioritySet => draft.add(b"priority ok\n"),
             Line::FailurePlanned => draft.add(b"fail ok\n"),
             Line::FailureNotPlanned => draft.add(b"fail refused NotPlanned\n"),
             Line::Cycle { id, due } => {
-                (("cycle ", id.day, " ", id.kind), " due ", due, "\n").put(draft)
+                (("cycle ", id.day, SPACE, id.kind), " due ", due, LF).put(draft)
             }
             Line::Restarted {
                 node,
@@ -156,7 +156,7 @@ impl Put for Line {
                 kept,
             } => {
                 let told = ("restart ", node_word(node), " records ", records);
-                (told, " kept ", yes_or_no(kept), "\n").put(draft)
+                (told, " kept ", yes_or_no(kept), LF).put(draft)
             }
             Line::Order(line) => line.put(draft),
             Line::Lot(line) => line.put(draft),
@@ -171,13 +171,13 @@ impl Put for OrderLine {
     fn put(&self, draft: &mut Draft) -> Result<(), AllocError> {
         match *self {
             OrderLine::Sent { number, packet } => {
-                ("send ", number, " packet ", packet, "\n").put(draft)
+                ("send ", number, " packet ", packet, LF).put(draft)
             }
             OrderLine::Executed { reply, packet } => {
-                (("exec ", moved(reply)), " packet ", packet, "\n").put(draft)
+                (("exec ", moved(reply)), " packet ", packet, LF).put(draft)
             }
             OrderLine::ExecutedAgain { reply, packet } => {
-                (("again ", moved(reply)), " packet ", packet, "\n").put(draft)
+                (("again ", moved(reply)), " packet ", packet, LF).put(draft)
             }
             OrderLine::Confirmed(reply) => ("confirm ", moved(reply), " done\n").put(draft),
             OrderLine::ConfirmedAgain(reply) => ("confirm ", moved(reply), " again\n").put(draft),
@@ -202,8 +202,8 @@ impl Put for LotLine {
                 number,
                 poured,
                 longs,
-            } => (("lot ", number, " poured ", poured), " longs ", longs, "\n").put(draft),
-            LotLine::Poured { shares } => ("pour ", shares, "\n").put(draft),
+            } => (("lot ", number, " poured ", poured), " longs ", longs, LF).put(draft),
+            LotLine::Poured { shares } => ("pour ", shares, LF).put(draft),
             LotLine::Drawn(ticket) => {
                 let Ticket {
                     member,
@@ -211,14 +211,14 @@ impl Put for LotLine {
                     asked,
                 } = ticket;
                 let drawn = ("ticket ", member, " start ", start);
-                (drawn, " asked ", asked, "\n").put(draft)
+                (drawn, " asked ", asked, LF).put(draft)
             }
             LotLine::LookedPoured { poured } => ("look poured ", poured).put(draft),
             LotLine::LookedAsked { asked, sealed } => {
-                (" asked ", asked, " sealed ", yes_or_no(sealed), "\n").put(draft)
+                (" asked ", asked, " sealed ", yes_or_no(sealed), LF).put(draft)
             }
             LotLine::Sealed => draft.add(b"seal ok\n"),
-            LotLine::Closed { granted } => ("close granted ", granted, "\n").put(draft),
+            LotLine::Closed { granted } => ("close granted ", granted, LF).put(draft),
         }
     }
 }

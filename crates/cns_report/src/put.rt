@@ -1,5 +1,5 @@
 //! What is told as a text, piece after piece.
-ghost use Rattle.std.specs.Prelude.{◌≡◌, ◌++◌, List, OnOk, ℕ};
+ghost use Rattle.std.specs.Prelude.{◌≡◌, ◌∷◌, [], ◌++◌, List, OnOk, ℕ};
 ghost use Rattle.std.specs.Fmt.{decimal};
 ghost use Rattle.cns_ids.specs.Cusip.{cusip_text};
 ghost use Rattle.cns_ids.specs.Cycle.{kind_text as cycle_kind_text};
@@ -31,6 +31,25 @@ impl Put for &str {
     #[inline(always)]
     fn put(&self, draft: &mut Draft) -> Result<(), AllocError> {
         draft.add(self.as_bytes())
+    }
+}
+
+/// One byte.
+#[derive(Clone, Copy)]
+pub(crate) struct Byte(u8);
+
+/// A space.
+pub(crate) const SPACE: Byte = Byte(b' ');
+
+/// The end of a line.
+pub(crate) const LF: Byte = Byte(b'\n');
+
+impl Put for Byte {
+    ghost text = { λ byte. byte.0 ∷ [] };
+
+    #[inline(always)]
+    fn put(&self, draft: &mut Draft) -> Result<(), AllocError> {
+        draft.push(self.0)
     }
 }
 

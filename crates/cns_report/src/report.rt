@@ -1,7 +1,7 @@
 ghost use Rattle.std.specs.Prelude.{◌≡◌, ◌++◌, OnOk, OnErr};
 ghost use Rattle.cns_report.specs.Report.{balance_lines, cycle_report_text, report_end, report_head};
 
-use crate::put::Put;
+use crate::put::{LF, Put, SPACE};
 use crate::row::Rows;
 use crate::text::{Draft, Text};
 use cns_clearing::PoolRow;
@@ -21,7 +21,7 @@ impl Put for ReportHead {
     fn put(&self, draft: &mut Draft) -> Result<(), AllocError> {
         match self.0 {
             None => draft.add(b"REPORT cycle none\n"),
-            Some(cycle) => ("REPORT cycle ", cycle.day, " ", cycle.kind, "\n").put(draft),
+            Some(cycle) => ("REPORT cycle ", cycle.day, SPACE, cycle.kind, LF).put(draft),
         }
     }
 }

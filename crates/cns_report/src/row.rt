@@ -4,7 +4,7 @@ ghost use Rattle.cns_report.specs.Lines.{ordered_line};
 ghost use Rattle.cns_report.specs.Report.{balance_line, pool_line, position_line};
 
 use crate::position::RightIn20;
-use crate::put::Put;
+use crate::put::{LF, Put, SPACE};
 use crate::text::Draft;
 use cns_clearing::PoolRow;
 use cns_depository::BalanceRow;
@@ -18,8 +18,8 @@ impl Put for PositionRow {
 
     #[tactic(auto, unfolding(crate::specs::Report::position_line))]
     fn put(&self, draft: &mut Draft) -> Result<(), AllocError> {
-        let of = ("POS ", self.issue, " ", self.member);
-        (of, " ", RightIn20(self.position), "\n").put(draft)
+        let of = ("POS ", self.issue, SPACE, self.member);
+        (of, SPACE, RightIn20(self.position), LF).put(draft)
     }
 }
 
@@ -30,7 +30,7 @@ impl Put for PoolRow {
     #[tactic(auto, unfolding(crate::specs::Report::pool_line))]
     fn put(&self, draft: &mut Draft) -> Result<(), AllocError> {
         let free = ("POOL ", self.issue, " free ", self.free);
-        ((free, " lent ", self.lent), " out ", self.out, "\n").put(draft)
+        ((free, " lent ", self.lent), " out ", self.out, LF).put(draft)
     }
 }
 
@@ -40,8 +40,8 @@ impl Put for BalanceRow {
 
     #[tactic(auto, unfolding(crate::specs::Report::balance_line))]
     fn put(&self, draft: &mut Draft) -> Result<(), AllocError> {
-        let of = ("BAL ", self.issue, " ", self.account);
-        (of, " ", RightIn20(self.shares), "\n").put(draft)
+        let of = ("BAL ", self.issue, SPACE, self.account);
+        (of, SPACE, RightIn20(self.shares), LF).put(draft)
     }
 }
 
@@ -51,9 +51,9 @@ impl Put for Order {
 
     #[tactic(auto, unfolding(crate::specs::Lines::ordered_line))]
     fn put(&self, draft: &mut Draft) -> Result<(), AllocError> {
-        let of = ("order ", self.number.number(), " ", self.kind);
-        let from = (" ", self.member, " ", self.issue);
-        (of, from, " ", self.asked.shares(), "\n").put(draft)
+        let of = ("order ", self.number.number(), SPACE, self.kind);
+        let from = (SPACE, self.member, SPACE, self.issue);
+        (of, from, SPACE, self.asked.shares(), LF).put(draft)
     }
 }
 

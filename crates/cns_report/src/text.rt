@@ -1,4 +1,4 @@
-ghost use Rattle.std.specs.Prelude.{◌≡◌, ◌++◌, ◌==◌, [], OnErr, OnOk, length};
+ghost use Rattle.std.specs.Prelude.{◌≡◌, ◌∷◌, ◌++◌, ◌==◌, [], OnErr, OnOk, length};
 
 use crate::put::Put;
 use std::alloc::{AllocError, Global};
@@ -57,6 +57,15 @@ impl Draft {
         ensures begun { OnOk result (self.new.begun ≡ self.old.begun ++ bytes.now) }
     {
         self.bytes.extend_from_slice(bytes)
+    }
+
+    /// Adds a byte to what is begun.
+    pub(crate) fn push(&mut self, byte: u8) -> Result<(), AllocError>
+        ensures whole { self.new.whole ≡ self.old.whole }
+        ensures begun { OnOk result (self.new.begun ≡ self.old.begun ++ byte ∷ []) }
+    {
+        self.bytes.push(byte)?;
+        Ok(())
     }
 
     /// The bytes that are whole.
