@@ -1,5 +1,5 @@
 ghost use Rattle.std.specs.Prelude.{◌≡◌};
-ghost use Rattle.cns_report.specs.Faults.{read_fault_text, opening_fault_text, row_fault_text, verdict_text};
+ghost use Rattle.cns_report.specs.Faults.{cusip_fault_text, read_fault_text, opening_fault_text, row_fault_text, verdict_text};
 ghost use Rattle.cns_report.specs.Refusals.{refusal_text};
 
 use crate::put::Put;
@@ -20,6 +20,19 @@ fn read_fault_name(fault: ReadFault) -> &'static str
     }
 }
 
+/// The fault of a CUSIP by its name.
+impl Put for CusipFault {
+    ghost text = { cusip_fault_text };
+
+    fn put(&self, draft: &mut Draft) -> Result<(), AllocError> {
+        match *self {
+            CusipFault::Length => draft.add(b"Length"),
+            CusipFault::BadChar { place } => ("BadChar ", u64::from(place)).put(draft),
+            CusipFault::CheckDigit { want } => ("CheckDigit ", u64::from(want)).put(draft),
+        }
+    }
+}
+
 /// A row's fault by its name: the field and what is wrong with it.
 impl Put for RowFault {
     ghost text = { row_fault_text };
@@ -31,11 +44,7 @@ impl Put for RowFault {
             RowFault::Settle => draft.add(b"Settle BadDate"),
             RowFault::Buyer(fault) => ("Buyer ", read_fault_name(fault)).put(draft),
             RowFault::Seller(fault) => ("Seller ", read_fault_name(fault)).put(draft),
-            RowFault::Cusip(CusipFault::Length) => draft.add(b"Cusip Length"),
-            RowFault::Cusip(CusipFault::BadChar { place }) => ("Cusip BadChar ", place).put(draft),
-            RowFault::Cusip(CusipFault::CheckDigit { want }) => {
-                ("Cusip CheckDigit ", want).put(draft)
-            }
+            RowFault::Cusip(fault) => ("Cusip ", fault).put(draft),
             RowFault::Quantity(fault) => ("Quantity ", read_fault_name(fault)).put(draft),
             RowFault::Account(fault) => ("Account ", read_fault_name(fault)).put(draft),
             RowFault::Shares(fault) => ("Shares ", read_fault_name(fault)).put(draft),

@@ -15,7 +15,7 @@ use cns_system::NodeName;
 use cns_trades::{RowFault, TradeId};
 use std::alloc::AllocError;
 
-/// A line of the output. It prints with LF at its end.
+/// A line of the output. It is told with LF at its end.
 #[derive(Clone, Copy, Debug)]
 pub enum Line {
     /// `trade ID accepted`
@@ -202,7 +202,10 @@ impl Put for LotLine {
                 number,
                 poured,
                 longs,
-            } => (("lot ", number, " poured ", poured), " longs ", longs, LF).put(draft),
+            } => {
+                let of = ("lot ", number, " poured ", poured);
+                (of, " longs ", longs as u64, LF).put(draft)
+            }
             LotLine::Poured { shares } => ("pour ", shares, LF).put(draft),
             LotLine::Drawn(ticket) => {
                 let Ticket {

@@ -63,14 +63,6 @@ fn put_number<I: Integer>(draft: &mut Draft, number: I) -> Result<(), AllocError
     draft.add(buffer.format(number).as_bytes())
 }
 
-impl Put for u8 {
-    ghost text = { decimal };
-
-    fn put(&self, draft: &mut Draft) -> Result<(), AllocError> {
-        put_number(draft, *self)
-    }
-}
-
 impl Put for u64 {
     ghost text = { decimal };
 
@@ -80,14 +72,6 @@ impl Put for u64 {
 }
 
 impl Put for u128 {
-    ghost text = { decimal };
-
-    fn put(&self, draft: &mut Draft) -> Result<(), AllocError> {
-        put_number(draft, *self)
-    }
-}
-
-impl Put for usize {
     ghost text = { decimal };
 
     fn put(&self, draft: &mut Draft) -> Result<(), AllocError> {
