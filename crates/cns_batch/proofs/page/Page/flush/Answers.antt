@@ -7,7 +7,7 @@ pub returns-in_err-write_text-clause-prints : goal.returns-in_err-write_text-cla
 returns-in_err-write_text-clause-prints g c =
     let p : Output = record { held = c.args.self.now; sent = g.W.Write.contents c.args.writer.now } in
     let (size, within, part) = c.in_err-write_text.ensures.err in
-    prints_fault [] c.from_residual.result p _ c.from_residual.ensures.0 (flush_breaks p _ size (rw (← c.self.view_is, ← c.as_bytes.ensures.value) part))
+    prints_fault [] c.from_residual.result p _ c.from_residual.ensures.0 (flush_breaks p _ size (rw (← c.self.view_is, ← c.as_bytes.ensures) part))
 
 pub returns-clause-prints : goal.returns-clause-prints
-returns-clause-prints g c = flush_writes _ _ (rw (← c.self.view_is, ← c.as_bytes.ensures.value) c.in_ok-write_text.ensures.ok) c.clear.ensures.bytes
+returns-clause-prints g c = flush_writes _ _ (rw (← c.self.view_is, ← c.as_bytes.ensures) c.in_ok-write_text.ensures.ok) c.clear.ensures
