@@ -19,7 +19,6 @@ id_size t id = by (length t == 0) (nat_le (length t) 16) refl id
     by false true is e = leb-true _ _ is
     by false false is e = cc e
 
--- and each of them is more than 16
 id_bytes : (t : List ℕ) → IsId t → list_all is_id_byte t ≡ true
 id_bytes t id = by (length t == 0) (nat_le (length t) 16) id
   where
@@ -28,6 +27,7 @@ id_bytes t id = by (length t == 0) (nat_le (length t) 16) id
     by false true e = e
     by false false e = cc e
 
+-- and each of them is more than 15
 byte_large : (c : ℕ) → is_id_byte c ≡ true → 16 ≤ c
 byte_large c h = by (nat_le 65 c) (nat_le c 90) (nat_le 48 c) refl refl h
   where

@@ -6,4 +6,4 @@ pub mod Rows
 pub mod Openings
 pub mod Listed
 pub mod Verdicts
-pub mod Left
+pub mod Held

@@ -24,7 +24,7 @@ struct HeldRows {
 
 impl Model for HeldRows {
     ghost use Rattle.std.specs.Prelude.{List};
-    ghost use Rattle.cns_trades.specs.Left.{Fit, rows_held};
+    ghost use Rattle.cns_trades.specs.Held.{Fit, rows_held};
     ghost use Rattle.cns_trades.specs.declared.row.Row.{Row};
 
     ghost Value = { List Row };
@@ -86,7 +86,7 @@ pub struct TradeRows {
 
 impl Model for TradeRows {
     ghost use Rattle.std.specs.Prelude.{◌+◌, ◌<◌, ◌^◌, List, length};
-    ghost use Rattle.cns_trades.specs.Left.{Fit, rows_held};
+    ghost use Rattle.cns_trades.specs.Held.{Fit, rows_held};
     ghost use Rattle.cns_trades.specs.declared.row.Row.{Row};
 
     ghost Value = { List Row };

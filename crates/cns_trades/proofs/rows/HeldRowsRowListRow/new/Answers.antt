@@ -1,5 +1,5 @@
 use Rattle.std.proofs.Common.{refl}
-use Rattle.cns_trades.specs.Left.{Fit, rows_held}
+use Rattle.cns_trades.specs.Held.{Fit, rows_held}
 use Rattle.cns_trades.proofs.rows.HeldRowsRowListRow.new.Goals as goal
 
 pub invariant_of-result : goal.invariant_of-result

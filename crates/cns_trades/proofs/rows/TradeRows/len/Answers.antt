@@ -1,5 +1,5 @@
 use Rattle.std.proofs.Common.{◌∙◌, ap, sym, length}
-use Rattle.cns_trades.proofs.LeftLemmas.{length-rows_held}
+use Rattle.cns_trades.proofs.HeldLemmas.{length-rows_held}
 use Rattle.cns_trades.proofs.rows.TradeRows.len.Goals as goal
 
 pub returns : goal.returns

@@ -1,6 +1,6 @@
 use Rattle.std.proofs.Common.{◌≡◌, ◌∷◌, [], Some, None, length, ap, rules, arith, refl}
-use Rattle.cns_trades.specs.Left.{rows_held}
-use Rattle.cns_trades.proofs.LeftLemmas.{no_trade, past_fault, past_trade}
+use Rattle.cns_trades.specs.Held.{rows_held}
+use Rattle.cns_trades.proofs.HeldLemmas.{no_trade, past_fault, past_trade}
 use Rattle.cns_trades.proofs.rows.TradeRows.next.Goals as goal
 
 pub returns-in_err-fault : goal.returns-in_err-fault
