@@ -7,7 +7,6 @@ pub mod DeliveryLemmas
 pub mod TurnLemmas
 pub mod NumberLemmas
 pub mod WaitingLemmas
-pub mod TableLemmas
 pub mod ServedLemmas
 pub mod DealLemmas
 pub mod DrawnLemmas

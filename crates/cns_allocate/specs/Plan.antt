@@ -1,6 +1,6 @@
 -- The plan of an issue: who is to receive its shares, how many, and in which order (this project's own rule).
 -- Histories and settings stand newest first.
-use Rattle.std.specs.Prelude.{ℕ, ◌-◌, ◌≤◌, ◌==◌, ◌&&◌, Bool, nat_lt, List, ◌++◌, Option, Some, None, All, AllPairs, count_by, filter, if◌then◌else◌}
+use Rattle.std.specs.Prelude.{ℕ, ◌-◌, ◌≤◌, ◌==◌, ◌&&◌, Bool, nat_lt, List, ◌++◌, Option, Some, None, All, AllPairs, count_by, filter, nat_eq, if◌then◌else◌}
 use Rattle.std.specs.List.{filter_map, list_any}
 use Rattle.cns_netting.specs.History.{credit, credit_part, debit}
 use Rattle.cns_netting.specs.Rows.{rows_of}
@@ -27,7 +27,7 @@ want_of book row = long_of row - open_sum book.orders book.replies Delivery row.
 
 -- whether a member is one of these
 abbrev pub is_among : List ℕ → ℕ → Bool
-is_among members member = list_any (λ m. m == member) members
+is_among members member = list_any (nat_eq member) members
 
 -- the group of a member in an issue, by the settings of priorities and the members that were long in the issue
 -- directly after the cycle before the latest

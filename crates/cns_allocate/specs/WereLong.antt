@@ -1,8 +1,8 @@
--- Members by a table of their numbers.
-use Rattle.std.specs.Prelude.{◌≡◌, ℕ, Bool, false, List, get_or, length}
+-- Members by a set of them.
+use Rattle.std.specs.Prelude.{◌≡◌, ℕ, List, nat_eq}
+use Rattle.std.specs.HashSet.{HashSet, contains}
 use Rattle.cns_allocate.specs.Plan.{is_among}
 
--- a table says of each member's number whether it is among these members
-pub record AreAmong (members : List ℕ) (among : List Bool) : Type 0 where
-  pub size : length among ≡ 10000
-  pub says : (member : ℕ) → get_or among member false ≡ is_among members member
+-- a set has just these members
+abbrev pub AreAmong : {S : Type 0} → List ℕ → HashSet ℕ S → Type 0
+AreAmong members among = (member : ℕ) → contains nat_eq among member ≡ is_among members member

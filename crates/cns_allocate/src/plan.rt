@@ -59,8 +59,8 @@ impl Plan {
             plan ≡ plan_of issue history orders.now.book settings were_long.now) }
     {
         let rows = book.rows_in(issue)?;
-        let were_long = &WereLong::of(were_long);
-        let planned = planned_rows(alloc, &rows, issue, orders, priorities, were_long)?;
+        let were_long = WereLong::of(alloc, were_long)?;
+        let planned = planned_rows(alloc, &rows, issue, orders, priorities, &were_long)?;
         let mut list = Vec::new(alloc);
         add_group(&mut list, &planned, Group::Priority)?;
         add_group(&mut list, &planned, Group::WasLong)?;

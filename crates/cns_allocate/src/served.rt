@@ -5,7 +5,7 @@ ghost use Rattle.cns_allocate.specs.declared.turns.Turn.TheVariants.{Next};
 
 use crate::planned::Planned;
 use crate::turns::Turn;
-use crate::waiting::Waiting;
+use crate::waiting::{MEMBERS, Waiting};
 use cns_pool::Ticket;
 
 /// Whether a lot may close with these tickets, in the order in which they were drawn. (This project's
@@ -18,7 +18,8 @@ pub fn are_served(plan: &[Planned], tickets: &[Ticket], sealed: bool) -> bool
     requires plan { IsPlan plan.now }
     ensures { IsTrue result ↔ IsServed plan.now tickets.now sealed }
 {
-    let mut waiting = Waiting::of(plan);
+    let mut places = [0; MEMBERS];
+    let mut waiting = Waiting::of(plan, &mut places);
     let mut start: u128 = 0;
     for ticket in tickets {
         if !is_in_turn(&waiting, start, ticket) {

@@ -1,4 +1,4 @@
-ghost use Rattle.std.specs.Prelude.{◌≡◌, ◌↔◌, ◌<◌, ◌≤◌, ◌==◌, [], drop, find, length, replicate, slice_index_or, true, IsTrue};
+ghost use Rattle.std.specs.Prelude.{◌≡◌, ◌↔◌, ◌<◌, ◌≤◌, ◌==◌, [], drop, find, length, replicate, slice_index, slice_index_or, slice_set, true, IsTrue};
 ghost use Rattle.cns_allocate.specs.Plan.{IsPlan};
 ghost use Rattle.cns_allocate.specs.Served.{is_after_others, turn_of, without};
 ghost use Rattle.cns_allocate.specs.Waiting.{ArePlaces, is_placed, placed};
@@ -18,7 +18,7 @@ pub(crate) const MEMBERS: usize = 10_000;
 pub(crate) struct Waiting<'a> {
     plan: &'a [Planned],
     // By member number the place in the plan, counted from 1, of each member that waits; 0 for others.
-    places: [u16; MEMBERS],
+    places: &'a mut [u16; MEMBERS],
     // The place of the first one that waits, counted from 0; the plan's length where none does.
     first: usize,
 }
@@ -30,21 +30,20 @@ impl<'a> Model for Waiting<'a> {
 
     ghost Value = { List Planned };
 
-    ghost view = { λ w. placed w.places w.plan.now };
+    ghost view = { λ w. placed w.places.now w.plan.now };
 
-    ghost invariant = { λ w. AreWaiting w.plan.now w.places w.first };
+    ghost invariant = { λ w. AreWaiting w.plan.now w.places.now w.first };
 }
 
 impl<'a> Waiting<'a> {
-    // Those of a plan of which no member has a ticket. (In line, so that the table is made where it stays.)
-    #[inline(always)]
-    pub(crate) fn of(plan: &'a [Planned]) -> Waiting<'a>
+    // Those of a plan of which no member has a ticket, by a table in which nobody has a place.
+    pub(crate) fn of(plan: &'a [Planned], places: &'a mut [u16; MEMBERS]) -> Waiting<'a>
         requires plan { IsPlan plan.now }
+        requires none { places.old ≡ replicate 10000 0 }
         ensures { result ≡ plan.now }
     {
-        let mut places = [0; MEMBERS];
-        place_each(&mut places, plan);
-        let first = first_placed(plan, &places, 0);
+        place_each(places, plan);
+        let first = first_placed(plan, places, 0);
         Waiting {
             plan,
             places,
@@ -69,8 +68,8 @@ impl<'a> Waiting<'a> {
     pub(crate) fn serve(&mut self, member: MemberNo)
         ensures { self.new ≡ without member self.old }
     {
-        self.places[usize::from(member.number())] = 0;
-        self.first = first_placed(self.plan, &self.places, self.first);
+        take_place(self.places, member);
+        self.first = first_placed(self.plan, self.places, self.first);
     }
 
     // Whether no member waits.
@@ -84,7 +83,7 @@ impl<'a> Waiting<'a> {
     fn planned_as(&self, member: MemberNo) -> Option<Planned>
         ensures { result ≡ find (λ (p : Planned). p.member == member) self.now }
     {
-        match usize::from(self.places[usize::from(member.number())]) {
+        match place_of(self.places, member) {
             0 => None,
             place => Some(self.plan[place - 1]),
         }
@@ -99,6 +98,21 @@ impl<'a> Waiting<'a> {
             None => false,
         }
     }
+}
+
+// The place of a member in the plan, counted from 1; 0 where it does not wait.
+fn place_of(places: &[u16; MEMBERS], member: MemberNo) -> usize
+    ensures { result ≡ slice_index places.now member }
+{
+    usize::from(places[usize::from(member.number())])
+}
+
+// Takes a member's place.
+fn take_place(places: &mut [u16; MEMBERS], member: MemberNo)
+    ensures within { member < length places.old }
+    ensures taken { places.new ≡ slice_set places.old member 0 }
+{
+    places[usize::from(member.number())] = 0;
 }
 
 // Sets by member number the place of each one in the plan, counted from 1, in a table in which nobody has one.

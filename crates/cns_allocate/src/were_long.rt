@@ -1,19 +1,18 @@
-ghost use Rattle.std.specs.Prelude.{◌≡◌, false, replicate};
+ghost use Rattle.std.specs.Prelude.{◌≡◌, IfOk};
 ghost use Rattle.cns_allocate.specs.Plan.{is_among};
-ghost use Rattle.cns_allocate.specs.WereLong.{AreAmong};
 
-use crate::waiting::MEMBERS;
 use cns_ids::MemberNo;
+use std::alloc::{AllocError, Global};
+use std::collections::HashSet;
 use std::marker::Model;
 
-// The members that were long in an issue, each found by a look-up. It takes no memory.
+// The members that were long in an issue, each found by a look-up.
 //
 // Contracts see the members, in their order.
 #[derive(Drop)]
 pub(crate) struct WereLong<'a> {
     members: &'a [MemberNo],
-    // By member number whether it is one of them.
-    among: [bool; MEMBERS],
+    among: HashSet<MemberNo>,
 }
 
 impl<'a> Model for WereLong<'a> {
@@ -28,30 +27,18 @@ impl<'a> Model for WereLong<'a> {
 }
 
 impl<'a> WereLong<'a> {
-    // These members. (In line, so that the table is made where it stays.)
-    #[inline(always)]
-    pub(crate) fn of(members: &'a [MemberNo]) -> WereLong<'a>
-        ensures { result ≡ members.now }
+    // These members.
+    pub(crate) fn of(alloc: Global, members: &'a [MemberNo]) -> Result<WereLong<'a>, AllocError>
+        ensures { IfOk result (λ were_long. were_long ≡ members.now) }
     {
-        let mut among = [false; MEMBERS];
-        set_each(&mut among, members);
-        WereLong { members, among }
+        let among = members.iter().copied().collect(alloc)?;
+        Ok(WereLong { members, among })
     }
 
     // Whether a member is one of them.
     pub(crate) fn contains(&self, member: MemberNo) -> bool
         ensures { result ≡ is_among self.now member }
     {
-        self.among[usize::from(member.number())]
-    }
-}
-
-// Sets by member number whether it is one of these members, in a table in which nobody is.
-fn set_each(among: &mut [bool; MEMBERS], members: &[MemberNo])
-    requires { among.old ≡ replicate 10000 false }
-    ensures { AreAmong members.now among.new }
-{
-    for member in members {
-        among[usize::from(member.number())] = true;
+        self.among.contains(&member)
     }
 }

@@ -5,7 +5,7 @@ use Rattle.std.specs.List.{list_all}
 use Rattle.std.proofs.lemmas.List.{drop_more}
 use Rattle.cns_pool.specs.declared.ticket.Ticket.{Ticket}
 use Rattle.cns_allocate.specs.Served.{has_ticket}
-use Rattle.cns_allocate.proofs.TableLemmas.{table_more}
+use Rattle.cns_clearing.proofs.TableLemmas.{table_more}
 use Rattle.cns_clearing.specs.Closing.{is_apart}
 
 -- whether the tickets are of members that were not seen, and different ones

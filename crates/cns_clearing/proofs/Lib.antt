@@ -3,6 +3,7 @@ pub mod NodeLemmas
 pub mod PositionLemmas
 pub mod ListLemmas
 pub mod ClosingLemmas
+pub mod TableLemmas
 pub mod ApartLemmas
 pub mod LotLemmas
 pub mod OpenLotLemmas

@@ -6,6 +6,6 @@ use Rattle.cns_allocate.proofs.waiting.Waiting.is_empty.Goals as goal
 pub returns : goal.returns
 returns c =
     let at = c.self.inside in (
-      λ e. sym c.self.view_is ∙ waits_none at.plan.now at.places at.first c.self.invariant (eqb-true at.first _ e),
-      λ e. eq-eqb at.first _ (waits_some at.plan.now at.places at.first c.self.invariant (c.self.view_is ∙ e)),
+      λ e. sym c.self.view_is ∙ waits_none at.plan.now at.places.now at.first c.self.invariant (eqb-true at.first _ e),
+      λ e. eq-eqb at.first _ (waits_some at.plan.now at.places.now at.first c.self.invariant (c.self.view_is ∙ e)),
     )
