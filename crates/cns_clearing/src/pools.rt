@@ -89,6 +89,10 @@ pub(crate) fn pool_rows(
 ) -> Result<PoolRows, AllocError>
     ensures { IfOk result (λ rows. rows ≡ rows_of orders.now.book lots.now.lots) }
 {
+    if orders.book().is_empty() {
+        let rows = Vec::new(alloc);
+        return Ok(PoolRows { rows });
+    }
     let issues = orders.issues(alloc)?;
     let rows = rows_of_issues(alloc, orders, lots, issues.as_slice())?;
     Ok(PoolRows { rows })

@@ -1,5 +1,5 @@
 -- The rows by the places of a stock: its places and those of the openings have the rows, in order.
-use Rattle.std.proofs.Common.{◌≡◌, ℕ, Bool, true, false, List, [], ◌∷◌, Option, Some, None, cond, eqb, refl, sym, ap, ◌∙◌, subst, arith, inl, inr}
+use Rattle.std.proofs.Common.{◌≡◌, ℕ, Bool, true, false, List, length, [], ◌∷◌, Option, Some, None, cond, eqb, refl, sym, ap, ◌∙◌, subst, arith, inl, inr}
 use Rattle.std.specs.Prelude.{◌≢◌, ◌⊎◌, fold}
 use Rattle.std.specs.BTreeSet.{insert_key}
 use Rattle.std.specs.HashMap.{keys}
@@ -175,3 +175,11 @@ rows_by_stock s openings p stock =
     (added_sorted (keys s.moved) (opened_places openings) (opened_sorted openings [] tt)) (places_sorted openings p)
     (λ q row is in'. held_place openings p q.account q.issue (row_held openings p q row is))
     (λ q row is in'. stock_place s openings p q.account q.issue stock (row_held openings p q row is))
+
+-- where nothing is opened and nothing was moved there is no row
+pub no_rows : (s : Stock) (openings : List Opening) (p : List DepRecord) → IsStockOf s p → length openings ≡ 0 → keys s.moved ≡ [] → [] ≡ balance_rows openings p
+unfolding opened_places
+no_rows s [] p stock none unmoved =
+    let nowhere : fold (insert_key place_cmp) (opened_places []) (keys s.moved) ≡ [] = rw unmoved refl in
+    ap (filter_map (balance_row [] p)) (sym nowhere) ∙ rows_by_stock s [] p stock
+no_rows s (o ∷ openings) p stock none unmoved = absurd cc

@@ -127,6 +127,10 @@ pub(crate) fn balance_rows(
     ensures { (p : List DepRecord) → IsStockOf stock.now p
         → IfOk result (λ rows. rows ≡ balance_rows_of openings.now p) }
 {
+    if openings.as_slice().is_empty() && stock.is_empty() {
+        let rows = Vec::new(alloc);
+        return Ok(BalanceRows { rows });
+    }
     let rows = rows_of_places(alloc, openings, stock)?;
     Ok(BalanceRows { rows })
 }

@@ -132,6 +132,13 @@ impl Stock {
         note(&mut self.indices, order.number, index);
     }
 
+    /// Whether nothing was moved.
+    pub(crate) fn is_empty(&self) -> bool
+        ensures { IsTrue result ↔ (keys self.now.moved ≡ []) }
+    {
+        self.moved.is_empty()
+    }
+
     /// Adds each place into which or out of which something was moved.
     pub(crate) fn add_places(&self, places: &mut BTreeSet<Place>) -> Result<(), AllocError>
         ensures { OnOk result (places.new.keys ≡ fold (insert_key place_cmp) places.old.keys (keys self.now.moved)) }

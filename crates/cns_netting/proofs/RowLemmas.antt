@@ -1,5 +1,5 @@
 -- The rows of a history by the positions of its holdings: rows in order that have their sums are those.
-use Rattle.std.proofs.Common.{◌≡◌, ℕ, List, [], ◌∷◌, Option, Some, None, Bool, true, false, cond, refl, sym, ap, ◌∙◌, ◌+◌, arith, subst, Ordering, Less, Equal, Greater}
+use Rattle.std.proofs.Common.{◌≡◌, ℕ, List, length, [], ◌∷◌, Option, Some, None, Bool, true, false, cond, refl, sym, ap, ◌∙◌, ◌+◌, arith, subst, Ordering, Less, Equal, Greater}
 use Rattle.std.specs.Prelude.{◌||◌, ◌&&◌, ◌==◌, All, if◌then◌else◌, filter, sum_by}
 use Rattle.std.specs.List.{cons_option, filter_map, IsDistinct, list_any}
 use Rattle.std.specs.Map.{keys_of, lookup}
@@ -293,6 +293,18 @@ pub rows_by_sums : {S : Type 0} (issue : Option ℕ) (positions : HashMap Holdin
 rows_by_sums issue positions h xs unique are sums order =
     rows_by_holdings issue positions h xs (keys_of positions.entries) unique are (no_row_by issue positions)
     (λ f. sums f ∙ entries-sum (λ q o. row_part f (row_if issue q o)) positions.entries unique) order
+
+-- where no holding is named there is no row
+pub no_rows : {S : Type 0} (positions : HashMap Holding Position S) (h : List NetEntry) → length positions.entries ≡ 0 → ArePositionsOf positions h → [] ≡ rows_of h
+unfolding IsDistinct
+no_rows positions h none are =
+    let nothing : positions.entries ≡ [] = no_entries positions.entries none in
+    let unique : hash.IsUnique holding_eq positions = rw nothing tt in
+    rows_by_sums None positions h [] unique are (λ f. rw nothing refl) tt
+  where
+    no_entries : {A : Type 0} (xs : List A) → length xs ≡ 0 → xs ≡ []
+    no_entries [] e = refl
+    no_entries (x ∷ xs) e = absurd cc
 
 -- the sum over the rows of all holdings that are named is the one over those of the history
 pub sum_by_entries : {S : Type 0} (positions : HashMap Holding Position S) (h : List NetEntry) (f : PositionRow → ℕ) → hash.IsUnique holding_eq positions → ArePositionsOf positions h

@@ -182,6 +182,9 @@ pub(crate) fn position_rows(
 ) -> Result<Vec<PositionRow>, AllocError>
     ensures { IfOk result (λ rows. (h : List NetEntry) → ArePositionsOf positions.now h → rows.items ≡ rows_of h) }
 {
+    if positions.is_empty() {
+        return Ok(Vec::new(alloc));
+    }
     let mut rows = rows_found(alloc, positions)?;
     sort_rows(&mut rows);
     Ok(rows)
