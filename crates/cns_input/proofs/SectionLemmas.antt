@@ -1,7 +1,6 @@
 -- Lines of a text, one after another.
 use Rattle.std.proofs.Common.{◌≡◌, ◌<◌, ◌≤◌, ◌+◌, ◌-◌, ℕ, zero, suc, List, [], ◌∷◌, ◌++◌, length, take, drop, Option, Some, None, Bool, true, false, refl, sym, ap, ◌∙◌, subst, arith, append_assoc, length-append, take-add, add-one}
-use Rattle.std.specs.Prelude.{◌==◌, IfSome, codes, if◌then◌else◌}
-use Rattle.std.specs.List.{position_from}
+use Rattle.std.specs.Prelude.{◌==◌, IfSome, codes, if◌then◌else◌, slice_index}
 use Rattle.std.proofs.Math.Seq.{drop-append_seam}
 use Rattle.std.proofs.lemmas.List.{append-nil, drop-drop}
 use Rattle.std.proofs.lemmas.Option.{IfSome_then}
@@ -21,6 +20,12 @@ joined_lines (c ∷ cs) = by (c == 10) (raw_lines cs) (joined_lines cs)
 -- no LF stands before a place, nor then in what is behind the first byte
 later : (c : ℕ) (cs : List ℕ) (n : ℕ) → Nowhere (Passes (is_byte 10) (c ∷ cs)) 0 (suc n) → Nowhere (Passes (is_byte 10) cs) 0 n
 later c cs n none k low high passes = none (suc k) (omega arith) (omega (arith, high)) passes
+
+-- the first line of a text that begins with an LF
+pub line_is_empty : (xs : List ℕ) → 0 < length xs → slice_index xs 0 ≡ 10 → line_size xs ≡ 1
+unfolding line_size
+line_is_empty [] some is = absurd (omega (arith, some))
+line_is_empty (c ∷ cs) some is = rw is refl
 
 -- the first line of a text without an LF
 pub no_line_ends : (xs : List ℕ) → Nowhere (Passes (is_byte 10) xs) 0 (length xs) → line_size xs ≡ length xs
@@ -42,28 +47,6 @@ line_ends (c ∷ cs) (suc k) found = by (c == 10) refl (line_ends cs k (record {
     by : (b : Bool) → (c == 10) ≡ b → line_size cs ≡ k + 1 → (if c == 10 then 1 else line_size cs + 1) ≡ suc k + 1
     by true is more = absurd (found.0.before 0 (omega arith) (omega arith) is)
     by false is more = rw (is, more) (omega arith)
-
--- the first line of a text, by a look at each byte of its front, where the LF is there
-pub line_near : (n : ℕ) (xs ys : List ℕ) (k : ℕ) → position_from (λ c. c == 10) n xs ≡ Some k → line_size (xs ++ ys) + n ≡ k + 1
-unfolding line_size
-line_near n [] ys k is = absurd cc
-line_near n (c ∷ cs) ys k is = by (c == 10) is (line_near (n + 1) cs ys k)
-  where
-    by : (b : Bool) → (if b then Some n else position_from (λ d. d == 10) (n + 1) cs) ≡ Some k → (position_from (λ d. d == 10) (n + 1) cs ≡ Some k → line_size (cs ++ ys) + (n + 1) ≡ k + 1)
-        → (if b then 1 else line_size (cs ++ ys) + 1) + n ≡ k + 1
-    by true found more = let same : n ≡ k = cc found in omega (arith, same)
-    by false found more = let later = more found in omega (arith, later)
-
--- and where it is not
-pub line_far : (n : ℕ) (xs ys : List ℕ) → position_from (λ c. c == 10) n xs ≡ None → line_size (xs ++ ys) ≡ length xs + line_size ys
-unfolding line_size
-line_far n [] ys is = omega arith
-line_far n (c ∷ cs) ys is = by (c == 10) is (line_far (n + 1) cs ys)
-  where
-    by : (b : Bool) → (if b then Some n else position_from (λ d. d == 10) (n + 1) cs) ≡ None → (position_from (λ d. d == 10) (n + 1) cs ≡ None → line_size (cs ++ ys) ≡ length cs + line_size ys)
-        → (if b then 1 else line_size (cs ++ ys) + 1) ≡ suc (length cs) + line_size ys
-    by true found more = absurd cc
-    by false found more = let later = more found in omega (arith, later)
 
 -- a text that is not empty is its first line and the others
 pub lines_step : (c : ℕ) (cs : List ℕ) → raw_lines (c ∷ cs) ≡ take (line_size (c ∷ cs)) (c ∷ cs) ∷ raw_lines (drop (line_size (c ∷ cs)) (c ∷ cs))

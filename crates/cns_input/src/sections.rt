@@ -1,5 +1,4 @@
-ghost use Rattle.std.specs.Prelude.{◌≡◌, ◌<◌, ◌≤◌, ◌==◌, length, option_map, IfSome};
-ghost use Rattle.std.specs.List.{position_from};
+ghost use Rattle.std.specs.Prelude.{◌≡◌, ◌<◌, ◌≤◌, length, option_map};
 ghost use Rattle.cns_input.specs.Sections.{line_size as line_size_of, line_text as text_of_line, is_head as is_head_line, split_at_head as split_of, sections as sections_of};
 
 use memchr::memchr;
@@ -12,38 +11,19 @@ pub struct Sections<'a> {
     pub script: &'a [u8],
 }
 
-// So many bytes of a line are looked at one by one: most lines of a script end there, and a search costs more.
-const NEAR: usize = 16;
-
-// The place of the first LF, by a look at each byte.
-fn end_near(text: &[u8]) -> Option<usize>
-    ensures place { result ≡ position_from (λ c. c == 10) 0 text.now }
-    ensures within { IfSome result (λ at. at < length text.now) }
-{
-    text.iter().position(|byte| *byte == b'\n')
-}
-
-// How many bytes the first line of a text has, by a search.
-fn size_by_search(text: &[u8]) -> usize
-    ensures size { result ≡ line_size_of text.now }
-    ensures within { result ≤ length text.now }
-{
-    match memchr(b'\n', text) {
-        Some(end) => end + 1,
-        None => text.len(),
-    }
-}
-
 /// How many bytes the first line of a text has, its LF with them: 0 where the text is empty.
 pub fn line_size(text: &[u8]) -> usize
     ensures size { result ≡ line_size_of text.now }
     ensures within { result ≤ length text.now }
     ensures some { 0 < length text.now → 0 < result }
 {
-    let (near, far) = text.split_at(text.len().min(NEAR));
-    match end_near(near) {
+    // Where a line is empty, a search costs more than a look.
+    if !text.is_empty() && text[0] == b'\n' {
+        return 1;
+    }
+    match memchr(b'\n', text) {
         Some(at) => at + 1,
-        None => near.len() + size_by_search(far),
+        None => text.len(),
     }
 }
 

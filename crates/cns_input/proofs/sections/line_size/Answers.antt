@@ -1,21 +1,16 @@
-use Rattle.std.proofs.Common.{◌≡◌, ◌∙◌, ◌++◌, refl, sym, arith}
-use Rattle.std.proofs.lemmas.List.{take-append-drop}
-use Rattle.cns_input.proofs.SectionLemmas.{line_far, line_near}
+use Rattle.std.proofs.Common.{◌≡◌, ◌<◌, length, rules, sym}
+use Rattle.std.specs.Prelude.{slice_index}
+use Rattle.cns_input.proofs.SectionLemmas.{line_ends, line_is_empty, no_line_ends}
 use Rattle.cns_input.proofs.sections.line_size.Goals as goal
 
+pub returns-then-text-eq10-clause-size : goal.returns-then-text-eq10-clause-size
+returns-then-text-eq10-clause-size c =
+    let some : 0 < length c.args.text.now = search rules in
+    let is : slice_index c.args.text.now 0 ≡ 10 = search rules in
+    sym (line_is_empty c.args.text.now some is)
+
 pub returns-in-Some-clause-size : goal.returns-in-Some-clause-size
-returns-in-Some-clause-size c =
-    let near = c.split_at.result.0.now in
-    let far = c.split_at.result.1.now in
-    let whole : near ++ far ≡ c.args.text.now = rw (c.split_at.ensures.front, c.split_at.ensures.back) (take-append-drop c.min.result c.args.text.now) in
-    let size = line_near 0 near far c.in-Some.at (sym c.end_near.ensures.place ∙ c.in-Some.is) in
-    let of = rw whole at size in
-    omega (arith, of)
+returns-in-Some-clause-size c = sym (line_ends c.args.text.now c.in-Some.at c.in-Some.ensures)
 
 pub returns-in-None-clause-size : goal.returns-in-None-clause-size
-returns-in-None-clause-size c =
-    let near = c.split_at.result.0.now in
-    let far = c.split_at.result.1.now in
-    let whole : near ++ far ≡ c.args.text.now = rw (c.split_at.ensures.front, c.split_at.ensures.back) (take-append-drop c.min.result c.args.text.now) in
-    let size = line_far 0 near far (sym c.end_near.ensures.place ∙ c.in-None.is) in
-    rw (← whole, size, ← c.size_by_search.ensures.size) refl
+returns-in-None-clause-size c = sym (no_line_ends c.args.text.now c.in-None.ensures)
