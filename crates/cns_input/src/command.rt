@@ -1,5 +1,6 @@
 ghost use Rattle.std.specs.Prelude.{◌≡◌, ◌==◌, ◌<◌, option_map, length, IfSome};
 ghost use Rattle.std.specs.List.{position_from};
+ghost use Rattle.cns_trades.specs.Fields.{same_text};
 ghost use Rattle.cns_input.specs.Words.{split_at_space, words_of};
 ghost use Rattle.cns_input.specs.Script.{command_of as command_of_line, form_of, single as single_of, pair as pair_of, pair_event as pair_event_of, triple_event as triple_event_of, triple as triple_of, quadruple as quadruple_of, quadruple_event as quadruple_event_of, take_in, one_of, place_in, member_in, issue_in, node_in};
 
@@ -57,6 +58,21 @@ fn split_word(line: &[u8]) -> (&[u8], Option<&[u8]>)
     }
 }
 
+// Whether a word is this one, by a look at each byte: words are short.
+fn is_word(word: &[u8], this: &[u8]) -> bool
+    ensures { result ≡ same_text word.now this.now }
+{
+    if word.len() != this.len() {
+        return false;
+    }
+    for (place, byte) in word.iter().enumerate() {
+        if *byte != this[place] {
+            return false;
+        }
+    }
+    true
+}
+
 // The number of an order, of a packet or of a lot.
 fn read_place(text: &[u8]) -> Option<u64>
     ensures { result ≡ place_in text.now }
@@ -80,9 +96,9 @@ fn read_issue(text: &[u8]) -> Option<Cusip>
 fn read_one_of<T: Drop>(text: &[u8], this: &[u8], a: T, that: &[u8], b: T) -> Option<T>
     ensures { result ≡ one_of this.now a that.now b text.now }
 {
-    if text == this {
+    if is_word(text, this) {
         Some(a)
-    } else if text == that {
+    } else if is_word(text, that) {
         Some(b)
     } else {
         None
@@ -99,7 +115,7 @@ fn read_node(text: &[u8]) -> Option<NodeName>
 fn read_take(text: &[u8]) -> Option<Command>
     ensures { result ≡ take_in text.now }
 {
-    if text == b"ALL".as_slice() {
+    if is_word(text, b"ALL") {
         return Some(Command::TakeAll);
     }
     read_number(text, 1, 1_000_000).ok().map(Command::Take)
@@ -109,9 +125,9 @@ fn read_take(text: &[u8]) -> Option<Command>
 fn single(word: &[u8]) -> Option<Command>
     ensures { result ≡ single_of word.now }
 {
-    if word == b"REPORT".as_slice() {
+    if is_word(word, b"REPORT") {
         Some(Command::Report)
-    } else if word == b"PUMP".as_slice() {
+    } else if is_word(word, b"PUMP") {
         Some(Command::Pump)
     } else {
         None
@@ -123,21 +139,21 @@ fn single(word: &[u8]) -> Option<Command>
 fn pair_event(word: &[u8], first: &[u8]) -> Option<Event>
     ensures { result ≡ pair_event_of word.now first.now }
 {
-    if word == b"SEND".as_slice() {
+    if is_word(word, b"SEND") {
         read_place(first).map(|number| Event::Send { number })
-    } else if word == b"ORDER".as_slice() {
+    } else if is_word(word, b"ORDER") {
         read_place(first).map(|packet| Event::OrderIn { packet })
-    } else if word == b"REPLY".as_slice() {
+    } else if is_word(word, b"REPLY") {
         read_place(first).map(|packet| Event::ReplyIn { packet })
-    } else if word == b"RESTART".as_slice() {
+    } else if is_word(word, b"RESTART") {
         read_node(first).map(Event::Restart)
-    } else if word == b"LOT".as_slice() {
+    } else if is_word(word, b"LOT") {
         read_issue(first).map(|issue| Event::LotOpen { issue })
-    } else if word == b"POUR".as_slice() {
+    } else if is_word(word, b"POUR") {
         read_place(first).map(|lot| Event::LotPour { lot })
-    } else if word == b"SEAL".as_slice() {
+    } else if is_word(word, b"SEAL") {
         read_place(first).map(|lot| Event::Seal { lot })
-    } else if word == b"CLOSE".as_slice() {
+    } else if is_word(word, b"CLOSE") {
         read_place(first).map(|lot| Event::LotClose { lot })
     } else {
         None
@@ -148,11 +164,11 @@ fn pair_event(word: &[u8], first: &[u8]) -> Option<Event>
 fn pair(word: &[u8], first: &[u8]) -> Option<Command>
     ensures { result ≡ pair_of word.now first.now }
 {
-    if word == b"TAKE".as_slice() {
+    if is_word(word, b"TAKE") {
         read_take(first)
-    } else if word == b"LOOK".as_slice() {
+    } else if is_word(word, b"LOOK") {
         read_place(first).map(Command::Look)
-    } else if word == b"ALLOCATE".as_slice() {
+    } else if is_word(word, b"ALLOCATE") {
         read_issue(first).map(Command::Allocate)
     } else {
         pair_event(word, first).map(Command::Single)
@@ -163,11 +179,11 @@ fn pair(word: &[u8], first: &[u8]) -> Option<Command>
 fn triple_event(word: &[u8], first: &[u8], second: &[u8]) -> Option<Event>
     ensures { result ≡ triple_event_of word.now first.now second.now }
 {
-    if word == b"CYCLE".as_slice() {
+    if is_word(word, b"CYCLE") {
         let kind = read_one_of(first, b"NIGHT", CycleKind::Night, b"DAY", CycleKind::Day)?;
         let day = Day::read(second).ok()?;
         Some(Event::Cycle(CycleId { day, kind }))
-    } else if word == b"RESERVE".as_slice() {
+    } else if is_word(word, b"RESERVE") {
         let lot = read_place(first)?;
         let member = read_member(second)?;
         Some(Event::Reserve { lot, member })
@@ -180,12 +196,12 @@ fn triple_event(word: &[u8], first: &[u8], second: &[u8]) -> Option<Event>
 fn triple(word: &[u8], first: &[u8], second: &[u8]) -> Option<Command>
     ensures { result ≡ triple_of word.now first.now second.now }
 {
-    if word == b"FAIL".as_slice() {
+    if is_word(word, b"FAIL") {
         Some(Command::Fail {
             node: read_node(first)?,
             stands: read_one_of(second, b"KEEP", true, b"DROP", false)?,
         })
-    } else if word == b"BESIDE".as_slice() {
+    } else if is_word(word, b"BESIDE") {
         Some(Command::Beside {
             issue: read_issue(first)?,
             lines: read_number(second, 0, 1000).ok()?,
@@ -199,13 +215,13 @@ fn triple(word: &[u8], first: &[u8], second: &[u8]) -> Option<Command>
 fn quadruple_event(word: &[u8], first: &[u8], second: &[u8], third: &[u8]) -> Option<Event>
     ensures { result ≡ quadruple_event_of word.now first.now second.now third.now }
 {
-    if word == b"EXEMPT".as_slice() {
+    if is_word(word, b"EXEMPT") {
         Some(Event::Exempt {
             member: read_member(first)?,
             issue: read_issue(second)?,
             shares: Shares::read(third).ok()?,
         })
-    } else if word == b"PRIORITY".as_slice() {
+    } else if is_word(word, b"PRIORITY") {
         Some(Event::Priority {
             member: read_member(first)?,
             issue: read_issue(second)?,
