@@ -1,8 +1,6 @@
-use Rattle.std.proofs.Common.{◌≡◌, ℕ, ◌+◌, ◌-◌, ◌<◌, ◌≤◌, arith, length, sym, ap, ◌∙◌, subst, List}
-use Rattle.std.specs.Prelude.{All}
-use Rattle.std.proofs.lemmas.List.Elements.{All-get_or}
+use Rattle.std.proofs.Common.{◌+◌, ◌-◌, ◌<◌, arith, sym, ap, ◌∙◌, subst, List}
 use Rattle.cns_pool.specs.WorkerSeat.{WorkerState}
-use Rattle.cns_allocate.specs.Serving.{HasDrawn, every, shares_of}
+use Rattle.cns_allocate.specs.Serving.{HasDrawn, every}
 use Rattle.cns_allocate.specs.declared.planned.Planned.{Planned}
 use Rattle.cns_allocate.proofs.DealLemmas.{every-past, every-step, length-step, shares-step}
 use Rattle.cns_allocate.proofs.SeatLemmas.{seat-cons, seat-none, seat-sealed}

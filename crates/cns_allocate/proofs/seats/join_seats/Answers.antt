@@ -1,10 +1,9 @@
-use Rattle.std.proofs.Common.{◌≡◌, ◌+◌, ◌≤◌, arith, ap, ◌∙◌, length, List, subst, sym, rules, vec_len}
-use Rattle.std.specs.Prelude.{sum_by}
+use Rattle.std.proofs.Common.{◌≡◌, arith, ap, ◌∙◌, length, List, subst, sym, rules, vec_len}
 use Rattle.std.proofs.lemmas.Iterator.Adapters.{YieldsList-from_vec}
 use Rattle.std.proofs.lemmas.Iterator.Consumers.{YieldsList-end, YieldsList-so_far, YieldsList-turn}
 use Rattle.std.proofs.lemmas.List.{map-id}
 use Rattle.cns_pool.specs.WorkerSeat.{WorkerState, room_taken}
-use Rattle.cns_allocate.specs.Serving.{HasJoined, rooms_of}
+use Rattle.cns_allocate.specs.Serving.{HasJoined}
 use Rattle.cns_allocate.proofs.SeatLemmas.{joined-more, room-left, sum_by-push}
 use Rattle.cns_allocate.proofs.seats.join_seats.Goals as goal
 

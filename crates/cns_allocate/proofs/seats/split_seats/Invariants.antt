@@ -1,4 +1,4 @@
-use Rattle.std.proofs.Common.{◌≡◌, ℕ, ◌-◌, ◌<◌, ◌≤◌, length, get_or, vec_capacity, vec_len}
+use Rattle.std.proofs.Common.{◌≡◌, ℕ, ◌-◌, ◌<◌, ◌≤◌, length, get_or, vec_capacity}
 use Rattle.cns_pool.specs.WorkerSeat.{EndWithin, WorkerState}
 use Rattle.cns_allocate.specs.Serving.{HasSplit, budgets_of, calls_of, places_of, shares_of}
 use Rattle.cns_allocate.proofs.DealLemmas.{dealt}

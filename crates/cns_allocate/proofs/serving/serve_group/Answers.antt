@@ -1,4 +1,4 @@
-use Rattle.std.proofs.Common.{◌≡◌, ◌<◌, rules, arith, length, List, ap, sym, subst, ◌∙◌}
+use Rattle.std.proofs.Common.{◌<◌, rules, arith, length, List, ap, sym, subst, ◌∙◌}
 use Rattle.std.proofs.lemmas.List.{take_at}
 use Rattle.cns_pool.specs.WorkerSeat.{WorkerState}
 use Rattle.cns_allocate.specs.Serving.{HasJoined, HasSplit}

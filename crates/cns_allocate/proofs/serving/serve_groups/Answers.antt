@@ -1,9 +1,8 @@
-use Rattle.std.proofs.Common.{◌≡◌, ℕ, ◌+◌, ◌-◌, ◌<◌, ◌≤◌, ◌∙◌, rules, arith, refl, true, false, length, List, take, drop, ap, sym, subst, []}
+use Rattle.std.proofs.Common.{◌≡◌, ℕ, ◌+◌, ◌≤◌, ◌∙◌, rules, arith, refl, true, false, length, List, take, ap, sym, subst, []}
 use Rattle.std.specs.Prelude.{All}
-use Rattle.std.proofs.lemmas.List.{length-drop, length-take, take_all, take_rest}
-use Rattle.cns_pool.specs.WorkerSeat.{WorkerState}
+use Rattle.std.proofs.lemmas.List.{take_rest}
 use Rattle.cns_allocate.specs.Group.{rank}
-use Rattle.cns_allocate.specs.Serving.{FollowPlanByStart, HasDrawn, Serves, shares_of}
+use Rattle.cns_allocate.specs.Serving.{FollowPlanByStart, HasDrawn, Serves}
 use Rattle.cns_allocate.specs.declared.planned.Planned.{Planned}
 use Rattle.cns_allocate.proofs.FollowLemmas.{follow-none}
 use Rattle.cns_allocate.proofs.ServingLemmas.{fault-follow, fault-part, fault-unmet, group_size, sealed-follow, sealed-met, shares-group, whole-follow, whole-sealed}

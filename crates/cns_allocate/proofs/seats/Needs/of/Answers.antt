@@ -1,5 +1,5 @@
-use Rattle.std.proofs.Common.{◌≡◌, ◌-◌, ◌+◌, arith, length, sym, ap, ◌∙◌}
-use Rattle.cns_allocate.specs.Serving.{every, shares_of}
+use Rattle.std.proofs.Common.{◌-◌, arith, length, ap}
+use Rattle.cns_allocate.specs.Serving.{shares_of}
 use Rattle.cns_allocate.specs.declared.planned.Planned.{Planned}
 use Rattle.cns_allocate.proofs.DealLemmas.{every-most, every-past, length-step, shares-step}
 use Rattle.cns_allocate.proofs.seats.Needs.of.Goals as goal
