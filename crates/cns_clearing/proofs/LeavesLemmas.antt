@@ -16,7 +16,7 @@ use Rattle.cns_records.specs.Clear.{AreWritable}
 use Rattle.cns_records.specs.declared.allocation.Allocation.{Allocation}
 use Rattle.cns_records.specs.declared.clear_record.ClearRecord.{ClearRecord}
 use Rattle.cns_records.specs.declared.clear_record.ClearRecord.TheVariants.{Allocate}
-use Rattle.cns_clearing.specs.Answers.{Closes, LotCloseLeaves, LotOpenLeaves, LotPourLeaves, MayClose, allocation_of}
+use Rattle.cns_clearing.specs.Answers.{Closes, LotCloseLeaves, LotPourLeaves, MayClose, allocation_of}
 use Rattle.cns_records.specs.Refusals.{commit_refusal}
 use Rattle.cns_journal.specs.declared.record_log.CommitFault.{CommitFault}
 use Rattle.cns_journal.specs.declared.record_log.CommitFault.TheVariants as commit

@@ -1,4 +1,4 @@
-use Rattle.std.proofs.Common.{◌≡◌, [], refl, sym, ap, ◌∙◌}
+use Rattle.std.proofs.Common.{◌≡◌, [], sym, ap, ◌∙◌}
 use Rattle.std.specs.List.{filter_map}
 use Rattle.cns_clearing.specs.Pools.{issues_of, pool_row, with_issues}
 use Rattle.cns_clearing.proofs.pools.pool_rows.Goals as goal

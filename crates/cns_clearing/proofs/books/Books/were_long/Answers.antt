@@ -1,6 +1,5 @@
-use Rattle.std.proofs.Common.{◌≡◌, ◌∙◌, List, ap, rules, subst}
+use Rattle.std.proofs.Common.{◌≡◌, ◌∙◌, List, ap, subst}
 use Rattle.std.specs.Prelude.{IfOk}
-use Rattle.cns_netting.specs.declared.position.PositionRow.{PositionRow}
 use Rattle.cns_clearing.specs.Lots.{longs_among}
 use Rattle.cns_clearing.proofs.PlanLemmas.{longs_in_part}
 use Rattle.cns_clearing.proofs.books.Books.were_long.Goals as goal

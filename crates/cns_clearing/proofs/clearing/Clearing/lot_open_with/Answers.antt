@@ -1,4 +1,4 @@
-use Rattle.std.proofs.Common.{◌≡◌, ◌∙◌, None, ap}
+use Rattle.std.proofs.Common.{◌∙◌, ap}
 use Rattle.cns_clearing.specs.Pools.{lot_of}
 use Rattle.cns_clearing.proofs.LeavesLemmas.{opened_lots, opened_with}
 use Rattle.cns_clearing.proofs.NodeLemmas.{node_lots}
