@@ -7,13 +7,16 @@ Edits of wrong-bodies/CRATE (of every crate, where none is named) are set into c
 they change different functions, and `rt check` must say of each of these functions that a goal of its own is not proved. An
 edit of which that is not said (the text cannot be read, a callee is not proved, it changes no single function) is tried
 three times more with others, and then by itself by `rt must-fail`, which has the last word; with --alone each is. All goes on in
-as many lanes as there are processors and memory; --only takes the edits whose names have WORD. What the crates below a crate need is
-built first, from what earlier checks of the tree left where that is up to date. Prints each edit that is refused, then for each
+as many lanes as there are processors and memory; --only takes the edits whose names have WORD. A crate's edits are tried as soon as it
+is checked and the libraries below it are built, from what earlier checks of the tree left where that is up to date; a library
+goes before an edit, and an edit of a higher crate before those of lower ones. Prints each edit that is refused, then for each
 crate its edits, minutes and processor minutes. The last line is `N passed, M failed`; the exit status is 0 where M is 0 and N is
 not.
 """
 import argparse
+import itertools
 import os
+import queue
 import re
 import shutil
 import signal
@@ -22,7 +25,7 @@ import sys
 import tempfile
 import threading
 import time
-from concurrent.futures import ThreadPoolExecutor
+from concurrent.futures import Future, ThreadPoolExecutor
 
 from wrong_bodies import FOLDER, TOP, below, crates, edits, say_end, texts_of
 
@@ -63,26 +66,55 @@ def run(words, folder):
         return started.returncode, said.read(), used.ru_utime + used.ru_stime
 
 
-def build_libraries(wanted, tree, lanes):
-    """Builds the libraries below the wanted crates in the copy, where they are not there, and checks these crates."""
+class NotProved(Exception):
+    """A crate as it stands is not proved; what its check said."""
+
+
+class Lanes:
+    """Runs jobs in so many threads, those of a lower rank first, and else those that came first."""
+
+    def __init__(self, count):
+        self.count, self.jobs, self.numbers, self.is_open = count, queue.PriorityQueue(), itertools.count(), True
+        for _ in range(count):
+            threading.Thread(target=self.work, daemon=True).start()
+
+    def work(self):
+        while True:
+            _, _, future, job, words = self.jobs.get()
+            try:
+                if not self.is_open:
+                    raise NotProved("")
+                future.set_result(job(*words))
+            except Exception as fault:  # (whoever waits for the job gets it)
+                future.set_exception(fault)
+
+    def submit(self, rank, job, *words):
+        """Takes a job, and answers what its result is waited for by."""
+        future = Future()
+        self.jobs.put((rank, next(self.numbers), future, job, words))
+        return future
+
+    def each(self, rank, job, parts):
+        """The results of a job on each of some parts."""
+        return [future.result() for future in [self.submit(rank, job, part) for part in parts]]
+
+    def close(self):
+        """Begins no more jobs."""
+        self.is_open = False
+
+
+def make_ready(name, wanted, tree, lanes, ready):
+    """Once those below a crate are ready, checks it where it is wanted, and builds its library where one above it is."""
     stands_on = below()
-    libraries = [name for name in crates() if any(name in all_below(one, stands_on) for one in wanted)]
-    copied = [name for name in crates() if name in libraries or name in wanted]
-    for name in copied:
-        copy_crate(name, tree, name in wanted)
-    write_lines_of(tree, copied)
-    # (many libraries are built side by side by the check of all)
-    are_there = all(os.path.isdir(f"{tree}/crates/{name}/out/rlib") for name in libraries)
-    steps = [] if are_there else [(["rt", "all", "check", "--jobs", str(lanes)], tree)]
-    steps += [(["rt", "lib"], f"{tree}/crates/{name}") for name in libraries]
-    steps += [(["rt", "check", "--jobs", str(lanes)], f"{tree}/crates/{name}") for name in wanted]
-    for words, folder in steps:
-        status, said, _ = run(words, folder)
+    for one in stands_on[name]:
+        ready[one].result()
+    steps = [["rt", "check", "--jobs", "1"]] if name in wanted else []
+    steps += [["rt", "lib"]] if any(name in all_below(one, stands_on) for one in wanted) else []
+    for words in steps:
+        status, said, _ = lanes.submit(0, run, words, f"{tree}/crates/{name}").result()
         if status:
-            print(said, end="")
-            print("FAIL a crate is not proved, so nothing in it or above it can be tried")
-            print("0 passed, 1 failed")
-            sys.exit(1)
+            lanes.close()
+            raise NotProved(said)
 
 
 def all_below(name, stands_on):
@@ -216,18 +248,19 @@ def try_batch(job):
     return good, time.monotonic() - began, used
 
 
-def try_crate(name, found, tree, pool, lanes, alone):
-    """Tries a crate's edits; answers how many were refused, the others' names, seconds and processor seconds."""
-    left, seconds, used = list(found), 0.0, 0.0
+def try_crate(name, found, tree, lanes, ready, alone):
+    """Tries a crate's edits once it is ready; answers how many were refused, the others' names, seconds and processor seconds."""
+    ready[name].result()
+    rank, left, seconds, used = len(crates()) - crates().index(name), list(found), 0.0, 0.0
     for _ in range(0 if alone else ROUNDS):
         parts, _ = batches(left, name)
         if all(len(part) < 2 for part in parts):
             break
-        for good, spent, taken in pool.map(try_batch, [(name, part, tree) for part in parts]):
+        for good, spent, taken in lanes.each(rank, try_batch, [(name, part, tree) for part in parts]):
             left = [edit for edit in left if edit not in good]
             seconds, used = seconds + spent, used + taken
     failed = []
-    for _, _, bad, spent, taken in pool.map(try_edits, [(name, part, tree) for part in split(left, lanes) if part]):
+    for _, _, bad, spent, taken in lanes.each(rank, try_edits, [(name, part, tree) for part in split(left, lanes.count) if part]):
         failed += bad
         seconds, used = seconds + spent, used + taken
     return len(found) - len(failed), failed, seconds, used
@@ -286,15 +319,26 @@ def main():
              for name in asked.crates or crates()}
     tried = {name: found for name, found in tried.items() if found}
     passed, failed, rows = 0, [], {}
-    with tempfile.TemporaryDirectory(prefix="wrong-tree-") as tree, ThreadPoolExecutor(asked.lanes) as pool:
-        build_libraries(list(tried), tree, asked.lanes)
-        # the highest crates first: their checks are the longest
-        names = [name for name in reversed(crates()) if name in tried]
-        with ThreadPoolExecutor(max(1, len(names))) as beside:
-            ended = list(beside.map(lambda name: try_crate(name, tried[name], tree, pool, asked.lanes, asked.alone), names))
-        for name, (good, bad, seconds, used) in zip(names, ended):
-            rows[name] = good, len(bad), seconds, used
-            passed, failed = passed + good, failed + [f"{name}/{one}" for one in bad]
+    lanes, ready, stands_on = Lanes(asked.lanes), {}, below()
+    copied = [name for name in crates() if any(name == one or name in all_below(one, stands_on) for one in tried)]
+    with tempfile.TemporaryDirectory(prefix="wrong-tree-") as tree, ThreadPoolExecutor(2 * len(copied) + 1) as beside:
+        for name in copied:
+            copy_crate(name, tree, name in tried)
+        write_lines_of(tree, copied)
+        for name in copied:
+            ready[name] = beside.submit(make_ready, name, tried, tree, lanes, ready)
+        ended = {name: beside.submit(try_crate, name, tried[name], tree, lanes, ready, asked.alone) for name in tried}
+        try:
+            for name, found in ended.items():
+                good, bad, seconds, used = found.result()
+                rows[name] = good, len(bad), seconds, used
+                passed, failed = passed + good, failed + [f"{name}/{one}" for one in bad]
+        except NotProved:
+            said = "".join(dict.fromkeys(str(it.exception()) for it in ready.values() if it.exception()))
+            print(said, end="" if said.endswith("\n") else "\n")
+            print("FAIL a crate is not proved, so nothing in it or above it can be tried")
+            print("0 passed, 1 failed")
+            return 1
     print(f"{'crate':16} {'refused':>8} {'other':>6} {'minutes':>8} {'processor minutes':>18}")
     for name in crates():
         if name in rows:
