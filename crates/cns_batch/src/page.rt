@@ -121,14 +121,26 @@ impl Page {
         self.tell(line, writer)
     }
 
-    // Tells the lines of rows.
-    fn rows<R: Put, W: Write>(&mut self, rows: &[R], writer: &mut W) -> Told
+    // Tells the lines of rows, one by one.
+    #[inline(never)]
+    fn each<R: Put, W: Write>(&mut self, rows: &[R], writer: &mut W) -> Told
         ensures { Prints (lines_of R.text rows.now) result (record { held = self.old; sent = W.contents writer.old }) (record { held = self.new; sent = W.contents writer.new }) }
     {
         for row in rows {
             self.told(row, writer)?;
         }
         Ok(())
+    }
+
+    // Tells the lines of rows, with no call where there are none.
+    #[inline(always)]
+    fn rows<R: Put, W: Write>(&mut self, rows: &[R], writer: &mut W) -> Told
+        ensures { Prints (lines_of R.text rows.now) result (record { held = self.old; sent = W.contents writer.old }) (record { held = self.new; sent = W.contents writer.new }) }
+    {
+        if rows.is_empty() {
+            return Ok(());
+        }
+        self.each(rows, writer)
     }
 
     // Tells the clearing node's part of the report.

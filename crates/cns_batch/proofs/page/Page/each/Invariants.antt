@@ -1,5 +1,5 @@
 use Rattle.cns_batch.proofs.PrintLemmas.{AreTold}
-use Rattle.cns_batch.proofs.page.Page.rows.Given as goal
+use Rattle.cns_batch.proofs.page.Page.each.Given as goal
 
 abbrev pub invariant-loop-row : goal.invariant-loop-row
 invariant-loop-row g l =
