@@ -141,16 +141,16 @@ def faults_of_worker(member, events):
             asked = start + shares
         elif word == "refused":
             sealed, asked = True, asked + values[0]
+        elif word == "poured":
+            if values[0] < poured:
+                yield "the poured shares fall"
+            poured = values[0]
         elif word == "asked":
             if values[0] < asked:
                 yield "the asked shares fall"
             if sealed and not values[1]:
                 yield "the seal goes away"
             asked, sealed = values
-        elif word == "poured":
-            if values[0] < poured:
-                yield "the poured shares fall"
-            poured = values[0]
         else:
             yield "a worker poured or sealed"
 
