@@ -89,6 +89,7 @@ impl<C: Keeper, D: Keeper> Runner<C, D> {
     }
 
     /// Lets an event happen, and tells and answers its outcome.
+    #[inline(always)]
     pub(crate) fn event<W: Write>(&mut self, event: Event, writer: &mut W) -> Told<Outcome>
         ensures { Runs (happened event) result (record { run = self.old; sent = W.contents writer.old }) (record { run = self.new; sent = W.contents writer.new }) }
     {

@@ -1,4 +1,4 @@
-ghost use Rattle.std.specs.Prelude.{◌≡◌, ◌≤◌, ◌∷◌, ◌++◌, length, IfOk};
+ghost use Rattle.std.specs.Prelude.{◌≡◌, ◌≤◌, ◌∷◌, ◌++◌, length, IfOk, OnOk};
 ghost use Rattle.std.specs.Int.{w16, to_be_bytes};
 ghost use Rattle.cns_ids.specs.Cusip.{IsCusip, cusip_text};
 ghost use Rattle.cns_ids.specs.Member.{IsMember};
@@ -8,7 +8,7 @@ ghost use Rattle.cns_records.specs.Drawn.{AnswersIfRoom};
 
 use crate::allocation::Allocation;
 use crate::bad_record::BadRecord;
-use crate::fields::{DAY_CYCLE, Fields, NIGHT_CYCLE, VERSION, day_bytes, joined, tickets_bytes};
+use crate::fields::{DAY_CYCLE, Fields, NIGHT_CYCLE, VERSION, add_tickets, begin, day_bytes};
 use cns_ids::{Cusip, CycleId, CycleKind, MemberNo, Shares};
 use cns_journal::{Record, RecordFault};
 use cns_movements::Reply;
@@ -74,7 +74,9 @@ impl ClearRecord {
         ensures back { IsWritable self.now → read_clear_of (spelling self.now) ≡ Ok self.now }
         ensures ranges { HasRanges self.now }
     {
-        payload_of(alloc, self)
+        let mut payload = Vec::new(alloc);
+        add_payload(&mut payload, self)?;
+        Ok(payload)
     }
 
     /// Reads a payload.
@@ -113,8 +115,8 @@ impl Record for ClearRecord {
 }
 
 #[tactic(auto, unfolding(crate::specs::Clear::spelling))]
-fn write_accept(alloc: Global, trade: &Trade) -> Result<Vec<u8>, AllocError>
-    ensures spelled { IfOk result (λ v. v.items ≡ spelling (ClearRecord.Accept trade.now)) }
+fn add_accept(payload: &mut Vec<u8>, trade: &Trade) -> Result<(), AllocError>
+    ensures spelled { OnOk result (payload.new.items ≡ payload.old.items ++ spelling (ClearRecord.Accept trade.now)) }
     ensures ranges { HasRanges (ClearRecord.Accept trade.now) }
 {
     let id = trade.id.as_bytes();
@@ -124,39 +126,39 @@ fn write_accept(alloc: Global, trade: &Trade) -> Result<Vec<u8>, AllocError>
     let seller = trade.seller.number().to_be_bytes();
     let issue = trade.issue.to_bytes();
     let quantity = trade.quantity.shares().to_be_bytes();
-    joined(
-        alloc,
-        &[
-            &[VERSION, ACCEPT, id_len],
-            id,
-            &settle,
-            &buyer,
-            &seller,
-            &issue,
-            &quantity,
-        ],
-    )
+    begin(payload, &[VERSION, ACCEPT, id_len])?;
+    payload.extend_from_slice(id)?;
+    payload.extend_from_slice(&settle)?;
+    payload.extend_from_slice(&buyer)?;
+    payload.extend_from_slice(&seller)?;
+    payload.extend_from_slice(&issue)?;
+    payload.extend_from_slice(&quantity)?;
+    Ok(())
 }
 
-// The payload of a record that sets something of a member in an issue.
-fn write_setting(
-    alloc: Global,
+// Adds the payload of a record that sets something of a member in an issue.
+fn add_setting(
+    payload: &mut Vec<u8>,
     kind: u8,
     member: MemberNo,
     issue: Cusip,
     value: &[u8],
-) -> Result<Vec<u8>, AllocError>
-    ensures spelled { IfOk result (λ v. v.items ≡ 1 ∷ kind ∷ (to_be_bytes w16 member ++ (cusip_text issue ++ value.now))) }
+) -> Result<(), AllocError>
+    ensures spelled { OnOk result (payload.new.items ≡ payload.old.items ++ 1 ∷ kind ∷ (to_be_bytes w16 member ++ (cusip_text issue ++ value.now))) }
     ensures ranges { IsMember member × IsCusip issue }
 {
     let member = member.number().to_be_bytes();
     let issue = issue.to_bytes();
-    joined(alloc, &[&[VERSION, kind], &member, &issue, value])
+    begin(payload, &[VERSION, kind])?;
+    payload.extend_from_slice(&member)?;
+    payload.extend_from_slice(&issue)?;
+    payload.extend_from_slice(value)?;
+    Ok(())
 }
 
 #[tactic(auto, unfolding(crate::specs::Clear::spelling))]
-fn write_cycle(alloc: Global, id: &CycleId) -> Result<Vec<u8>, AllocError>
-    ensures spelled { IfOk result (λ v. v.items ≡ spelling (ClearRecord.Cycle id.now)) }
+fn add_cycle(payload: &mut Vec<u8>, id: &CycleId) -> Result<(), AllocError>
+    ensures spelled { OnOk result (payload.new.items ≡ payload.old.items ++ spelling (ClearRecord.Cycle id.now)) }
     ensures ranges { HasRanges (ClearRecord.Cycle id.now) }
 {
     let kind = match id.kind {
@@ -164,12 +166,15 @@ fn write_cycle(alloc: Global, id: &CycleId) -> Result<Vec<u8>, AllocError>
         CycleKind::Day => DAY_CYCLE,
     };
     let day = day_bytes(id.day);
-    joined(alloc, &[&[VERSION, CYCLE], &day, &[kind]])
+    begin(payload, &[VERSION, CYCLE])?;
+    payload.extend_from_slice(&day)?;
+    payload.extend_from_slice(&[kind])?;
+    Ok(())
 }
 
 #[tactic(auto, unfolding(crate::specs::Clear::spelling))]
-fn write_allocate(alloc: Global, allocation: &Allocation) -> Result<Vec<u8>, AllocError>
-    ensures spelled { IfOk result (λ v. v.items ≡ spelling (ClearRecord.Allocate allocation.now)) }
+fn add_allocate(payload: &mut Vec<u8>, allocation: &Allocation) -> Result<(), AllocError>
+    ensures spelled { OnOk result (payload.new.items ≡ payload.old.items ++ spelling (ClearRecord.Allocate allocation.now)) }
     ensures ranges { HasRanges (ClearRecord.Allocate allocation.now) }
 {
     let issue = allocation.issue.to_bytes();
@@ -179,30 +184,28 @@ fn write_allocate(alloc: Global, allocation: &Allocation) -> Result<Vec<u8>, All
     let sealed = u8::from(allocation.sealed);
     let tickets = allocation.drawn.as_slice();
     let count = (tickets.len() as u32).to_be_bytes();
-    let drawn = tickets_bytes(alloc, tickets)?;
-    joined(
-        alloc,
-        &[
-            &[VERSION, ALLOCATE],
-            &issue,
-            &opened,
-            &upto,
-            &poured,
-            &[sealed],
-            &count,
-            &drawn,
-        ],
-    )
+    begin(payload, &[VERSION, ALLOCATE])?;
+    payload.extend_from_slice(&issue)?;
+    payload.extend_from_slice(&opened)?;
+    payload.extend_from_slice(&upto)?;
+    payload.extend_from_slice(&poured)?;
+    payload.extend_from_slice(&[sealed])?;
+    payload.extend_from_slice(&count)?;
+    add_tickets(payload, tickets)?;
+    Ok(())
 }
 
 #[tactic(auto, unfolding(crate::specs::Clear::spelling))]
-fn write_confirm(alloc: Global, reply: &Reply) -> Result<Vec<u8>, AllocError>
-    ensures spelled { IfOk result (λ v. v.items ≡ spelling (ClearRecord.Confirm reply.now)) }
+fn add_confirm(payload: &mut Vec<u8>, reply: &Reply) -> Result<(), AllocError>
+    ensures spelled { OnOk result (payload.new.items ≡ payload.old.items ++ spelling (ClearRecord.Confirm reply.now)) }
     ensures ranges { HasRanges (ClearRecord.Confirm reply.now) }
 {
     let number = reply.number.number().to_be_bytes();
     let moved = reply.moved.count().to_be_bytes();
-    joined(alloc, &[&[VERSION, CONFIRM], &number, &moved])
+    begin(payload, &[VERSION, CONFIRM])?;
+    payload.extend_from_slice(&number)?;
+    payload.extend_from_slice(&moved)?;
+    Ok(())
 }
 
 #[tactic(auto, unfolding(crate::specs::Clear::trade_at))]
@@ -294,28 +297,28 @@ fn record_of(alloc: Global, payload: &[u8]) -> Result<ClearRecord, RecordFault>
 }
 
 #[tactic(auto, unfolding(crate::specs::Clear::spelling))]
-fn payload_of(alloc: Global, entry: &ClearRecord) -> Result<Vec<u8>, AllocError>
-    ensures spelled { IfOk result (λ v. v.items ≡ spelling entry.now) }
+fn add_payload(payload: &mut Vec<u8>, entry: &ClearRecord) -> Result<(), AllocError>
+    ensures spelled { OnOk result (payload.new.items ≡ payload.old.items ++ spelling entry.now) }
     ensures ranges { HasRanges entry.now }
 {
     match entry {
-        ClearRecord::Accept(trade) => write_accept(alloc, trade),
+        ClearRecord::Accept(trade) => add_accept(payload, trade),
         ClearRecord::Exempt {
             member,
             issue,
             shares,
-        } => write_setting(
-            alloc,
+        } => add_setting(
+            payload,
             EXEMPT,
             *member,
             *issue,
             &shares.count().to_be_bytes(),
         ),
         ClearRecord::Priority { member, issue, on } => {
-            write_setting(alloc, PRIORITY, *member, *issue, &[u8::from(*on)])
+            add_setting(payload, PRIORITY, *member, *issue, &[u8::from(*on)])
         }
-        ClearRecord::Cycle(id) => write_cycle(alloc, id),
-        ClearRecord::Allocate(allocation) => write_allocate(alloc, allocation),
-        ClearRecord::Confirm(reply) => write_confirm(alloc, reply),
+        ClearRecord::Cycle(id) => add_cycle(payload, id),
+        ClearRecord::Allocate(allocation) => add_allocate(payload, allocation),
+        ClearRecord::Confirm(reply) => add_confirm(payload, reply),
     }
 }

@@ -1,8 +1,8 @@
-ghost use Rattle.std.specs.Prelude.{◌≡◌, ◌≤◌, length, IfOk};
+ghost use Rattle.std.specs.Prelude.{◌≡◌, ◌≤◌, ◌++◌, length, IfOk, OnOk};
 ghost use Rattle.cns_records.specs.Dep.{dep_spelling, HasDepRanges, IsDepWritable, exec_of, read_dep_of};
 
 use crate::bad_record::BadRecord;
-use crate::fields::{COVER_ORDER, DELIVERY_ORDER, Fields, VERSION, joined};
+use crate::fields::{COVER_ORDER, DELIVERY_ORDER, Fields, VERSION, begin};
 use cns_ids::Shares;
 use cns_journal::{Record, RecordFault};
 use cns_movements::{MoveKind, Order};
@@ -34,7 +34,9 @@ impl DepRecord {
         ensures back { IsDepWritable self.now → read_dep_of (dep_spelling self.now) ≡ Ok self.now }
         ensures ranges { HasDepRanges self.now }
     {
-        payload_of(alloc, self)
+        let mut payload = Vec::new(alloc);
+        add_payload(&mut payload, self)?;
+        Ok(payload)
     }
 
     /// Reads a payload.
@@ -71,8 +73,8 @@ impl Record for DepRecord {
 }
 
 #[tactic(auto, unfolding(crate::specs::Dep::dep_spelling))]
-fn write_exec(alloc: Global, order: &Order, moved: Shares) -> Result<Vec<u8>, AllocError>
-    ensures spelled { IfOk result (λ v. v.items ≡ dep_spelling (DepRecord.Exec order.now moved)) }
+fn add_exec(payload: &mut Vec<u8>, order: &Order, moved: Shares) -> Result<(), AllocError>
+    ensures spelled { OnOk result (payload.new.items ≡ payload.old.items ++ dep_spelling (DepRecord.Exec order.now moved)) }
     ensures ranges { HasDepRanges (DepRecord.Exec order.now moved) }
 {
     let kind = match order.kind {
@@ -84,17 +86,13 @@ fn write_exec(alloc: Global, order: &Order, moved: Shares) -> Result<Vec<u8>, Al
     let issue = order.issue.to_bytes();
     let asked = order.asked.shares().to_be_bytes();
     let moved = moved.count().to_be_bytes();
-    joined(
-        alloc,
-        &[
-            &[VERSION, EXEC, kind],
-            &number,
-            &member,
-            &issue,
-            &asked,
-            &moved,
-        ],
-    )
+    begin(payload, &[VERSION, EXEC, kind])?;
+    payload.extend_from_slice(&number)?;
+    payload.extend_from_slice(&member)?;
+    payload.extend_from_slice(&issue)?;
+    payload.extend_from_slice(&asked)?;
+    payload.extend_from_slice(&moved)?;
+    Ok(())
 }
 
 #[tactic(auto, unfolding(crate::specs::Dep::exec_of))]
@@ -115,12 +113,12 @@ fn read_exec(mut fields: Fields) -> Result<DepRecord, BadRecord>
     Ok(DepRecord::Exec { order, moved })
 }
 
-fn payload_of(alloc: Global, entry: &DepRecord) -> Result<Vec<u8>, AllocError>
-    ensures spelled { IfOk result (λ v. v.items ≡ dep_spelling entry.now) }
+fn add_payload(payload: &mut Vec<u8>, entry: &DepRecord) -> Result<(), AllocError>
+    ensures spelled { OnOk result (payload.new.items ≡ payload.old.items ++ dep_spelling entry.now) }
     ensures ranges { HasDepRanges entry.now }
 {
     match entry {
-        DepRecord::Exec { order, moved } => write_exec(alloc, order, *moved),
+        DepRecord::Exec { order, moved } => add_exec(payload, order, *moved),
     }
 }
 

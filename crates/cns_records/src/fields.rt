@@ -1,4 +1,4 @@
-//! The fields of a payload: how each is taken from its front, and the parts that are put together.
+//! The fields of a payload: how each is taken from its front, and the payload that they are added to.
 ghost use Rattle.std.specs.Prelude.{◌≡◌, ◌≤◌, ◌==◌, ◌++◌, IfOk, IsOk, OnOk, is_ok, length};
 ghost use Rattle.std.specs.Int.{w16, w32, w64};
 ghost use Rattle.std.specs.List.{flat_map};
@@ -44,15 +44,12 @@ pub fn day_bytes(day: Day) -> [u8; 4]
     [high, low, (number / 100 % 100) as u8, (number % 100) as u8]
 }
 
-/// The parts, one after the other.
-pub fn joined(alloc: Global, parts: &[&[u8]]) -> Result<Vec<u8>, AllocError>
-    ensures { IfOk result (λ v. v.items ≡ flat_map (λ part. part.now) parts.now) }
+/// Adds the first bytes of a payload, and takes the room that one without tickets needs.
+pub fn begin(payload: &mut Vec<u8>, front: &[u8]) -> Result<(), AllocError>
+    ensures { OnOk result (payload.new.items ≡ payload.old.items ++ front.now) }
 {
-    let mut payload = Vec::with_capacity(alloc, MOST_PLAIN)?;
-    for part in parts {
-        payload.extend_from_slice(part)?;
-    }
-    Ok(payload)
+    payload.reserve(MOST_PLAIN)?;
+    payload.extend_from_slice(front)
 }
 
 // Adds a ticket's bytes: its member (2), its start (8) and how many shares it has (8).
@@ -65,15 +62,14 @@ fn add_ticket(bytes: &mut Vec<u8>, ticket: &Drawn) -> Result<(), AllocError>
     Ok(())
 }
 
-/// The bytes of tickets, one after the other.
-pub fn tickets_bytes(alloc: Global, tickets: &[Drawn]) -> Result<Vec<u8>, AllocError>
-    ensures { IfOk result (λ v. v.items ≡ flat_map ticket_bytes tickets.now) }
+/// Adds the bytes of tickets, one after the other.
+pub fn add_tickets(bytes: &mut Vec<u8>, tickets: &[Drawn]) -> Result<(), AllocError>
+    ensures { OnOk result (bytes.new.items ≡ bytes.old.items ++ flat_map ticket_bytes tickets.now) }
 {
-    let mut bytes = Vec::new(alloc);
     for ticket in tickets {
-        add_ticket(&mut bytes, ticket)?;
+        add_ticket(bytes, ticket)?;
     }
-    Ok(bytes)
+    Ok(())
 }
 
 /// The bytes of a payload that are not read yet. Each call takes one field from their front.

@@ -1,11 +1,16 @@
-use Rattle.std.proofs.Common.{List, ℕ, length, ◌≤◌, sym, subst}
-use Rattle.std.proofs.lemmas.Result.{IfOk-weaker}
+use Rattle.std.proofs.Common.{◌≡◌, List, ℕ, length, ◌++◌, ◌≤◌, ap, sym, subst, ◌∙◌}
+use Rattle.cns_records.specs.Dep.{dep_spelling}
 use Rattle.cns_records.proofs.DepLaws.{dep_read-spelling, dep_spelling_short}
 use Rattle.cns_records.proofs.dep_record.DepRecord.write.Goals as goal
 
+pub returns-in_err-add_payload-clause-back : goal.returns-in_err-add_payload-clause-back
+returns-in_err-add_payload-clause-back c = λ writable. dep_read-spelling c.args.self.now c.add_payload.ensures.ranges writable
+
 pub returns-clause-size : goal.returns-clause-size
 returns-clause-size c =
-    IfOk-weaker c.payload_of.result _ _ (λ v is. subst (λ (bytes : List ℕ). length bytes ≤ 1048576) (sym is) (dep_spelling_short c.args.self.now)) c.payload_of.ensures.spelled
+    let is : c.add_payload.new.payload.items ≡ dep_spelling c.args.self.now =
+    c.in_ok-add_payload.ensures.spelled ∙ ap (λ l. l ++ dep_spelling c.args.self.now) c.new-payload.ensures.items in
+    subst (λ (bytes : List ℕ). length bytes ≤ 1048576) (sym is) (dep_spelling_short c.args.self.now)
 
 pub returns-clause-back : goal.returns-clause-back
-returns-clause-back c = λ writable. dep_read-spelling c.args.self.now c.payload_of.ensures.ranges writable
+returns-clause-back c = λ writable. dep_read-spelling c.args.self.now c.add_payload.ensures.ranges writable
