@@ -1,3 +1,4 @@
+pub mod Steps
 pub mod Number
 pub mod Holding
 pub mod Member

@@ -8,7 +8,8 @@ use Rattle.std.proofs.lemmas.List.{append_assoc, append-nil}
 use Rattle.std.proofs.lemmas.List.Sorted.{IsNonDecreasingBy-from_all_adjacent, all_adjacent_from_non_decreasing}
 use Rattle.cns_records.specs.declared.bad_record.BadRecord.{BadRecord}
 use Rattle.cns_records.specs.declared.drawn.Drawn.{Drawn}
-use Rattle.cns_records.specs.Fields.{bad, ◌>>=◌, number_at, tested, tested_at, whole}
+use Rattle.cns_ids.specs.Steps.{◌>>=◌}
+use Rattle.cns_records.specs.Fields.{bad, number_at, tested, tested_at, whole}
 use Rattle.cns_records.specs.Drawn.{IsDrawn, AreDrawn, IsByStart, starts_from, by_start, ticket_bytes, ticket_at, tickets_at, is_few, drawn_bytes, tickets_of, drawn_of}
 use Rattle.cns_movements.proofs.BytesLemmas.{IsBytes}
 use Rattle.cns_records.proofs.FieldLemmas.{bind_ok, ok_value, tested_ok, whole_ok, ok_is, Takes, IsField, step, chain, last, both_field, made_field, tested_field, number_field, wide32}

@@ -7,7 +7,8 @@ use Rattle.std.proofs.lemmas.List.{take_at, drop_at, take-append-drop, length-ap
 use Rattle.std.proofs.lemmas.Nat.{be_bytes_2, be_bytes_4, be_bytes_8, from_be_bytes-to_be_bytes_2, from_be_bytes-to_be_bytes_4, from_be_bytes-to_be_bytes_8}
 use Rattle.cns_movements.proofs.BytesLemmas.{IsBytes, IsBytes-drop, IsBytes-take}
 use Rattle.cns_records.specs.declared.bad_record.BadRecord.{BadRecord}
-use Rattle.cns_records.specs.Fields.{bad, ◌>>=◌, Reader, ◌&◌, made, byte_at, number_at, text_at, tested, tested_at, whole, one_of, one_of_at}
+use Rattle.cns_ids.specs.Steps.{◌>>=◌}
+use Rattle.cns_records.specs.Fields.{bad, Reader, ◌&◌, made, byte_at, number_at, text_at, tested, tested_at, whole, one_of, one_of_at}
 
 -- ---- bytes
 

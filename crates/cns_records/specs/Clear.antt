@@ -8,7 +8,8 @@ use Rattle.cns_ids.specs.Shares.{IsShares, IsQuantity}
 use Rattle.cns_movements.specs.Number.{IsMoveNo}
 use Rattle.cns_trades.specs.TradeId.{IsId}
 use Rattle.cns_trades.specs.declared.trade.Trade.{Trade}
-use Rattle.cns_records.specs.Fields.{bad, ◌>>=◌, Reader, ◌&◌, made, tested_at, whole_at, payload_as, number_at, id_bytes, id_at, day_bytes, day_at, member_at, issue_at, quantity_at, shares_at, flag_bytes, flag_at, cycle_kind_bytes, cycle_kind_at, move_no_at}
+use Rattle.cns_ids.specs.Steps.{◌>>=◌}
+use Rattle.cns_records.specs.Fields.{bad, Reader, ◌&◌, made, tested_at, whole_at, payload_as, number_at, id_bytes, id_at, day_bytes, day_at, member_at, issue_at, quantity_at, shares_at, flag_bytes, flag_at, cycle_kind_bytes, cycle_kind_at, move_no_at}
 use Rattle.cns_records.specs.Drawn.{AreDrawn, IsByStart, drawn_bytes, drawn_of}
 use Rattle.cns_records.specs.declared.allocation.Allocation.{Allocation}
 use Rattle.cns_records.specs.declared.bad_record.BadRecord.{BadRecord}

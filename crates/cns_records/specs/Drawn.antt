@@ -6,7 +6,8 @@ use Rattle.std.specs.List.Sorted.{IsNonDecreasingBy}
 use Rattle.cns_ids.specs.Member.{IsMember}
 use Rattle.cns_ids.specs.Shares.{IsShares}
 use Rattle.cns_movements.specs.Asked.{IsAsked}
-use Rattle.cns_records.specs.Fields.{bad, ◌>>=◌, Reader, ◌&◌, made, tested, tested_at, whole, number_at, member_at, shares_at, asked_at}
+use Rattle.cns_ids.specs.Steps.{◌>>=◌}
+use Rattle.cns_records.specs.Fields.{bad, Reader, ◌&◌, made, tested, tested_at, whole, number_at, member_at, shares_at, asked_at}
 use Rattle.cns_records.specs.declared.bad_record.BadRecord.{BadRecord}
 use Rattle.cns_records.specs.declared.drawn.Drawn.{Drawn}
 use Rattle.cns_journal.specs.declared.record_log.RecordFault.{RecordFault}

@@ -5,6 +5,7 @@ use Rattle.cns_ids.specs.Cusip.{read_cusip}
 use Rattle.cns_ids.specs.Day.{is_real_day, number_of_day}
 use Rattle.cns_ids.specs.Member.{is_member}
 use Rattle.cns_ids.specs.Shares.{is_shares, is_quantity}
+use Rattle.cns_ids.specs.Steps.{◌>>=◌}
 use Rattle.cns_ids.specs.declared.cusip.CusipFault.{CusipFault}
 use Rattle.cns_ids.specs.declared.cycle.CycleKind.{CycleKind}
 use Rattle.cns_ids.specs.declared.cycle.CycleKind.TheVariants.{Night, Day}
@@ -18,11 +19,6 @@ use Rattle.cns_records.specs.declared.bad_record.BadRecord.{BadRecord}
 -- no record is read
 abbrev pub bad : {A : Type 0} → Result A BadRecord
 bad = Err (record {})
-
-infixl 10 ◌>>=◌
-abbrev pub ◌>>=◌ : {A B : Type 0} → Result A BadRecord → (A → Result B BadRecord) → Result B BadRecord
-(Ok x) >>= f = f x
-(Err e) >>= f = Err e
 
 -- how a value is read from the front of bytes: it and the bytes after it, or none
 abbrev pub Reader : Type 0 → Type 0

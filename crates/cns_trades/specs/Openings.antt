@@ -4,7 +4,8 @@ use Rattle.cns_ids.specs.Cusip.{read_cusip}
 use Rattle.cns_ids.specs.Number.{number_in}
 use Rattle.cns_trades.specs.Fields.{field_or_empty, is_opening_header}
 use Rattle.cns_trades.specs.Records.{Fields, rows_of}
-use Rattle.cns_trades.specs.Rows.{told, ◌>>=◌}
+use Rattle.cns_trades.specs.Rows.{told}
+use Rattle.cns_ids.specs.Steps.{◌>>=◌}
 use Rattle.cns_trades.specs.declared.fault.RowFault.{RowFault}
 use Rattle.cns_trades.specs.declared.fault.RowFault.TheVariants as fault
 use Rattle.cns_trades.specs.declared.opening.Opening.{Opening}

@@ -3,6 +3,7 @@ use Rattle.std.specs.Prelude.{ℕ, not, ◌==◌, List, length, Option, Result, 
 use Rattle.cns_ids.specs.Cusip.{read_cusip}
 use Rattle.cns_ids.specs.ReadDay.{read_day}
 use Rattle.cns_ids.specs.Number.{number_in}
+use Rattle.cns_ids.specs.Steps.{◌>>=◌}
 use Rattle.cns_trades.specs.ReadId.{read_id}
 use Rattle.cns_trades.specs.Fields.{field_or_empty, is_trade_header}
 use Rattle.cns_trades.specs.Records.{Fields, rows_of}
@@ -11,12 +12,6 @@ use Rattle.cns_trades.specs.declared.fault.RowFault.TheVariants as fault
 use Rattle.cns_trades.specs.declared.trade.Trade.{Trade}
 use Rattle.cns_trades.specs.declared.row.Row.{Row}
 use Rattle.cns_trades.specs.declared.row.Row.TheVariants as row
-
--- a result, and then what its value leads to
-infixl 10 ◌>>=◌
-abbrev pub ◌>>=◌ : {A B : Type 0} → Result A RowFault → (A → Result B RowFault) → Result B RowFault
-(Ok x) >>= f = f x
-(Err e) >>= f = Err e
 
 -- a field's fault as the row's
 abbrev pub told : {A E : Type 0} → (E → RowFault) → Result A E → Result A RowFault
