@@ -11,6 +11,8 @@ from wrong_bodies import TOP
 START = ("cns_batch", "Text", "text_of")
 HEAD = re.compile(r"(?:(?:abbrev|unfoldable|opaque|pub|data|record)\s+)+([^\s:({]+)")
 WORD = re.compile(r"[^\s(){};,:=∷≡×→⊎≤<∙\[\]+*^]+")
+# What a `do` is written with, though no line of it names these.
+STEPS = ("◌>>=◌", "◌>>◌")
 
 
 class Module:
@@ -86,8 +88,9 @@ def reached():
         here = module(*definition[:2])
         words = set()
         for line in here.lines[definition[2]]:
-            for word in WORD.findall(line):
-                words |= {word, word.split(".")[0], ".".join(word.split(".")[:2])}
+            for word in re.split(r"\s+", line) + WORD.findall(line):
+                words |= {word, word.split(".")[0], ".".join(word.split(".")[:2]), f"◌{word}◌"}
+                words |= set(STEPS if word == "do" else ())
         left += [other for other in (resolve(here, word) for word in words) if other]
     return found
 

@@ -1,16 +1,19 @@
 -- What the world shows after a call of a node, and what a decision makes of a commit.
-use Rattle.std.proofs.Common.{◌≡◌, ◌≢◌, ◌++◌, [], ◌∷◌, refl, sym, ap, ◌∙◌}
+use Rattle.std.proofs.Common.{◌≡◌, ◌≢◌, ◌++◌, Bool, true, [], ◌∷◌, Some, Result, refl, sym, ap, ◌∙◌}
+use Rattle.cns_ids.specs.Steps.{◌>>◌, need}
+use Rattle.std.proofs.lemmas.List.{map-append}
 use Rattle.cns_journal.specs.RecordLog.{LogState}
 use Rattle.cns_movements.specs.declared.order.Reply.{Reply}
 use Rattle.cns_records.specs.declared.clear_record.ClearRecord.{ClearRecord}
 use Rattle.cns_records.specs.declared.dep_record.DepRecord.{DepRecord}
+use Rattle.cns_records.specs.declared.refusal.Refusal.{Refusal}
 use Rattle.cns_records.specs.declared.refusal.Refusal.TheVariants as refusal
 use Rattle.cns_wire.specs.Frame.{reply_frame}
 use Rattle.cns_clearing.specs.Node as clear
 use Rattle.cns_depository.specs.Node as depot
-use Rattle.cns_system.specs.Happens.{Decision, Goes, NoMemory, DeviceFails, ClearReads, DepotReads, FindsBad, Happening, clear_commits, depot_commits, with_memory, with_reply}
+use Rattle.cns_system.specs.Happens.{Decision, Goes, NoMemory, DeviceFails, ClearReads, DepotReads, FindsBad, Happening, commits, grows, settled, with_reply}
 use Rattle.cns_system.specs.Shown.{Shown, clear_added, clear_failed, depot_added, depot_failed, shown_of}
-use Rattle.cns_system.specs.World.{World}
+use Rattle.cns_system.specs.World.{World, reply_spelt}
 use Rattle.cns_system.specs.declared.outcome.Outcome.{Outcome}
 use Rattle.cns_system.specs.declared.outcome.Outcome.TheVariants as outcomes
 
@@ -47,8 +50,9 @@ pub depot_same : (old new : World) → IsAtDepot old new → new.depot ≡ old.d
 depot_same old new at same replies = rw (same, replies, at.clear, at.orders) refl
 
 pub depot_when_added : (e : DepRecord) (r : Reply) (old new : World) → IsAtDepot old new → depot.Added e old.depot new.depot → new.replies ≡ old.replies ++ reply_frame r ∷ []
-    → shown_of new ≡ with_reply r (depot_added e (shown_of old))
-depot_when_added e r old new at (up, added, openings) replies = rw (added.0, openings, replies, at.clear, at.orders) refl
+    → reply_spelt (reply_frame r) ≡ Some r → shown_of new ≡ with_reply r (depot_added e (shown_of old))
+depot_when_added e r old new at (up, added, openings) replies reads =
+    rw (added.0, openings, replies, at.clear, at.orders, map-append reply_spelt old.replies (reply_frame r ∷ []), reads) refl
 
 pub depot_when_failed : (e : DepRecord) (old new : World) → IsAtDepot old new → depot.Failed e old.depot new.depot → new.replies ≡ old.replies
     → shown_of new ≡ depot_failed e (shown_of old)
@@ -59,12 +63,19 @@ depot_when_failed e old new at (up, (log, risen, failed), openings) replies =
 
 -- ---- what a decision makes of an event
 
+-- a step that goes on where something holds
+pub passes : {A : Type 0} (holds : Bool) (r : Refusal) (next : Result A Refusal) → holds ≡ true → (need holds r >> next) ≡ next
+passes holds r next e = rw e refl
+
+abbrev pub refuse : Refusal → Shown → Happening
+refuse r w = (outcomes.Refused r, w)
+
 -- what happens, by the world that is left
 pub came : (happening : Happening) (outcome : Outcome) (w w' : Shown) → happening ≡ (outcome, w) → w' ≡ w → happening ≡ (outcome, w')
 came happening outcome w w' is same = rw same is
 
 -- there is memory, and there is none
-pub with_room : (d : Decision) (happening : Happening) (w : Shown) → d ≢ NoMemory → with_memory d happening w ≡ happening
+pub with_room : (d : Decision) (happening : Happening) (w : Shown) → d ≢ NoMemory → settled w (grows d happening) ≡ happening
 with_room NoMemory happening w room = absurd (room refl)
 with_room Goes happening w room = refl
 with_room DeviceFails happening w room = refl
@@ -72,29 +83,16 @@ with_room (ClearReads c) happening w room = refl
 with_room (DepotReads p) happening w room = refl
 with_room (FindsBad place) happening w room = refl
 
-pub without_room : (d : Decision) (happening : Happening) (w w' : Shown) → d ≡ NoMemory → w' ≡ w → with_memory d happening w ≡ (outcomes.Refused refusal.OutOfMemory, w')
+pub without_room : (d : Decision) (happening : Happening) (w w' : Shown) → d ≡ NoMemory → w' ≡ w → settled w (grows d happening) ≡ refuse refusal.OutOfMemory w'
 without_room d happening w w' short same = rw (same, short) refl
 
 -- a commit that goes, one for which there is no memory, and one that fails at the device
-pub commit_goes : (d : Decision) (r : ClearRecord) (o : Outcome) (w w' w'' : Shown) → d ≡ Goes → w'' ≡ w' → clear_commits d r (o, w') w ≡ (o, w'')
-commit_goes d r o w w' w'' goes same = rw (same, goes) refl
+pub commit_goes : (d : Decision) (o : Outcome) (w w' w'' failed : Shown) → d ≡ Goes → w'' ≡ w' → settled w (commits d (o, w') failed) ≡ (o, w'')
+commit_goes d o w w' w'' failed goes same = rw (same, goes) refl
 
-pub commit_short : (d : Decision) (r : ClearRecord) (happening : Happening) (w w' : Shown) → d ≡ NoMemory → w' ≡ w
-    → clear_commits d r happening w ≡ (outcomes.Refused refusal.OutOfMemory, w')
-commit_short d r happening w w' short same = rw (same, short) refl
+pub commit_short : (d : Decision) (happening : Happening) (w w' failed : Shown) → d ≡ NoMemory → w' ≡ w → settled w (commits d happening failed) ≡ refuse refusal.OutOfMemory w'
+commit_short d happening w w' failed short same = rw (same, short) refl
 
-pub commit_fails : (d : Decision) (r : ClearRecord) (happening : Happening) (w w' : Shown) → d ≡ DeviceFails → w' ≡ clear_failed r w
-    → clear_commits d r happening w ≡ (outcomes.Refused refusal.Device, w')
-commit_fails d r happening w w' fails same = rw (same, fails) refl
-
--- the depository likewise
-pub depot_commit_goes : (d : Decision) (e : DepRecord) (o : Outcome) (w w' w'' : Shown) → d ≡ Goes → w'' ≡ w' → depot_commits d e (o, w') w ≡ (o, w'')
-depot_commit_goes d e o w w' w'' goes same = rw (same, goes) refl
-
-pub depot_commit_short : (d : Decision) (e : DepRecord) (happening : Happening) (w w' : Shown) → d ≡ NoMemory → w' ≡ w
-    → depot_commits d e happening w ≡ (outcomes.Refused refusal.OutOfMemory, w')
-depot_commit_short d e happening w w' short same = rw (same, short) refl
-
-pub depot_commit_fails : (d : Decision) (e : DepRecord) (happening : Happening) (w w' : Shown) → d ≡ DeviceFails → w' ≡ depot_failed e w
-    → depot_commits d e happening w ≡ (outcomes.Refused refusal.Device, w')
-depot_commit_fails d e happening w w' fails same = rw (same, fails) refl
+pub commit_fails : (d : Decision) (happening : Happening) (w w' failed : Shown) → d ≡ DeviceFails → w' ≡ failed
+    → settled w (commits d happening failed) ≡ refuse refusal.Device w'
+commit_fails d happening w w' failed fails same = rw (same, fails) refl

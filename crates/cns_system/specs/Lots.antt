@@ -1,6 +1,6 @@
 -- The lots in the order of their numbers, which are counted from 1, and what each call answers and leaves (this project's own
 -- rules). A refusal leaves all as it was.
-use Rattle.std.specs.Prelude.{◌≡◌, ℕ, ◌-◌, ◌==◌, true, false, List, Option, Some, None, Result, Ok, Err, IsSomeAnd, slice_get, slice_set, if◌then◌else◌}
+use Rattle.std.specs.Prelude.{◌≡◌, ℕ, ◌-◌, ◌==◌, Bool, true, false, List, [], ◌∷◌, Option, Some, None, Result, Ok, Err, IsSomeAnd, slice_get, slice_set, if◌then◌else◌}
 use Rattle.cns_pool.specs.declared.ticket.Ticket.{Ticket}
 use Rattle.cns_allocate.specs.declared.planned.Planned.{Planned}
 use Rattle.cns_allocate.specs.declared.turns.Turn.TheVariants as turn
@@ -8,6 +8,10 @@ use Rattle.cns_records.specs.declared.clear_record.ClearRecord.{ClearRecord}
 use Rattle.cns_records.specs.declared.refusal.Refusal.{Refusal}
 use Rattle.cns_records.specs.declared.refusal.Refusal.TheVariants as refusal
 use Rattle.cns_system.specs.Lot.{LotState, IsOfPlan, IsPlanOf, turn_in, ticket_in, with_ticket}
+
+abbrev pub is_empty : {A : Type 0} → List A → Bool
+is_empty [] = true
+is_empty (x ∷ xs) = false
 
 -- the lot of a number, where it was given
 abbrev pub lot_at : List LotState → ℕ → Option LotState

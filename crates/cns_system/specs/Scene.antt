@@ -1,6 +1,6 @@
 -- Both nodes and the link with what is known beforehand of the two keepers, and what an event comes to by what comes between (this
 -- project's own rules).
-use Rattle.std.specs.Prelude.{◌≡◌, ◌&&◌, Bool, true, false, List, ◌∷◌, Option, Some, None, Result, Ok, Err, if◌then◌else◌}
+use Rattle.std.specs.Prelude.{◌≡◌, ◌&&◌, Bool, true, false, List, ◌∷◌, Option, Some, None, Result, Ok, Err, if◌then◌else◌, unwrap_or}
 use Rattle.cns_journal.specs.Keeper.{Foresight, Forecast, Unforeseen, Succeeds, Fails}
 use Rattle.cns_journal.specs.RecordLog.{LogState}
 use Rattle.cns_journal.specs.declared.keeper.NotPlanned.{NotPlanned}
@@ -41,38 +41,26 @@ pub data Chance : Type 0 where
   Forgets : Option Bool → Chance
   Decides : Decision → Chance
 
--- the decision where nothing is known
-abbrev pub left_open : Chance → Decision
-left_open (Decides d) = d
-left_open _ = Goes
-
--- the decision at a commit, by what is known of it
-abbrev pub foreseen_commit : Forecast → Chance → Decision
-foreseen_commit Unforeseen chance = left_open chance
-foreseen_commit Succeeds chance = Goes
-foreseen_commit (Fails stands) chance = DeviceFails
-
+-- the decision at a commit, by what is known of it; where nothing is, whatever it is
 abbrev pub commit_decision : Forecast → Chance → Decision
 commit_decision next (Decides NoMemory) = NoMemory
-commit_decision next chance = foreseen_commit next chance
+commit_decision (Fails stands) chance = DeviceFails
+commit_decision Unforeseen (Decides d) = d
+commit_decision _ chance = Goes
 
 -- whether something is known of a keeper's commits
 abbrev pub is_foreseen : Forecast → Bool
 is_foreseen Unforeseen = false
-is_foreseen Succeeds = true
-is_foreseen (Fails stands) = true
+is_foreseen _ = true
 
--- whether an undecided record comes back
+-- whether an undecided record comes back, where that is known and else
 abbrev pub comes_back : Option Bool → Chance → Bool
-comes_back (Some stands) chance = stands
-comes_back None ComesBack = true
-comes_back None _ = false
+comes_back known chance = unwrap_or known (elim chance [ ComesBack ↦ true | _ ↦ false ])
 
 -- the records, and then the undecided one where it comes back
 abbrev pub given_back : {R : Type 0} → Option R → Bool → List R → List R
 given_back (Some r) true records = r ∷ records
-given_back (Some r) false records = records
-given_back None stands records = records
+given_back _ _ records = records
 
 -- the decision at a restart: an honest keeper of which something is known gives its journal back
 abbrev pub restart_decision : {R : Type 0} → (List R → Decision) → Sight → Option R → List R → Chance → Decision
@@ -80,7 +68,7 @@ restart_decision reads s tried records (Decides NoMemory) = NoMemory
 restart_decision reads s tried records (Forgets known) = NoMemory
 restart_decision reads s tried records chance =
     if s.honest && is_foreseen s.foresight.next then reads (given_back tried (comes_back s.foresight.stands chance) records)
-    else left_open chance
+    else elim chance [ Decides d ↦ d | _ ↦ Goes ]
 
 abbrev pub decision_at : Chance → Event → Scene → Decision
 decision_at chance (event.Restart node.Clear) s = restart_decision ClearReads s.clear s.shown.clear.tried s.shown.clear.records chance
@@ -88,13 +76,10 @@ decision_at chance (event.Restart node.Depot) s = restart_decision DepotReads s.
 decision_at chance (event.OrderIn packet) s = commit_decision s.depot.foresight.next chance
 decision_at chance e s = commit_decision s.clear.foresight.next chance
 
--- what is known after a commit that failed
-abbrev pub after_failure : Forecast → Foresight
-after_failure (Fails stands) = record { next = Succeeds; stands = Some stands }
-after_failure next = record { next = next; stands = None }
-
+-- what is known after a commit: of one that failed as was planned, whether its record stands
 abbrev pub after_commit : Outcome → Foresight → Foresight
-after_commit (outcomes.Refused refusal.Device) f = after_failure f.next
+after_commit (outcomes.Refused refusal.Device) f =
+    elim f.next [ Fails stands ↦ record { next = Succeeds; stands = Some stands } | next ↦ record { next = next; stands = None } ]
 after_commit _ f = f
 
 -- nothing is known of an undecided record once the journal was read
@@ -115,19 +100,13 @@ depot_foresight chance (event.Restart node.Depot) outcome f = after_restart chan
 depot_foresight chance (event.OrderIn packet) outcome f = after_commit outcome f
 depot_foresight chance e outcome f = f
 
-abbrev pub with_foresights : Chance → Event → Scene → Happening → Outcome × Scene
-with_foresights chance e s happening = (
-  happening.0,
-  record {
-    shown = happening.1;
-    clear = record s.clear { foresight = clear_foresight chance e happening.0 s.clear.foresight };
-    depot = record s.depot { foresight = depot_foresight chance e happening.0 s.depot.foresight };
-  },
-)
-
 -- what an event comes to by what comes between, and leaves
 unfoldable pub comes_to : Chance → Event → Scene → Outcome × Scene
-comes_to chance e s = with_foresights chance e s (happens (decision_at chance e s) e s.shown)
+comes_to chance e s =
+    let came = happens (decision_at chance e s) e s.shown in
+    let clear = record s.clear { foresight = clear_foresight chance e came.0 s.clear.foresight } in
+    let depot = record s.depot { foresight = depot_foresight chance e came.0 s.depot.foresight } in
+    (came.0, record { shown = came.1; clear = clear; depot = depot })
 
 -- so it is by something that comes between
 abbrev pub Comes : Event → Outcome → World → World → Type 0

@@ -1,15 +1,18 @@
 -- Both nodes and the link as events change them: all that contracts see of them but what they tell of the keepers' devices.
-use Rattle.std.specs.Prelude.{ℕ, Bool, true, false, List, [], ◌∷◌, map, Option, Some, None}
+use Rattle.std.specs.Prelude.{ℕ, Bool, true, false, List, [], ◌∷◌, ◌++◌, map, Option, Some, None}
 use Rattle.cns_trades.specs.declared.opening.Opening.{Opening}
+use Rattle.cns_movements.specs.declared.order.Order.{Order}
+use Rattle.cns_movements.specs.declared.order.Reply.{Reply}
 use Rattle.cns_records.specs.declared.clear_record.ClearRecord.{ClearRecord}
 use Rattle.cns_records.specs.declared.dep_record.DepRecord.{DepRecord}
-use Rattle.cns_clearing.specs.Lots.{lots_after}
+use Rattle.cns_clearing.specs.Lots.{lots_after, lots_poured}
 use Rattle.cns_clearing.specs.declared.lot.Lot.{Lot}
 use Rattle.cns_depository.specs.Node.{DepNode}
 use Rattle.cns_system.specs.Lot.{LotState, with_end}
+use Rattle.cns_system.specs.Lot.{new_lot as numbered_lot}
 use Rattle.cns_system.specs.Lots.{update_at}
 use Rattle.cns_system.specs.Numbered.{NumberedNode}
-use Rattle.cns_system.specs.World.{World}
+use Rattle.cns_system.specs.World.{World, order_spelt, reply_spelt}
 
 -- the clearing node: its records, the newest first; the record whose commit failed; whether the node is down; its open lots; and all
 -- lots in the order of their numbers
@@ -27,12 +30,13 @@ pub record DepotShown : Type 0 where
   pub tried : Option DepRecord
   pub down : Bool
 
--- both, and the packets that were put on the link of orders and on that of replies, the oldest first
+-- both, and what the packets spell that were put on the link of orders and on that of replies, the oldest first (none of one that
+-- spells no order, or no reply; no event puts such a packet there)
 pub record Shown : Type 0 where
   pub clear : ClearShown
   pub depot : DepotShown
-  pub orders : List (List ℕ)
-  pub replies : List (List ℕ)
+  pub orders : List (Option Order)
+  pub replies : List (Option Reply)
 
 abbrev pub shown_clear : NumberedNode → ClearShown
 shown_clear n = record {
@@ -47,7 +51,7 @@ abbrev pub shown_depot : DepNode → DepotShown
 shown_depot n = record { openings = n.openings; records = n.log.records; tried = n.log.tried; down = n.log.down }
 
 abbrev pub shown_of : World → Shown
-shown_of w = record { clear = shown_clear w.clear; depot = shown_depot w.depot; orders = w.orders; replies = w.replies }
+shown_of w = record { clear = shown_clear w.clear; depot = shown_depot w.depot; orders = map order_spelt w.orders; replies = map reply_spelt w.replies }
 
 -- a record of the clearing node is added, or it is undecided and the node is down
 abbrev pub clear_added : ClearRecord → Shown → Shown
@@ -66,6 +70,13 @@ depot_failed e w = record w { depot = record w.depot { tried = Some e; down = tr
 -- a lot in the place of its number
 abbrev pub with_lot : ℕ → LotState → Shown → Shown
 with_lot number lot w = record w { clear = record w.clear { lots = update_at w.clear.lots number lot } }
+
+-- a lot is opened, or it gets all shares that are free of its issue
+abbrev pub with_new_lot : Lot → Shown → Shown
+with_new_lot lot w = record w { clear = record w.clear { open_lots = w.clear.open_lots ++ lot ∷ []; lots = w.clear.lots ++ numbered_lot lot.issue lot.plan ∷ [] } }
+
+abbrev pub with_pour : ℕ → Shown → Shown
+with_pour issue w = record w { clear = record w.clear { open_lots = lots_poured w.clear.records issue w.clear.open_lots } }
 
 -- a node was restarted and has these records; at the clearing node all lots have ended
 abbrev pub clear_reread : List ClearRecord → Shown → Shown

@@ -1,5 +1,5 @@
 -- Both nodes and the link between them, as contracts see them.
-use Rattle.std.specs.Prelude.{ℕ, List, Option, Some, None, Result, Ok, Err}
+use Rattle.std.specs.Prelude.{ℕ, List, Option, Some, None, option_and_then, Result, Ok, Err}
 use Rattle.cns_movements.specs.declared.order.Order.{Order}
 use Rattle.cns_movements.specs.declared.order.Reply.{Reply}
 use Rattle.cns_wire.specs.ReadFrame.{read_frame_of}
@@ -28,11 +28,16 @@ reply_in_frame (Ok (frame.Order o)) = None
 reply_in_frame (Ok (frame.Reply r)) = Some r
 reply_in_frame (Err fault) = None
 
+-- the order that bytes spell, and the reply that they do
+abbrev pub order_spelt : List ℕ → Option Order
+order_spelt bytes = order_in_frame (read_frame_of bytes)
+
+abbrev pub reply_spelt : List ℕ → Option Reply
+reply_spelt bytes = reply_in_frame (read_frame_of bytes)
+
 -- the order that a packet holds, and the reply that one holds
 abbrev pub order_in_packet : Option (List ℕ) → Option Order
-order_in_packet None = None
-order_in_packet (Some bytes) = order_in_frame (read_frame_of bytes)
+order_in_packet packet = option_and_then order_spelt packet
 
 abbrev pub reply_in_packet : Option (List ℕ) → Option Reply
-reply_in_packet None = None
-reply_in_packet (Some bytes) = reply_in_frame (read_frame_of bytes)
+reply_in_packet packet = option_and_then reply_spelt packet
