@@ -21,8 +21,7 @@ use Rattle.cns_clearing.specs.declared.answer.Taken.TheVariants as taken
 use Rattle.cns_clearing.specs.declared.lot.Lot.{Lot}
 use Rattle.cns_journal.specs.RecordLog.{LogState}
 use Rattle.cns_records.specs.Clear.{spelling, HasPayload}
-use Rattle.cns_wire.specs.Packet.{packet_at}
-use Rattle.cns_system.specs.Lots.{lot_at}
+use Rattle.cns_wire.specs.Packet.{at_number}
 use Rattle.cns_system.specs.Numbered.{NumberedNode, CloseLeaves, OpenLeaves, PourLeaves}
 use Rattle.cns_system.specs.Step.{OrderInStep, ReplyInStep, SendStep, Step}
 use Rattle.cns_system.specs.World.{World, order_in_packet, reply_in_packet}
@@ -110,7 +109,7 @@ module _ (P : LogState ClearRecord → Type 0) (Fits : List ClearRecord → Clea
 
   pour_keeps : (number : ℕ) (result : Result ℕ Refusal) (old new : NumberedNode) → PourLeaves number result old new → Keeps P old.clear.log new.clear.log
   pour_keeps number (Ok shares) old new h =
-      let lot = some_and (lot_at old.lots number) _ h.0 in
+      let lot = some_and (at_number old.lots number) _ h.0 in
       by_lots old.clear new.clear _ lot.1.1.2
   pour_keeps number (Err refusal.NoLot) old new h = by_same_lots old new h.1
   pour_keeps number (Err refusal.StaleLot) old new h = by_same_lots old new h.1
@@ -120,7 +119,7 @@ module _ (P : LogState ClearRecord → Type 0) (Fits : List ClearRecord → Clea
   close_keeps : (number : ℕ) (result : Result Closed Refusal) (old new : NumberedNode)
       → ((a : Allocation) → IsAllocation old.clear.log.records a → WillFit P Fits old.clear.log (entry.Allocate a)) → CloseLeaves number result old new → Keeps P old.clear.log new.clear.log
   close_keeps number (Ok done) old new fits h =
-      let lot = some_and (lot_at old.lots number) _ h in
+      let lot = some_and (at_number old.lots number) _ h in
       let closes = lot.1.1.1 in
       added old.clear new.clear (entry.Allocate closes.0) (fits closes.0 closes.1.lawful) closes.4
   close_keeps number (Err refusal.NoLot) old new fits h = by_same_lots old new h.1
@@ -130,7 +129,7 @@ module _ (P : LogState ClearRecord → Type 0) (Fits : List ClearRecord → Clea
   close_keeps number (Err refusal.NumbersSpent) old new fits h = by_same_lots old new h.1
   close_keeps number (Err refusal.OutOfMemory) old new fits h = by_same_lots old new h.1
   close_keeps number (Err refusal.Device) old new fits h =
-      let lot = some_and (lot_at old.lots number) _ h.0 in
+      let lot = some_and (at_number old.lots number) _ h.0 in
       let closes = lot.1.1.1 in
       failed old.clear new.clear (entry.Allocate closes.0) (fits closes.0 closes.1.lawful) closes.3
   close_keeps number (Err _) old new fits h = absurd h
@@ -156,7 +155,7 @@ module _ (P : LogState ClearRecord → Type 0) (Fits : List ClearRecord → Clea
   -- confirmations of replies that were sent
   pub event_keeps : ((c : List ClearRecord) (u : ClearRecord) → IsPlain u → Fits c u) → ((c : List ClearRecord) (a : Allocation) → IsAllocation c a → Fits c (entry.Allocate a))
       → (e : Event) (outcome : Outcome) (old new : World)
-      → ((packet : ℕ) (r : Reply) → reply_in_packet (packet_at old.replies packet) ≡ Some r → WillFit P Fits old.clear.clear.log (entry.Confirm r))
+      → ((packet : ℕ) (r : Reply) → reply_in_packet (at_number old.replies packet) ≡ Some r → WillFit P Fits old.clear.clear.log (entry.Confirm r))
       → Step e outcome old new → Keeps P old.clear.clear.log new.clear.clear.log
   event_keeps plain closes (event.Trade t) outcome old new confirms h = trade_keeps t h.3.0 old.clear.clear new.clear.clear (λ a. plain _ (entry.Accept t) tt) h.3.2.0
   event_keeps plain closes (event.Exempt m i s) outcome old new confirms h =
@@ -172,9 +171,9 @@ module _ (P : LogState ClearRecord → Type 0) (Fits : List ClearRecord → Clea
   event_keeps plain closes (event.Seal lot) outcome old new confirms h = by_same old.clear.clear new.clear.clear h.3.2.1
   event_keeps plain closes (event.LotClose lot) outcome old new confirms h = close_keeps lot h.3.0 old.clear new.clear (λ a is p. closes _ a is) h.3.2
   event_keeps plain closes (event.Send number) outcome old new confirms h = send_keeps number outcome old new h
-  event_keeps plain closes (event.OrderIn packet) outcome old new confirms h = order_keeps (order_in_packet (packet_at old.orders packet)) outcome old new h
+  event_keeps plain closes (event.OrderIn packet) outcome old new confirms h = order_keeps (order_in_packet (at_number old.orders packet)) outcome old new h
   event_keeps plain closes (event.ReplyIn packet) outcome old new confirms h =
-      reply_in_keeps (reply_in_packet (packet_at old.replies packet)) outcome old new (λ r e. confirms packet r e) h
+      reply_in_keeps (reply_in_packet (at_number old.replies packet)) outcome old new (λ r e. confirms packet r e) h
   event_keeps plain closes (event.Restart node.Clear) outcome old new confirms h =
       restart_keeps P Fits is spelling IsAllowed HasPayload h.3.0 old.clear.clear.log new.clear.clear.log h.3.2.0.0
   event_keeps plain closes (event.Restart node.Depot) outcome old new confirms h = by_same_lots old.clear new.clear h.0

@@ -5,7 +5,7 @@ use Rattle.cns_trades.specs.declared.trade.Trade.{Trade}
 use Rattle.cns_ids.specs.declared.cycle.CycleId.{CycleId}
 use Rattle.cns_movements.specs.declared.order.Order.{Order}
 use Rattle.cns_movements.specs.declared.order.Reply.{Reply}
-use Rattle.cns_wire.specs.Packet.{packet_at}
+use Rattle.cns_wire.specs.Packet.{at_number}
 use Rattle.cns_pool.specs.declared.ticket.Ticket.{Ticket}
 use Rattle.cns_journal.specs.Keeper.{HasRisen}
 use Rattle.cns_journal.specs.RecordLog.{LogRestarts, LogState, Restarts}
@@ -223,8 +223,8 @@ decided_may (event.LookAsked n) outcome old new step = at_clear (event.LookAsked
 decided_may (event.Seal n) outcome old new step = at_clear (event.Seal n) done_outcome (ByLots (LotLeaves with_seal n)) outcome old new (λ result left. seal_may n result old new left) step
 decided_may (event.LotClose n) outcome old new step = at_clear (event.LotClose n) close_outcome (CloseLeaves n) outcome old new (λ result left. close_may n result old new left) step
 decided_may (event.Send n) outcome old new step = send_may n outcome old new step
-decided_may (event.OrderIn packet) outcome old new step = order_in_may packet (order_in_packet (packet_at old.orders packet)) outcome old new step
-decided_may (event.ReplyIn packet) outcome old new step = reply_in_may packet (reply_in_packet (packet_at old.replies packet)) outcome old new step
+decided_may (event.OrderIn packet) outcome old new step = order_in_may packet (order_in_packet (at_number old.orders packet)) outcome old new step
+decided_may (event.ReplyIn packet) outcome old new step = reply_in_may packet (reply_in_packet (at_number old.replies packet)) outcome old new step
 decided_may (event.Restart node.Clear) outcome old new step =
     at_clear (event.Restart node.Clear) restart_outcome ClearRestarts outcome old new (λ result left. clear_restart_may result old new left) step
 decided_may (event.Restart node.Depot) outcome old new step = depot_restart_may outcome old new step

@@ -15,7 +15,8 @@ use Rattle.cns_system.specs.Finish.{AreAllEntered, AreCutOff, AreEntered, Finish
 use Rattle.cns_system.specs.Floor.{AreBusy, AreInOrder, BusyLot, FloorState, IsBusy, IsPlaceOf, NumbersRise, busy_at}
 use Rattle.cns_system.specs.Headline.{AreStrict, IsAgreed}
 use Rattle.cns_system.specs.Lot.{LotState, ticket_in, turn_in, with_ticket}
-use Rattle.cns_system.specs.Lots.{DrawLeaves, HasOpenLot, LotGives, ReserveLeaves, WouldDraw, WouldReserve, lot_at, update_at}
+use Rattle.cns_wire.specs.Packet.{at_number}
+use Rattle.cns_system.specs.Lots.{DrawLeaves, HasOpenLot, LotGives, ReserveLeaves, WouldDraw, WouldReserve, update_at}
 use Rattle.cns_system.specs.Numbered.{NumberedNode}
 use Rattle.cns_system.specs.Outcomes.{done_outcome, reserve_outcome}
 use Rattle.cns_system.specs.Run.{Occurs, Run}
@@ -135,7 +136,7 @@ no_lot number member refusal.StaleLot lots P gives = (lots, (gives, refl))
 no_lot number member _ lots P gives = absurd gives
 
 -- a lot that is found would draw what it would itself
-pub would_at : (number member : ℕ) (result : Result Ticket Refusal) (lots : List LotState) (l : LotState) → lot_at lots number ≡ Some l → l.ended ≡ false
+pub would_at : (number member : ℕ) (result : Result Ticket Refusal) (lots : List LotState) (l : LotState) → at_number lots number ≡ Some l → l.ended ≡ false
     → WouldDraw member result l → WouldReserve number member result lots
 would_at number member (Ok t) lots l found going would =
     (update_at lots number (with_ticket t l), open-from lots number _ l found going (would.1.0, would.1.1, would.1.2, refl))
@@ -153,7 +154,7 @@ would_found number member result lots l is would =
 -- a reserve that would draw a ticket draws it
 record Draws (number member : ℕ) (t : Ticket) (lots : List LotState) : Type 0 where
   lot : LotState
-  found : lot_at lots number ≡ Some lot
+  found : at_number lots number ≡ Some lot
   going : lot.ended ≡ false
   unsealed : lot.sealed ≡ false
   turn : turn_in lot member ≡ turn.Next t.asked
@@ -165,11 +166,11 @@ would_draws number member t lots would =
     record { lot = at.lot; found = at.found; going = at.going; unsealed = at.holds.0; turn = at.holds.1; ticket = at.holds.2 }
 
 -- the lot that is found there is the same
-same_turn : (number member : ℕ) (t : Ticket) (lots : List LotState) (d : Draws number member t lots) (l : LotState) → lot_at lots number ≡ Some l
+same_turn : (number member : ℕ) (t : Ticket) (lots : List LotState) (d : Draws number member t lots) (l : LotState) → at_number lots number ≡ Some l
     → turn_in l member ≡ turn.Next t.asked
 same_turn number member t lots d l found = ap (λ (k : LotState). turn_in k member) (same_Some l d.lot (sym found ∙ d.found)) ∙ d.turn
 
-same_ticket : (number member : ℕ) (t s : Ticket) (lots : List LotState) (d : Draws number member t lots) (l : LotState) → lot_at lots number ≡ Some l
+same_ticket : (number member : ℕ) (t s : Ticket) (lots : List LotState) (d : Draws number member t lots) (l : LotState) → at_number lots number ≡ Some l
     → turn_in l member ≡ turn.Next s.asked → s ≡ ticket_in l member s.asked → s ≡ t
 same_ticket number member t s lots d l found next is =
     let one : l ≡ d.lot = same_Some l d.lot (sym found ∙ d.found) in

@@ -17,7 +17,7 @@ use Rattle.cns_records.specs.declared.refusal.Refusal.TheVariants as refusal
 use Rattle.cns_system.specs.Floor.{AreBusy, AreInOrder, BusyLot, BySystem, FloorState, FloorStep, IsBusy, IsFed, IsPlaceOf, LooksAsked, NamesLot, NumbersRise, PourFits, SparesBusy, busy_after_pour, busy_at, busy_with_look, busy_with_pour, busy_with_seal, changed_at, is_open, lot_changed, served_at, with_busy}
 use Rattle.cns_system.specs.Headline.{AreStrict}
 use Rattle.cns_system.specs.Lot.{LotState}
-use Rattle.cns_system.specs.Lots.{lot_at}
+use Rattle.cns_wire.specs.Packet.{at_number}
 use Rattle.cns_system.specs.Numbered.{AreTied, NumberedNode, PourLeaves}
 use Rattle.cns_system.specs.Readers.{PlanStep}
 use Rattle.cns_system.specs.Run.{Occurs}
@@ -200,11 +200,11 @@ poured_busy : (n shares : ℕ) (old new : NumberedNode) (b : BusyLot) → AreTie
     → IsOpen old.lots n (λ (lot : LotState). LotPourLeaves lot.issue (Ok shares) old.clear new.clear) → IsBusy new (changed_at (busy_with_pour shares) n b)
 poured_busy n shares old new b tied h busy at = by (b.lot == n) refl
   where
-    more : b.lot ≡ n → (l : LotState) → lot_at old.lots b.lot ≡ Some l → IsFed new.clear.lots (busy_with_pour shares b) l
+    more : b.lot ≡ n → (l : LotState) → at_number old.lots b.lot ≡ Some l → IsFed new.clear.lots (busy_with_pour shares b) l
     more same l found =
         let pour = at.holds.1 in
-        let one : at.lot ≡ l = same_Some at.lot l (sym at.found ∙ ap (lot_at old.lots) (sym same) ∙ found) in
-        let fed = busy.fed at.lot (ap (lot_at old.lots) same ∙ at.found) at.going in
+        let one : at.lot ≡ l = same_Some at.lot l (sym at.found ∙ ap (at_number old.lots) (sym same) ∙ found) in
+        let fed = busy.fed at.lot (ap (at_number old.lots) same ∙ at.found) at.going in
         let before : b.poured ≡ pour.lot.poured = fed.poured ∙ ap lent_by pour.found in
         let after : lent_of new.clear.lots at.lot.issue ≡ avail_in old.clear.log.records at.lot.issue =
         ap (λ (c : ClearNode). lent_of c.lots at.lot.issue) at.holds.2 ∙ lent_poured old.clear.log.records at.lot.issue old.clear.lots pour.lot pour.found in
@@ -214,7 +214,7 @@ poured_busy n shares old new b tied h busy at = by (b.lot == n) refl
     by : (t : Bool) → (b.lot == n) ≡ t → IsBusy new (if t then busy_with_pour shares b else b)
     by true e = record {
       given = let a = busy.given in let len = ap length h.1 in omega arith;
-      fed = λ l here up. more (eqb-true b.lot n e) l (ap (λ (lots : List LotState). lot_at lots b.lot) (sym h.1) ∙ here);
+      fed = λ l here up. more (eqb-true b.lot n e) l (ap (λ (lots : List LotState). at_number lots b.lot) (sym h.1) ∙ here);
     }
     by false e =
         busy_kept (Some n) old new b busy (spares_same (Some n) old.lots new.lots h.1) (pour_twins n (Ok shares) old new tied h)
@@ -246,7 +246,7 @@ fits_when n shares (Ok more) old new busy h told are =
     let same : shares ≡ more = cc in
     let pour = at.holds.1 in
     λ k d below number.
-    let fed = (are.each k d below).fed at.lot (ap (lot_at old.lots) number ∙ at.found) at.going in
+    let fed = (are.each k d below).fed at.lot (ap (at_number old.lots) number ∙ at.found) at.going in
     let poured = fed.poured ∙ ap lent_by pour.found in
     let few = pour.few in omega (arith, same, few, poured)
 fits_when n shares (Err r) old new busy h told are = cc
@@ -353,7 +353,7 @@ changed_busy change leaves node n b is = by (b.lot == n)
     by true = record {
       given = subst (λ (m : ℕ). m ≤ length node.lots) (sym (leaves.lot b)) is.given;
       fed = λ l found going.
-          let fed = is.fed l (ap (lot_at node.lots) (sym (leaves.lot b)) ∙ found) going in
+          let fed = is.fed l (ap (at_number node.lots) (sym (leaves.lot b)) ∙ found) going in
           record { poured = leaves.poured b ∙ fed.poured; tickets = fed.tickets; unsealed = fed.unsealed };
     }
     by false = is

@@ -13,7 +13,7 @@ use Rattle.cns_journal.specs.declared.record_log.ReplayFault.TheVariants as repl
 use Rattle.cns_journal.specs.declared.record_log.Restarted.{Restarted}
 use Rattle.cns_movements.specs.declared.order.Ask.{Ask}
 use Rattle.cns_movements.specs.declared.order.Reply.{Reply}
-use Rattle.cns_wire.specs.Packet.{packet_at}
+use Rattle.cns_wire.specs.Packet.{at_number}
 use Rattle.cns_records.specs.declared.clear_record.ClearRecord.{ClearRecord}
 use Rattle.cns_records.specs.declared.clear_record.ClearRecord.TheVariants as entry
 use Rattle.cns_records.specs.declared.dep_record.DepRecord.{DepRecord}
@@ -214,7 +214,7 @@ at_clear told Leaves d e outcome old new happening by fits (depot, orders, repli
     (by result (record { depot = depot; orders = orders; replies = replies }) leaves (subst (λ (o : Outcome). Fits d e o (shown_of new)) is fits))
 
 -- a packet of a reply arrives, and the depository restarts
-reply_in_by : (d : Decision) (packet : ℕ) (held : Option Reply) (outcome : Outcome) (old new : World) → reply_in_packet (packet_at old.replies packet) ≡ held
+reply_in_by : (d : Decision) (packet : ℕ) (held : Option Reply) (outcome : Outcome) (old new : World) → reply_in_packet (at_number old.replies packet) ≡ held
     → Fits d (event.ReplyIn packet) outcome (shown_of new) → ReplyInStep held outcome old new → happens d (event.ReplyIn packet) (shown_of old) ≡ (outcome, shown_of new)
 reply_in_by d packet None outcome old new e fits (is, same) = rw (is, same) (no_reply d packet old e)
 reply_in_by d packet (Some r) outcome old new e fits h =
@@ -256,8 +256,8 @@ step_happens d (event.Seal lot) outcome old new fits h =
 step_happens d (event.LotClose lot) outcome old new fits h =
     at_clear close_outcome (CloseLeaves lot) d (event.LotClose lot) outcome old new _ (λ result. close_by d lot result old new) fits h
 step_happens d (event.Send number) outcome old new fits h = send_by d number outcome old new h fits
-step_happens d (event.OrderIn packet) outcome old new fits h = order_in_by d packet (order_in_packet (packet_at old.orders packet)) outcome old new refl h fits
-step_happens d (event.ReplyIn packet) outcome old new fits h = reply_in_by d packet (reply_in_packet (packet_at old.replies packet)) outcome old new refl fits h
+step_happens d (event.OrderIn packet) outcome old new fits h = order_in_by d packet (order_in_packet (at_number old.orders packet)) outcome old new refl h fits
+step_happens d (event.ReplyIn packet) outcome old new fits h = reply_in_by d packet (reply_in_packet (at_number old.replies packet)) outcome old new refl fits h
 step_happens d (event.Restart node.Clear) outcome old new fits h =
     at_clear restart_outcome ClearRestarts d (event.Restart node.Clear) outcome old new _ (λ result. clear_restart_by d result old new) fits h
 step_happens d (event.Restart node.Depot) outcome old new fits h = depot_restart_in d outcome old new fits h

@@ -32,7 +32,7 @@ use Rattle.cns_system.specs.Lot.{with_seal}
 use Rattle.cns_system.specs.Lots.{LotLeaves, ReserveLeaves}
 use Rattle.cns_system.specs.Outcomes.{asked_outcome, close_outcome, cycle_outcome, done_outcome, open_outcome, pour_outcome, poured_outcome, reply_outcome, reserve_outcome, restart_outcome, trade_outcome}
 use Rattle.cns_system.specs.Numbered.{NumberedNode, CloseLeaves, OpenLeaves, PourLeaves}
-use Rattle.cns_wire.specs.Packet.{packet_at}
+use Rattle.cns_wire.specs.Packet.{at_number}
 use Rattle.cns_system.specs.Step.{AtClear, ByLots, ByNode, ClearRestarts, DepotRestartStep, Looks, OrderInStep, OrderTaken, Puts, ReplyInStep, SendStep, Step}
 use Rattle.cns_system.specs.World.{World, order_in_packet, reply_in_packet}
 use Rattle.cns_system.specs.declared.event.Event.{Event}
@@ -187,7 +187,7 @@ order_taken k bytes o outcome old new at reads clear orders (inr t) lawful accor
     (subst (λ (l : List (List ℕ)). Accord old.clear.clear.log old.depot.log old.orders l) (sym t.2) before)))
 
 -- a packet at a place, where there is one
-pub packet_place : (packets : List (List ℕ)) (number : ℕ) (bytes : List ℕ) → packet_at packets number ≡ Some bytes → (k : ℕ) × (slice_get packets k ≡ Some bytes)
+pub packet_place : (packets : List (List ℕ)) (number : ℕ) (bytes : List ℕ) → at_number packets number ≡ Some bytes → (k : ℕ) × (slice_get packets k ≡ Some bytes)
 packet_place packets number bytes at = by (number == 0) at
   where
     by : (b : Bool) → (if b then None else slice_get packets (number - 1)) ≡ Some bytes → (k : ℕ) × (slice_get packets k ≡ Some bytes)
@@ -237,7 +237,7 @@ log_keeps : (e : Event) (outcome : Outcome) (old new : World) → Step e outcome
 log_keeps e outcome old new h =
     event_keeps (λ c. Accord c old.depot.log old.orders old.replies) (λ before u. FitsStock old.depot.log.records u) (accord_kept old.depot.log old.orders old.replies)
     (λ c u. plain_fits old.depot.log.records u) (λ c a is. tt) e outcome old new
-    (λ packet r is. reply_fits (packet_at old.replies packet) r old (packet_place old.replies packet) is) h
+    (λ packet r is. reply_fits (at_number old.replies packet) r old (packet_place old.replies packet) is) h
 
 -- each event keeps both nodes and the link in accord, as the records of both are lawful
 pub step_keeps : (e : Event) (outcome : Outcome) (old new : World) → AreLawful old → Step e outcome old new → IsInAccord old → IsInAccord new
@@ -257,9 +257,9 @@ step_keeps (event.Seal lot) outcome old new lawful h = clear_step done_outcome (
 step_keeps (event.LotClose lot) outcome old new lawful h = clear_step close_outcome (CloseLeaves lot) outcome old new (log_keeps (event.LotClose lot) outcome old new h) h
 step_keeps (event.Send number) outcome old new lawful h = send_step number outcome old new h
 step_keeps (event.OrderIn packet) outcome old new lawful h =
-    order_arrives (packet_at old.orders packet) (order_in_packet (packet_at old.orders packet)) outcome old new (packet_place old.orders packet) refl h lawful
+    order_arrives (at_number old.orders packet) (order_in_packet (at_number old.orders packet)) outcome old new (packet_place old.orders packet) refl h lawful
 step_keeps (event.ReplyIn packet) outcome old new lawful h =
-    reply_arrives (reply_in_packet (packet_at old.replies packet)) outcome old new (log_keeps (event.ReplyIn packet) outcome old new h) h
+    reply_arrives (reply_in_packet (at_number old.replies packet)) outcome old new (log_keeps (event.ReplyIn packet) outcome old new h) h
 step_keeps (event.Restart node.Clear) outcome old new lawful h =
     clear_step restart_outcome ClearRestarts outcome old new (log_keeps (event.Restart node.Clear) outcome old new h) h
 step_keeps (event.Restart node.Depot) outcome old new lawful h = depot_restart_step outcome old new h

@@ -13,7 +13,7 @@ use Rattle.cns_movements.specs.declared.order.MoveKind.TheVariants.{Cover, Deliv
 use Rattle.cns_movements.specs.declared.order.Order.{Order}
 use Rattle.cns_movements.specs.declared.order.Reply.{Reply}
 use Rattle.cns_wire.specs.Frame.{order_frame, reply_frame}
-use Rattle.cns_wire.specs.Packet.{packet_at}
+use Rattle.cns_wire.specs.Packet.{at_number}
 use Rattle.cns_records.specs.declared.clear_record.ClearRecord.TheVariants as entry
 use Rattle.cns_records.specs.declared.dep_record.DepRecord.{DepRecord}
 use Rattle.cns_records.specs.declared.dep_record.DepRecord.TheVariants.{Exec}
@@ -43,7 +43,7 @@ use Rattle.cns_system.proofs.ShownLemmas.{IsAtClear, IsAtDepot, came, refuse, cl
 -- ---- packets
 
 -- what a packet spells, by its place on the link
-spelt_at : {A : Type 0} (spelt : List ℕ → Option A) (packets : List (List ℕ)) (n : ℕ) → option_flatten (packet_at (map spelt packets) n) ≡ option_and_then spelt (packet_at packets n)
+spelt_at : {A : Type 0} (spelt : List ℕ → Option A) (packets : List (List ℕ)) (n : ℕ) → option_flatten (at_number (map spelt packets) n) ≡ option_and_then spelt (at_number packets n)
 spelt_at spelt packets n = by (n == 0)
   where
     of : (found : Option (List ℕ)) → option_flatten (option_map spelt found) ≡ option_and_then spelt found
@@ -129,7 +129,7 @@ differ a b isnt = false_from_ne_true (same_order a b) (λ e. isnt (same_order_is
 
 -- a packet that spells this order, or none
 abbrev Holds : ℕ → Option Order → Shown → Type 0
-Holds packet held w = option_flatten (packet_at w.orders packet) ≡ held
+Holds packet held w = option_flatten (at_number w.orders packet) ≡ held
 
 no_order : (d : Decision) (packet : ℕ) (w : Shown) → Holds packet None w → happens d (event.OrderIn packet) w ≡ refuse refusal.NoPacket w
 unfolding happens judged
@@ -192,7 +192,7 @@ order_by d packet o (Err fault.OutOfMemory) old new held at (up, none, same) put
 order_by d packet o (Err fault.Device) old new held at (none, failed) puts fits =
     order_new d packet o (shown_of old) held failed.0 none ∙ commit_fails d _ _ _ _ fits (depot_when_failed (next_record old.depot o) old new at failed puts)
 
-pub order_in_by : (d : Decision) (packet : ℕ) (held : Option Order) (outcome : Outcome) (old new : World) → order_in_packet (packet_at old.orders packet) ≡ held
+pub order_in_by : (d : Decision) (packet : ℕ) (held : Option Order) (outcome : Outcome) (old new : World) → order_in_packet (at_number old.orders packet) ≡ held
     → OrderInStep held outcome old new → Fits d (event.OrderIn packet) outcome (shown_of new) → happens d (event.OrderIn packet) (shown_of old) ≡ (outcome, shown_of new)
 order_in_by d packet None outcome old new e (is, same) fits = rw (is, same) (no_order d packet (shown_of old) (spelt_at order_spelt old.orders packet ∙ e))
 order_in_by d packet (Some o) outcome old new e (clear, orders, left) fits = by left
@@ -213,12 +213,12 @@ order_in_by d packet (Some o) outcome old new e (clear, orders, left) fits = by 
 
 -- ---- a reply arrives at the clearing node
 
-pub no_reply : (d : Decision) (packet : ℕ) (old : World) → reply_in_packet (packet_at old.replies packet) ≡ None
+pub no_reply : (d : Decision) (packet : ℕ) (old : World) → reply_in_packet (at_number old.replies packet) ≡ None
     → happens d (event.ReplyIn packet) (shown_of old) ≡ refuse refusal.NoPacket (shown_of old)
 unfolding happens judged
 no_reply d packet old e = rw (spelt_at reply_spelt old.replies packet ∙ e) refl
 
-reply_down : (d : Decision) (packet : ℕ) (r : Reply) (w : Shown) → option_flatten (packet_at w.replies packet) ≡ Some r → w.clear.down ≡ true
+reply_down : (d : Decision) (packet : ℕ) (r : Reply) (w : Shown) → option_flatten (at_number w.replies packet) ≡ Some r → w.clear.down ≡ true
     → happens d (event.ReplyIn packet) w ≡ refuse refusal.Down w
 unfolding happens judged
 reply_down d packet r w held down = rw (held, down) refl
@@ -231,7 +231,7 @@ reply_judged answers.UnknownMove d r w = refuse refusal.UnknownMove w
 reply_judged answers.Conflict d r w = refuse refusal.Conflict w
 reply_judged answers.TooMuch d r w = refuse refusal.TooMuch w
 
-reply_up : (d : Decision) (packet : ℕ) (r : Reply) (a : Confirm) (w : Shown) → option_flatten (packet_at w.replies packet) ≡ Some r → w.clear.down ≡ false
+reply_up : (d : Decision) (packet : ℕ) (r : Reply) (a : Confirm) (w : Shown) → option_flatten (at_number w.replies packet) ≡ Some r → w.clear.down ≡ false
     → answer_in w.clear.records r ≡ a → happens d (event.ReplyIn packet) w ≡ reply_judged a d r w
 unfolding happens judged
 reply_up d packet r answers.Done w held up is = rw held (ap (settled w) (passes (not w.clear.down) refusal.Down _ (ap not up)) ∙ rw is refl)
@@ -240,12 +240,12 @@ reply_up d packet r answers.UnknownMove w held up is = rw held (ap (settled w) (
 reply_up d packet r answers.Conflict w held up is = rw held (ap (settled w) (passes (not w.clear.down) refusal.Down _ (ap not up)) ∙ rw is refl)
 reply_up d packet r answers.TooMuch w held up is = rw held (ap (settled w) (passes (not w.clear.down) refusal.Down _ (ap not up)) ∙ rw is refl)
 
-pub reply_by : (d : Decision) (packet : ℕ) (r : Reply) (result : Result Taken Refusal) (old new : World) → reply_in_packet (packet_at old.replies packet) ≡ Some r
+pub reply_by : (d : Decision) (packet : ℕ) (r : Reply) (result : Result Taken Refusal) (old new : World) → reply_in_packet (at_number old.replies packet) ≡ Some r
     → IsAtClear old new → ByNode (ReplyLeaves r) result old.clear new.clear → Fits d (event.ReplyIn packet) (reply_outcome r result) (shown_of new)
     → happens d (event.ReplyIn packet) (shown_of old) ≡ (reply_outcome r result, shown_of new)
 reply_by d packet r result old new e at left fits = by result left fits
   where
-    held : option_flatten (packet_at (map reply_spelt old.replies) packet) ≡ Some r
+    held : option_flatten (at_number (map reply_spelt old.replies) packet) ≡ Some r
     held = spelt_at reply_spelt old.replies packet ∙ e
 
     up_to : (a : Confirm) → old.clear.clear.log.down ≡ false → answer_in old.clear.clear.log.records r ≡ a

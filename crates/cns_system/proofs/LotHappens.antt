@@ -21,7 +21,8 @@ use Rattle.cns_clearing.specs.declared.lot.Lot.{Lot}
 use Rattle.cns_system.specs.Happens.{Decision, Goes, NoMemory, DeviceFails, Judged, commits, going_lot, grows, happens, judged, next_orders, settled}
 use Rattle.cns_system.specs.Lot.{LotState, ticket_in, turn_in, with_end, with_seal, with_ticket}
 use Rattle.cns_system.specs.Lot.{new_lot as numbered_lot}
-use Rattle.cns_system.specs.Lots.{HasEndedLot, LotLeaves, ReserveLeaves, is_empty, lot_at, update_at}
+use Rattle.cns_wire.specs.Packet.{at_number}
+use Rattle.cns_system.specs.Lots.{HasEndedLot, LotLeaves, ReserveLeaves, is_empty, update_at}
 use Rattle.cns_system.specs.Numbered.{NumberedNode, CloseLeaves, IsMet, IsOpened, OpenLeaves, PourLeaves}
 use Rattle.cns_system.specs.Outcomes.{asked_outcome, close_outcome, done_outcome, open_outcome, pour_outcome, poured_outcome, reserve_outcome}
 use Rattle.cns_system.specs.Shown.{Shown, clear_added, clear_failed, shown_clear, shown_of, with_lot, with_new_lot, with_pour}
@@ -39,17 +40,17 @@ use Rattle.cns_system.proofs.ShownLemmas.{IsAtClear, came, refuse, clear_same, c
 -- ---- what a number finds
 
 -- a lot that is none, or has ended, refuses
-at_none : (n : ℕ) (w : Shown) → lot_at w.clear.lots n ≡ None → going_lot w n ≡ Err refusal.NoLot
+at_none : (n : ℕ) (w : Shown) → at_number w.clear.lots n ≡ None → going_lot w n ≡ Err refusal.NoLot
 at_none n w none = rw none refl
 
 at_stale : (n : ℕ) (w : Shown) → HasEndedLot w.clear.lots n → going_lot w n ≡ Err refusal.StaleLot
-at_stale n w is = by (lot_at w.clear.lots n) refl is
+at_stale n w is = by (at_number w.clear.lots n) refl is
   where
-    by : (o : Option LotState) → lot_at w.clear.lots n ≡ o → IsSomeAnd o (λ (lot : LotState). lot.ended ≡ true) → going_lot w n ≡ Err refusal.StaleLot
+    by : (o : Option LotState) → at_number w.clear.lots n ≡ o → IsSomeAnd o (λ (lot : LotState). lot.ended ≡ true) → going_lot w n ≡ Err refusal.StaleLot
     by None e h = absurd h
     by (Some lot) e h = rw (e, h) refl
 
-at_open : (n : ℕ) (w : Shown) (lot : LotState) → lot_at w.clear.lots n ≡ Some lot → lot.ended ≡ false → going_lot w n ≡ Ok lot
+at_open : (n : ℕ) (w : Shown) (lot : LotState) → at_number w.clear.lots n ≡ Some lot → lot.ended ≡ false → going_lot w n ≡ Ok lot
 at_open n w lot found going = rw (found, going) refl
 
 -- what is asked of such a lot is refused, and of another one it is what comes then
@@ -70,7 +71,7 @@ node_same old new at same = clear_same old new at (ap (λ (n : NumberedNode). n.
 
 -- ---- looks, and a seal
 
-look_poured_open : (d : Decision) (n : ℕ) (look : Look) (w : Shown) (lot : LotState) → lot_at w.clear.lots n ≡ Some lot → lot.ended ≡ false → look ≡ shown w.clear.open_lots lot
+look_poured_open : (d : Decision) (n : ℕ) (look : Look) (w : Shown) (lot : LotState) → at_number w.clear.lots n ≡ Some lot → lot.ended ≡ false → look ≡ shown w.clear.open_lots lot
     → happens d (event.LookPoured n) w ≡ (outcomes.LookedPoured look.poured, w)
 unfolding happens judged
 look_poured_open d n look w lot found going is = rw (found, going, is) refl
@@ -87,7 +88,7 @@ look_poured_by d n (Err refusal.StaleLot) old new at (stale, same) =
     came _ _ _ _ (refused_at n (shown_of old) refusal.StaleLot _ (at_stale n (shown_of old) stale)) (node_same old new at same)
 look_poured_by d n (Err _) old new at left = absurd left.0
 
-look_asked_open : (d : Decision) (n : ℕ) (look : Look) (w : Shown) (lot : LotState) → lot_at w.clear.lots n ≡ Some lot → lot.ended ≡ false → look ≡ shown w.clear.open_lots lot
+look_asked_open : (d : Decision) (n : ℕ) (look : Look) (w : Shown) (lot : LotState) → at_number w.clear.lots n ≡ Some lot → lot.ended ≡ false → look ≡ shown w.clear.open_lots lot
     → happens d (event.LookAsked n) w ≡ (outcomes.LookedAsked look.asked look.sealed, w)
 unfolding happens judged
 look_asked_open d n look w lot found going is = rw (found, going, is) refl
@@ -118,12 +119,12 @@ seal_by d n (Err _) old new at left = absurd left.0
 
 -- ---- a pour
 
-pour_open : (d : Decision) (n : ℕ) (w : Shown) (lot : LotState) → lot_at w.clear.lots n ≡ Some lot → lot.ended ≡ false → w.clear.down ≡ false
+pour_open : (d : Decision) (n : ℕ) (w : Shown) (lot : LotState) → at_number w.clear.lots n ≡ Some lot → lot.ended ≡ false → w.clear.down ≡ false
     → happens d (event.LotPour n) w ≡ (outcomes.Poured (free_of (orders_of w.clear.records) w.clear.open_lots lot.issue), with_pour lot.issue w)
 unfolding happens judged
 pour_open d n w lot found going up = rw (found, going, up) refl
 
-pour_down : (d : Decision) (n : ℕ) (w : Shown) (lot : LotState) → lot_at w.clear.lots n ≡ Some lot → lot.ended ≡ false → w.clear.down ≡ true
+pour_down : (d : Decision) (n : ℕ) (w : Shown) (lot : LotState) → at_number w.clear.lots n ≡ Some lot → lot.ended ≡ false → w.clear.down ≡ true
     → happens d (event.LotPour n) w ≡ refuse refusal.Down w
 unfolding happens judged
 pour_down d n w lot found going down = rw (found, going, down) refl
@@ -153,7 +154,7 @@ pour_by d n (Err _) old new at left = absurd left
 
 -- ---- a member's ticket
 
-reserve_next : (d : Decision) (n m : ℕ) (t : Ticket) (w : Shown) (lot : LotState) → lot_at w.clear.lots n ≡ Some lot → lot.ended ≡ false → turn_in lot m ≡ turn.Next t.asked
+reserve_next : (d : Decision) (n m : ℕ) (t : Ticket) (w : Shown) (lot : LotState) → at_number w.clear.lots n ≡ Some lot → lot.ended ≡ false → turn_in lot m ≡ turn.Next t.asked
     → lot.sealed ≡ false → t ≡ ticket_in lot m t.asked → happens d (event.Reserve n m) w ≡ (outcomes.Drawn t, with_lot n (with_ticket t lot) w)
 unfolding happens judged
 reserve_next d n m t w lot found going turn unsealed is =
@@ -161,17 +162,17 @@ reserve_next d n m t w lot found going turn unsealed is =
     let drawn : happens d (event.Reserve n m) w ≡ (outcomes.Drawn next, with_lot n (with_ticket next lot) w) = rw (found, going, turn, unsealed) refl in
     drawn ∙ ap (λ (u : Ticket). (outcomes.Drawn u, with_lot n (with_ticket u lot) w)) (sym is)
 
-reserve_not_long : (d : Decision) (n m : ℕ) (w : Shown) (lot : LotState) → lot_at w.clear.lots n ≡ Some lot → lot.ended ≡ false → turn_in lot m ≡ turn.NotLong
+reserve_not_long : (d : Decision) (n m : ℕ) (w : Shown) (lot : LotState) → at_number w.clear.lots n ≡ Some lot → lot.ended ≡ false → turn_in lot m ≡ turn.NotLong
     → happens d (event.Reserve n m) w ≡ refuse refusal.NotLong w
 unfolding happens judged
 reserve_not_long d n m w lot found going turn = rw (found, going, turn) refl
 
-reserve_early : (d : Decision) (n m : ℕ) (w : Shown) (lot : LotState) → lot_at w.clear.lots n ≡ Some lot → lot.ended ≡ false → turn_in lot m ≡ turn.EarlierGroup
+reserve_early : (d : Decision) (n m : ℕ) (w : Shown) (lot : LotState) → at_number w.clear.lots n ≡ Some lot → lot.ended ≡ false → turn_in lot m ≡ turn.EarlierGroup
     → happens d (event.Reserve n m) w ≡ refuse refusal.EarlierGroup w
 unfolding happens judged
 reserve_early d n m w lot found going turn = rw (found, going, turn) refl
 
-reserve_sealed : (d : Decision) (n m asked : ℕ) (w : Shown) (lot : LotState) → lot_at w.clear.lots n ≡ Some lot → lot.ended ≡ false → turn_in lot m ≡ turn.Next asked
+reserve_sealed : (d : Decision) (n m asked : ℕ) (w : Shown) (lot : LotState) → at_number w.clear.lots n ≡ Some lot → lot.ended ≡ false → turn_in lot m ≡ turn.Next asked
     → lot.sealed ≡ true → happens d (event.Reserve n m) w ≡ refuse refusal.Sealed w
 unfolding happens judged
 reserve_sealed d n m asked w lot found going turn shut = rw (found, going, turn, shut) refl
@@ -255,12 +256,12 @@ open_by d issue (Err _) old new at left fits = absurd left
 
 -- ---- the close of a lot
 
-close_down : (d : Decision) (n : ℕ) (w : Shown) (lot : LotState) → lot_at w.clear.lots n ≡ Some lot → lot.ended ≡ false → w.clear.down ≡ true
+close_down : (d : Decision) (n : ℕ) (w : Shown) (lot : LotState) → at_number w.clear.lots n ≡ Some lot → lot.ended ≡ false → w.clear.down ≡ true
     → happens d (event.LotClose n) w ≡ refuse refusal.Down w
 unfolding happens judged
 close_down d n w lot found going down = rw (found, going, down) refl
 
-close_early : (d : Decision) (n : ℕ) (w : Shown) (lot : LotState) → lot_at w.clear.lots n ≡ Some lot → lot.ended ≡ false → w.clear.down ≡ false → lot.sealed ≡ false
+close_early : (d : Decision) (n : ℕ) (w : Shown) (lot : LotState) → at_number w.clear.lots n ≡ Some lot → lot.ended ≡ false → w.clear.down ≡ false → lot.sealed ≡ false
     → lot.turns ≢ [] → happens d (event.LotClose n) w ≡ refuse refusal.Unserved w
 unfolding happens judged
 close_early d n w lot found going up unsealed some = by lot.turns refl
@@ -289,7 +290,7 @@ abbrev allocates : Decision → ℕ → Shown → LotState → Allocation → Ju
 allocates d n w lot a = need (not (are_spent (orders_of w.clear.records) (deliveries_in a))) refusal.NumbersSpent >> commits_close d n w lot a
 
 -- a lot that may close, as the node's open lot of its issue makes it an allocation
-close_allocates : (d : Decision) (n : ℕ) (w : Shown) (lot : LotState) (twin : Lot) (a : Allocation) → lot_at w.clear.lots n ≡ Some lot → lot.ended ≡ false → w.clear.down ≡ false
+close_allocates : (d : Decision) (n : ℕ) (w : Shown) (lot : LotState) (twin : Lot) (a : Allocation) → at_number w.clear.lots n ≡ Some lot → lot.ended ≡ false → w.clear.down ≡ false
     → IsMet lot → lot_of w.clear.open_lots lot.issue ≡ Some twin → a ≡ allocation_of twin lot.tickets lot.sealed → judged d (event.LotClose n) w ≡ allocates d n w lot a
 unfolding judged
 close_allocates d n w lot twin a found going up may has is =
@@ -313,7 +314,7 @@ closed_world : (n : ℕ) (lot : LotState) (a : Allocation) (old new : World) →
 closed_world n lot a old new at (up, added, open_lots) lots = rw (added.0, open_lots, lots, at.depot, at.orders, at.replies) refl
 
 -- a lot that may close, by what the node answers
-module _ (d : Decision) (n : ℕ) (lot : LotState) (old new : World) (at : IsAtClear old new) (found : lot_at old.clear.lots n ≡ Some lot) (going : lot.ended ≡ false) (met : IsMet lot) where
+module _ (d : Decision) (n : ℕ) (lot : LotState) (old new : World) (at : IsAtClear old new) (found : at_number old.clear.lots n ≡ Some lot) (going : lot.ended ≡ false) (met : IsMet lot) where
   closes : (a : Allocation) → old.clear.clear.log.down ≡ false → MayClose old.clear.clear lot.issue lot.tickets lot.sealed a
       → happens d (event.LotClose n) (shown_of old) ≡ settled (shown_of old) (allocates d n (shown_of old) lot a)
   unfolding happens

@@ -7,40 +7,41 @@ use Rattle.cns_pool.specs.declared.ticket.Ticket.{Ticket}
 use Rattle.cns_records.specs.declared.refusal.Refusal.{Refusal}
 use Rattle.cns_records.specs.declared.refusal.Refusal.TheVariants.{NotLong, EarlierGroup, Sealed}
 use Rattle.cns_system.specs.Lot.{LotState, with_end}
-use Rattle.cns_system.specs.Lots.{lot_at, update_at, DrawLeaves, HasOpenLot, ReserveLeaves}
+use Rattle.cns_wire.specs.Packet.{at_number}
+use Rattle.cns_system.specs.Lots.{update_at, DrawLeaves, HasOpenLot, ReserveLeaves}
 
 -- the lot that was opened with a number and has not ended
 pub record IsOpen (lots : List LotState) (number : ℕ) (P : LotState → Type 0) : Type 0 where
   pub lot : LotState
-  pub found : lot_at lots number ≡ Some lot
+  pub found : at_number lots number ≡ Some lot
   pub going : lot.ended ≡ false
   pub holds : P lot
 
 pub open-parts : (lots : List LotState) (number : ℕ) (P : LotState → Type 0) → HasOpenLot lots number P → IsOpen lots number P
-open-parts lots number P is = by (lot_at lots number) refl is
+open-parts lots number P is = by (at_number lots number) refl is
   where
-    by : (o : Option LotState) → lot_at lots number ≡ o → IsSomeAnd o (λ (l : LotState). (l.ended ≡ false) × P l) → IsOpen lots number P
+    by : (o : Option LotState) → at_number lots number ≡ o → IsSomeAnd o (λ (l : LotState). (l.ended ≡ false) × P l) → IsOpen lots number P
     by None e h = absurd h
     by (Some l) e h = record { lot = l; found = e; going = h.0; holds = h.1 }
 
-pub open-from : (lots : List LotState) (number : ℕ) (P : LotState → Type 0) (l : LotState) → lot_at lots number ≡ Some l → l.ended ≡ false → P l → HasOpenLot lots number P
+pub open-from : (lots : List LotState) (number : ℕ) (P : LotState → Type 0) (l : LotState) → at_number lots number ≡ Some l → l.ended ≡ false → P l → HasOpenLot lots number P
 open-from lots number P l found going holds =
     let Q : Option LotState → Type 0 = λ o. IsSomeAnd o (λ (k : LotState). (k.ended ≡ false) × P k) in subst Q (sym found) (going, holds)
 
 -- the lot of a number is the one in its place
-pub in_place : (lots : List LotState) (number : ℕ) (l d : LotState) → lot_at lots number ≡ Some l → get_or lots (number - 1) d ≡ l
+pub in_place : (lots : List LotState) (number : ℕ) (l d : LotState) → at_number lots number ≡ Some l → get_or lots (number - 1) d ≡ l
 in_place lots number l d found = by (number == 0) found
   where
     by : (b : Bool) → (if b then None else slice_get lots (number - 1)) ≡ Some l → get_or lots (number - 1) d ≡ l
     by true e = cc
     by false e = get_or_from_slice_get lots (number - 1) l d e
 
-read_at : (lots items : List LotState) (number place : ℕ) (l d : LotState) → items ≡ lots → place ≡ number - 1 → lot_at lots number ≡ Some l → get_or items place d ≡ l
+read_at : (lots items : List LotState) (number place : ℕ) (l d : LotState) → items ≡ lots → place ≡ number - 1 → at_number lots number ≡ Some l → get_or items place d ≡ l
 read_at lots items number place l d same is_place found = rw (same, is_place) (in_place lots number l d found)
 
 -- the lot that was read in the place of a number; what takes its place; and that it may stay there
 pub record IsRead (lots items : List LotState) (number place : ℕ) (l : LotState) : Type 0 where
-  pub found : lot_at lots number ≡ Some l
+  pub found : at_number lots number ≡ Some l
   pub going : l.ended ≡ false
   pub changed : (new : LotState) → slice_set items place new ≡ update_at lots number new
   pub stays : slice_set items place l ≡ lots

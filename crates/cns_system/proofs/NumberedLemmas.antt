@@ -26,7 +26,8 @@ use Rattle.cns_records.specs.declared.refusal.Refusal.{Refusal}
 use Rattle.cns_records.specs.declared.refusal.Refusal.TheVariants as refusal
 use Rattle.cns_clearing.specs.declared.lot.Lot.{Lot}
 use Rattle.cns_system.specs.Lot.{LotState, IsOfPlan, new_lot, planned_sum, ticket_in, with_end, with_seal, with_ticket}
-use Rattle.cns_system.specs.Lots.{lot_at, update_at, HasOpenLot, IsTurnFor, LotLeaves, ReserveLeaves}
+use Rattle.cns_wire.specs.Packet.{at_number}
+use Rattle.cns_system.specs.Lots.{update_at, HasOpenLot, IsTurnFor, LotLeaves, ReserveLeaves}
 use Rattle.cns_system.specs.Numbered.{AreTied, CloseLeaves, IsMet, NumberedNode}
 use Rattle.cns_system.proofs.LotsLemmas.{open-from, open-parts}
 use Rattle.cns_system.proofs.TiedLemmas.{found_of, found_poured, found_without, poured_keeps, tied_changed, tied_more}
@@ -34,7 +35,7 @@ use Rattle.cns_system.proofs.TiedLemmas.{found_of, found_poured, found_without, 
 -- ---- changes of the lots by number alone
 
 -- a lot that stays of its issue and its plan
-stays_tied : (open_lots : List Lot) (lots : List LotState) (n : ℕ) (l x : LotState) → AreTied open_lots lots → lot_at lots n ≡ Some l → l.ended ≡ false
+stays_tied : (open_lots : List Lot) (lots : List LotState) (n : ℕ) (l x : LotState) → AreTied open_lots lots → at_number lots n ≡ Some l → l.ended ≡ false
     → x.issue ≡ l.issue → ((plan : List Planned) → IsOfPlan plan l → IsOfPlan plan x) → AreTied open_lots (update_at lots n x)
 stays_tied open_lots lots n l x are found going issue stays =
     let tied = are.each n l found going in
@@ -121,7 +122,7 @@ open_refused issue _ old new h = absurd h
 -- ---- a lot that is open
 
 -- the node has it
-pub no_twin : (open_lots : List Lot) (lots : List LotState) (n issue : ℕ) (l : LotState) → AreTied open_lots lots → lot_at lots n ≡ Some l → l.ended ≡ false
+pub no_twin : (open_lots : List Lot) (lots : List LotState) (n issue : ℕ) (l : LotState) → AreTied open_lots lots → at_number lots n ≡ Some l → l.ended ≡ false
     → issue ≡ l.issue → lot_of open_lots issue ≡ None → ⊥
 no_twin open_lots lots n issue l are found going is none =
     let tied = are.each n l found going in
@@ -166,7 +167,7 @@ pour_tied old new lots issue shares are h =
 -- ---- a close
 
 -- what a change of an open lot leaves
-pub change_is : (change : LotState → LotState) (n : ℕ) (r : Result (Unit {0}) Refusal) (lots after : List LotState) (l : LotState) → lot_at lots n ≡ Some l → l.ended ≡ false
+pub change_is : (change : LotState → LotState) (n : ℕ) (r : Result (Unit {0}) Refusal) (lots after : List LotState) (l : LotState) → at_number lots n ≡ Some l → l.ended ≡ false
     → LotLeaves change n r lots after → after ≡ update_at lots n (change l)
 change_is change n (Ok u) lots after l found going h =
     let at = open-parts lots n (λ (k : LotState). after ≡ update_at lots n (change k)) h in
@@ -212,7 +213,7 @@ pub close_no_bad : (open_lots : List Lot) (lots : List LotState) (n issue : ℕ)
     → ((twin : Lot) × (lot_of open_lots issue ≡ Some twin) × (IsServed twin.plan tickets sealed → ⊥)) → ⊥
 close_no_bad open_lots lots n issue tickets sealed l are has is drawn seal met bad =
     let at = open-parts lots n (λ (k : LotState). l ≡ k) has in
-    let found : lot_at lots n ≡ Some l = at.found ∙ ap Some (sym at.holds) in
+    let found : at_number lots n ≡ Some l = at.found ∙ ap Some (sym at.holds) in
     let going : l.ended ≡ false = ap (λ (k : LotState). k.ended) at.holds ∙ at.going in
     let tied = are.each n l found going in
     let served = met_served tied.twin.plan l tied.is met in
@@ -226,7 +227,7 @@ pub close_refused : (n : ℕ) (f : Refusal) (old new : NumberedNode) (issue : �
     → CloseLeaves n (Err f) old new
 close_refused n f old new issue tickets sealed l are has is drawn seal met up h same = by f h
   where
-    found : lot_at old.lots n ≡ Some l
+    found : at_number old.lots n ≡ Some l
     found = let at = open-parts old.lots n (λ (k : LotState). l ≡ k) has in at.found ∙ ap Some (sym at.holds)
 
     going : l.ended ≡ false

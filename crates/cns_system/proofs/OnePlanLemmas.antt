@@ -21,7 +21,8 @@ use Rattle.cns_records.specs.declared.refusal.Refusal.TheVariants as refusal
 use Rattle.cns_system.specs.Finish.{AreCutOff, AreEntered, AreOfOnePlan, IsClosed, IsEnded, IsNotEntered, IsSealedFirst, IsUnserved, drawn_in, draws, is_close, is_done, reserves}
 use Rattle.cns_system.specs.Floor.{AreBusy, BusyLot, FloorState, IsBusy, busy_at}
 use Rattle.cns_system.specs.Lot.{IsPlanOf, LotState, with_ticket}
-use Rattle.cns_system.specs.Lots.{ArePlanned, ReserveLeaves, lot_at, update_at}
+use Rattle.cns_wire.specs.Packet.{at_number}
+use Rattle.cns_system.specs.Lots.{ArePlanned, ReserveLeaves, update_at}
 use Rattle.cns_system.specs.Numbered.{CloseLeaves, IsMet, NumberedNode}
 use Rattle.cns_system.specs.Outcomes.{close_outcome, reserve_outcome}
 use Rattle.cns_system.specs.Run.{Run}
@@ -38,12 +39,12 @@ use Rattle.cns_system.proofs.TiedLemmas.{at_place, from_place, get_set_same}
 -- the lot of a number has these tickets, and is not sealed
 record Has (n : ℕ) (lots : List LotState) (tickets : List Ticket) : Type 0 where
   lot : LotState
-  found : lot_at lots n ≡ Some lot
+  found : at_number lots n ≡ Some lot
   going : lot.ended ≡ false
   tickets_are : lot.tickets ≡ tickets
   unsealed : lot.sealed ≡ false
 
-found_updated : (lots : List LotState) (n : ℕ) (l x : LotState) → lot_at lots n ≡ Some l → lot_at (update_at lots n x) n ≡ Some x
+found_updated : (lots : List LotState) (n : ℕ) (l x : LotState) → at_number lots n ≡ Some l → at_number (update_at lots n x) n ≡ Some x
 found_updated lots n l x found =
     let at = at_place lots n l found in from_place (update_at lots n x) n x at.0 (get_set_same lots (n - 1) l x at.1)
 
@@ -54,7 +55,7 @@ has_more n member t lots new tickets has leaves =
     let one : at.lot ≡ has.lot = same_Some at.lot has.lot (sym at.found ∙ has.found) in
     record {
       lot = with_ticket t at.lot;
-      found = ap (λ (ls : List LotState). lot_at ls n) at.holds.3 ∙ found_updated lots n at.lot (with_ticket t at.lot) at.found;
+      found = ap (λ (ls : List LotState). at_number ls n) at.holds.3 ∙ found_updated lots n at.lot (with_ticket t at.lot) at.found;
       going = at.going;
       tickets_are = ap (λ (l : LotState). l.tickets ++ t ∷ []) one ∙ ap (λ (ts : List Ticket). ts ++ t ∷ []) has.tickets_are;
       unsealed = ap (λ (l : LotState). l.sealed) one ∙ has.unsealed;
@@ -101,7 +102,7 @@ done_of_draws (t ∷ ts) last = done_of_draws ts last
 -- what comes after the tickets: no ticket; and a lot that was closed and not sealed had one for each member of its plan
 record Ends (n : ℕ) (lots : List LotState) (last : List Outcome) : Type 0 where
   none : drawn_in last ≡ []
-  met : list_any is_close last ≡ true → list_any is_done last ≡ false → (l : LotState) → lot_at lots n ≡ Some l → IsMet l
+  met : list_any is_close last ≡ true → list_any is_done last ≡ false → (l : LotState) → at_number lots n ≡ Some l → IsMet l
 
 close_ends : (n : ℕ) (result : Result Closed Refusal) (old new : NumberedNode) (outcome : Outcome) → outcome ≡ close_outcome result → CloseLeaves n result old new
     → Ends n old.lots (outcome ∷ [])
@@ -233,7 +234,7 @@ pub busy_unserved : (n : ℕ) (f mid : FloorState) (b : BusyLot) → busy_at f.b
     → IsUnserved n mid.system.clear.lots
 busy_unserved n f mid b found are same l here going =
     let is = find-All (IsBusy f.system.clear) (λ (c : BusyLot). c.lot == n) f.busy b are.each found in
-    let fed = is.fed l (ap (λ (m : ℕ). lot_at f.system.clear.lots m) (busy_number f.busy n b found) ∙ ap (λ (w : World). lot_at w.clear.lots n) (sym same) ∙ here) going in
+    let fed = is.fed l (ap (λ (m : ℕ). at_number f.system.clear.lots m) (busy_number f.busy n b found) ∙ ap (λ (w : World). at_number w.clear.lots n) (sym same) ∙ here) going in
     (fed.tickets, fed.unsealed)
 
 pub nothing_drawn : (c : List ClearRecord) → AreOfOnePlan c []

@@ -12,7 +12,7 @@ use Rattle.cns_journal.specs.declared.record_log.ReplayFault.TheVariants as repl
 use Rattle.cns_journal.specs.declared.record_log.Restarted.{Restarted}
 use Rattle.cns_movements.specs.declared.order.Order.{Order}
 use Rattle.cns_movements.specs.declared.order.Reply.{Reply}
-use Rattle.cns_wire.specs.Packet.{packet_at}
+use Rattle.cns_wire.specs.Packet.{at_number}
 use Rattle.cns_pool.specs.declared.ticket.Ticket.{Ticket}
 use Rattle.cns_records.specs.Clear.{spelling, HasPayload}
 use Rattle.cns_records.specs.Dep.{dep_spelling, HasDepPayload}
@@ -550,9 +550,9 @@ step_comes (event.LotClose n) outcome old new step =
     (λ result left. close_commits n result (shown_of new) old.clear new.clear left) step step
 step_comes (event.Send n) outcome old new step = send_comes n outcome old new step step
 step_comes (event.OrderIn packet) outcome old new step =
-    order_in_comes packet (order_in_packet (packet_at old.orders packet)) outcome old new step step
+    order_in_comes packet (order_in_packet (at_number old.orders packet)) outcome old new step step
 step_comes (event.ReplyIn packet) outcome old new step =
-    reply_in_comes packet (reply_in_packet (packet_at old.replies packet)) outcome old new step step
+    reply_in_comes packet (reply_in_packet (at_number old.replies packet)) outcome old new step step
 step_comes (event.Restart node.Clear) outcome old new step = clear_restart_comes outcome old new step step
 step_comes (event.Restart node.Depot) outcome old new step = depot_restart_comes outcome old new step step
 

@@ -30,7 +30,7 @@ use Rattle.cns_depository.specs.declared.fault.DepFault.{DepFault}
 use Rattle.cns_depository.specs.declared.fault.DepFault.TheVariants as fault
 use Rattle.cns_system.specs.Accord.{Accord, IsInAccord, IsKnown, StaysSound}
 use Rattle.cns_system.specs.Outcomes.{order_outcome, reply_outcome, restart_outcome}
-use Rattle.cns_wire.specs.Packet.{packet_at}
+use Rattle.cns_wire.specs.Packet.{at_number}
 use Rattle.cns_system.specs.Step.{OrderInStep, OrderTaken, ReplyInStep, Step}
 use Rattle.cns_system.specs.World.{World, order_in_packet, reply_in_packet}
 use Rattle.cns_system.specs.declared.event.Event.{Event}
@@ -161,9 +161,9 @@ step_sound (event.Seal lot) outcome old new h accord = λ c d. tt
 step_sound (event.LotClose lot) outcome old new h accord = λ c d. tt
 step_sound (event.Send number) outcome old new h accord = λ c d. tt
 step_sound (event.OrderIn packet) outcome old new h accord = λ c d.
-    order_in_sound (packet_at old.orders packet) (order_in_packet (packet_at old.orders packet)) outcome old new (packet_place old.orders packet) refl h (accord c d)
+    order_in_sound (at_number old.orders packet) (order_in_packet (at_number old.orders packet)) outcome old new (packet_place old.orders packet) refl h (accord c d)
 step_sound (event.ReplyIn packet) outcome old new h accord = λ c d.
-    reply_in_sound (packet_at old.replies packet) (reply_in_packet (packet_at old.replies packet)) outcome old new (packet_place old.replies packet) refl h (accord c d)
+    reply_in_sound (at_number old.replies packet) (reply_in_packet (at_number old.replies packet)) outcome old new (packet_place old.replies packet) refl h (accord c d)
 step_sound (event.Restart node.Clear) outcome old new h accord = λ c d. λ place e.
     restart_sound _ _ _ h.3.0 old.clear.clear.log new.clear.clear.log place c h.3.2.0.0 (sym h.3.1 ∙ e)
 step_sound (event.Restart node.Depot) outcome old new h accord = λ c d. λ place e.

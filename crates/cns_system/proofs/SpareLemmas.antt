@@ -21,10 +21,10 @@ use Rattle.cns_movements.specs.declared.order.Reply.{Reply}
 use Rattle.cns_pool.specs.declared.ticket.Ticket.{Ticket}
 use Rattle.cns_records.specs.declared.refusal.Refusal.{Refusal}
 use Rattle.cns_records.specs.declared.refusal.Refusal.TheVariants as refusal
-use Rattle.cns_wire.specs.Packet.{packet_at}
+use Rattle.cns_wire.specs.Packet.{at_number}
 use Rattle.cns_system.specs.Floor.{has_not_ended, is_open, lot_changed}
 use Rattle.cns_system.specs.Lot.{LotState, with_end, with_seal}
-use Rattle.cns_system.specs.Lots.{LotLeaves, ReserveLeaves, lot_at, update_at}
+use Rattle.cns_system.specs.Lots.{LotLeaves, ReserveLeaves, update_at}
 use Rattle.cns_system.specs.Numbered.{NumberedNode, AreTied, CloseLeaves, OpenLeaves, PourLeaves}
 use Rattle.cns_system.specs.Step.{OrderInStep, ReplyInStep, SendStep, Step}
 use Rattle.cns_system.specs.World.{World, order_in_packet, reply_in_packet}
@@ -41,27 +41,27 @@ use Rattle.cns_system.proofs.TiedLemmas.{at_changed, at_place, ended_at, found_m
 -- it had not ended
 pub record Spares (changed : Option ℕ) (old new : List LotState) : Type 0 where
   pub longer : length old ≤ length new
-  pub same : (n : ℕ) (l : LotState) → (changed ≡ Some n → is_open old n ≡ false) → n ≤ length old → lot_at new n ≡ Some l → l.ended ≡ false → lot_at old n ≡ Some l
+  pub same : (n : ℕ) (l : LotState) → (changed ≡ Some n → is_open old n ≡ false) → n ≤ length old → at_number new n ≡ Some l → l.ended ≡ false → at_number old n ≡ Some l
 
 -- ---- by what takes the place of the lots
 
 pub spares_same : (changed : Option ℕ) (old new : List LotState) → new ≡ old → Spares changed old new
 spares_same changed old new same = record {
   longer = omega (arith, ap length same);
-  same = λ n l spared given found going. ap (λ (lots : List LotState). lot_at lots n) (sym same) ∙ found;
+  same = λ n l spared given found going. ap (λ (lots : List LotState). at_number lots n) (sym same) ∙ found;
 }
 
 -- whether a lot has not ended, as it is found
-pub open_found : (lots : List LotState) (n : ℕ) (l : LotState) → lot_at lots n ≡ Some l → l.ended ≡ false → is_open lots n ≡ true
+pub open_found : (lots : List LotState) (n : ℕ) (l : LotState) → at_number lots n ≡ Some l → l.ended ≡ false → is_open lots n ≡ true
 open_found lots n l found going = ap has_not_ended found ∙ ap not going
 
-pub spares_update : (old new : List LotState) (m : ℕ) (k x : LotState) → lot_at old m ≡ Some k → k.ended ≡ false → new ≡ update_at old m x → Spares (Some m) old new
+pub spares_update : (old new : List LotState) (m : ℕ) (k x : LotState) → at_number old m ≡ Some k → k.ended ≡ false → new ≡ update_at old m x → Spares (Some m) old new
 spares_update old new m k x found going is = record {
   longer = let len = ap length is ∙ length-set _ _ _ in omega (arith, len);
-  same = λ n l spared given here up. by n l spared (at_changed old m n k x l found (ap (λ (lots : List LotState). lot_at lots n) (sym is) ∙ here));
+  same = λ n l spared given here up. by n l spared (at_changed old m n k x l found (ap (λ (lots : List LotState). at_number lots n) (sym is) ∙ here));
 }
   where
-    by : (n : ℕ) (l : LotState) → (Some m ≡ Some n → is_open old n ≡ false) → ((n ≡ m) × (x ≡ l)) ⊎ ((n ≡ m → ⊥) × (lot_at old n ≡ Some l)) → lot_at old n ≡ Some l
+    by : (n : ℕ) (l : LotState) → (Some m ≡ Some n → is_open old n ≡ false) → ((n ≡ m) × (x ≡ l)) ⊎ ((n ≡ m → ⊥) × (at_number old n ≡ Some l)) → at_number old n ≡ Some l
     by n l spared (inl h) =
         let shut : is_open old m ≡ false = subst (λ (i : ℕ). is_open old i ≡ false) h.0 (spared (ap Some (sym h.0))) in
         let no : true ≡ false = sym (open_found old m k found going) ∙ shut in cc
@@ -71,11 +71,11 @@ pub spares_more : (changed : Option ℕ) (old new : List LotState) (x : LotState
 spares_more changed old new x is = record {
   longer = let len = ap length is ∙ length-append old (x ∷ []) in omega (arith, len);
   same = λ n l spared given found going.
-      let here = at_place (old ++ x ∷ []) n l (ap (λ (lots : List LotState). lot_at lots n) (sym is) ∙ found) in
+      let here = at_place (old ++ x ∷ []) n l (ap (λ (lots : List LotState). at_number lots n) (sym is) ∙ found) in
       by n l given here.0 (get_more old (n - 1) x l here.1);
 }
   where
-    by : (n : ℕ) (l : LotState) → n ≤ length old → 1 ≤ n → (slice_get old (n - 1) ≡ Some l) ⊎ ((n - 1 ≡ length old) × (x ≡ l)) → lot_at old n ≡ Some l
+    by : (n : ℕ) (l : LotState) → n ≤ length old → 1 ≤ n → (slice_get old (n - 1) ≡ Some l) ⊎ ((n - 1 ≡ length old) × (x ≡ l)) → at_number old n ≡ Some l
     by n l given some (inl h) = from_place old n l some h
     by n l given some (inr h) = absurd (omega (arith, given, some, h.0))
 
@@ -83,7 +83,7 @@ pub spares_ended : (changed : Option ℕ) (old new : List LotState) → new ≡ 
 spares_ended changed old new is = record {
   longer = let len = ap length is ∙ length-map old with_end in omega (arith, len);
   same = λ n l spared given found going.
-      let no : true ≡ false = sym (ended_at old n l (ap (λ (lots : List LotState). lot_at lots n) (sym is) ∙ found)) ∙ going in cc;
+      let no : true ≡ false = sym (ended_at old n l (ap (λ (lots : List LotState). at_number lots n) (sym is) ∙ found)) ∙ going in cc;
 }
 
 -- no lot changes
@@ -166,8 +166,8 @@ step_spares (event.LookAsked lot) outcome old new h = node_same None old.clear n
 step_spares (event.Seal lot) outcome old new h = seal_spares lot h.3.0 old.clear.lots new.clear.lots h.3.2.0
 step_spares (event.LotClose lot) outcome old new h = close_spares lot h.3.0 old.clear new.clear h.3.2
 step_spares (event.Send number) outcome old new h = send_spares None number outcome old new h
-step_spares (event.OrderIn packet) outcome old new h = order_spares None (order_in_packet (packet_at old.orders packet)) outcome old new h
-step_spares (event.ReplyIn packet) outcome old new h = reply_spares None (reply_in_packet (packet_at old.replies packet)) outcome old new h
+step_spares (event.OrderIn packet) outcome old new h = order_spares None (order_in_packet (at_number old.orders packet)) outcome old new h
+step_spares (event.ReplyIn packet) outcome old new h = reply_spares None (reply_in_packet (at_number old.replies packet)) outcome old new h
 step_spares (event.Restart node.Clear) outcome old new h = spares_ended None old.clear.lots new.clear.lots h.3.2.1
 step_spares (event.Restart node.Depot) outcome old new h = node_same None old.clear new.clear h.0
 
@@ -176,7 +176,7 @@ step_spares (event.Restart node.Depot) outcome old new h = node_same None old.cl
 -- the node's open lot stays of the issue of each lot that has not ended, but for the one of this number, where it had not ended
 abbrev pub KeepsTwins : Option ℕ → NumberedNode → NumberedNode → Type 0
 KeepsTwins changed old new =
-    (n : ℕ) (l : LotState) → (changed ≡ Some n → is_open old.lots n ≡ false) → lot_at old.lots n ≡ Some l → lot_at new.lots n ≡ Some l → l.ended ≡ false
+    (n : ℕ) (l : LotState) → (changed ≡ Some n → is_open old.lots n ≡ false) → at_number old.lots n ≡ Some l → at_number new.lots n ≡ Some l → l.ended ≡ false
     → lot_of new.clear.lots l.issue ≡ lot_of old.clear.lots l.issue
 
 pub twins_same : (changed : Option ℕ) (old new : NumberedNode) → new.clear.lots ≡ old.clear.lots → KeepsTwins changed old new
@@ -186,8 +186,8 @@ twins_node : (changed : Option ℕ) (old new : NumberedNode) → new ≡ old →
 twins_node changed old new same = twins_same changed old new (ap (λ (n : NumberedNode). n.clear.lots) same)
 
 -- a lot that is not of the number is of another issue
-other_issue : (old : NumberedNode) (m n : ℕ) (k l : LotState) → AreTied old.clear.lots old.lots → lot_at old.lots m ≡ Some k → k.ended ≡ false
-    → lot_at old.lots n ≡ Some l → l.ended ≡ false → (Some m ≡ Some n → is_open old.lots n ≡ false) → l.issue ≡ k.issue → ⊥
+other_issue : (old : NumberedNode) (m n : ℕ) (k l : LotState) → AreTied old.clear.lots old.lots → at_number old.lots m ≡ Some k → k.ended ≡ false
+    → at_number old.lots n ≡ Some l → l.ended ≡ false → (Some m ≡ Some n → is_open old.lots n ≡ false) → l.issue ≡ k.issue → ⊥
 other_issue old m n k l are found going there up spared same =
     let one : n ≡ m = are.once n m l k there found up going same in
     let no : true ≡ false = sym (open_found old.lots n l there up) ∙ spared (ap Some (sym one)) in cc
@@ -232,7 +232,7 @@ close_twins m (Err _) old new are h = absurd h
 
 ended_twins : (changed : Option ℕ) (old new : NumberedNode) → new.lots ≡ map with_end old.lots → KeepsTwins changed old new
 ended_twins changed old new is n l spared found now going =
-    let no : true ≡ false = sym (ended_at old.lots n l (ap (λ (lots : List LotState). lot_at lots n) (sym is) ∙ now)) ∙ going in cc
+    let no : true ≡ false = sym (ended_at old.lots n l (ap (λ (lots : List LotState). at_number lots n) (sym is) ∙ now)) ∙ going in cc
 
 -- calls that no open lot knows of
 lots_of : (old new : ClearNode) → new ≡ old → new.lots ≡ old.lots
@@ -300,7 +300,7 @@ step_twins (event.LookAsked lot) outcome old new are h = twins_node None old.cle
 step_twins (event.Seal lot) outcome old new are h = twins_same (Some lot) old.clear new.clear (lots_of old.clear.clear new.clear.clear h.3.2.1)
 step_twins (event.LotClose lot) outcome old new are h = close_twins lot h.3.0 old.clear new.clear are h.3.2
 step_twins (event.Send number) outcome old new are h = send_twins None number outcome old new h
-step_twins (event.OrderIn packet) outcome old new are h = order_twins None (order_in_packet (packet_at old.orders packet)) outcome old new h
-step_twins (event.ReplyIn packet) outcome old new are h = reply_twins None (reply_in_packet (packet_at old.replies packet)) outcome old new h
+step_twins (event.OrderIn packet) outcome old new are h = order_twins None (order_in_packet (at_number old.orders packet)) outcome old new h
+step_twins (event.ReplyIn packet) outcome old new are h = reply_twins None (reply_in_packet (at_number old.replies packet)) outcome old new h
 step_twins (event.Restart node.Clear) outcome old new are h = ended_twins None old.clear new.clear h.3.2.1
 step_twins (event.Restart node.Depot) outcome old new are h = twins_node None old.clear new.clear h.0

@@ -12,7 +12,8 @@ use Rattle.cns_clearing.specs.Pools.{lot_of}
 use Rattle.cns_clearing.specs.declared.lot.Lot.{Lot}
 use Rattle.cns_records.specs.declared.clear_record.ClearRecord.{ClearRecord}
 use Rattle.cns_system.specs.Lot.{LotState, IsOfPlan, with_end}
-use Rattle.cns_system.specs.Lots.{ArePlanned, lot_at, update_at}
+use Rattle.cns_wire.specs.Packet.{at_number}
+use Rattle.cns_system.specs.Lots.{ArePlanned, update_at}
 use Rattle.cns_system.specs.Numbered.{AreTied, IsTied}
 
 -- ---- the node's lot of an issue
@@ -97,14 +98,14 @@ positive zero differ = absurd (differ refl)
 positive (suc n) differ = omega arith
 
 -- a number that has a lot is 1 or more
-pub at_place : (lots : List LotState) (n : ℕ) (l : LotState) → lot_at lots n ≡ Some l → (1 ≤ n) × (slice_get lots (n - 1) ≡ Some l)
+pub at_place : (lots : List LotState) (n : ℕ) (l : LotState) → at_number lots n ≡ Some l → (1 ≤ n) × (slice_get lots (n - 1) ≡ Some l)
 at_place lots n l found = by (n == 0) refl found
   where
     by : (b : Bool) → (n == 0) ≡ b → (if b then None else slice_get lots (n - 1)) ≡ Some l → (1 ≤ n) × (slice_get lots (n - 1) ≡ Some l)
     by true e is = cc
     by false e is = (positive n (eqb-false n 0 e), is)
 
-pub from_place : (lots : List LotState) (n : ℕ) (l : LotState) → 1 ≤ n → slice_get lots (n - 1) ≡ Some l → lot_at lots n ≡ Some l
+pub from_place : (lots : List LotState) (n : ℕ) (l : LotState) → 1 ≤ n → slice_get lots (n - 1) ≡ Some l → at_number lots n ≡ Some l
 from_place lots n l some found =
     let given : (n == 0) ≡ false = false_from_ne_true (n == 0) (λ e. absurd (omega (arith, some, eqb-true n 0 e))) in
     ap (λ b. if b then None else slice_get lots (n - 1)) given ∙ found
@@ -114,12 +115,12 @@ from_place lots n l some found =
 -- where a number's lot took the place of one of the same issue
 record IsFrom (lots : List LotState) (m : ℕ) (k : LotState) : Type 0 where
   before : LotState
-  found : lot_at lots m ≡ Some before
+  found : at_number lots m ≡ Some before
   going : before.ended ≡ false
   issue : before.issue ≡ k.issue
 
-pub at_changed : (lots : List LotState) (n m : ℕ) (l x k : LotState) → lot_at lots n ≡ Some l → lot_at (update_at lots n x) m ≡ Some k
-    → ((m ≡ n) × (x ≡ k)) ⊎ ((m ≡ n → ⊥) × (lot_at lots m ≡ Some k))
+pub at_changed : (lots : List LotState) (n m : ℕ) (l x k : LotState) → at_number lots n ≡ Some l → at_number (update_at lots n x) m ≡ Some k
+    → ((m ≡ n) × (x ≡ k)) ⊎ ((m ≡ n → ⊥) × (at_number lots m ≡ Some k))
 at_changed lots n m l x k found changed = by (cases_eq m n)
   where
     here : (1 ≤ n) × (slice_get lots (n - 1) ≡ Some l)
@@ -128,7 +129,7 @@ at_changed lots n m l x k found changed = by (cases_eq m n)
     there : (1 ≤ m) × (slice_get (slice_set lots (n - 1) x) (m - 1) ≡ Some k)
     there = at_place (update_at lots n x) m k changed
 
-    by : (m ≡ n) ⊎ (m ≡ n → ⊥) → ((m ≡ n) × (x ≡ k)) ⊎ ((m ≡ n → ⊥) × (lot_at lots m ≡ Some k))
+    by : (m ≡ n) ⊎ (m ≡ n → ⊥) → ((m ≡ n) × (x ≡ k)) ⊎ ((m ≡ n → ⊥) × (at_number lots m ≡ Some k))
     by (inl e) =
         inl (
           e,
@@ -139,7 +140,7 @@ at_changed lots n m l x k found changed = by (cases_eq m n)
         inr (differ, from_place lots m k there.0 (sym (get_set_other lots (n - 1) (m - 1) x apart) ∙ there.1))
 
 -- a lot of a number that has not ended changes, and stays of its issue; the lots of other issues stay
-pub tied_changed : (open_lots after : List Lot) (lots : List LotState) (n : ℕ) (l x : LotState) → AreTied open_lots lots → lot_at lots n ≡ Some l → l.ended ≡ false
+pub tied_changed : (open_lots after : List Lot) (lots : List LotState) (n : ℕ) (l x : LotState) → AreTied open_lots lots → at_number lots n ≡ Some l → l.ended ≡ false
     → x.issue ≡ l.issue → (x.ended ≡ false → IsTied after x)
     → ((other : ℕ) → (other ≡ l.issue → ⊥) → lot_of after other ≡ lot_of open_lots other) → AreTied after (update_at lots n x)
 tied_changed open_lots after lots n l x are found going issue one others = record {
@@ -150,19 +151,19 @@ tied_changed open_lots after lots n l x are found going issue one others = recor
       are.once m p first.before second.before first.found second.found first.going second.going (first.issue ∙ same ∙ sym second.issue);
 }
   where
-    each : (m : ℕ) (k : LotState) → lot_at (update_at lots n x) m ≡ Some k → k.ended ≡ false
-        → ((m ≡ n) × (x ≡ k)) ⊎ ((m ≡ n → ⊥) × (lot_at lots m ≡ Some k)) → IsTied after k
+    each : (m : ℕ) (k : LotState) → at_number (update_at lots n x) m ≡ Some k → k.ended ≡ false
+        → ((m ≡ n) × (x ≡ k)) ⊎ ((m ≡ n → ⊥) × (at_number lots m ≡ Some k)) → IsTied after k
     each m k at up (inl h) = subst (λ (y : LotState). y.ended ≡ false → IsTied after y) h.1 one up
     each m k at up (inr h) =
         let tied = are.each m k h.1 up in
         let other : k.issue ≡ l.issue → ⊥ = λ e. h.0 (are.once m n k l h.1 found up going e) in
         record { twin = tied.twin; found = others k.issue other ∙ tied.found; is = tied.is }
 
-    from : (m : ℕ) (k : LotState) → lot_at (update_at lots n x) m ≡ Some k → k.ended ≡ false
-        → ((m ≡ n) × (x ≡ k)) ⊎ ((m ≡ n → ⊥) × (lot_at lots m ≡ Some k)) → IsFrom lots m k
+    from : (m : ℕ) (k : LotState) → at_number (update_at lots n x) m ≡ Some k → k.ended ≡ false
+        → ((m ≡ n) × (x ≡ k)) ⊎ ((m ≡ n → ⊥) × (at_number lots m ≡ Some k)) → IsFrom lots m k
     from m k at up (inl h) = record {
       before = l;
-      found = ap (lot_at lots) h.0 ∙ found;
+      found = ap (at_number lots) h.0 ∙ found;
       going = going;
       issue = sym issue ∙ ap (λ (y : LotState). y.issue) h.1;
     }
@@ -176,36 +177,36 @@ tied_more open_lots lots new x are none issue is = record {
   once = λ m p k j at_m at_p up_k up_j same. once m p k j up_k up_j same (place m k at_m) (place p j at_p);
 }
   where
-    place : (m : ℕ) (k : LotState) → lot_at (lots ++ x ∷ []) m ≡ Some k → (lot_at lots m ≡ Some k) ⊎ ((m ≡ length lots + 1) × (x ≡ k))
+    place : (m : ℕ) (k : LotState) → at_number (lots ++ x ∷ []) m ≡ Some k → (at_number lots m ≡ Some k) ⊎ ((m ≡ length lots + 1) × (x ≡ k))
     place m k at =
         let here = at_place (lots ++ x ∷ []) m k at in
         by here.0 (get_more lots (m - 1) x k here.1)
       where
-        by : 1 ≤ m → (slice_get lots (m - 1) ≡ Some k) ⊎ ((m - 1 ≡ length lots) × (x ≡ k)) → (lot_at lots m ≡ Some k) ⊎ ((m ≡ length lots + 1) × (x ≡ k))
+        by : 1 ≤ m → (slice_get lots (m - 1) ≡ Some k) ⊎ ((m - 1 ≡ length lots) × (x ≡ k)) → (at_number lots m ≡ Some k) ⊎ ((m ≡ length lots + 1) × (x ≡ k))
         by some (inl h) = inl (from_place lots m k some h)
         by some (inr h) = inr (omega (arith, some, h.0), h.1)
 
-    each : (m : ℕ) (k : LotState) → k.ended ≡ false → (lot_at lots m ≡ Some k) ⊎ ((m ≡ length lots + 1) × (x ≡ k)) → IsTied (open_lots ++ new ∷ []) k
+    each : (m : ℕ) (k : LotState) → k.ended ≡ false → (at_number lots m ≡ Some k) ⊎ ((m ≡ length lots + 1) × (x ≡ k)) → IsTied (open_lots ++ new ∷ []) k
     each m k up (inl h) =
         let tied = are.each m k h up in
         record { twin = tied.twin; found = found_more open_lots new tied.twin k.issue tied.found; is = tied.is }
     each m k up (inr h) =
         subst (IsTied (open_lots ++ new ∷ [])) h.1 (record { twin = new; found = found_new open_lots new x.issue issue none; is = is })
 
-    apart : (m : ℕ) (k : LotState) → lot_at lots m ≡ Some k → k.ended ≡ false → k.issue ≡ x.issue → ⊥
+    apart : (m : ℕ) (k : LotState) → at_number lots m ≡ Some k → k.ended ≡ false → k.issue ≡ x.issue → ⊥
     apart m k at up e =
         let tied = are.each m k at up in
         let no : None ≡ Some tied.twin = sym none ∙ ap (lot_of open_lots) (sym e) ∙ tied.found in cc
 
-    once : (m p : ℕ) (k j : LotState) → k.ended ≡ false → j.ended ≡ false → k.issue ≡ j.issue → (lot_at lots m ≡ Some k) ⊎ ((m ≡ length lots + 1) × (x ≡ k))
-        → (lot_at lots p ≡ Some j) ⊎ ((p ≡ length lots + 1) × (x ≡ j)) → m ≡ p
+    once : (m p : ℕ) (k j : LotState) → k.ended ≡ false → j.ended ≡ false → k.issue ≡ j.issue → (at_number lots m ≡ Some k) ⊎ ((m ≡ length lots + 1) × (x ≡ k))
+        → (at_number lots p ≡ Some j) ⊎ ((p ≡ length lots + 1) × (x ≡ j)) → m ≡ p
     once m p k j up_k up_j same (inl h) (inl g) = are.once m p k j h g up_k up_j same
     once m p k j up_k up_j same (inl h) (inr g) = absurd (apart m k h up_k (same ∙ ap (λ (y : LotState). y.issue) (sym g.1)))
     once m p k j up_k up_j same (inr h) (inl g) = absurd (apart p j g up_j (sym same ∙ ap (λ (y : LotState). y.issue) (sym h.1)))
     once m p k j up_k up_j same (inr h) (inr g) = h.0 ∙ sym g.0
 
 -- lots that have all ended
-pub ended_at : (lots : List LotState) (n : ℕ) (k : LotState) → lot_at (map with_end lots) n ≡ Some k → k.ended ≡ true
+pub ended_at : (lots : List LotState) (n : ℕ) (k : LotState) → at_number (map with_end lots) n ≡ Some k → k.ended ≡ true
 ended_at lots n k at =
     let here = at_place (map with_end lots) n k at in
     by (slice_get lots (n - 1)) (sym (slice_get-map with_end lots (n - 1)) ∙ here.1)

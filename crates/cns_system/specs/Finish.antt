@@ -12,7 +12,7 @@ use Rattle.cns_records.specs.declared.refusal.Refusal.TheVariants as refusal
 use Rattle.cns_system.specs.Begin.{IsRefusal}
 use Rattle.cns_system.specs.Floor.{BusyLot, FloorState, busy_at}
 use Rattle.cns_system.specs.Lot.{IsPlanOf, LotState}
-use Rattle.cns_system.specs.Lots.{lot_at}
+use Rattle.cns_wire.specs.Packet.{at_number}
 use Rattle.cns_system.specs.Run.{Occurs, Run}
 use Rattle.cns_system.specs.Step.{Step}
 use Rattle.cns_system.specs.World.{World}
@@ -130,4 +130,4 @@ pub record AreOfOnePlan (c : List ClearRecord) (told : List Outcome) : Type 0 wh
 
 -- nobody drew a ticket of the lot of a number, where it has not ended, and it is not sealed
 abbrev pub IsUnserved : ℕ → List LotState → Type 0
-IsUnserved n lots = (lot : LotState) → lot_at lots n ≡ Some lot → lot.ended ≡ false → (lot.tickets ≡ []) × (lot.sealed ≡ false)
+IsUnserved n lots = (lot : LotState) → at_number lots n ≡ Some lot → lot.ended ≡ false → (lot.tickets ≡ []) × (lot.sealed ≡ false)

@@ -8,7 +8,7 @@ use Rattle.cns_clearing.specs.declared.lot.Lot.{Lot}
 use Rattle.cns_system.specs.Accord.{IsInAccord}
 use Rattle.cns_system.specs.Headline.{IsAgreed}
 use Rattle.cns_system.specs.Lot.{LotState}
-use Rattle.cns_system.specs.Lots.{lot_at}
+use Rattle.cns_wire.specs.Packet.{at_number}
 use Rattle.cns_system.specs.Numbered.{NumberedNode}
 use Rattle.cns_system.specs.Run.{Occurs}
 use Rattle.cns_system.specs.World.{World}
@@ -42,7 +42,7 @@ pub record IsFed (open_lots : List Lot) (b : BusyLot) (lot : LotState) : Type 0 
 -- a busy lot beside the clearing node and its lots by number: its number was given, and it is fed while it has not ended
 pub record IsBusy (node : NumberedNode) (b : BusyLot) : Type 0 where
   pub given : b.lot ≤ length node.lots
-  pub fed : (lot : LotState) → lot_at node.lots b.lot ≡ Some lot → lot.ended ≡ false → IsFed node.clear.lots b lot
+  pub fed : (lot : LotState) → at_number node.lots b.lot ≡ Some lot → lot.ended ≡ false → IsFed node.clear.lots b lot
 
 -- busy lots stand by number, each once
 abbrev pub AreInOrder : List BusyLot → Type 0
@@ -76,7 +76,7 @@ has_not_ended None = false
 has_not_ended (Some lot) = not lot.ended
 
 abbrev pub is_open : List LotState → ℕ → Bool
-is_open lots number = has_not_ended (lot_at lots number)
+is_open lots number = has_not_ended (at_number lots number)
 
 -- the busy lot of a number, where there is one and the lot has not ended
 abbrev pub served_at : FloorState → ℕ → Option BusyLot

@@ -11,7 +11,7 @@ use Rattle.cns_movements.specs.declared.book.Confirm.TheVariants as answers
 use Rattle.cns_movements.specs.declared.order.Ask.{Ask}
 use Rattle.cns_movements.specs.declared.order.Order.{Order}
 use Rattle.cns_movements.specs.declared.order.Reply.{Reply}
-use Rattle.cns_wire.specs.Packet.{packet_at}
+use Rattle.cns_wire.specs.Packet.{at_number}
 use Rattle.cns_pool.specs.Pool.{asked_sum}
 use Rattle.cns_allocate.specs.declared.turns.Turn.TheVariants as turn
 use Rattle.cns_records.specs.declared.clear_record.ClearRecord.{ClearRecord}
@@ -26,7 +26,7 @@ use Rattle.cns_clearing.specs.Pools.{free_of, lent_of, lot_of}
 use Rattle.cns_depository.specs.Answers.{reply_to}
 use Rattle.cns_depository.specs.Stock.{moved_by, movement, order_in, record_of}
 use Rattle.cns_system.specs.Lot.{LotState, ticket_in, turn_in, with_end, with_seal, with_ticket}
-use Rattle.cns_system.specs.Lots.{is_empty, lot_at}
+use Rattle.cns_system.specs.Lots.{is_empty}
 use Rattle.cns_system.specs.Shown.{Shown, clear_added, clear_failed, clear_reread, clear_unread, depot_added, depot_failed, depot_reread, depot_unread, with_lot, with_new_lot, with_pour}
 use Rattle.cns_system.specs.declared.event.Event.{Event}
 use Rattle.cns_system.specs.declared.event.Event.TheVariants as event
@@ -67,16 +67,16 @@ commits _ happening failed = Ok happening
 abbrev pub clear_commits : Decision → ClearRecord → Outcome → Shown → Judged
 clear_commits d r told w = commits d (told, clear_added r w) (clear_failed r w)
 
+abbrev pub clear_up : Shown → Result (Unit {0}) Refusal
+clear_up w = need (not w.clear.down) refusal.Down
+
 -- the orders that are made of asks
 abbrev pub next_orders : Shown → List Ask → List Order
 next_orders w asks = numbered (length (orders_of w.clear.records).orders + 1) asks
 
 -- the lot of a number, which has not ended
 abbrev pub going_lot : Shown → ℕ → Result LotState Refusal
-going_lot w number = do
-  lot ← ok_or (lot_at w.clear.lots number) refusal.NoLot
-  need (not lot.ended) refusal.StaleLot
-  Ok lot
+going_lot w number = ok_or (at_number w.clear.lots number) refusal.NoLot >>= λ lot. need (not lot.ended) refusal.StaleLot >> Ok lot
 
 -- a reply is put on the link
 abbrev pub with_reply : Reply → Shown → Shown
@@ -95,56 +95,39 @@ restarts _ before after read unread = (outcomes.Restarted after (after == before
 -- an event that is not refused, or its first refusal
 unfoldable pub judged : Decision → Event → Shown → Judged
 judged d (event.Trade t) w = do
-  need (not w.clear.down) refusal.Down
-  elim (verdict_in w.clear.records t) [
-    | verdicts.New ↦ clear_commits d (entry.Accept t) outcomes.Accepted w
-    | verdict ↦ Err (refusal.Trade verdict)
-  ]
-judged d (event.Exempt member issue shares) w = do
-  need (not w.clear.down) refusal.Down
-  clear_commits d (entry.Exempt member issue shares) outcomes.Done w
-judged d (event.Priority member issue on) w = do
-  need (not w.clear.down) refusal.Down
-  clear_commits d (entry.Priority member issue on) outcomes.Done w
+  clear_up w
+  elim (verdict_in w.clear.records t) [ verdicts.New ↦ clear_commits d (entry.Accept t) outcomes.Accepted w | verdict ↦ Err (refusal.Trade verdict) ]
+judged d (event.Exempt member issue shares) w = clear_up w >> clear_commits d (entry.Exempt member issue shares) outcomes.Done w
+judged d (event.Priority member issue on) w = clear_up w >> clear_commits d (entry.Priority member issue on) outcomes.Done w
 judged d (event.Cycle id) w = do
-  need (not w.clear.down) refusal.Down
+  clear_up w
   need (is_later (latest_of w.clear.records) id) refusal.CycleOrder
   need (is_empty w.clear.open_lots) refusal.LotsOpen
   let asks = covers_in w.clear.records id.day
   need (not (are_spent (orders_of w.clear.records) asks)) refusal.NumbersSpent
   clear_commits d (entry.Cycle id) (outcomes.Cycled (record { due = becoming_due (history_of w.clear.records) id.day; orders = next_orders w asks })) w
 judged d (event.LotOpen issue) w = do
-  need (not w.clear.down) refusal.Down
+  clear_up w
   need (is_none (lot_of w.clear.open_lots issue)) refusal.LotAlready
   need (nat_lt (length w.clear.lots) 1000000) refusal.LotsSpent
   let lot = new_lot w.clear.records issue
   grows d (outcomes.LotOpened (record { number = length w.clear.lots + 1; poured = lot.poured; plan = lot.plan }), with_new_lot lot w)
 judged d (event.LotPour number) w = do
   lot ← going_lot w number
-  need (not w.clear.down) refusal.Down
+  clear_up w
   Ok (outcomes.Poured (free_of (orders_of w.clear.records) w.clear.open_lots lot.issue), with_pour lot.issue w)
 judged d (event.Reserve number member) w = do
   lot ← going_lot w number
-  asked ← elim (turn_in lot member) [
-    | turn.NotLong ↦ Err refusal.NotLong
-    | turn.EarlierGroup ↦ Err refusal.EarlierGroup
-    | turn.Next asked ↦ Ok asked
-  ]
+  asked ← elim (turn_in lot member) [ turn.NotLong ↦ Err refusal.NotLong | turn.EarlierGroup ↦ Err refusal.EarlierGroup | turn.Next asked ↦ Ok asked ]
   need (not lot.sealed) refusal.Sealed
   let ticket = ticket_in lot member asked
   Ok (outcomes.Drawn ticket, with_lot number (with_ticket ticket lot) w)
-judged d (event.LookPoured number) w = do
-  lot ← going_lot w number
-  Ok (outcomes.LookedPoured (lent_of w.clear.open_lots lot.issue), w)
-judged d (event.LookAsked number) w = do
-  lot ← going_lot w number
-  Ok (outcomes.LookedAsked (asked_sum lot.tickets) lot.sealed, w)
-judged d (event.Seal number) w = do
-  lot ← going_lot w number
-  Ok (outcomes.Done, with_lot number (with_seal lot) w)
+judged d (event.LookPoured number) w = going_lot w number >>= λ lot. Ok (outcomes.LookedPoured (lent_of w.clear.open_lots lot.issue), w)
+judged d (event.LookAsked number) w = going_lot w number >>= λ lot. Ok (outcomes.LookedAsked (asked_sum lot.tickets) lot.sealed, w)
+judged d (event.Seal number) w = going_lot w number >>= λ lot. Ok (outcomes.Done, with_lot number (with_seal lot) w)
 judged d (event.LotClose number) w = do
   lot ← going_lot w number
-  need (not w.clear.down) refusal.Down
+  clear_up w
   need (lot.sealed || is_empty lot.turns) refusal.Unserved
   twin ← ok_or (lot_of w.clear.open_lots lot.issue) refusal.NoLot
   let a = allocation_of twin lot.tickets lot.sealed
@@ -152,22 +135,21 @@ judged d (event.LotClose number) w = do
   let told = outcomes.Closed (record { granted = min a.poured (asked_sum lot.tickets); orders = next_orders w (deliveries_in a) })
   commits d (told, with_lot number (with_end lot) (clear_added (entry.Allocate a) w)) (clear_failed (entry.Allocate a) w)
 judged d (event.Send number) w = do
-  need (not w.clear.down) refusal.Down
+  clear_up w
   o ← ok_or (order_of (orders_of w.clear.records).orders number) refusal.UnknownMove
   grows d (outcomes.Sent (length w.orders + 1), record w { orders = w.orders ++ Some o ∷ [] })
 judged d (event.OrderIn packet) w = do
-  o ← ok_or (option_flatten (packet_at w.orders packet)) refusal.NoPacket
+  o ← ok_or (option_flatten (at_number w.orders packet)) refusal.NoPacket
   need (not w.depot.down) refusal.Down
   let e = movement w.depot.openings w.depot.records o
   let reply = λ (e : DepRecord). reply_to o (moved_by e)
-  let packet = length w.replies + 1
   elim (record_of w.depot.records o.number) [
-    | None ↦ commits d (outcomes.Executed (reply e) packet, with_reply (reply e) (depot_added e w)) (depot_failed e w)
-    | Some known ↦ need (same_order (order_in known) o) refusal.Conflict >> grows d (outcomes.ExecutedAgain (reply known) packet, with_reply (reply known) w)
+    | None ↦ commits d (outcomes.Executed (reply e) (length w.replies + 1), with_reply (reply e) (depot_added e w)) (depot_failed e w)
+    | Some known ↦ need (same_order (order_in known) o) refusal.Conflict >> grows d (outcomes.ExecutedAgain (reply known) (length w.replies + 1), with_reply (reply known) w)
   ]
 judged d (event.ReplyIn packet) w = do
-  r ← ok_or (option_flatten (packet_at w.replies packet)) refusal.NoPacket
-  need (not w.clear.down) refusal.Down
+  r ← ok_or (option_flatten (at_number w.replies packet)) refusal.NoPacket
+  clear_up w
   elim (answer_in w.clear.records r) [
     | answers.Done ↦ clear_commits d (entry.Confirm r) (outcomes.Confirmed r) w
     | answers.Again ↦ Ok (outcomes.ConfirmedAgain r, w)

@@ -1,6 +1,7 @@
 -- The lots in the order of their numbers, which are counted from 1, and what each call answers and leaves (this project's own
 -- rules). A refusal leaves all as it was.
-use Rattle.std.specs.Prelude.{◌≡◌, ℕ, ◌-◌, ◌==◌, Bool, true, false, List, [], ◌∷◌, Option, Some, None, Result, Ok, Err, IsSomeAnd, slice_get, slice_set, if◌then◌else◌}
+use Rattle.std.specs.Prelude.{◌≡◌, ℕ, ◌-◌, Bool, true, false, List, [], ◌∷◌, Option, Some, None, Result, Ok, Err, IsSomeAnd, slice_set}
+use Rattle.cns_wire.specs.Packet.{at_number}
 use Rattle.cns_pool.specs.declared.ticket.Ticket.{Ticket}
 use Rattle.cns_allocate.specs.declared.planned.Planned.{Planned}
 use Rattle.cns_allocate.specs.declared.turns.Turn.TheVariants as turn
@@ -12,10 +13,6 @@ use Rattle.cns_system.specs.Lot.{LotState, IsOfPlan, IsPlanOf, turn_in, ticket_i
 abbrev pub is_empty : {A : Type 0} → List A → Bool
 is_empty [] = true
 is_empty (x ∷ xs) = false
-
--- the lot of a number, where it was given
-abbrev pub lot_at : List LotState → ℕ → Option LotState
-lot_at lots number = if number == 0 then None else slice_get lots (number - 1)
 
 -- the lots with this one in the place of the number
 abbrev pub update_at : List LotState → ℕ → LotState → List LotState
@@ -33,27 +30,27 @@ pub record IsPlanned (c : List ClearRecord) (lot : LotState) : Type 0 where
   pub is : IsOfPlan plan lot
 
 abbrev pub ArePlanned : List ClearRecord → List LotState → Type 0
-ArePlanned c lots = (number : ℕ) (lot : LotState) → lot_at lots number ≡ Some lot → lot.ended ≡ false → IsPlanned c lot
+ArePlanned c lots = (number : ℕ) (lot : LotState) → at_number lots number ≡ Some lot → lot.ended ≡ false → IsPlanned c lot
 
 -- a lot was opened with the number and has not ended, and this holds of it
 abbrev pub HasOpenLot : List LotState → ℕ → (LotState → Type 0) → Type 0
-HasOpenLot lots number P = IsSomeAnd (lot_at lots number) (λ (lot : LotState). (lot.ended ≡ false) × P lot)
+HasOpenLot lots number P = IsSomeAnd (at_number lots number) (λ (lot : LotState). (lot.ended ≡ false) × P lot)
 
 -- a lot was opened with the number and has ended
 abbrev pub HasEndedLot : List LotState → ℕ → Type 0
-HasEndedLot lots number = IsSomeAnd (lot_at lots number) (λ (lot : LotState). lot.ended ≡ true)
+HasEndedLot lots number = IsSomeAnd (at_number lots number) (λ (lot : LotState). lot.ended ≡ true)
 
 -- what is answered about the lot of a number: of one that has not ended, an answer of which this holds
 abbrev pub LotGives : {X : Type 0} → (LotState → X → Type 0) → ℕ → Result X Refusal → List LotState → Type 0
 LotGives P number (Ok x) lots = HasOpenLot lots number (λ (lot : LotState). P lot x)
-LotGives P number (Err refusal.NoLot) lots = lot_at lots number ≡ None
+LotGives P number (Err refusal.NoLot) lots = at_number lots number ≡ None
 LotGives P number (Err refusal.StaleLot) lots = HasEndedLot lots number
 LotGives P number (Err _) lots = ⊥
 
 -- what a change of the lot of a number leaves
 abbrev pub LotLeaves : (LotState → LotState) → ℕ → Result (Unit {0}) Refusal → List LotState → List LotState → Type 0
 LotLeaves change number (Ok _) old new = HasOpenLot old number (λ (lot : LotState). new ≡ update_at old number (change lot))
-LotLeaves change number (Err refusal.NoLot) old new = (lot_at old number ≡ None) × (new ≡ old)
+LotLeaves change number (Err refusal.NoLot) old new = (at_number old number ≡ None) × (new ≡ old)
 LotLeaves change number (Err refusal.StaleLot) old new = HasEndedLot old number × (new ≡ old)
 LotLeaves change number (Err _) old new = ⊥
 
@@ -67,7 +64,7 @@ ReserveLeaves number member (Ok ticket) old new =
     HasOpenLot old number
     (λ (lot : LotState).
     (lot.sealed ≡ false) × IsTurnFor member lot ticket.asked × (ticket ≡ ticket_in lot member ticket.asked) × (new ≡ update_at old number (with_ticket ticket lot)))
-ReserveLeaves number member (Err refusal.NoLot) old new = (lot_at old number ≡ None) × (new ≡ old)
+ReserveLeaves number member (Err refusal.NoLot) old new = (at_number old number ≡ None) × (new ≡ old)
 ReserveLeaves number member (Err refusal.StaleLot) old new = HasEndedLot old number × (new ≡ old)
 ReserveLeaves number member (Err refusal.NotLong) old new = HasOpenLot old number (λ (lot : LotState). turn_in lot member ≡ turn.NotLong) × (new ≡ old)
 ReserveLeaves number member (Err refusal.EarlierGroup) old new = HasOpenLot old number (λ (lot : LotState). turn_in lot member ≡ turn.EarlierGroup) × (new ≡ old)

@@ -10,7 +10,8 @@ use Rattle.cns_clearing.specs.declared.answer.Closed.{Closed}
 use Rattle.cns_records.specs.declared.refusal.Refusal.{Refusal}
 use Rattle.cns_records.specs.declared.refusal.Refusal.TheVariants as refusal
 use Rattle.cns_system.specs.Lot.{LotState, IsOfPlan, new_lot, with_end}
-use Rattle.cns_system.specs.Lots.{lot_at, update_at, HasEndedLot, HasOpenLot}
+use Rattle.cns_wire.specs.Packet.{at_number}
+use Rattle.cns_system.specs.Lots.{update_at, HasEndedLot, HasOpenLot}
 use Rattle.cns_system.specs.declared.numbered.Opened.{Opened}
 
 -- the node, and the lots in the order of their numbers
@@ -26,8 +27,8 @@ pub record IsTied (open_lots : List Lot) (lot : LotState) : Type 0 where
 
 -- of each lot that has not ended the node has the open lot of its issue, and no two of them are of one issue
 pub record AreTied (open_lots : List Lot) (lots : List LotState) : Type 0 where
-  pub each : (number : ℕ) (lot : LotState) → lot_at lots number ≡ Some lot → lot.ended ≡ false → IsTied open_lots lot
-  pub once : (m n : ℕ) (k l : LotState) → lot_at lots m ≡ Some k → lot_at lots n ≡ Some l → k.ended ≡ false → l.ended ≡ false → k.issue ≡ l.issue → m ≡ n
+  pub each : (number : ℕ) (lot : LotState) → at_number lots number ≡ Some lot → lot.ended ≡ false → IsTied open_lots lot
+  pub once : (m n : ℕ) (k l : LotState) → at_number lots m ≡ Some k → at_number lots n ≡ Some l → k.ended ≡ false → l.ended ≡ false → k.issue ≡ l.issue → m ≡ n
 
 -- an opened lot has the next number, all shares of the issue that are there, at most 10^18, and its plan
 pub record IsOpened (node : NumberedNode) (issue : ℕ) (opened : Opened) : Type 0 where
@@ -53,7 +54,7 @@ OpenLeaves issue (Err _) old new = ⊥
 abbrev pub PourLeaves : ℕ → Result ℕ Refusal → NumberedNode → NumberedNode → Type 0
 PourLeaves number (Ok shares) old new =
     HasOpenLot old.lots number (λ (lot : LotState). LotPourLeaves lot.issue (Ok shares) old.clear new.clear) × (new.lots ≡ old.lots)
-PourLeaves number (Err refusal.NoLot) old new = (lot_at old.lots number ≡ None) × (new ≡ old)
+PourLeaves number (Err refusal.NoLot) old new = (at_number old.lots number ≡ None) × (new ≡ old)
 PourLeaves number (Err refusal.StaleLot) old new = HasEndedLot old.lots number × (new ≡ old)
 PourLeaves number (Err refusal.Down) old new = HasOpenLot old.lots number (λ (lot : LotState). old.clear.log.down ≡ true) × (new ≡ old)
 PourLeaves number (Err _) old new = ⊥
@@ -68,7 +69,7 @@ CloseLeaves number (Ok done) old new =
     HasOpenLot old.lots number
     (λ (lot : LotState).
     IsMet lot × LotCloseLeaves lot.issue lot.tickets lot.sealed (Ok done) old.clear new.clear × (new.lots ≡ update_at old.lots number (with_end lot)))
-CloseLeaves number (Err refusal.NoLot) old new = (lot_at old.lots number ≡ None) × (new ≡ old)
+CloseLeaves number (Err refusal.NoLot) old new = (at_number old.lots number ≡ None) × (new ≡ old)
 CloseLeaves number (Err refusal.StaleLot) old new = HasEndedLot old.lots number × (new ≡ old)
 CloseLeaves number (Err refusal.Down) old new = HasOpenLot old.lots number (λ (lot : LotState). old.clear.log.down ≡ true) × (new ≡ old)
 CloseLeaves number (Err refusal.Unserved) old new =

@@ -113,12 +113,9 @@ abbrev pub Comes : Event → Outcome → World → World → Type 0
 Comes e outcome old new = (chance : Chance) × (comes_to chance e (scene_of old) ≡ (outcome, scene_of new))
 
 -- the next commit of a node is planned to fail
-abbrev pub planned_sight : Bool → Sight → Sight
-planned_sight stands s = record s { foresight = record s.foresight { next = Fails stands } }
-
 abbrev pub planned : NodeName → Bool → Scene → Scene
-planned node.Clear stands s = record s { clear = planned_sight stands s.clear }
-planned node.Depot stands s = record s { depot = planned_sight stands s.depot }
+planned node.Clear stands s = record s { clear = record s.clear { foresight = record s.clear.foresight { next = Fails stands } } }
+planned node.Depot stands s = record s { depot = record s.depot { foresight = record s.depot.foresight { next = Fails stands } } }
 
 -- whether a node's keeper plans failures
 abbrev pub is_planner : NodeName → Scene → Bool

@@ -6,7 +6,7 @@ use Rattle.cns_movements.specs.declared.order.Order.{Order}
 use Rattle.cns_movements.specs.declared.order.Reply.{Reply}
 use Rattle.cns_records.specs.declared.clear_record.ClearRecord.TheVariants as entry
 use Rattle.cns_wire.specs.Frame.{order_frame, reply_frame}
-use Rattle.cns_wire.specs.Packet.{packet_at}
+use Rattle.cns_wire.specs.Packet.{at_number}
 use Rattle.cns_depository.specs.Answers.{OrderLeaves}
 use Rattle.cns_depository.specs.Node.{DepNode, RestartLeaves as DepotRestartLeaves}
 use Rattle.cns_depository.specs.Stock.{order_in, record_of}
@@ -146,7 +146,7 @@ Step (event.LookAsked lot) outcome old new = AtClear asked_outcome (Looks lot) o
 Step (event.Seal lot) outcome old new = AtClear done_outcome (ByLots (LotLeaves with_seal lot)) outcome old new
 Step (event.LotClose lot) outcome old new = AtClear close_outcome (CloseLeaves lot) outcome old new
 Step (event.Send number) outcome old new = SendStep number outcome old new
-Step (event.OrderIn packet) outcome old new = OrderInStep (order_in_packet (packet_at old.orders packet)) outcome old new
-Step (event.ReplyIn packet) outcome old new = ReplyInStep (reply_in_packet (packet_at old.replies packet)) outcome old new
+Step (event.OrderIn packet) outcome old new = OrderInStep (order_in_packet (at_number old.orders packet)) outcome old new
+Step (event.ReplyIn packet) outcome old new = ReplyInStep (reply_in_packet (at_number old.replies packet)) outcome old new
 Step (event.Restart node.Clear) outcome old new = AtClear restart_outcome ClearRestarts outcome old new
 Step (event.Restart node.Depot) outcome old new = DepotRestartStep outcome old new

@@ -3,7 +3,7 @@ ghost use Rattle.cns_clearing.specs.Answers.{CycleLeaves, ReplyLeaves, SettingLe
 ghost use Rattle.cns_records.specs.Clear.{spelling};
 ghost use Rattle.cns_records.specs.Dep.{dep_spelling};
 ghost use Rattle.cns_wire.specs.Frame.{reply_frame};
-ghost use Rattle.cns_wire.specs.Packet.{packet_at};
+ghost use Rattle.cns_wire.specs.Packet.{at_number};
 ghost use Rattle.cns_system.specs.Accord.{AreLawful};
 ghost use Rattle.cns_system.specs.Headline.{IsBalanced};
 ghost use Rattle.cns_system.specs.Lots.{ArePlanned};
@@ -265,7 +265,7 @@ impl<C: Keeper, D: Keeper> Pair<C, D> {
 
     // The order that a packet holds.
     fn order_in_packet(&self, packet: u64) -> Option<Order>
-        ensures { result ≡ order_in_packet (packet_at self.now.orders packet) }
+        ensures { result ≡ order_in_packet (at_number self.now.orders packet) }
     {
         match read_frame(self.orders.packet(packet)?) {
             Ok(Frame::Order(order)) => Some(order),
@@ -275,7 +275,7 @@ impl<C: Keeper, D: Keeper> Pair<C, D> {
 
     // The reply that a packet holds.
     fn reply_in_packet(&self, packet: u64) -> Option<Reply>
-        ensures { result ≡ reply_in_packet (packet_at self.now.replies packet) }
+        ensures { result ≡ reply_in_packet (at_number self.now.replies packet) }
     {
         match read_frame(self.replies.packet(packet)?) {
             Ok(Frame::Reply(reply)) => Some(reply),
@@ -285,7 +285,7 @@ impl<C: Keeper, D: Keeper> Pair<C, D> {
 
     // Lets a packet arrive at the depository.
     fn order_in(&mut self, packet: u64) -> Outcome
-        ensures { OrderInStep (order_in_packet (packet_at self.old.orders packet)) result self.old self.new }
+        ensures { OrderInStep (order_in_packet (at_number self.old.orders packet)) result self.old self.new }
     {
         let Some(order) = self.order_in_packet(packet) else {
             return Outcome::Refused(Refusal::NoPacket);
@@ -330,7 +330,7 @@ impl<C: Keeper, D: Keeper> Pair<C, D> {
 
     // Lets a packet arrive at the clearing node.
     fn reply_in(&mut self, packet: u64) -> Outcome
-        ensures { ReplyInStep (reply_in_packet (packet_at self.old.replies packet)) result self.old self.new }
+        ensures { ReplyInStep (reply_in_packet (at_number self.old.replies packet)) result self.old self.new }
     {
         let Some(reply) = self.reply_in_packet(packet) else {
             return Outcome::Refused(Refusal::NoPacket);

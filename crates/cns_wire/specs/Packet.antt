@@ -10,9 +10,9 @@ pub record IsStored (len : ℕ) (bytes : List ℕ) : Type 0 where
   pub size : length (take len bytes) ≡ len
   pub rest : padded (take len bytes) ≡ bytes
 
--- the packet of this number, counted from 1, or what stands for it
-abbrev pub packet_at : {A : Type 0} → List A → ℕ → Option A
-packet_at packets number = if number == 0 then None else slice_get packets (number - 1)
+-- the one of this number, counted from 1, of packets or of others
+abbrev pub at_number : {A : Type 0} → List A → ℕ → Option A
+at_number packets number = if number == 0 then None else slice_get packets (number - 1)
 
 -- the packets that were put, the oldest first, and how many more there is room for
 pub record PacketRoom : Type 0 where

@@ -1,5 +1,5 @@
 ghost use Rattle.std.specs.Prelude.{◌≡◌, ◌+◌, ◌<◌, ◌≤◌, ◌↔◌, [], ◌∷◌, ◌++◌, length, option_map, IfOk, OnOk, OnErr, IsOk, IsTrue};
-ghost use Rattle.cns_wire.specs.Packet.{packet_at};
+ghost use Rattle.cns_wire.specs.Packet.{at_number};
 
 use crate::packet::Packet;
 use std::alloc::{AllocError, Global};
@@ -65,7 +65,7 @@ impl Wire {
 
     /// The packet of this number, counted from 1; none at 0 and past the last one.
     pub fn packet(&self, number: u64) -> Option<&[u8]>
-        ensures { option_map (λ bytes. bytes.now) result ≡ packet_at self.now.packets number }
+        ensures { option_map (λ bytes. bytes.now) result ≡ at_number self.now.packets number }
     {
         let place = number.checked_sub(1)?;
         self.packets.get(place as usize).map(Packet::as_bytes)
