@@ -13,6 +13,7 @@ use Rattle.cns_movements.specs.declared.order.Order.{Order}
 use Rattle.cns_movements.specs.declared.order.Reply.{Reply}
 use Rattle.cns_wire.specs.Packet.{at_number}
 use Rattle.cns_pool.specs.Pool.{asked_sum}
+use Rattle.cns_allocate.specs.Served.{turn_of}
 use Rattle.cns_allocate.specs.declared.turns.Turn.TheVariants as turn
 use Rattle.cns_records.specs.declared.clear_record.ClearRecord.{ClearRecord}
 use Rattle.cns_records.specs.declared.clear_record.ClearRecord.TheVariants as entry
@@ -25,7 +26,7 @@ use Rattle.cns_clearing.specs.Lots.{new_lot}
 use Rattle.cns_clearing.specs.Pools.{free_of, lent_of, lot_of}
 use Rattle.cns_depository.specs.Answers.{reply_to}
 use Rattle.cns_depository.specs.Stock.{moved_by, movement, order_in, record_of}
-use Rattle.cns_system.specs.Lot.{LotState, ticket_in, turn_in, with_end, with_seal, with_ticket}
+use Rattle.cns_system.specs.Lot.{LotState, ticket_in, with_end, with_seal, with_ticket}
 use Rattle.cns_system.specs.Lots.{is_empty}
 use Rattle.cns_system.specs.Shown.{Shown, clear_added, clear_failed, clear_reread, clear_unread, depot_added, depot_failed, depot_reread, depot_unread, with_lot, with_new_lot, with_pour}
 use Rattle.cns_system.specs.declared.event.Event.{Event}
@@ -118,7 +119,7 @@ judged d (event.LotPour number) w = do
   Ok (outcomes.Poured (free_of (orders_of w.clear.records) w.clear.open_lots lot.issue), with_pour lot.issue w)
 judged d (event.Reserve number member) w = do
   lot ← going_lot w number
-  asked ← elim (turn_in lot member) [ turn.NotLong ↦ Err refusal.NotLong | turn.EarlierGroup ↦ Err refusal.EarlierGroup | turn.Next asked ↦ Ok asked ]
+  asked ← elim (turn_of lot.turns member) [ turn.NotLong ↦ Err refusal.NotLong | turn.EarlierGroup ↦ Err refusal.EarlierGroup | turn.Next asked ↦ Ok asked ]
   need (not lot.sealed) refusal.Sealed
   let ticket = ticket_in lot member asked
   Ok (outcomes.Drawn ticket, with_lot number (with_ticket ticket lot) w)
@@ -164,10 +165,9 @@ judged d (event.Restart node.Depot) w = do
   let p : List DepRecord = elim d [ DepotReads p ↦ p | _ ↦ w.depot.records ]
   Ok (restarts d (length w.depot.records) (length p) (depot_reread p w) (depot_unread w))
 
--- what happens at an event
+-- what happens at an event: one that is refused leaves all as it was
 abbrev pub settled : Shown → Judged → Happening
-settled w (Ok happening) = happening
-settled w (Err r) = (outcomes.Refused r, w)
+settled w judgement = elim judgement [ Ok happening ↦ happening | Err r ↦ (outcomes.Refused r, w) ]
 
 unfoldable pub happens : Decision → Event → Shown → Happening
 happens d e w = settled w (judged d e w)
