@@ -1,6 +1,7 @@
--- The commands of a script (this project's own language): a table for each number of words.
-use Rattle.std.specs.Prelude.{ℕ, ◌^◌, ◌==◌, ◌||◌, Bool, true, false, Option, Some, None, List, [], ◌∷◌, length, slice_index, codes, option_map, unwrap_or, if◌then◌else◌}
+-- The commands of a script (this project's own language): a word, and arguments after it.
+use Rattle.std.specs.Prelude.{ℕ, ◌^◌, ◌==◌, ◌||◌, true, false, Option, Some, None, List, [], ◌∷◌, map, length, get_or, drop, slice_index, codes, option_map, unwrap_or, if◌then◌else◌}
 use Rattle.std.specs.Result.{result_ok}
+use Prim.Native.String.{String}
 use Rattle.cns_ids.specs.Cusip.{read_cusip}
 use Rattle.cns_ids.specs.Number.{number_in}
 use Rattle.cns_ids.specs.ReadDay.{read_day}
@@ -11,136 +12,85 @@ use Rattle.cns_system.specs.declared.event.Event.{Event}
 use Rattle.cns_system.specs.declared.event.Event.TheVariants as event
 use Rattle.cns_system.specs.declared.event.NodeName.{NodeName}
 use Rattle.cns_system.specs.declared.event.NodeName.TheVariants as node
-use Rattle.cns_input.specs.Words.{words_of}
+use Rattle.cns_input.specs.Words.{◌>>=◌, word_in, words_of}
 use Rattle.cns_input.specs.declared.command.Command.{Command}
 use Rattle.cns_input.specs.declared.command.Command.TheVariants as command
 
--- ---- the arguments
+-- ---- an argument
+
+abbrev pub number : ℕ → ℕ → List ℕ → Option ℕ
+number low high text = result_ok (number_in low high text)
 
 -- the number of an order, of a packet or of a lot
 abbrev pub place_in : List ℕ → Option ℕ
-place_in text = result_ok (number_in 0 1000000000 text)
-
--- a number of rows
-abbrev pub rows_in : List ℕ → Option ℕ
-rows_in text = result_ok (number_in 1 1000000 text)
-
--- a number of lines
-abbrev pub lines_in : List ℕ → Option ℕ
-lines_in text = result_ok (number_in 0 1000 text)
+place_in = number 0 1000000000
 
 abbrev pub member_in : List ℕ → Option ℕ
-member_in text = result_ok (number_in 1 9999 text)
+member_in = number 1 9999
 
 abbrev pub issue_in : List ℕ → Option ℕ
 issue_in text = result_ok (read_cusip text)
 
-abbrev pub shares_in : List ℕ → Option ℕ
-shares_in text = result_ok (number_in 0 (10 ^ 18) text)
-
-abbrev pub day_in : List ℕ → Option ℕ
-day_in text = result_ok (read_day text)
-
--- what one of two words stands for
-abbrev pub one_of : {A : Type 0} → List ℕ → A → List ℕ → A → List ℕ → Option A
-one_of this a that b text =
-    if same_text text this then Some a
-    else if same_text text that then Some b
-    else None
+abbrev pub node_in : List ℕ → Option NodeName
+node_in = word_in (("CLEAR", node.Clear) ∷ ("DEPOT", node.Depot) ∷ [])
 
 abbrev pub kind_in : List ℕ → Option CycleKind
-kind_in text = one_of (codes "NIGHT") Night (codes "DAY") Day text
-
-abbrev pub switch_in : List ℕ → Option Bool
-switch_in text = one_of (codes "ON") true (codes "OFF") false text
-
-abbrev pub node_in : List ℕ → Option NodeName
-node_in text = one_of (codes "CLEAR") node.Clear (codes "DEPOT") node.Depot text
-
--- whether the record of a planned failure stands
-abbrev pub stands_in : List ℕ → Option Bool
-stands_in text = one_of (codes "KEEP") true (codes "DROP") false text
-
--- ---- the commands
+kind_in = word_in (("NIGHT", Night) ∷ ("DAY", Day) ∷ [])
 
 -- all rows, or a number of them
 abbrev pub take_in : List ℕ → Option Command
-take_in text = if same_text text (codes "ALL") then Some command.TakeAll else option_map command.Take (rows_in text)
+take_in text = if same_text text (codes "ALL") then Some command.TakeAll else option_map command.Take (number 1 1000000 text)
 
--- what is made of two arguments, or of three
-abbrev pub of_two : {A B R : Type 0} → (A → B → R) → Option A → Option B → Option R
-of_two make (Some a) (Some b) = Some (make a b)
-of_two make a b = None
+-- ---- so many arguments, how each is read, and what is made of them
 
-abbrev pub of_three : {A B C R : Type 0} → (A → B → C → R) → Option A → Option B → Option C → Option R
-of_three make (Some a) (Some b) (Some c) = Some (make a b c)
-of_three make a b c = None
+abbrev pub none : {R : Type 0} → R → List (List ℕ) → Option R
+none made words = if length words == 0 then Some made else None
 
--- the events of two words, of three and of four
-abbrev pub pair_event : List ℕ → List ℕ → Option Event
-pair_event word first =
-    if same_text word (codes "SEND") then option_map event.Send (place_in first)
-    else if same_text word (codes "ORDER") then option_map event.OrderIn (place_in first)
-    else if same_text word (codes "REPLY") then option_map event.ReplyIn (place_in first)
-    else if same_text word (codes "RESTART") then option_map event.Restart (node_in first)
-    else if same_text word (codes "LOT") then option_map event.LotOpen (issue_in first)
-    else if same_text word (codes "POUR") then option_map event.LotPour (place_in first)
-    else if same_text word (codes "SEAL") then option_map event.Seal (place_in first)
-    else if same_text word (codes "CLOSE") then option_map event.LotClose (place_in first)
-    else None
+abbrev pub one : {A R : Type 0} → (List ℕ → Option A) → (A → R) → List (List ℕ) → Option R
+one read make words = if length words == 1 then option_map make (read (get_or words 0 [])) else None
 
-abbrev pub cycle_on : CycleKind → ℕ → Event
-cycle_on kind day = event.Cycle (record { day = day; kind = kind })
+abbrev pub two : {A B R : Type 0} → (List ℕ → Option A) → (List ℕ → Option B) → (A → B → R) → List (List ℕ) → Option R
+two read next make words = if length words == 2 then (do Some (make (← read (get_or words 0 [])) (← next (get_or words 1 [])))) else None
 
-abbrev pub triple_event : List ℕ → List ℕ → List ℕ → Option Event
-triple_event word first second =
-    if same_text word (codes "CYCLE") then of_two cycle_on (kind_in first) (day_in second)
-    else if same_text word (codes "RESERVE") then of_two event.Reserve (place_in first) (member_in second)
-    else None
+abbrev pub three : {A B C R : Type 0} → (List ℕ → Option A) → (List ℕ → Option B) → (List ℕ → Option C) → (A → B → C → R) → List (List ℕ) → Option R
+three read next last make words =
+    if length words == 3 then (do Some (make (← read (get_or words 0 [])) (← next (get_or words 1 [])) (← last (get_or words 2 [])))) else None
 
-abbrev pub quadruple_event : List ℕ → List ℕ → List ℕ → List ℕ → Option Event
-quadruple_event word first second third =
-    if same_text word (codes "EXEMPT") then of_three event.Exempt (member_in first) (issue_in second) (shares_in third)
-    else if same_text word (codes "PRIORITY") then of_three event.Priority (member_in first) (issue_in second) (switch_in third)
-    else None
+-- ---- the commands
 
--- those of one word
-abbrev pub single : List ℕ → Option Command
-single word =
-    if same_text word (codes "REPORT") then Some command.Report
-    else if same_text word (codes "PUMP") then Some command.Pump
-    else None
+-- those that are one event
+abbrev pub events : List (String × (List (List ℕ) → Option Event))
+events =
+    ("SEND", one place_in event.Send)
+    ∷ ("ORDER", one place_in event.OrderIn)
+    ∷ ("REPLY", one place_in event.ReplyIn)
+    ∷ ("RESTART", one node_in event.Restart)
+    ∷ ("LOT", one issue_in event.LotOpen)
+    ∷ ("POUR", one place_in event.LotPour)
+    ∷ ("RESERVE", two place_in member_in event.Reserve)
+    ∷ ("SEAL", one place_in event.Seal)
+    ∷ ("CLOSE", one place_in event.LotClose)
+    ∷ ("CYCLE", two kind_in (λ text. result_ok (read_day text)) (λ kind day. event.Cycle (record { day = day; kind = kind })))
+    ∷ ("EXEMPT", three member_in issue_in (number 0 (10 ^ 18)) event.Exempt)
+    ∷ ("PRIORITY", three member_in issue_in (word_in (("ON", true) ∷ ("OFF", false) ∷ [])) event.Priority)
+    ∷ []
 
--- those of two
-abbrev pub pair : List ℕ → List ℕ → Option Command
-pair word first =
-    if same_text word (codes "TAKE") then take_in first
-    else if same_text word (codes "LOOK") then option_map command.Look (place_in first)
-    else if same_text word (codes "ALLOCATE") then option_map command.Allocate (issue_in first)
-    else option_map command.Single (pair_event word first)
+abbrev pub commands : List (String × (List (List ℕ) → Option Command))
+commands =
+    ("TAKE", one take_in (λ take. take))
+    ∷ ("LOOK", one place_in command.Look)
+    ∷ ("ALLOCATE", one issue_in command.Allocate)
+    ∷ ("BESIDE", two issue_in (number 0 1000) command.Beside)
+    ∷ ("FAIL", two node_in (word_in (("KEEP", true) ∷ ("DROP", false) ∷ [])) command.Fail)
+    ∷ ("PUMP", none command.Pump)
+    ∷ ("REPORT", none command.Report)
+    ∷ map (λ row. (row.0, λ words. option_map command.Single (row.1 words))) events
 
--- those of three
-abbrev pub triple : List ℕ → List ℕ → List ℕ → Option Command
-triple word first second =
-    if same_text word (codes "FAIL") then of_two command.Fail (node_in first) (stands_in second)
-    else if same_text word (codes "BESIDE") then of_two command.Beside (issue_in first) (lines_in second)
-    else option_map command.Single (triple_event word first second)
+-- what words are by a table: the first one says how those behind it are read
+abbrev pub by_table : {R : Type 0} → List (String × (List (List ℕ) → Option R)) → List (List ℕ) → Option R
+by_table table words = do form ← word_in table (get_or words 0 []); form (drop 1 words)
 
--- those of four
-abbrev pub quadruple : List ℕ → List ℕ → List ℕ → List ℕ → Option Command
-quadruple word first second third = option_map command.Single (quadruple_event word first second third)
-
-abbrev pub form_of : List (List ℕ) → Option Command
-form_of (word ∷ []) = single word
-form_of (word ∷ first ∷ []) = pair word first
-form_of (word ∷ first ∷ second ∷ []) = triple word first second
-form_of (word ∷ first ∷ second ∷ third ∷ []) = quadruple word first second third
-form_of words = None
-
--- words that fit no form are a bad command
-abbrev pub command_of_words : List (List ℕ) → Command
-command_of_words words = unwrap_or (form_of words) command.Bad
-
--- the command that a line is: blank lines and those that begin with # are passed over
+-- the command that a line is: blank lines and those that begin with # are passed over, and one that fits no form is bad
 unfoldable pub command_of : List ℕ → Command
-command_of line = if (length line == 0) || (slice_index line 0 == 35) then command.Skip else command_of_words (words_of line)
+command_of line =
+    if (length line == 0) || (slice_index line 0 == 35) then command.Skip else unwrap_or (by_table commands (words_of line)) command.Bad

@@ -1,8 +1,8 @@
-ghost use Rattle.std.specs.Prelude.{◌≡◌, ◌==◌, ◌<◌, option_map, length, IfSome};
+ghost use Rattle.std.specs.Prelude.{◌≡◌, ◌==◌, ◌<◌, ◌∷◌, [], true, false, length, IfSome, MatchOption, Some, None, if◌then◌else◌};
 ghost use Rattle.std.specs.List.{position_from};
 ghost use Rattle.cns_trades.specs.Fields.{same_text};
-ghost use Rattle.cns_input.specs.Words.{split_at_space, words_of};
-ghost use Rattle.cns_input.specs.Script.{command_of as command_of_line, form_of, single as single_of, pair as pair_of, pair_event as pair_event_of, triple_event as triple_event_of, triple as triple_of, quadruple as quadruple_of, quadruple_event as quadruple_event_of, take_in, one_of, place_in, member_in, issue_in, node_in};
+ghost use Rattle.cns_input.specs.Words.{words_after, words_of};
+ghost use Rattle.cns_input.specs.Script.{by_table, command_of as command_of_line, commands, events, issue_in, member_in, node_in, place_in, take_in};
 
 use cns_ids::{Cusip, CycleId, CycleKind, Day, MemberNo, Shares, read_number};
 use cns_system::{Event, NodeName};
@@ -48,9 +48,9 @@ fn first_space(line: &[u8]) -> Option<usize>
     None
 }
 
-// The bytes before the first space, and those after it where there is one.
+// The first word, and the bytes behind its space where there is one.
 fn split_word(line: &[u8]) -> (&[u8], Option<&[u8]>)
-    ensures { (result.0.now, option_map (λ r. r.now) result.1) ≡ split_at_space line.now }
+    ensures { words_of line.now ≡ result.0.now ∷ words_after result.1 }
 {
     match first_space(line) {
         Some(place) => (&line[..place], Some(&line[place + 1..])),
@@ -71,6 +71,41 @@ fn is_word(word: &[u8], this: &[u8]) -> bool
         }
     }
     true
+}
+
+// Whether no word is behind the first.
+fn none(rest: Option<&[u8]>) -> bool
+    ensures { result ≡ (length (words_after rest.entry) == 0) }
+{
+    rest.is_none()
+}
+
+// The one word behind the first, where there is no other.
+fn one(rest: Option<&[u8]>) -> Option<&[u8]>
+    ensures { let words = words_after rest.entry in MatchOption result ((length words == 1) ≡ false) (λ a. words ≡ a.now ∷ []) }
+{
+    match split_word(rest?) {
+        (word, None) => Some(word),
+        (_, Some(_)) => None,
+    }
+}
+
+// The two words behind the first, where there are no others.
+fn two(rest: Option<&[u8]>) -> Option<(&[u8], &[u8])>
+    ensures { let words = words_after rest.entry in MatchOption result ((length words == 2) ≡ false) (λ p. words ≡ p.0.now ∷ p.1.now ∷ []) }
+{
+    let (word, rest) = split_word(rest?);
+    let next = one(rest)?;
+    Some((word, next))
+}
+
+// The three words behind the first, where there are no others.
+fn three(rest: Option<&[u8]>) -> Option<(&[u8], &[u8], &[u8])>
+    ensures { let words = words_after rest.entry in MatchOption result ((length words == 3) ≡ false) (λ t. words ≡ t.0.now ∷ t.1.now ∷ t.2.now ∷ []) }
+{
+    let (word, rest) = split_word(rest?);
+    let (next, last) = two(rest)?;
+    Some((word, next, last))
 }
 
 // The number of an order, of a packet or of a lot.
@@ -94,7 +129,7 @@ fn read_issue(text: &[u8]) -> Option<Cusip>
 
 // What one of two words stands for.
 fn read_one_of<T: Drop>(text: &[u8], this: &[u8], a: T, that: &[u8], b: T) -> Option<T>
-    ensures { result ≡ one_of this.now a that.now b text.now }
+    ensures { result ≡ (if same_text text.now this.now then Some a else if same_text text.now that.now then Some b else None) }
 {
     if is_word(text, this) {
         Some(a)
@@ -121,144 +156,96 @@ fn read_take(text: &[u8]) -> Option<Command>
     read_number(text, 1, 1_000_000).ok().map(Command::Take)
 }
 
-// The commands of one word.
-fn single(word: &[u8]) -> Option<Command>
-    ensures { result ≡ single_of word.now }
-{
-    if is_word(word, b"REPORT") {
-        Some(Command::Report)
-    } else if is_word(word, b"PUMP") {
-        Some(Command::Pump)
-    } else {
-        None
-    }
-}
-
-// The event that two words are: `SEND n`, `ORDER k`, `REPLY k`, `RESTART node`, `LOT cusip`, `POUR lot`,
-// `SEAL lot` or `CLOSE lot`.
-fn pair_event(word: &[u8], first: &[u8]) -> Option<Event>
-    ensures { result ≡ pair_event_of word.now first.now }
+// The event that a word and those behind it are: `SEND n`, `ORDER k`, `REPLY k`, `RESTART node`, `LOT cusip`,
+// `POUR lot`, `RESERVE lot member`, `SEAL lot`, `CLOSE lot`, `CYCLE NIGHT date` or `CYCLE DAY date`,
+// `EXEMPT member cusip shares`, or `PRIORITY member cusip ON` or `OFF`.
+fn read_event(word: &[u8], rest: Option<&[u8]>) -> Option<Event>
+    ensures { result ≡ by_table events (word.now ∷ words_after rest.entry) }
 {
     if is_word(word, b"SEND") {
-        read_place(first).map(|number| Event::Send { number })
+        let number = read_place(one(rest)?)?;
+        Some(Event::Send { number })
     } else if is_word(word, b"ORDER") {
-        read_place(first).map(|packet| Event::OrderIn { packet })
+        let packet = read_place(one(rest)?)?;
+        Some(Event::OrderIn { packet })
     } else if is_word(word, b"REPLY") {
-        read_place(first).map(|packet| Event::ReplyIn { packet })
+        let packet = read_place(one(rest)?)?;
+        Some(Event::ReplyIn { packet })
     } else if is_word(word, b"RESTART") {
-        read_node(first).map(Event::Restart)
+        let node = read_node(one(rest)?)?;
+        Some(Event::Restart(node))
     } else if is_word(word, b"LOT") {
-        read_issue(first).map(|issue| Event::LotOpen { issue })
+        let issue = read_issue(one(rest)?)?;
+        Some(Event::LotOpen { issue })
     } else if is_word(word, b"POUR") {
-        read_place(first).map(|lot| Event::LotPour { lot })
-    } else if is_word(word, b"SEAL") {
-        read_place(first).map(|lot| Event::Seal { lot })
-    } else if is_word(word, b"CLOSE") {
-        read_place(first).map(|lot| Event::LotClose { lot })
-    } else {
-        None
-    }
-}
-
-// The commands of two words.
-fn pair(word: &[u8], first: &[u8]) -> Option<Command>
-    ensures { result ≡ pair_of word.now first.now }
-{
-    if is_word(word, b"TAKE") {
-        read_take(first)
-    } else if is_word(word, b"LOOK") {
-        read_place(first).map(Command::Look)
-    } else if is_word(word, b"ALLOCATE") {
-        read_issue(first).map(Command::Allocate)
-    } else {
-        pair_event(word, first).map(Command::Single)
-    }
-}
-
-// The event that three words are: `CYCLE NIGHT date`, `CYCLE DAY date`, or `RESERVE lot member`.
-fn triple_event(word: &[u8], first: &[u8], second: &[u8]) -> Option<Event>
-    ensures { result ≡ triple_event_of word.now first.now second.now }
-{
-    if is_word(word, b"CYCLE") {
-        let kind = read_one_of(first, b"NIGHT", CycleKind::Night, b"DAY", CycleKind::Day)?;
-        let day = Day::read(second).ok()?;
-        Some(Event::Cycle(CycleId { day, kind }))
+        let lot = read_place(one(rest)?)?;
+        Some(Event::LotPour { lot })
     } else if is_word(word, b"RESERVE") {
-        let lot = read_place(first)?;
-        let member = read_member(second)?;
-        Some(Event::Reserve { lot, member })
-    } else {
-        None
-    }
-}
-
-// The commands of three words.
-fn triple(word: &[u8], first: &[u8], second: &[u8]) -> Option<Command>
-    ensures { result ≡ triple_of word.now first.now second.now }
-{
-    if is_word(word, b"FAIL") {
-        Some(Command::Fail {
-            node: read_node(first)?,
-            stands: read_one_of(second, b"KEEP", true, b"DROP", false)?,
+        let (lot, member) = two(rest)?;
+        Some(Event::Reserve {
+            lot: read_place(lot)?,
+            member: read_member(member)?,
         })
-    } else if is_word(word, b"BESIDE") {
-        Some(Command::Beside {
-            issue: read_issue(first)?,
-            lines: read_number(second, 0, 1000).ok()?,
-        })
-    } else {
-        triple_event(word, first, second).map(Command::Single)
-    }
-}
-
-// The event that four words are: `EXEMPT member cusip shares`, or `PRIORITY member cusip ON` or `OFF`.
-fn quadruple_event(word: &[u8], first: &[u8], second: &[u8], third: &[u8]) -> Option<Event>
-    ensures { result ≡ quadruple_event_of word.now first.now second.now third.now }
-{
-    if is_word(word, b"EXEMPT") {
+    } else if is_word(word, b"SEAL") {
+        let lot = read_place(one(rest)?)?;
+        Some(Event::Seal { lot })
+    } else if is_word(word, b"CLOSE") {
+        let lot = read_place(one(rest)?)?;
+        Some(Event::LotClose { lot })
+    } else if is_word(word, b"CYCLE") {
+        let (kind, day) = two(rest)?;
+        let kind = read_one_of(kind, b"NIGHT", CycleKind::Night, b"DAY", CycleKind::Day)?;
+        let day = Day::read(day).ok()?;
+        Some(Event::Cycle(CycleId { day, kind }))
+    } else if is_word(word, b"EXEMPT") {
+        let (member, issue, shares) = three(rest)?;
         Some(Event::Exempt {
-            member: read_member(first)?,
-            issue: read_issue(second)?,
-            shares: Shares::read(third).ok()?,
+            member: read_member(member)?,
+            issue: read_issue(issue)?,
+            shares: Shares::read(shares).ok()?,
         })
     } else if is_word(word, b"PRIORITY") {
+        let (member, issue, on) = three(rest)?;
         Some(Event::Priority {
-            member: read_member(first)?,
-            issue: read_issue(second)?,
-            on: read_one_of(third, b"ON", true, b"OFF", false)?,
+            member: read_member(member)?,
+            issue: read_issue(issue)?,
+            on: read_one_of(on, b"ON", true, b"OFF", false)?,
         })
     } else {
         None
     }
 }
 
-// The commands of four words.
-fn quadruple(word: &[u8], first: &[u8], second: &[u8], third: &[u8]) -> Option<Command>
-    ensures { result ≡ quadruple_of word.now first.now second.now third.now }
+// The command that a word and those behind it are.
+fn read_command(word: &[u8], rest: Option<&[u8]>) -> Option<Command>
+    ensures { result ≡ by_table commands (word.now ∷ words_after rest.entry) }
 {
-    quadruple_event(word, first, second, third).map(Command::Single)
-}
-
-// The command that the words of a line are, where they fit a form.
-fn read_command(line: &[u8]) -> Option<Command>
-    ensures { result ≡ form_of (words_of line.now) }
-{
-    let (word, rest) = split_word(line);
-    let Some(rest) = rest else {
-        return single(word);
-    };
-    let (first, rest) = split_word(rest);
-    let Some(rest) = rest else {
-        return pair(word, first);
-    };
-    let (second, rest) = split_word(rest);
-    let Some(rest) = rest else {
-        return triple(word, first, second);
-    };
-    let (third, rest) = split_word(rest);
-    match rest {
-        None => quadruple(word, first, second, third),
-        Some(_) => None,
+    if is_word(word, b"TAKE") {
+        read_take(one(rest)?)
+    } else if is_word(word, b"LOOK") {
+        let lot = read_place(one(rest)?)?;
+        Some(Command::Look(lot))
+    } else if is_word(word, b"ALLOCATE") {
+        let issue = read_issue(one(rest)?)?;
+        Some(Command::Allocate(issue))
+    } else if is_word(word, b"BESIDE") {
+        let (issue, lines) = two(rest)?;
+        Some(Command::Beside {
+            issue: read_issue(issue)?,
+            lines: read_number(lines, 0, 1000).ok()?,
+        })
+    } else if is_word(word, b"FAIL") {
+        let (node, stands) = two(rest)?;
+        Some(Command::Fail {
+            node: read_node(node)?,
+            stands: read_one_of(stands, b"KEEP", true, b"DROP", false)?,
+        })
+    } else if is_word(word, b"PUMP") {
+        none(rest).then_some(Command::Pump)
+    } else if is_word(word, b"REPORT") {
+        none(rest).then_some(Command::Report)
+    } else {
+        read_event(word, rest).map(Command::Single)
     }
 }
 
@@ -270,7 +257,8 @@ pub fn command_of(line: &[u8]) -> Command
     if line.is_empty() || line[0] == b'#' {
         return Command::Skip;
     }
-    match read_command(line) {
+    let (word, rest) = split_word(line);
+    match read_command(word, rest) {
         Some(command) => command,
         None => Command::Bad,
     }

@@ -1,5 +1,6 @@
 ghost use Rattle.std.specs.Prelude.{◌≡◌, ◌<◌, ◌≤◌, length, option_map};
-ghost use Rattle.cns_input.specs.Sections.{line_size as line_size_of, line_text as text_of_line, is_head as is_head_line, split_at_head as split_of, sections as sections_of};
+ghost use Rattle.cns_trades.specs.Fields.{same_text};
+ghost use Rattle.cns_input.specs.Sections.{line_size as line_size_of, line_text as text_of_line, split_at_head as split_of, sections as sections_of};
 
 use memchr::memchr;
 
@@ -45,7 +46,7 @@ pub fn line_text(line: &[u8]) -> &[u8]
 
 // Whether a line is this head.
 fn is_head(line: &[u8], head: &[u8]) -> bool
-    ensures { result ≡ is_head_line head.now line.now }
+    ensures { result ≡ same_text (text_of_line line.now) head.now }
 {
     line_text(line) == head
 }

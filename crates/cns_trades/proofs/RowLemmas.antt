@@ -1,7 +1,9 @@
 -- Rows under a header, one record after another.
-use Rattle.std.proofs.Common.{◌≡◌, ◌<◌, ◌+◌, ℕ, suc, List, [], ◌∷◌, ◌++◌, length, Option, Some, None, Bool, true, false, refl, sym, ap, ◌∙◌, arith, add-one}
-use Rattle.std.specs.Prelude.{if◌then◌else◌}
+use Rattle.std.proofs.Common.{◌≡◌, ◌<◌, ◌+◌, ℕ, zero, suc, List, [], ◌∷◌, ◌++◌, length, Option, Some, None, Bool, true, false, refl, sym, ap, ◌∙◌, arith, add-one}
+use Rattle.std.specs.Prelude.{get_or, if◌then◌else◌, map, unwrap_or}
+use Rattle.std.specs.List.{enumerate_from}
 use Rattle.csv.specs.Reading.{ExplainsRead, Reached, default_config, is_flexible, records, records_from}
+use Rattle.csv.specs.Records.{field_at}
 use Rattle.csv.specs.declared.parser.State.{State}
 use Rattle.csv.specs.declared.parser.State.TheVariants as st
 use Rattle.csv.specs.declared.error.ErrorKind.{ErrorKind}
@@ -9,33 +11,35 @@ use Rattle.csv.specs.declared.error.ErrorKind.TheVariants as kind
 use Rattle.csv.specs.declared.reader.Reader.{Reader}
 use Rattle.cns_trades.specs.declared.fault.CsvFault.{CsvFault}
 use Rattle.cns_trades.specs.declared.fault.CsvFault.TheVariants as fault
-use Rattle.cns_trades.specs.Records.{Fields, IsReaderFault, Records, TellsRows, rows_from, under_header}
+use Rattle.cns_trades.specs.Records.{Fields, IsReaderFault, TellsRows, under_header}
 use Rattle.cns_trades.proofs.AllRead.{some_same}
 
-pub rows_from-append : {R : Type 0} (row_at : ℕ → Fields → R) (n : ℕ) (rs : Records) (r : Fields)
+-- the rows that records are, numbered from n on
+abbrev rows_from : {R : Type 0} → (ℕ → Fields → R) → ℕ → List Fields → List R
+rows_from row_at n rs = map (λ row. row_at row.0 row.1) (enumerate_from n rs)
+
+rows_from-append : {R : Type 0} (row_at : ℕ → Fields → R) (n : ℕ) (rs : List Fields) (r : Fields)
     → rows_from row_at n (rs ++ r ∷ []) ≡ rows_from row_at n rs ++ row_at (n + length rs) r ∷ []
-unfolding rows_from
 rows_from-append row_at n [] r = grind arith
 rows_from-append row_at n (x ∷ rs) r =
     let more = rows_from-append row_at (n + 1) rs r in
     let same : n + 1 + length rs ≡ n + suc (length rs) = omega arith in
     rw (more, same) refl
 
-pub length-rows_from : {R : Type 0} (row_at : ℕ → Fields → R) (n : ℕ) (rs : Records) → length (rows_from row_at n rs) ≡ length rs
-unfolding rows_from
+length-rows_from : {R : Type 0} (row_at : ℕ → Fields → R) (n : ℕ) (rs : List Fields) → length (rows_from row_at n rs) ≡ length rs
 length-rows_from row_at n [] = refl
 length-rows_from row_at n (r ∷ rs) = ap suc (length-rows_from row_at (n + 1) rs)
 
 -- the header, where no record stands before it
-pub takes_header : {R : Type 0} (is_header : Fields → Bool) (row_at : ℕ → Fields → R) (before : Records) (rows : List R) (r : Fields)
+pub takes_header : {R : Type 0} (is_header : Fields → Bool) (row_at : ℕ → Fields → R) (before : List Fields) (rows : List R) (r : Fields)
     → before ≡ [] → is_header r ≡ true → under_header is_header row_at before ≡ Some rows
     → under_header is_header row_at (before ++ r ∷ []) ≡ Some rows
-unfolding under_header rows_from
+unfolding under_header
 takes_header is_header row_at [] rows r none h e = rw h e
 takes_header is_header row_at (x ∷ xs) rows r none h e = cc none
 
 -- a row, where the header stands before it
-pub takes_row : {R : Type 0} (is_header : Fields → Bool) (row_at : ℕ → Fields → R) (before : Records) (rows : List R) (r : Fields)
+pub takes_row : {R : Type 0} (is_header : Fields → Bool) (row_at : ℕ → Fields → R) (before : List Fields) (rows : List R) (r : Fields)
     → 0 < length before → under_header is_header row_at before ≡ Some rows
     → under_header is_header row_at (before ++ r ∷ []) ≡ Some (rows ++ row_at (length rows + 1) r ∷ [])
 unfolding under_header
@@ -52,7 +56,7 @@ takes_row is_header row_at (x ∷ recs) rows r some e = by (is_header x) refl e
     by false h g = cc g
 
 -- a text whose first record is not the header has no rows
-pub not_header : {R : Type 0} (is_header : Fields → Bool) (row_at : ℕ → Fields → R) (xs : List ℕ) (recs : Records) (r : Fields) (s2 : State) (ys : List ℕ)
+pub not_header : {R : Type 0} (is_header : Fields → Bool) (row_at : ℕ → Fields → R) (xs : List ℕ) (recs : List Fields) (r : Fields) (s2 : State) (ys : List ℕ)
     → recs ≡ [] → is_header r ≡ false → Reached default_config st.StartRecord xs (recs ++ r ∷ []) s2 ys
     → under_header is_header row_at (records default_config xs) ≡ None
 unfolding under_header records_from Reached
@@ -75,3 +79,11 @@ reader_fault rem a b (kind.UnequalLengths pos expected len) f h = let no = h.0 i
 reader_fault rem a b (kind.Utf8 pos err) f h = let no = h.0 in cc no
 reader_fault rem a b (kind.Serialize why) f h = absurd h
 reader_fault rem a b (kind.Deserialize pos err) f h = absurd h
+
+-- the field at a place, or an empty one
+pub field_or_empty : (fs : List (List ℕ)) (place : ℕ) → get_or fs place [] ≡ unwrap_or (field_at fs place) []
+unfolding field_at
+field_or_empty [] zero = refl
+field_or_empty [] (suc place) = refl
+field_or_empty (f ∷ fs) zero = refl
+field_or_empty (f ∷ fs) (suc place) = field_or_empty fs place

@@ -16,6 +16,5 @@ trade_in e =
 
 -- equal in all fields
 abbrev pub same_trade : Trade → Trade → Bool
-same_trade a b =
-    same_text a.id b.id && (a.settle == b.settle) && (a.buyer == b.buyer) && (a.seller == b.seller) && (a.issue == b.issue)
-    && (a.quantity == b.quantity)
+same_trade a b = same_text a.id b.id && (a.settle == b.settle) && (a.buyer == b.buyer)
+    && (a.seller == b.seller) && (a.issue == b.issue) && (a.quantity == b.quantity)

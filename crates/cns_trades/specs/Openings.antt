@@ -1,8 +1,8 @@
 -- The rows of a text of openings.
-use Rattle.std.specs.Prelude.{ℕ, ◌^◌, not, ◌==◌, List, length, Option, Result, Ok, Err, if◌then◌else◌}
+use Rattle.std.specs.Prelude.{ℕ, ◌^◌, not, ◌==◌, List, [], length, get_or, Option, Result, Ok, Err, if◌then◌else◌}
 use Rattle.cns_ids.specs.Cusip.{read_cusip}
 use Rattle.cns_ids.specs.Number.{number_in}
-use Rattle.cns_trades.specs.Fields.{field_or_empty, is_opening_header}
+use Rattle.cns_trades.specs.Fields.{is_opening_header}
 use Rattle.cns_trades.specs.Records.{Fields, rows_of}
 use Rattle.cns_trades.specs.Rows.{told}
 use Rattle.cns_ids.specs.Steps.{◌>>=◌}
@@ -15,18 +15,14 @@ use Rattle.cns_trades.specs.declared.opening.OpeningRow.TheVariants as row
 -- the opening that three fields are, or their first fault
 unfoldable pub opening_of : Fields → Result Opening RowFault
 opening_of fs = if not (length fs == 3) then Err fault.Fields else do
-  member ← told fault.Account (number_in 1 9999 (field_or_empty fs 0))
-  issue ← told fault.Cusip (read_cusip (field_or_empty fs 1))
-  shares ← told fault.Shares (number_in 0 (10 ^ 18) (field_or_empty fs 2))
+  member ← told fault.Account (number_in 1 9999 (get_or fs 0 []))
+  issue ← told fault.Cusip (read_cusip (get_or fs 1 []))
+  shares ← told fault.Shares (number_in 0 (10 ^ 18) (get_or fs 2 []))
   Ok (record { member = member; issue = issue; shares = shares })
 
 -- a row: its opening, or its number and its first fault
-abbrev pub opening_row_from : ℕ → Result Opening RowFault → OpeningRow
-opening_row_from n (Ok o) = row.Opening o
-opening_row_from n (Err e) = row.Fault n e
-
 abbrev pub opening_row_at : ℕ → Fields → OpeningRow
-opening_row_at n fs = opening_row_from n (opening_of fs)
+opening_row_at n fs = elim (opening_of fs) [ Ok o ↦ row.Opening o | Err e ↦ row.Fault n e ]
 
 -- the rows of a text of openings; None where its first record is not the header
 abbrev pub opening_rows : List ℕ → Option (List OpeningRow)

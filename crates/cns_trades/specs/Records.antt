@@ -1,5 +1,6 @@
 -- The rows of a text: its records under a header, as `csv` reads them.
-use Rattle.std.specs.Prelude.{◌≡◌, ⊤, ℕ, ◌+◌, ◌<◌, Bool, true, false, List, [], ◌∷◌, length, Option, Some, None, if◌then◌else◌}
+use Rattle.std.specs.Prelude.{◌≡◌, ⊤, ℕ, ◌<◌, Bool, true, false, List, [], ◌∷◌, length, map, Option, Some, None, if◌then◌else◌}
+use Rattle.std.specs.List.{enumerate_from}
 use Rattle.csv.specs.Reading.{default_config, records, strip_bom}
 use Rattle.std.specs.IoError.{error_kind}
 use Rattle.std.specs.declared.io.ErrorKind.TheVariants as io
@@ -12,18 +13,10 @@ use Rattle.cns_trades.specs.declared.fault.CsvFault.TheVariants as fault
 abbrev pub Fields : Type 0
 Fields = List (List ℕ)
 
-abbrev pub Records : Type 0
-Records = List (List (List ℕ))
-
--- the rows that records are, numbered from n on
-unfoldable pub rows_from : {R : Type 0} → (ℕ → Fields → R) → ℕ → Records → List R
-rows_from row_at n [] = []
-rows_from row_at n (r ∷ rs) = row_at n r ∷ rows_from row_at (n + 1) rs
-
--- no record, or the header and the rows; None where the first record is not the header
-unfoldable pub under_header : {R : Type 0} → (Fields → Bool) → (ℕ → Fields → R) → Records → Option (List R)
+-- no record, or the header and the rows, numbered from 1 on; None where the first record is not the header
+unfoldable pub under_header : {R : Type 0} → (Fields → Bool) → (ℕ → Fields → R) → List Fields → Option (List R)
 under_header is_header row_at [] = Some []
-under_header is_header row_at (r ∷ rs) = if is_header r then Some (rows_from row_at 1 rs) else None
+under_header is_header row_at (r ∷ rs) = if is_header r then Some (map (λ row. row_at row.0 row.1) (enumerate_from 1 rs)) else None
 
 -- the rows of a text: csv's records of bytes, with its default comma and double quote, no header handling and rows of
 -- any length, after a byte order mark where there is one
@@ -37,7 +30,7 @@ TellsRows fault.Reading rows = ⊤
 TellsRows fault.OutOfMemory rows = ⊤
 
 -- the records that stand before the next one: none where the header is next, and else the header and rows
-abbrev pub StandBefore : Bool → Records → Type 0
+abbrev pub StandBefore : Bool → List Fields → Type 0
 StandBefore true before = before ≡ []
 StandBefore false before = 0 < length before
 

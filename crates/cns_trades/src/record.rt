@@ -1,7 +1,6 @@
-ghost use Rattle.std.specs.Prelude.{◌≡◌, ◌≢◌, ◌↔◌, ◌+◌, ◌++◌, ◌∷◌, [], ℕ, List, length, Bool, true, false, Some, MatchResult, OnOk, IfErr};
+ghost use Rattle.std.specs.Prelude.{◌≡◌, ◌≢◌, ◌↔◌, ◌+◌, ◌++◌, ◌∷◌, [], ℕ, List, length, get_or, Bool, true, false, Some, MatchResult, OnOk, IfErr};
 ghost use Rattle.csv.specs.Records.{fields_of};
-ghost use Rattle.cns_trades.specs.Fields.{field_or_empty};
-ghost use Rattle.cns_trades.specs.Records.{Records, Fields, under_header, rows_of, TellsRows, StandBefore, IsReaderFault, IsWantOfMemory};
+ghost use Rattle.cns_trades.specs.Records.{Fields, under_header, rows_of, TellsRows, StandBefore, IsReaderFault, IsWantOfMemory};
 ghost use Rattle.cns_trades.specs.declared.fault.CsvFault.TheVariants.{Header, OutOfMemory, Reading};
 
 use crate::fault::CsvFault;
@@ -54,7 +53,7 @@ impl<R: FromRecord> RowList<R> for Vec<R> {
 
 /// A field of a record; empty where there is none.
 pub(crate) fn field(fields: &ByteRecord, place: usize) -> &[u8]
-    ensures { result.now ≡ field_or_empty (fields_of fields.now) place }
+    ensures { result.now ≡ get_or (fields_of fields.now) place [] }
 {
     fields.get(place).unwrap_or(&[])
 }
@@ -79,7 +78,7 @@ fn take_record<R: FromRecord, L: RowList<R>>(
     header_is_next: bool,
     fields: &ByteRecord,
 ) -> Result<(), CsvFault>
-    ensures ok { OnOk result ((before : Records) → StandBefore header_is_next before → under_header R.is_header R.row_at before ≡ Some (L.rows rows.old)
+    ensures ok { OnOk result ((before : List Fields) → StandBefore header_is_next before → under_header R.is_header R.row_at before ≡ Some (L.rows rows.old)
         → under_header R.is_header R.row_at (before ++ fields_of fields.now ∷ []) ≡ Some (L.rows rows.new)) }
     ensures err { IfErr result (λ e. e ≡ Header → (header_is_next ≡ true) × (R.is_header (fields_of fields.now) ≡ false)) }
     ensures reading { IfErr result (λ e. e ≢ Reading) }

@@ -1,6 +1,7 @@
-ghost use Rattle.std.specs.Prelude.{◌≡◌, ◌+◌, ◌==◌, ◌∷◌, ◌++◌, [], length, MatchOption, MatchResult, OnOk, Some};
+ghost use Rattle.std.specs.Prelude.{◌≡◌, ◌+◌, ◌==◌, ◌∷◌, ◌++◌, [], length, MatchOption, MatchResult, OnOk, Some, Ok, Err};
 ghost use Rattle.cns_trades.specs.Records.{TellsRows};
-ghost use Rattle.cns_trades.specs.Rows.{row_from, trade_rows};
+ghost use Rattle.cns_trades.specs.Rows.{trade_rows};
+ghost use Rattle.cns_trades.specs.declared.row.Row.TheVariants as row_variants;
 
 use crate::fault::{CsvFault, RowFault};
 use crate::record::{RowList, read_rows};
@@ -37,7 +38,7 @@ impl Model for HeldRows {
 impl HeldRows {
     // Adds a row: its trade, or its fault.
     fn add(&mut self, read: Result<Trade, RowFault>) -> Result<(), AllocError>
-        ensures { OnOk result (self.new ≡ self.old ++ row_from (length self.old + 1) read ∷ []) }
+        ensures { OnOk result (self.new ≡ self.old ++ elim read [ Ok t ↦ row_variants.Trade t | Err e ↦ row_variants.Fault (length self.old + 1) e ] ∷ []) }
     {
         let trade = match read {
             Ok(trade) => trade,

@@ -1,6 +1,6 @@
 use Rattle.std.proofs.Common.{◌<◌, ◌∙◌, sym, length, arith, length-drop}
 use Rattle.std.proofs.lemmas.List.{drop_all}
-use Rattle.cns_input.specs.Sections.{find_head, raw_lines}
+use Rattle.cns_input.specs.Sections.{raw_lines, split_at_head}
 use Rattle.cns_input.proofs.SectionLemmas.{found, passed}
 use Rattle.cns_input.proofs.sections.split_at_head.Goals as goal
 
@@ -25,7 +25,7 @@ loop-at-preserved c =
     (omega (arith, within, len, lt), passed c.args.head.now c.args.text.now _ _ c.loop-at.at _ _ rest pos c.line_size-size.ensures.size c.split_at-in-loop-at.ensures.front (sym c.is_head.ensures ∙ c.if-is_head.false) inv.1)
 
 pub returns : goal.returns
-unfolding find_head raw_lines
+unfolding raw_lines split_at_head
 returns c =
     let inv = c.loop-at.invariant in
     let none = drop_all c.loop-at.at c.args.text.now c.loop-at-test.false in

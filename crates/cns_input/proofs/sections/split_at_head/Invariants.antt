@@ -1,5 +1,6 @@
 use Rattle.std.proofs.Common.{◌≡◌, ◌≤◌, ◌-◌, drop, take, length}
-use Rattle.cns_input.specs.Sections.{split_at_head, with_front}
+use Rattle.cns_input.specs.Sections.{split_at_head}
+use Rattle.cns_input.proofs.SectionLemmas.{with_front}
 use Rattle.cns_input.proofs.sections.split_at_head.Given as goal
 
 abbrev pub invariant-loop-at : goal.invariant-loop-at

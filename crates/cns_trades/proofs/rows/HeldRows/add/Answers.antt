@@ -18,7 +18,7 @@ returns-in-Err c =
     let at = c.self.inside in
     let held = rw (append-nil at.trades.items) at (held_more 1 at.faults.items (Some c.in-Err.fault ∷ []) at.trades.items [] c.self.invariant) in
     let size = length-rows_held 1 _ _ c.self.invariant in
-    rw (c.in_ok-push-in-Err.ensures.items, held, ← c.self.view_is, size, c.in-Err.is) (search (rules, arith))
+    rw (c.in_ok-push-in-Err.ensures.items, held, c.in-Err.is, ← c.self.view_is, size) (search (rules, arith))
 
 pub invariant_of-self-else-is_err : goal.invariant_of-self-else-is_err
 unfolding Fit
