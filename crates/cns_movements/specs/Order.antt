@@ -23,6 +23,10 @@ is_delivery kind = elim kind [ Cover ↦ false | Delivery ↦ true ]
 abbrev pub same_kind : MoveKind → MoveKind → Bool
 same_kind kind other = elim kind [ Cover ↦ is_cover other | Delivery ↦ is_delivery other ]
 
+-- an ask for these shares, where they are not 0
+abbrev pub ask_for : MoveKind → ℕ → ℕ → ℕ → Option Ask
+ask_for kind member issue shares = if shares == 0 then None else Some (record { kind = kind; member = member; issue = issue; asked = shares })
+
 -- the order of this number, where there is one
 abbrev pub order_of : List Order → ℕ → Option Order
 order_of orders n = find (λ o. o.number == n) orders
