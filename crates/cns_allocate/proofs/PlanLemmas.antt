@@ -28,7 +28,7 @@ use Rattle.cns_covers.specs.declared.priorities.Prioritized.{Prioritized}
 use Rattle.cns_covers.proofs.BoundLemmas.{other_place, share_grows}
 use Rattle.cns_covers.proofs.RowLemmas.{All-filter_map, All-rows_of, IfSome-open_row}
 use Rattle.cns_allocate.specs.Group.{is_in, rank}
-use Rattle.cns_allocate.specs.Plan.{IsPlan, LongsFit, by_group, group_in, long_of, plan_of, planned_of, want_of, wanting}
+use Rattle.cns_allocate.specs.Plan.{IsPlan, LongsFit, by_group, group_in, long_of, plan_of, planned_of, want_of}
 use Rattle.cns_allocate.specs.declared.group.Group.{Group}
 use Rattle.cns_allocate.specs.declared.group.Group.TheVariants.{Priority, WasLong, Other}
 use Rattle.cns_allocate.specs.declared.planned.Planned.{Planned}
@@ -93,6 +93,10 @@ planned_in issue book settings were_long (row ∷ rows) = by (row.issue == issue
         ≡ filter_map (planned_of issue book settings were_long) (row ∷ rows)
     by true e rest = ap (cons_option (planned_of issue book settings were_long row)) rest
     by false e rest = rw e rest
+
+-- those planned in an issue, by member
+abbrev pub wanting : ℕ → List NetEntry → Orders → List Prioritized → List ℕ → List Planned
+wanting issue h book settings were_long = filter_map (planned_of issue book settings were_long) (rows_of h)
 
 pub wanting-rows_in : (issue : ℕ) (h : List NetEntry) (book : Orders) (settings : List Prioritized) (were_long : List ℕ)
     → filter_map (planned_of issue book settings were_long) (filter (is_row_in issue) (rows_of h)) ≡ wanting issue h book settings were_long

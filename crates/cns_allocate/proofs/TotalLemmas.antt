@@ -13,9 +13,9 @@ use Rattle.cns_covers.specs.Bounds.{want_in}
 use Rattle.cns_covers.specs.declared.priorities.Prioritized.{Prioritized}
 use Rattle.cns_covers.proofs.BoundLemmas.{at_most_once, shared_factor}
 use Rattle.cns_covers.proofs.TotalLemmas.{sold_all}
-use Rattle.cns_allocate.specs.Plan.{plan_of, wanting}
+use Rattle.cns_allocate.specs.Plan.{plan_of}
 use Rattle.cns_allocate.specs.declared.planned.Planned.{Planned}
-use Rattle.cns_allocate.proofs.PlanLemmas.{is_planned_as, sum_by-by_group, wanting-once}
+use Rattle.cns_allocate.proofs.PlanLemmas.{is_planned_as, sum_by-by_group, wanting, wanting-once}
 use Rattle.cns_allocate.proofs.WantLemmas.{wanting-wants}
 
 -- the shares of trades

@@ -13,9 +13,9 @@ use Rattle.cns_movements.specs.declared.order.MoveKind.TheVariants.{Delivery}
 use Rattle.cns_covers.specs.Bounds.{want_in}
 use Rattle.cns_covers.specs.declared.priorities.Prioritized.{Prioritized}
 use Rattle.cns_covers.proofs.RowLemmas.{All-filter_map, All-rows_of}
-use Rattle.cns_allocate.specs.Plan.{group_in, long_of, plan_of, planned_of, want_of, wanting}
+use Rattle.cns_allocate.specs.Plan.{group_in, long_of, plan_of, planned_of, want_of}
 use Rattle.cns_allocate.specs.declared.planned.Planned.{Planned}
-use Rattle.cns_allocate.proofs.PlanLemmas.{All-by_group, IfSome-if, credit_part-difference}
+use Rattle.cns_allocate.proofs.PlanLemmas.{All-by_group, IfSome-if, credit_part-difference, wanting}
 
 -- a row is long of no more than its credit is above its debit
 abbrev IsLongWithin : List NetEntry → PositionRow → Type 0

@@ -1,14 +1,12 @@
 -- The groups in which members are served (this project's own rule).
-use Rattle.std.specs.Prelude.{ℕ, Bool, true, false, ◌==◌}
+use Rattle.std.specs.Prelude.{ℕ, Bool, ◌==◌, if◌then◌else◌}
 use Rattle.cns_allocate.specs.declared.group.Group.{Group}
 use Rattle.cns_allocate.specs.declared.group.Group.TheVariants.{Priority, WasLong, Other}
 use Rattle.cns_allocate.specs.declared.planned.Planned.{Planned}
 
 -- the group of a member, by its priority and whether it was long directly after the cycle before the latest
 abbrev pub group_of : Bool → Bool → Group
-group_of true was_long = Priority
-group_of false true = WasLong
-group_of false false = Other
+group_of priority was_long = if priority then Priority else if was_long then WasLong else Other
 
 -- the place of a group: the first one is 0
 abbrev pub rank : Group → ℕ

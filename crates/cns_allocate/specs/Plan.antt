@@ -38,20 +38,15 @@ group_in issue settings were_long member = group_of (is_on settings member issue
 unfoldable pub planned_of : ℕ → Orders → List Prioritized → List ℕ → PositionRow → Option Planned
 planned_of issue book settings were_long row =
     if (row.issue == issue) && nat_lt 0 (want_of book row)
-    then Some (record { member = row.member; asked = want_of book row; group = group_in issue settings were_long row.member })
-    else None
+    then Some (record { member = row.member; asked = want_of book row; group = group_in issue settings were_long row.member }) else None
 
--- those planned in an issue, by member
-abbrev pub wanting : ℕ → List NetEntry → Orders → List Prioritized → List ℕ → List Planned
-wanting issue h book settings were_long = filter_map (planned_of issue book settings were_long) (rows_of h)
-
--- the same by group: those of the first group, then of the second, then the others
+-- some planned by group: those of the first group, then of the second, then the others
 abbrev pub by_group : List Planned → List Planned
 by_group planned = filter (is_in Priority) planned ++ (filter (is_in WasLong) planned ++ filter (is_in Other) planned)
 
 -- the plan of an issue, by group, then member
 abbrev pub plan_of : ℕ → List NetEntry → Orders → List Prioritized → List ℕ → List Planned
-plan_of issue h book settings were_long = by_group (wanting issue h book settings were_long)
+plan_of issue h book settings were_long = by_group (filter_map (planned_of issue book settings were_long) (rows_of h))
 
 -- no member is long of more than 10^18 shares in an issue
 pub record LongsFit (h : List NetEntry) : Type 0 where

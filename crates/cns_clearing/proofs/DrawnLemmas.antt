@@ -10,9 +10,13 @@ use Rattle.cns_pool.specs.declared.ticket.Ticket.{Ticket}
 use Rattle.cns_allocate.proofs.NumberLemmas.{pigeonhole}
 use Rattle.cns_records.specs.Drawn.{IsDrawn}
 use Rattle.cns_records.specs.declared.drawn.Drawn.{Drawn}
-use Rattle.cns_clearing.specs.Answers.{drawn_in_record, drawn_of}
+use Rattle.cns_clearing.specs.Answers.{drawn_of}
 use Rattle.cns_clearing.specs.Books.{tickets_of}
 use Rattle.cns_clearing.specs.Closing.{AreApart}
+
+-- a ticket of a pool as that of a record
+abbrev pub drawn_in_record : Ticket → Drawn
+drawn_in_record t = record { member = t.member; start = t.start; asked = t.asked }
 
 -- the tickets of a record are those that were drawn
 pub tickets_drawn : (tickets : List Ticket) → tickets_of (drawn_of tickets) ≡ tickets

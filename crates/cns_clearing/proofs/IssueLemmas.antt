@@ -1,6 +1,6 @@
 -- The issues that orders name, each once and in order: they are the keys of the sums by issue, in order.
 use Rattle.std.proofs.Common.{◌≡◌, ℕ, suc, ◌<◌, Bool, true, false, List, [], ◌∷◌, Some, Ordering, Less, Equal, Greater, nat_eq, refl, sym, ap, ◌∙◌, arith, subst}
-use Rattle.std.specs.Prelude.{◌==◌, ◌||◌, if◌then◌else◌}
+use Rattle.std.specs.Prelude.{fold, ◌==◌, ◌||◌, if◌then◌else◌}
 use Rattle.std.specs.BTreeSet.{insert_key}
 use Rattle.std.specs.List.{AllByRecursion, IsDistinct, list_any}
 use Rattle.std.specs.List.Sorted.{IsPermutation, IsSorted, IsStrictlySortedBy}
@@ -15,7 +15,7 @@ use Rattle.cns_movements.specs.Book.{Orders, with_asks}
 use Rattle.cns_movements.specs.Order.{numbered, order_of}
 use Rattle.cns_movements.specs.declared.order.Ask.{Ask}
 use Rattle.cns_movements.specs.declared.order.Order.{Order}
-use Rattle.cns_clearing.specs.Pools.{issues_of, with_issues}
+use Rattle.cns_clearing.specs.Pools.{issues_of}
 use Rattle.cns_clearing.specs.PoolSums.{is_asked, is_named}
 
 -- ---- numbers in order
@@ -128,8 +128,11 @@ same_sorted (x ∷ xs) (y ∷ ys) sorted rising members =
 
 -- ---- the issues of orders
 
+-- the issues of orders beside others
+abbrev with_issues : List ℕ → List Order → List ℕ
+with_issues issues orders = fold (λ is (o : Order). insert_key nat_cmp is o.issue) issues orders
+
 sorted_issues : (issues : List ℕ) (orders : List Order) → IsStrictlySortedBy nat_cmp issues → IsStrictlySortedBy nat_cmp (with_issues issues orders)
-unfolding with_issues
 sorted_issues issues [] sorted = sorted
 sorted_issues issues (o ∷ orders) sorted = sorted_issues (insert_key nat_cmp issues o.issue) orders (sorted_inserted o.issue issues sorted)
 
@@ -138,7 +141,6 @@ unfolding IsStrictlySortedBy
 no_issues = tt
 
 in_issues : (i : ℕ) (issues : List ℕ) (orders : List Order) → is_in i (with_issues issues orders) ≡ (is_in i issues || is_named i orders)
-unfolding with_issues
 in_issues i issues [] = last (is_in i issues)
   where
     last : (b : Bool) → b ≡ (b || false)
@@ -165,7 +167,7 @@ flip a b = grind (arith, nat_tests)
 -- keys that are the issues which orders name, each once, are in order the list of these
 pub issues_by_keys : (keys sorted : List ℕ) (orders : List Order) → IsDistinct nat_eq keys → ((i : ℕ) → list_any (nat_eq i) keys ≡ is_named i orders)
     → IsPermutation keys sorted → IsSorted nat_cmp sorted → sorted ≡ issues_of orders
-unfolding is_in
+unfolding is_in issues_of
 issues_by_keys keys sorted orders distinct named moved order =
     same_sorted sorted (issues_of orders)
     (sorted_from_strictly_increasing sorted (IsStrictlyIncreasing-from_distinct sorted (IsNonDecreasingBy-from_sort (λ n. n) sorted order) (IsDistinct-IsPermutation nat_eq flip keys sorted moved distinct)))

@@ -11,7 +11,6 @@ use Rattle.cns_allocate.specs.Deliveries.{deliveries_of}
 use Rattle.cns_allocate.specs.Served.{IsServed}
 use Rattle.cns_allocate.specs.Plan.{plan_of}
 use Rattle.cns_allocate.specs.declared.planned.Planned.{Planned}
-use Rattle.cns_netting.specs.declared.position.PositionRow.{PositionRow}
 use Rattle.cns_records.specs.Clear.{AreWritable}
 use Rattle.cns_records.specs.declared.allocation.Allocation.{Allocation}
 use Rattle.cns_records.specs.declared.clear_record.ClearRecord.{ClearRecord}
@@ -20,14 +19,13 @@ use Rattle.cns_clearing.specs.Answers.{Closes, LotCloseLeaves, LotPourLeaves, Ma
 use Rattle.cns_records.specs.Refusals.{commit_refusal}
 use Rattle.cns_journal.specs.declared.record_log.CommitFault.{CommitFault}
 use Rattle.cns_journal.specs.declared.record_log.CommitFault.TheVariants as commit
-use Rattle.cns_clearing.specs.Books.{Books, IsAllocable, IsAllowed, IsLawful, are_spent, are_spent_by, books_of, deliveries_in, history_of, orders_of, tickets_of}
+use Rattle.cns_clearing.specs.Books.{Books, IsAllocable, IsAllowed, IsLawful, are_spent, are_spent_by, books_of, deliveries_in, orders_of, tickets_of}
 use Rattle.cns_clearing.specs.Closing.{AreRecordable}
 use Rattle.cns_clearing.specs.Lots.{AreLots, IsAllocation, avail_in, longs_among, lots_poured, new_lot, plan_in}
 use Rattle.cns_clearing.specs.Node.{AddLeaves, ClearNode}
 use Rattle.cns_clearing.specs.OpenLots.{refilled}
 use Rattle.cns_clearing.specs.Pools.{lot_of}
 use Rattle.cns_clearing.specs.declared.lot.Lot.{Lot}
-use Rattle.cns_clearing.proofs.PositionLemmas.{previous_is}
 use Rattle.cns_clearing.proofs.LotLemmas.{lot_found, lots_opened, lots_refilled}
 use Rattle.cns_clearing.proofs.DrawnLemmas.{tickets_drawn}
 use Rattle.cns_clearing.proofs.AllocationLemmas.{allocable, allocation_lawful, asked_small, recordable}
@@ -57,7 +55,6 @@ pub plan_is : (c : List ClearRecord) (issue : ℕ) (b : Books) (plan : List Plan
     → plan ≡ plan_of issue b.history b.orders b.priorities (longs_among issue b.previous) → plan ≡ plan_in c issue
 plan_is c issue b plan same is =
     is ∙ ap (λ (x : Books). plan_of issue x.history x.orders x.priorities (longs_among issue x.previous)) same
-    ∙ ap (λ (rows : List PositionRow). plan_of issue (history_of c) (orders_of c) (books_of c).priorities (longs_among issue rows)) (previous_is c)
 
 pub plan_told : (c : List ClearRecord) (issue : ℕ) (b : Books) (answer : Result (List Planned) AllocError) → b ≡ books_of c
     → IfOk answer (λ plan. plan ≡ plan_of issue b.history b.orders b.priorities (longs_among issue b.previous)) → IfOk answer (λ plan. plan ≡ plan_in c issue)

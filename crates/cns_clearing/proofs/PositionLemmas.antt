@@ -19,8 +19,6 @@ use Rattle.cns_covers.proofs.BoundLemmas.{credit_moved, debit_moved, position_bo
 use Rattle.cns_records.specs.declared.clear_record.ClearRecord.{ClearRecord}
 use Rattle.cns_records.specs.declared.clear_record.ClearRecord.TheVariants.{Accept, Exempt, Priority, Cycle, Allocate, Confirm}
 use Rattle.cns_clearing.specs.Books.{Books, Allows, IsLawful, books_of, covers_on, deliveries_in, history_of, settled_by, with_record}
-use Rattle.cns_netting.specs.Rows.{holdings_of, rows_of}
-use Rattle.cns_clearing.specs.Lots.{up_to_cycle, up_to_previous}
 use Rattle.cns_clearing.specs.Position.{IsBetween, due_before, due_in, is_cycle_from, position_in}
 use Rattle.cns_clearing.proofs.BooksLemmas.{lawful_bounded}
 use Rattle.cns_clearing.proofs.PoolLemmas.{moved_with_asks}
@@ -115,19 +113,3 @@ position_between c m i lawful =
       low = subst (λ (ts : List Trade). neg_ℤ (pos (sold ts m i)) ≤ℤ (position -ℤ pos less)) (due_in_is c) bounds.0;
       high = subst (λ (ts : List Trade). (position +ℤ pos more) ≤ℤ pos (bought ts m i)) (due_in_is c) bounds.1;
     }
-
--- ---- the positions that the books keep
-
--- those directly after the latest cycle, and those directly after the cycle before it
-cycles_are : (c : List ClearRecord) → ((books_of c).recent ≡ rows_of (history_of (up_to_cycle c))) × ((books_of c).previous ≡ rows_of (history_of (up_to_previous c)))
-unfolding books_of holdings_of
-cycles_are [] = (refl, refl)
-cycles_are (Accept t ∷ c) = cycles_are c
-cycles_are (Exempt m i s ∷ c) = cycles_are c
-cycles_are (Priority m i is_on ∷ c) = cycles_are c
-cycles_are (Cycle id ∷ c) = (refl, (cycles_are c).0)
-cycles_are (Allocate a ∷ c) = cycles_are c
-cycles_are (Confirm r ∷ c) = cycles_are c
-
-pub previous_is : (c : List ClearRecord) → (books_of c).previous ≡ rows_of (history_of (up_to_previous c))
-previous_is c = (cycles_are c).1

@@ -104,11 +104,8 @@ LotPourLeaves issue (Err refusal.NoLot) old new = (old.log.down ≡ false) × (l
 LotPourLeaves issue (Err _) old new = ⊥
 
 -- the tickets of a pool as those of a record
-abbrev pub drawn_in_record : Ticket → Drawn
-drawn_in_record t = record { member = t.member; start = t.start; asked = t.asked }
-
 abbrev pub drawn_of : List Ticket → List Drawn
-drawn_of tickets = map drawn_in_record tickets
+drawn_of tickets = map (λ (t : Ticket). record { member = t.member; start = t.start; asked = t.asked }) tickets
 
 -- the allocation that closes a lot with these tickets
 abbrev pub allocation_of : Lot → List Ticket → Bool → Allocation

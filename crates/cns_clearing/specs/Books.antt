@@ -55,11 +55,8 @@ abbrev pub covers_on : Books → ℕ → List Ask
 covers_on b day = covers_of (Netted day ∷ b.history) b.orders b.exemptions
 
 -- the tickets of a record as those of a pool
-abbrev pub ticket_of : Drawn → Ticket
-ticket_of d = record { member = d.member; start = d.start; asked = d.asked }
-
 abbrev pub tickets_of : List Drawn → List Ticket
-tickets_of drawn = map ticket_of drawn
+tickets_of drawn = map (λ (d : Drawn). record { member = d.member; start = d.start; asked = d.asked }) drawn
 
 -- the deliveries that an allocation orders: what its tickets are granted of the shares poured
 abbrev pub deliveries_in : Allocation → List Ask
@@ -67,21 +64,16 @@ deliveries_in a = deliveries_of a.issue a.poured (tickets_of a.drawn)
 
 -- the history once an order has moved these shares
 abbrev pub settled_by : Option Order → ℕ → List NetEntry → List NetEntry
-settled_by None moved h = h
-settled_by (Some o) moved h = Settled o.member o.issue (amount_of o.kind moved) ∷ h
+settled_by order moved h = elim order [ None ↦ h | Some o ↦ Settled o.member o.issue (amount_of o.kind moved) ∷ h ]
 
 -- what one more record makes of the books
 abbrev pub with_record : ClearRecord → Books → Books
 with_record (Accept t) b = record b { history = Accepted t ∷ b.history }
 with_record (Exempt m i s) b = record b { exemptions = record { member = m; issue = i; shares = s } ∷ b.exemptions }
 with_record (Priority m i is_on) b = record b { priorities = record { member = m; issue = i; on = is_on } ∷ b.priorities }
-with_record (Cycle id) b = record b {
-  history = Netted id.day ∷ b.history;
-  orders = with_asks b.orders (covers_on b id.day);
-  latest = Some id;
-  recent = rows_of (Netted id.day ∷ b.history);
-  previous = b.recent;
-}
+with_record (Cycle id) b =
+    let h = Netted id.day ∷ b.history in
+    record b { history = h; orders = with_asks b.orders (covers_on b id.day); latest = Some id; recent = rows_of h; previous = b.recent }
 with_record (Allocate a) b = record b { orders = with_asks b.orders (deliveries_in a) }
 with_record (Confirm r) b = record b { history = settled_by (order_of b.orders.orders r.number) r.moved b.history; orders = with_reply b.orders r }
 
@@ -104,8 +96,7 @@ latest_of c = (books_of c).latest
 
 -- whether a cycle is later than the latest one
 abbrev pub is_later : Option CycleId → CycleId → Bool
-is_later None id = true
-is_later (Some last) id = is_after id last
+is_later last id = elim last [ None ↦ true | Some other ↦ is_after id other ]
 
 -- whether so many orders are more than the numbers that are left; no orders never are
 abbrev pub are_spent_by : Orders → ℕ → Bool

@@ -2,7 +2,6 @@
 use Rattle.std.specs.Prelude.{◌≡◌, ℕ, ◌≤◌, ◌==◌, ◌&&◌, not, false, List, [], ◌∷◌, ◌++◌, length, map, filter, All, count_by, Option, Some, None, if◌then◌else◌}
 use Rattle.std.specs.List.{filter_map}
 use Rattle.cns_netting.specs.History.{credit_part}
-use Rattle.cns_netting.specs.Rows.{rows_of}
 use Rattle.cns_netting.specs.declared.position.PositionRow.{PositionRow}
 use Rattle.cns_allocate.specs.Plan.{plan_of}
 use Rattle.cns_allocate.specs.Served.{IsServed}
@@ -14,24 +13,6 @@ use Rattle.cns_clearing.specs.Books.{books_of, history_of, orders_of, tickets_of
 use Rattle.cns_clearing.specs.Pools.{avail_of}
 use Rattle.cns_clearing.specs.declared.lot.Lot.{Lot}
 
--- the records up to the latest cycle, with that
-abbrev pub up_to_cycle : List ClearRecord → List ClearRecord
-up_to_cycle [] = []
-up_to_cycle (Accept t ∷ c) = up_to_cycle c
-up_to_cycle (Exempt m i s ∷ c) = up_to_cycle c
-up_to_cycle (Priority m i is_on ∷ c) = up_to_cycle c
-up_to_cycle (Cycle id ∷ c) = Cycle id ∷ c
-up_to_cycle (Allocate a ∷ c) = up_to_cycle c
-up_to_cycle (Confirm r ∷ c) = up_to_cycle c
-
-abbrev pub all_but_newest : List ClearRecord → List ClearRecord
-all_but_newest [] = []
-all_but_newest (r ∷ c) = c
-
--- the records up to the cycle before the latest, with that; none where there are not two
-abbrev pub up_to_previous : List ClearRecord → List ClearRecord
-up_to_previous c = up_to_cycle (all_but_newest (up_to_cycle c))
-
 -- the member of a position, where it is long in the issue
 unfoldable pub long_member : ℕ → PositionRow → Option ℕ
 long_member issue row = if (row.issue == issue) && not (credit_part row.position == 0) then Some row.member else None
@@ -42,7 +23,7 @@ longs_among issue rows = filter_map (long_member issue) rows
 
 -- the members that were long in an issue directly after the cycle before the latest
 abbrev pub were_long : List ClearRecord → ℕ → List ℕ
-were_long c issue = longs_among issue (rows_of (history_of (up_to_previous c)))
+were_long c issue = longs_among issue (books_of c).previous
 
 -- the plan of an issue
 abbrev pub plan_in : List ClearRecord → ℕ → List Planned
@@ -115,12 +96,8 @@ without_lot issue lots = filter (λ (lot : Lot). not (lot.issue == issue)) lots
 
 -- the lots once a record was added: an allocation closes the lot of its issue
 abbrev pub lots_after : ClearRecord → List Lot → List Lot
-lots_after (Accept t) lots = lots
-lots_after (Exempt m i s) lots = lots
-lots_after (Priority m i is_on) lots = lots
-lots_after (Cycle id) lots = lots
 lots_after (Allocate a) lots = without_lot a.issue lots
-lots_after (Confirm r) lots = lots
+lots_after _ lots = lots
 
 -- a record may be added while these lots are open: no cycle runs while one is
 abbrev pub DoesNotDisturb : ClearRecord → List Lot → Type 0

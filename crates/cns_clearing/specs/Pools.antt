@@ -1,6 +1,6 @@
 -- The pool of an issue: the shares in account 0 that are free, lent and on their way to members, as sums over the orders of
 -- a book, and what the open lots hold (this project's own rules).
-use Rattle.std.specs.Prelude.{ℕ, ◌+◌, ◌-◌, ◌&&◌, ◌==◌, List, [], ◌∷◌, Option, Some, None, find, option_map, unwrap_or, sum_by, if◌then◌else◌}
+use Rattle.std.specs.Prelude.{ℕ, ◌+◌, ◌-◌, ◌&&◌, ◌==◌, List, [], ◌∷◌, Option, Some, None, find, fold, option_map, unwrap_or, sum_by, if◌then◌else◌}
 use Rattle.std.specs.List.{filter_map}
 use Rattle.std.specs.Ordering.{nat_cmp}
 use Rattle.std.specs.BTreeSet.{insert_key}
@@ -16,35 +16,21 @@ use Rattle.cns_clearing.specs.declared.pools.PoolRow.{PoolRow}
 abbrev pub taken_part : List Reply → Order → ℕ
 taken_part replies o = unwrap_or (moved_of replies o.number) o.asked
 
--- what an order counts among the covers, and among the deliveries, of an issue
-abbrev pub covered_by_order : List Reply → ℕ → Order → ℕ
-covered_by_order replies issue o = if is_cover o.kind && (o.issue == issue) then moved_part replies o else 0
-
-abbrev pub taken_by_order : List Reply → ℕ → Order → ℕ
-taken_by_order replies issue o = if is_delivery o.kind && (o.issue == issue) then taken_part replies o else 0
-
-abbrev pub out_by_order : List Reply → ℕ → Order → ℕ
-out_by_order replies issue o = if is_delivery o.kind && (o.issue == issue) then open_part replies o else 0
-
--- what a delivery took of the pool of an issue, once it is confirmed
-abbrev pub delivered_by_order : List Reply → ℕ → Order → ℕ
-delivered_by_order replies issue o = if is_delivery o.kind && (o.issue == issue) then moved_part replies o else 0
-
 -- the shares that confirmed covers brought in an issue
 unfoldable pub covered_of : Orders → ℕ → ℕ
-covered_of book issue = sum_by (covered_by_order book.replies issue) book.orders
+covered_of book issue = sum_by (λ o. if is_cover o.kind && (o.issue == issue) then moved_part book.replies o else 0) book.orders
 
 -- the shares that deliveries took, or still may take
 unfoldable pub taken_of : Orders → ℕ → ℕ
-taken_of book issue = sum_by (taken_by_order book.replies issue) book.orders
+taken_of book issue = sum_by (λ o. if is_delivery o.kind && (o.issue == issue) then taken_part book.replies o else 0) book.orders
 
 -- the shares that unconfirmed deliveries ask for
 unfoldable pub out_of : Orders → ℕ → ℕ
-out_of book issue = sum_by (out_by_order book.replies issue) book.orders
+out_of book issue = sum_by (λ o. if is_delivery o.kind && (o.issue == issue) then open_part book.replies o else 0) book.orders
 
 -- the shares that confirmed deliveries took in an issue
 unfoldable pub delivered_of : Orders → ℕ → ℕ
-delivered_of book issue = sum_by (delivered_by_order book.replies issue) book.orders
+delivered_of book issue = sum_by (λ o. if is_delivery o.kind && (o.issue == issue) then moved_part book.replies o else 0) book.orders
 
 -- the shares that the deliveries of an issue among new orders ask for
 unfoldable pub asked_of_pool : ℕ → List Ask → ℕ
@@ -67,24 +53,29 @@ lent_of lots issue = unwrap_or (option_map (λ (lot : Lot). lot.poured) (lot_of 
 abbrev pub free_of : Orders → List Lot → ℕ → ℕ
 free_of book lots issue = avail_of book issue - lent_of lots issue
 
--- the issues of some orders beside others, each once, in order
-unfoldable pub with_issues : List ℕ → List Order → List ℕ
-with_issues issues [] = issues
-with_issues issues (o ∷ orders) = with_issues (insert_key nat_cmp issues o.issue) orders
-
 -- the issues that some order names, each once, in order
-abbrev pub issues_of : List Order → List ℕ
-issues_of orders = with_issues [] orders
+unfoldable pub issues_of : List Order → List ℕ
+issues_of orders = fold (λ issues o. insert_key nat_cmp issues o.issue) [] orders
 
 -- the pool of an issue, where it has shares
-abbrev pub row_by : ℕ → ℕ → ℕ → ℕ → Option PoolRow
-row_by issue free lent out =
-    if (free == 0) && (lent == 0) && (out == 0) then None
-    else Some (record { issue = issue; free = free; lent = lent; out = out })
-
 unfoldable pub pool_row : Orders → List Lot → ℕ → Option PoolRow
-pool_row book lots issue = row_by issue (free_of book lots issue) (lent_of lots issue) (out_of book issue)
+pool_row book lots issue =
+    if (free_of book lots issue == 0) && (lent_of lots issue == 0) && (out_of book issue == 0) then None
+    else Some (record { issue = issue; free = free_of book lots issue; lent = lent_of lots issue; out = out_of book issue })
 
 -- the pools that have shares, by issue
 abbrev pub rows_of : Orders → List Lot → List PoolRow
 rows_of book lots = filter_map (pool_row book lots) (issues_of book.orders)
+
+-- what one order adds to those sums, for proofs
+abbrev pub covered_by_order : List Reply → ℕ → Order → ℕ
+covered_by_order replies issue o = if is_cover o.kind && (o.issue == issue) then moved_part replies o else 0
+
+abbrev pub taken_by_order : List Reply → ℕ → Order → ℕ
+taken_by_order replies issue o = if is_delivery o.kind && (o.issue == issue) then taken_part replies o else 0
+
+abbrev pub out_by_order : List Reply → ℕ → Order → ℕ
+out_by_order replies issue o = if is_delivery o.kind && (o.issue == issue) then open_part replies o else 0
+
+abbrev pub delivered_by_order : List Reply → ℕ → Order → ℕ
+delivered_by_order replies issue o = if is_delivery o.kind && (o.issue == issue) then moved_part replies o else 0

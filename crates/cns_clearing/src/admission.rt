@@ -1,7 +1,7 @@
 ghost use Rattle.std.specs.Prelude.{◌≡◌, ◌↔◌, ◌≤◌, ℕ, All, IfOk, IsTrue};
 ghost use Rattle.cns_covers.specs.Bounds.{want_in};
 ghost use Rattle.cns_pool.specs.declared.ticket.Ticket.{Ticket};
-ghost use Rattle.cns_clearing.specs.Books.{AllocatedBy, AreSound, ticket_of, tickets_of};
+ghost use Rattle.cns_clearing.specs.Books.{AllocatedBy, AreSound, tickets_of};
 ghost use Rattle.cns_clearing.specs.Closing.{MayFollow, is_apart, is_chained};
 
 use crate::books::Books;
@@ -58,7 +58,7 @@ fn tickets(alloc: Global, drawn: &[Drawn]) -> Result<Vec<Ticket>, AllocError>
 
 // A ticket of a record as that of a pool.
 fn ticket(drawn: &Drawn) -> Ticket
-    ensures { result ≡ ticket_of drawn.now }
+    ensures { result ≡ record { member = drawn.now.member; start = drawn.now.start; asked = drawn.now.asked } }
 {
     Ticket {
         member: drawn.member,

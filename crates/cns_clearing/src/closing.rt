@@ -1,6 +1,6 @@
 ghost use Rattle.std.specs.Prelude.{◌≡◌, ◌≤◌, IfOk};
 ghost use Rattle.cns_pool.specs.Pool.{asked_sum};
-ghost use Rattle.cns_clearing.specs.Answers.{allocation_of as allocation_in, drawn_in_record, drawn_of as drawn_in};
+ghost use Rattle.cns_clearing.specs.Answers.{allocation_of as allocation_in, drawn_of as drawn_in};
 ghost use Rattle.cns_clearing.specs.Closing.{AreRecordable, IsRecordable};
 
 use crate::lot::Lot;
@@ -49,7 +49,7 @@ fn drawn_list(alloc: Global, tickets: &[Ticket]) -> Result<DrawnList, AllocError
 // A ticket as that of a record.
 fn drawn(ticket: &Ticket) -> Drawn
     requires { IsRecordable ticket.now }
-    ensures { result ≡ drawn_in_record ticket.now }
+    ensures { result ≡ record { member = ticket.now.member; start = ticket.now.start; asked = ticket.now.asked } }
 {
     let Some(start) = Shares::new(ticket.start) else {
         unreachable!()

@@ -18,7 +18,7 @@ use Rattle.cns_ids.specs.declared.holding.Holding.{Holding}
 use Rattle.cns_netting.proofs.HoldingLemmas.{AreAscending, holding_order, holdings-ascending}
 use Rattle.cns_netting.proofs.BookLemmas.{book_netted, bought-most, sold-most}
 use Rattle.cns_netting.proofs.TradeLemmas.{Reaches, bought-due, reaches_latest, sold-due}
-use Rattle.cns_movements.specs.Order.{is_of, moved_of, numbered, open_sum, order_of, same_kind}
+use Rattle.cns_movements.specs.Order.{ask_for, is_of, moved_of, numbered, open_sum, order_of, same_kind}
 use Rattle.cns_movements.specs.Book.{IsOrderBook, Orders, with_asks, with_reply}
 use Rattle.cns_movements.specs.declared.order.Ask.{Ask}
 use Rattle.cns_movements.specs.declared.order.MoveKind.{MoveKind}
@@ -29,7 +29,7 @@ use Rattle.cns_movements.specs.OpenShares.{asked_by}
 use Rattle.cns_movements.proofs.AskLemmas.{asked_by-numbered, covers_leave_deliveries, deliveries_leave_covers, open_sum_asked}
 use Rattle.cns_movements.proofs.ReplyLemmas.{nothing_either, open_sum-with_reply}
 use Rattle.cns_covers.specs.Bounds.{AreBounded, AreDeliverable, amount_of, want_in}
-use Rattle.cns_covers.specs.Covers.{ShortsFit, ask_for, cover_ask, cover_of, covers_of}
+use Rattle.cns_covers.specs.Covers.{ShortsFit, cover_ask, cover_of, covers_of}
 use Rattle.cns_covers.specs.declared.exemptions.Exempted.{Exempted}
 
 -- with no entry and no order there is nothing to bound
@@ -74,7 +74,7 @@ bought-grows h day m i =
 
 -- one holding more asks for its cover, in its own place
 asked_by-ask_for : (m i member issue c : ℕ) (rest : List Ask)
-    → asked_by Cover m i (cons_option (ask_for member issue c) rest) ≡ (if (member == m) && (issue == i) then c else 0) + asked_by Cover m i rest
+    → asked_by Cover m i (cons_option (ask_for Cover member issue c) rest) ≡ (if (member == m) && (issue == i) then c else 0) + asked_by Cover m i rest
 unfolding asked_by
 asked_by-ask_for m i member issue c rest = by (c == 0) refl
   where

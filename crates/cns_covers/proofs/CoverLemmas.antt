@@ -15,7 +15,8 @@ use Rattle.cns_netting.specs.declared.position.PositionRow.{PositionRow}
 use Rattle.cns_netting.proofs.BookLemmas.{sold-most}
 use Rattle.cns_movements.specs.Book.{Orders}
 use Rattle.cns_movements.specs.declared.order.MoveKind.TheVariants.{Cover}
-use Rattle.cns_covers.specs.Covers.{IsUnsettled, ShortsFit, ask_for, cover_ask, covers_of, has_ask, left_of, row_ask, short_of}
+use Rattle.cns_movements.specs.Order.{ask_for}
+use Rattle.cns_covers.specs.Covers.{IsUnsettled, ShortsFit, cover_ask, covers_of, has_ask, left_of, row_ask, short_of}
 use Rattle.cns_covers.specs.declared.exemptions.Exempted.{Exempted}
 use Rattle.cns_covers.proofs.RowLemmas.{All-rows_of}
 
@@ -28,8 +29,8 @@ debit_part-difference c d = by (pos c -ℤ pos d) refl
     by (negsuc n) e = omega (arith, ints, e)
 
 -- nothing is covered of a position that is 0
-ask_for-level : (member issue c d less : ℕ) → c ≡ d → None ≡ ask_for member issue ((d - c) - less)
-ask_for-level member issue c d less e = let none_left : 0 ≡ (d - c) - less = omega arith in ap (ask_for member issue) none_left
+ask_for-level : (member issue c d less : ℕ) → c ≡ d → None ≡ ask_for Cover member issue ((d - c) - less)
+ask_for-level member issue c d less e = let none_left : 0 ≡ (d - c) - less = omega arith in ap (ask_for Cover member issue) none_left
 
 -- the cover of a holding is that of its row
 row_ask-open_row : (h : List NetEntry) (book : Orders) (settings : List Exempted) (k : Holding)

@@ -1,5 +1,5 @@
 -- The covers that a cycle orders (this project's own rule). Histories stand newest first.
-use Rattle.std.specs.Prelude.{ℕ, ◌+◌, ◌-◌, ◌≤◌, ◌==◌, Bool, not, List, [], ◌∷◌, Option, Some, None, if◌then◌else◌}
+use Rattle.std.specs.Prelude.{ℕ, ◌+◌, ◌-◌, ◌≤◌, ◌==◌, Bool, not, List, [], ◌∷◌, Option}
 use Rattle.std.specs.List.{filter_map}
 use Rattle.cns_netting.specs.History.{credit, debit, debit_part}
 use Rattle.cns_netting.specs.Rows.{holdings_of}
@@ -7,7 +7,7 @@ use Rattle.cns_netting.specs.declared.entry.NetEntry.{NetEntry}
 use Rattle.cns_netting.specs.declared.entry.NetEntry.TheVariants.{Accepted, Netted, Settled}
 use Rattle.cns_ids.specs.declared.holding.Holding.{Holding}
 use Rattle.cns_netting.specs.declared.position.PositionRow.{PositionRow}
-use Rattle.cns_movements.specs.Order.{open_sum}
+use Rattle.cns_movements.specs.Order.{ask_for, open_sum}
 use Rattle.cns_movements.specs.Book.{Orders}
 use Rattle.cns_movements.specs.declared.order.Ask.{Ask}
 use Rattle.cns_movements.specs.declared.order.MoveKind.TheVariants.{Cover}
@@ -17,17 +17,11 @@ use Rattle.cns_covers.specs.declared.exemptions.Exempted.{Exempted}
 -- the shares that a member is to cover in an issue: what it is short of, less open covers and the exemption
 abbrev pub cover_of : List NetEntry → Orders → List Exempted → ℕ → ℕ → ℕ
 cover_of h book settings member issue =
-    (debit h member issue - credit h member issue)
-    - (open_sum book.orders book.replies Cover member issue + exempt_of settings member issue)
-
--- a cover of these shares, where they are not 0
-abbrev pub ask_for : ℕ → ℕ → ℕ → Option Ask
-ask_for member issue shares =
-    if shares == 0 then None else Some (record { kind = Cover; member = member; issue = issue; asked = shares })
+    (debit h member issue - credit h member issue) - (open_sum book.orders book.replies Cover member issue + exempt_of settings member issue)
 
 -- the cover of a holding, where something is left to cover
 unfoldable pub cover_ask : List NetEntry → Orders → List Exempted → Holding → Option Ask
-cover_ask h book settings k = ask_for k.member k.issue (cover_of h book settings k.member k.issue)
+cover_ask h book settings k = ask_for Cover k.member k.issue (cover_of h book settings k.member k.issue)
 
 -- the covers of a history, by issue, then member
 abbrev pub covers_of : List NetEntry → Orders → List Exempted → List Ask
@@ -55,7 +49,7 @@ left_of book settings row =
 
 -- the cover of a position as a row, where something is left to cover
 unfoldable pub row_ask : Orders → List Exempted → PositionRow → Option Ask
-row_ask book settings row = ask_for row.member row.issue (left_of book settings row)
+row_ask book settings row = ask_for Cover row.member row.issue (left_of book settings row)
 
 -- whether a position has a cover
 unfoldable pub has_ask : Orders → List Exempted → PositionRow → Bool

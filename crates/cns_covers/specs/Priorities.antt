@@ -2,10 +2,6 @@
 use Rattle.std.specs.Prelude.{ℕ, ◌&&◌, ◌==◌, Bool, false, List, find, option_map, unwrap_or}
 use Rattle.cns_covers.specs.declared.priorities.Prioritized.{Prioritized}
 
--- whether a setting is of a member and issue
-abbrev pub is_priority_of : ℕ → ℕ → Prioritized → Bool
-is_priority_of member issue s = (s.member == member) && (s.issue == issue)
-
 -- whether a member has priority in an issue: as the newest setting says, and not where there is none
 abbrev pub is_on : List Prioritized → ℕ → ℕ → Bool
-is_on settings member issue = unwrap_or (option_map (λ (s : Prioritized). s.on) (find (is_priority_of member issue) settings)) false
+is_on settings member issue = unwrap_or (option_map (λ (s : Prioritized). s.on) (find (λ s. (s.member == member) && (s.issue == issue)) settings)) false

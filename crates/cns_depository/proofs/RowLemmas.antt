@@ -24,7 +24,7 @@ use Rattle.cns_depository.specs.declared.balances.BalanceRow.{BalanceRow}
 use Rattle.cns_depository.specs.Account.{enters}
 use Rattle.cns_depository.specs.Openings.{is_opening_of, member_opening, opening_shares}
 use Rattle.cns_depository.specs.Stock.{order_in, moved_by, part_in, moved_in, balance_of}
-use Rattle.cns_depository.specs.Balances.{account_cmp, place_cmp, place_at, with_opening, with_order, opened_places, places_of, balance_row, balance_rows, row_place, AreComplete, AreAscending}
+use Rattle.cns_depository.specs.Balances.{account_cmp, place_cmp, place_at, opened_places, places_of, balance_row, balance_rows, row_place, AreComplete, AreAscending}
 use Rattle.cns_depository.specs.contracts.place.PlaceOrd.TheImpl.Laws.{total-law}
 use Rattle.cns_depository.proofs.BalanceLemmas.{and_left, and_right}
 use Rattle.cns_depository.proofs.PlaceLemmas.{place_order}
@@ -71,6 +71,13 @@ insert_has (x ∷ xs) k = by (place_cmp k x) refl (insert_has xs k)
     by Less e rest = inl refl
     by Equal e rest = inl (sym (same_place k x e))
     by Greater e rest = inr rest
+
+-- places with the one that an opening names, and with those that an order names, each once, ascending
+abbrev pub with_opening : List Place → Opening → List Place
+with_opening ps o = insert_key place_cmp ps (place_at o.issue (Member o.member))
+
+abbrev with_order : List Place → Order → List Place
+with_order ps o = insert_key place_cmp (insert_key place_cmp ps (place_at o.issue Cns)) (place_at o.issue (Member o.member))
 
 -- the places of openings
 opened_keeps : (os : List Opening) (ps : List Place) (q : Place) → IsAmong q ps → IsAmong q (fold with_opening ps os)

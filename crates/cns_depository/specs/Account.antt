@@ -9,8 +9,7 @@ use Rattle.cns_depository.specs.declared.account.Account.TheVariants.{Cns, Membe
 
 -- the account that gives, of a movement of this kind and member
 abbrev pub giver_by : MoveKind → ℕ → Account
-giver_by Cover member = Member member
-giver_by Delivery member = Cns
+giver_by kind member = elim kind [ Cover ↦ Member member | Delivery ↦ Cns ]
 
 -- the account that gives
 abbrev pub giver : Order → Account
@@ -18,8 +17,7 @@ giver o = giver_by o.kind o.member
 
 -- the account that receives, of a movement of this kind and member
 abbrev pub receiver_by : MoveKind → ℕ → Account
-receiver_by Cover member = Cns
-receiver_by Delivery member = Member member
+receiver_by kind member = elim kind [ Cover ↦ Cns | Delivery ↦ Member member ]
 
 -- the account that receives
 abbrev pub receiver : Order → Account
@@ -27,10 +25,8 @@ receiver o = receiver_by o.kind o.member
 
 -- whether an order moves shares into an account
 abbrev pub enters : Account → Order → Bool
-enters Cns o = is_cover o.kind
-enters (Member m) o = is_delivery o.kind && (o.member == m)
+enters account o = elim account [ Cns ↦ is_cover o.kind | Member m ↦ is_delivery o.kind && (o.member == m) ]
 
 -- whether an order moves shares out of an account
 abbrev pub leaves : Account → Order → Bool
-leaves Cns o = is_delivery o.kind
-leaves (Member m) o = is_cover o.kind && (o.member == m)
+leaves account o = elim account [ Cns ↦ is_delivery o.kind | Member m ↦ is_cover o.kind && (o.member == m) ]

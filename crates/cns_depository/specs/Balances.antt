@@ -6,7 +6,6 @@ use Rattle.std.specs.declared.cmp.Ordering.{Ordering}
 use Rattle.std.specs.declared.cmp.Ordering.TheVariants.{Less, Equal, Greater}
 use Rattle.std.specs.Ordering.{nat_cmp, ordering_then}
 use Rattle.std.specs.BTreeSet.{insert_key}
-use Rattle.cns_movements.specs.declared.order.Order.{Order}
 use Rattle.cns_records.specs.declared.dep_record.DepRecord.{DepRecord}
 use Rattle.cns_trades.specs.declared.opening.Opening.{Opening}
 use Rattle.cns_depository.specs.declared.account.Account.{Account}
@@ -29,22 +28,15 @@ place_cmp a b = ordering_then (nat_cmp a.issue b.issue) (account_cmp a.account b
 abbrev pub place_at : ℕ → Account → Place
 place_at issue account = record { issue = issue; account = account }
 
--- places with the one that an opening names, each once, ascending
-abbrev pub with_opening : List Place → Opening → List Place
-with_opening ps o = insert_key place_cmp ps (place_at o.issue (Member o.member))
-
--- places with those that an order names, each once, ascending
-abbrev pub with_order : List Place → Order → List Place
-with_order ps o = insert_key place_cmp (insert_key place_cmp ps (place_at o.issue Cns)) (place_at o.issue (Member o.member))
-
 -- the places that some opening names, each once, ascending
 unfoldable pub opened_places : List Opening → List Place
-opened_places openings = fold with_opening [] openings
+opened_places openings = fold (λ ps o. insert_key place_cmp ps (place_at o.issue (Member o.member))) [] openings
 
 -- the places that some opening or order names, each once, ascending
 unfoldable pub places_of : List Opening → List DepRecord → List Place
 places_of openings [] = opened_places openings
-places_of openings (e ∷ p) = with_order (places_of openings p) (order_in e)
+places_of openings (e ∷ p) =
+    let o = order_in e in insert_key place_cmp (insert_key place_cmp (places_of openings p) (place_at o.issue Cns)) (place_at o.issue (Member o.member))
 
 -- the row of a place, where its balance is not 0
 unfoldable pub balance_row : List Opening → List DepRecord → Place → Option BalanceRow

@@ -25,15 +25,13 @@ member_opening openings member issue = sum_by (λ (o : Opening). if is_opening_o
 
 -- the shares with which an account opens in an issue; the CNS account opens with none
 abbrev pub opening_shares : List Opening → Account → ℕ → ℕ
-opening_shares openings Cns issue = 0
-opening_shares openings (Member m) issue = member_opening openings m issue
+opening_shares openings account issue = elim account [ Cns ↦ 0 | Member m ↦ member_opening openings m issue ]
 
 -- why an opening is refused, where it is
 abbrev pub opening_fault : List Opening → Opening → Option OpeningFault
 opening_fault openings o =
     if is_open openings o.member o.issue then Some Double
-    else if nat_lt (10 ^ 18) (issue_sum openings o.issue + o.shares) then Some IssueSum
-    else None
+    else if nat_lt (10 ^ 18) (issue_sum openings o.issue + o.shares) then Some IssueSum else None
 
 -- what adding an opening leaves, by its answer: only an accepted one changes the list
 abbrev pub AddLeaves : Opening → Result (Unit {0}) OpeningFault → List Opening → List Opening → Type 0

@@ -3,7 +3,7 @@ use Rattle.std.proofs.Common.{◌≡◌, ℕ, zero, suc, ◌+◌, ◌%◌, ◌<�
 use Rattle.std.specs.Prelude.{slice_index}
 use Rattle.std.proofs.lemmas.Bool.{and_parts, eqb-true, ltb-true}
 use Rattle.std.proofs.lemmas.Bool.Decides.{Decides-below_and}
-use Rattle.cns_ids.specs.Cusip.{share_at}
+use Rattle.cns_ids.specs.Cusip.{share_at, value_of}
 use Rattle.cns_ids.specs.declared.cusip.TheConstants.{EVEN_SHARES, ODD_SHARES}
 
 -- whether a table has a character's share of a place, which is below 17
@@ -22,11 +22,11 @@ have_shares place shares zero = true
 have_shares place shares (suc n) = has_share place shares n && have_shares place shares n
 
 even_shares : have_shares 2 even_of 256 ≡ true
-unfolding have_shares has_share
+unfolding have_shares has_share value_of
 even_shares = refl
 
 odd_shares : have_shares 1 odd_of 256 ≡ true
-unfolding have_shares has_share
+unfolding have_shares has_share value_of
 odd_shares = refl
 
 -- what a table has of a character

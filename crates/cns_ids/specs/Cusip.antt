@@ -1,19 +1,14 @@
 -- CUSIPs: eight listed characters, and the digit that makes one sum over places right (ANSI X9.6).
-use Rattle.std.specs.Prelude.{◌≡◌, ℕ, ◌+◌, ◌-◌, ◌*◌, ◌/◌, ◌%◌, ◌^◌, ◌<◌, ◌&&◌, Bool, nat_le, ◌==◌, List, [], ◌∷◌, take, drop, length, slice_index, Option, Some, None, is_some, unwrap_or, Result, Ok, Err, if◌then◌else◌}
+use Rattle.std.specs.Prelude.{◌≡◌, ℕ, ◌+◌, ◌-◌, ◌*◌, ◌/◌, ◌%◌, ◌^◌, ◌<◌, Bool, nat_eq, ◌==◌, codes, List, [], ◌∷◌, take, drop, length, slice_index, Option, Some, None, is_some, unwrap_or, Result, Ok, Err, if◌then◌else◌}
+use Rattle.std.specs.List.{position}
 use Rattle.std.specs.Int.{from_be_bytes, to_be_bytes, w64}
 use Rattle.cns_ids.specs.Number.{is_digit}
 use Rattle.cns_ids.specs.declared.cusip.CusipFault.{CusipFault}
 use Rattle.cns_ids.specs.declared.cusip.CusipFault.TheVariants as fault
 
--- the value of a listed character: digits, capital letters, then * @ #
-abbrev pub value_of : ℕ → Option ℕ
-value_of c =
-    if is_digit c then Some (c - 48)
-    else if nat_le 65 c && nat_le c 90 then Some (c - 55)
-    else if c == 42 then Some 36
-    else if c == 64 then Some 37
-    else if c == 35 then Some 38
-    else None
+-- the value of a listed character: its place among these, from 0 on
+unfoldable pub value_of : ℕ → Option ℕ
+value_of c = position (nat_eq c) (codes "0123456789ABCDEFGHIJKLMNOPQRSTUVWXYZ*@#")
 
 -- what a character adds in its place, counted from 1: in an even place its value is doubled, and the two digits of that are added
 abbrev pub share_at : ℕ → ℕ → ℕ

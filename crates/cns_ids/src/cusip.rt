@@ -54,6 +54,7 @@ impl Model for Cusip {
 }
 
 // The value of a listed character.
+#[tactic(auto, using(crate::proofs::ValueLemmas::value_is))]
 fn value(character: u8) -> Option<u8>
     ensures value { result ≡ value_of character }
     ensures small { IfSome result (λ v. v < 39) }

@@ -2,6 +2,7 @@
 use Rattle.std.proofs.Common.{◌≡◌, ℕ, suc, zero, ◌+◌, ◌<◌, ◌≤◌, List, [], ◌∷◌, ◌++◌, cond, drop, get_or, length, map, set, Option, Some, None, sym, refl, ap, ◌∙◌, arith, length-append}
 use borrow.Author.Count.{below_more}
 use Rattle.std.specs.Prelude.{IsSome, is_some, slice_get, slice_set, option_map, replicate}
+use Rattle.std.specs.List.{cons_option}
 use Rattle.std.specs.Option.{option_flatten}
 use Rattle.std.proofs.lemmas.Option.{slice_get-map}
 use Rattle.std.proofs.lemmas.List.{map-append, length-map, length-set}
@@ -123,7 +124,8 @@ pub unconfirmed_behind : (os : List Order) (rs : List Reply) (n : ℕ) → n ≤
 unconfirmed_behind os rs zero le h = refl
 unconfirmed_behind [] rs (suc n) le h = refl
 unconfirmed_behind (o ∷ os) rs (suc n) le h =
-    unconfirmed_behind os rs n (omega arith) (λ k lt. h (suc k) (omega arith)) ∙ sym (some_chosen (moved_of rs o.number) _ _ (h 0 (omega arith)))
+    unconfirmed_behind os rs n (omega arith) (λ k lt. h (suc k) (omega arith))
+    ∙ sym (ap (λ x. cons_option x (unconfirmed_of os rs)) (some_chosen (moved_of rs o.number) None (Some o.number) (h 0 (omega arith))))
 
 -- one more confirmation leaves them confirmed
 set_settled : (ms : List (Option ℕ)) (k i x : ℕ) → IsSome (get_or ms k None) → IsSome (get_or (set ms i (Some x)) k None)

@@ -18,11 +18,11 @@ pub record OrderRoom : Type 0 where
 
 -- the book with these asks as its next orders
 abbrev pub with_asks : Orders → List Ask → Orders
-with_asks book asks = record { orders = book.orders ++ numbered (length book.orders + 1) asks; replies = book.replies }
+with_asks book asks = record book { orders = book.orders ++ numbered (length book.orders + 1) asks }
 
 -- the book with one more confirmation
 abbrev pub with_reply : Orders → Reply → Orders
-with_reply book reply = record { orders = book.orders; replies = reply ∷ book.replies }
+with_reply book reply = record book { replies = reply ∷ book.replies }
 
 -- the orders have the numbers 1, 2, and so on; each is confirmed at most once and at most in full
 pub record IsOrderBook (book : Orders) : Type 0 where

@@ -1,6 +1,7 @@
 -- What a list of movement orders and the list of their confirmations amount to (this project's own rules).
 -- Confirmations stand newest first.
 use Rattle.std.specs.Prelude.{◌≡◌, ℕ, suc, ◌≤◌, Bool, true, false, ◌&&◌, ◌==◌, List, [], ◌∷◌, Option, Some, None, is_some, unwrap_or, option_map, find, sum_by, codes, if◌then◌else◌}
+use Rattle.std.specs.List.{filter_map}
 use Rattle.cns_movements.specs.declared.order.MoveKind.{MoveKind}
 use Rattle.cns_movements.specs.declared.order.MoveKind.TheVariants.{Cover, Delivery}
 use Rattle.cns_movements.specs.declared.order.Ask.{Ask}
@@ -12,20 +13,19 @@ abbrev pub kind_text : MoveKind → List ℕ
 kind_text Cover = codes "COVER"
 kind_text Delivery = codes "DELIVERY"
 
--- whether a kind is a cover
+-- whether a kind is a cover, a delivery, or the same as another
 abbrev pub is_cover : MoveKind → Bool
-is_cover Cover = true
-is_cover Delivery = false
+is_cover kind = elim kind [ Cover ↦ true | Delivery ↦ false ]
 
--- whether a kind is a delivery
 abbrev pub is_delivery : MoveKind → Bool
-is_delivery Cover = false
-is_delivery Delivery = true
+is_delivery kind = elim kind [ Cover ↦ false | Delivery ↦ true ]
 
--- whether two kinds are the same
 abbrev pub same_kind : MoveKind → MoveKind → Bool
-same_kind Cover kind = is_cover kind
-same_kind Delivery kind = is_delivery kind
+same_kind kind other = elim kind [ Cover ↦ is_cover other | Delivery ↦ is_delivery other ]
+
+-- an ask for these shares, where they are not 0
+abbrev pub ask_for : MoveKind → ℕ → ℕ → ℕ → Option Ask
+ask_for kind member issue shares = if shares == 0 then None else Some (record { kind = kind; member = member; issue = issue; asked = shares })
 
 -- the order of this number, where there is one
 abbrev pub order_of : List Order → ℕ → Option Order
@@ -57,9 +57,7 @@ moved_sum orders replies kind member issue = sum_by (λ o. if is_of kind member 
 
 -- the numbers of the orders that are not confirmed
 abbrev pub unconfirmed_of : List Order → List Reply → List ℕ
-unconfirmed_of [] replies = []
-unconfirmed_of (o ∷ orders) replies =
-    if is_some (moved_of replies o.number) then unconfirmed_of orders replies else o.number ∷ unconfirmed_of orders replies
+unconfirmed_of orders replies = filter_map (λ o. if is_some (moved_of replies o.number) then None else Some o.number) orders
 
 -- the asks as orders with the numbers n, n + 1, and so on
 abbrev pub numbered : ℕ → List Ask → List Order

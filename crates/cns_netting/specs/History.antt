@@ -8,18 +8,15 @@ use Rattle.cns_netting.specs.declared.entry.NetEntry.TheVariants.{Accepted, Nett
 abbrev pub accepted : List NetEntry → List Trade
 accepted [] = []
 accepted (Accepted t ∷ h) = accepted h ++ t ∷ []
-accepted (Netted d ∷ h) = accepted h
-accepted (Settled m i z ∷ h) = accepted h
+accepted (_ ∷ h) = accepted h
 
 -- whether a settlement date is reached by the latest date of some nettings; none of them reaches it where there are none
 abbrev pub is_reached : Option ℕ → ℕ → Bool
-is_reached None settle = false
-is_reached (Some day) settle = nat_le settle day
+is_reached reached settle = elim reached [ None ↦ false | Some day ↦ nat_le settle day ]
 
 -- the latest date of some nettings and one more
 abbrev pub latest : Option ℕ → ℕ → Option ℕ
-latest None day = Some day
-latest (Some other) day = Some (if nat_le other day then day else other)
+latest reached day = elim reached [ None ↦ Some day | Some other ↦ Some (if nat_le other day then day else other) ]
 
 -- the trades of a history that a netting recorded after them has made due; `reached` is the latest date of the nettings
 -- recorded after the whole list
@@ -42,26 +39,21 @@ sold trades member issue = sum_by (λ (t : Trade). if (t.seller == member) && (t
 
 -- a settled amount as shares that came, and as shares that went
 abbrev pub credit_part : ℤ → ℕ
-credit_part (pos n) = n
-credit_part (negsuc n) = 0
+credit_part amount = elim amount [ pos n ↦ n | negsuc n ↦ 0 ]
 
 abbrev pub debit_part : ℤ → ℕ
-debit_part (pos n) = 0
-debit_part (negsuc n) = suc n
+debit_part amount = elim amount [ pos n ↦ 0 | negsuc n ↦ suc n ]
 
--- the shares that settlements brought a member in an issue
+-- the shares that settlements brought a member in an issue, and that they took from it
 unfoldable pub settled_in : List NetEntry → ℕ → ℕ → ℕ
 settled_in [] member issue = 0
-settled_in (Accepted t ∷ h) member issue = settled_in h member issue
-settled_in (Netted d ∷ h) member issue = settled_in h member issue
 settled_in (Settled m i z ∷ h) member issue = (if (m == member) && (i == issue) then credit_part z else 0) + settled_in h member issue
+settled_in (_ ∷ h) member issue = settled_in h member issue
 
--- the shares that settlements took from it
 unfoldable pub settled_out : List NetEntry → ℕ → ℕ → ℕ
 settled_out [] member issue = 0
-settled_out (Accepted t ∷ h) member issue = settled_out h member issue
-settled_out (Netted d ∷ h) member issue = settled_out h member issue
 settled_out (Settled m i z ∷ h) member issue = (if (m == member) && (i == issue) then debit_part z else 0) + settled_out h member issue
+settled_out (_ ∷ h) member issue = settled_out h member issue
 
 -- the shares that stand for a member in an issue: bought by due trades, or brought by settlements
 abbrev pub credit : List NetEntry → ℕ → ℕ → ℕ

@@ -9,16 +9,12 @@ use Rattle.cns_netting.specs.declared.entry.NetEntry.TheVariants.{Accepted, Nett
 use Rattle.cns_ids.specs.declared.holding.Holding.{Holding}
 use Rattle.cns_netting.specs.declared.position.PositionRow.{PositionRow}
 
--- holdings with those that an entry names, each once, in order
-abbrev pub with_holdings : List Holding → NetEntry → List Holding
-with_holdings ks (Accepted t) = insert_key holding_cmp (insert_key holding_cmp ks (holding_at t.issue t.buyer)) (holding_at t.issue t.seller)
-with_holdings ks (Netted d) = ks
-with_holdings ks (Settled m i z) = insert_key holding_cmp ks (holding_at i m)
-
 -- the holdings that some entry names, each once, in order
 unfoldable pub holdings_of : List NetEntry → List Holding
 holdings_of [] = []
-holdings_of (e ∷ h) = with_holdings (holdings_of h) e
+holdings_of (Accepted t ∷ h) = insert_key holding_cmp (insert_key holding_cmp (holdings_of h) (holding_at t.issue t.buyer)) (holding_at t.issue t.seller)
+holdings_of (Settled member issue amount ∷ h) = insert_key holding_cmp (holdings_of h) (holding_at issue member)
+holdings_of (Netted day ∷ h) = holdings_of h
 
 -- the row of a holding, where its position is not 0
 unfoldable pub open_row : List NetEntry → Holding → Option PositionRow

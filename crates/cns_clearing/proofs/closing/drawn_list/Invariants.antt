@@ -1,7 +1,7 @@
 use Rattle.std.proofs.Common.{◌≡◌, map, take}
 use Rattle.std.specs.Prelude.{All}
 use Rattle.cns_records.specs.Drawn.{IsDrawn}
-use Rattle.cns_clearing.specs.Answers.{drawn_in_record}
+use Rattle.cns_clearing.proofs.DrawnLemmas.{drawn_in_record}
 use Rattle.cns_clearing.proofs.closing.drawn_list.Given as goal
 
 abbrev pub invariant-loop-ticket : goal.invariant-loop-ticket

@@ -1,10 +1,10 @@
 use Rattle.std.proofs.Common.{◌≡◌, [], sym, ap, ◌∙◌}
 use Rattle.std.specs.List.{filter_map}
-use Rattle.cns_clearing.specs.Pools.{issues_of, pool_row, with_issues}
+use Rattle.cns_clearing.specs.Pools.{issues_of, pool_row}
 use Rattle.cns_clearing.proofs.pools.pool_rows.Goals as goal
 
 pub returns-then-is_empty : goal.returns-then-is_empty
-unfolding with_issues
+unfolding issues_of
 returns-then-is_empty c =
     let book = c.args.orders.now.book in
     let lots = c.args.lots.now.lots in

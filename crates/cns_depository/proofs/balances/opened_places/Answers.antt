@@ -1,9 +1,10 @@
 use Rattle.std.proofs.Common.{◌≡◌, [], refl, ◌∙◌}
 use Rattle.std.proofs.lemmas.List.Sums.{fold_more}
 use Rattle.std.specs.BTreeSet.{insert_key}
-use Rattle.cns_depository.specs.Balances.{opened_places, with_opening, place_at}
+use Rattle.cns_depository.specs.Balances.{opened_places, place_at}
 use Rattle.cns_depository.specs.declared.account.Account.TheVariants.{Member}
 use Rattle.cns_depository.proofs.PlaceLemmas.{place_order}
+use Rattle.cns_depository.proofs.RowLemmas.{with_opening}
 use Rattle.cns_depository.proofs.balances.opened_places.Goals as goal
 
 pub loop-opening-init : goal.loop-opening-init

@@ -1,6 +1,6 @@
 use Rattle.std.proofs.Common.{◌≡◌, ◌∙◌, ap}
-use Rattle.cns_allocate.specs.Plan.{by_group, wanting}
-use Rattle.cns_allocate.proofs.PlanLemmas.{IsPlan-plan_of, groups_added, rows_in-fit, wanting-rows_in}
+use Rattle.cns_allocate.specs.Plan.{by_group}
+use Rattle.cns_allocate.proofs.PlanLemmas.{IsPlan-plan_of, groups_added, rows_in-fit, wanting, wanting-rows_in}
 use Rattle.cns_allocate.proofs.plan.Plan.of.Goals as goal
 
 pub planned_rows-requires : goal.planned_rows-requires
