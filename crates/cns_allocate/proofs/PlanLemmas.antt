@@ -28,7 +28,7 @@ use Rattle.cns_covers.specs.declared.priorities.Prioritized.{Prioritized}
 use Rattle.cns_covers.proofs.BoundLemmas.{other_place, share_grows}
 use Rattle.cns_covers.proofs.RowLemmas.{All-filter_map, All-rows_of, IfSome-open_row}
 use Rattle.cns_allocate.specs.Group.{is_in, rank}
-use Rattle.cns_allocate.specs.Plan.{IsPlan, LongsFit, by_group, group_in, long_of, plan_of, planned_of, want_of}
+use Rattle.cns_allocate.specs.Plan.{IsPlan, LongsFit, by_group, group_in, plan_of, planned_of, want_of}
 use Rattle.cns_allocate.specs.declared.group.Group.{Group}
 use Rattle.cns_allocate.specs.declared.group.Group.TheVariants.{Priority, WasLong, Other}
 use Rattle.cns_allocate.specs.declared.planned.Planned.{Planned}
@@ -71,14 +71,14 @@ IfSome-if P true x h = h refl
 IfSome-if P false x h = tt
 
 -- all rows are long of at most 10^18 shares where all longs are
-pub rows_of-fit : (h : List NetEntry) → LongsFit h → All (λ (row : PositionRow). long_of row ≤ 1000000000000000000) (rows_of h)
+pub rows_of-fit : (h : List NetEntry) → LongsFit h → All (λ (row : PositionRow). credit_part row.position ≤ 1000000000000000000) (rows_of h)
 rows_of-fit h fit =
-    All-rows_of (λ (row : PositionRow). long_of row ≤ 1000000000000000000) h
+    All-rows_of (λ (row : PositionRow). credit_part row.position ≤ 1000000000000000000) h
     (λ k. rw (credit_part-difference (credit h k.member k.issue) (debit h k.member k.issue)) (fit.within k.member k.issue))
 
 -- so are those of an issue
-pub rows_in-fit : (h : List NetEntry) (issue : ℕ) → LongsFit h → All (λ (row : PositionRow). long_of row ≤ 1000000000000000000) (filter (is_row_in issue) (rows_of h))
-rows_in-fit h issue fit = All-filter (is_row_in issue) (λ (row : PositionRow). long_of row ≤ 1000000000000000000) (rows_of h) (rows_of-fit h fit)
+pub rows_in-fit : (h : List NetEntry) (issue : ℕ) → LongsFit h → All (λ (row : PositionRow). credit_part row.position ≤ 1000000000000000000) (filter (is_row_in issue) (rows_of h))
+rows_in-fit h issue fit = All-filter (is_row_in issue) (λ (row : PositionRow). credit_part row.position ≤ 1000000000000000000) (rows_of h) (rows_of-fit h fit)
 
 -- the positions of the issue are all that the plan asks for
 planned_in : (issue : ℕ) (book : Orders) (settings : List Prioritized) (were_long : List ℕ) (rows : List PositionRow)
@@ -104,11 +104,11 @@ wanting-rows_in issue h book settings were_long = planned_in issue book settings
 
 -- what is planned of a position asks for a share, and for no more than the position has
 planned_of-asked : (issue : ℕ) (book : Orders) (settings : List Prioritized) (were_long : List ℕ) (row : PositionRow)
-    → long_of row ≤ 1000000000000000000 → IfSome (planned_of issue book settings were_long row) (λ (p : Planned). IsAsked p.asked)
+    → credit_part row.position ≤ 1000000000000000000 → IfSome (planned_of issue book settings were_long row) (λ (p : Planned). IsAsked p.asked)
 unfolding planned_of want_of
 planned_of-asked issue book settings were_long row fit =
     let open_shares : ℕ = open_sum book.orders book.replies Delivery row.member row.issue in
-    let want : ℕ = long_of row - open_shares in
+    let want : ℕ = credit_part row.position - open_shares in
     IfSome-if (λ (p : Planned). IsAsked p.asked) ((row.issue == issue) && nat_lt 0 want)
     (record { member = row.member; asked = want; group = group_in issue settings were_long row.member })
     (λ e. let some = ltb-true 0 want (and_parts (row.issue == issue) (nat_lt 0 want) e).1 in record { from = omega arith; to = omega arith })
@@ -281,7 +281,7 @@ IsPlan-plan_of issue h book settings were_long fit =
     record {
       asked =
           All-by_group (λ (p : Planned). IsAsked p.asked) planned
-          (All-filter_map (planned_of issue book settings were_long) (λ (row : PositionRow). long_of row ≤ 1000000000000000000) (λ (p : Planned). IsAsked p.asked)
+          (All-filter_map (planned_of issue book settings were_long) (λ (row : PositionRow). credit_part row.position ≤ 1000000000000000000) (λ (p : Planned). IsAsked p.asked)
           (planned_of-asked issue book settings were_long) (rows_of h) (rows_of-fit h fit));
       once = λ member. rw (sum_by-by_group (λ (p : Planned). cond (is_planned_as member p) 1 0) planned) (wanting-once issue h book settings were_long member);
       groups = groups-by_group planned;

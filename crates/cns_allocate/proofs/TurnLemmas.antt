@@ -12,11 +12,11 @@ use Rattle.std.proofs.lemmas.List.Sums.{sum_by-cons}
 use Rattle.cns_movements.specs.Asked.{IsAsked}
 use Rattle.cns_allocate.specs.Group.{rank}
 use Rattle.cns_allocate.specs.Plan.{IsPlan}
-use Rattle.cns_allocate.specs.Served.{is_after_others, turn_of, without}
+use Rattle.cns_allocate.specs.Served.{is_after_others, turn_by, turn_of, without}
 use Rattle.cns_allocate.specs.declared.group.Group.{Group}
 use Rattle.cns_allocate.specs.declared.group.Group.TheVariants.{Priority, WasLong, Other}
 use Rattle.cns_allocate.specs.declared.planned.Planned.{Planned}
-use Rattle.cns_allocate.specs.declared.turns.Turn.TheVariants.{NotLong, EarlierGroup, Next}
+use Rattle.cns_allocate.specs.declared.turns.Turn.TheVariants.{EarlierGroup, Next}
 use Rattle.cns_allocate.proofs.PlanLemmas.{is_planned_as}
 
 -- ---- lists
@@ -319,7 +319,7 @@ turn-parts plan member asked next = by (find (is_planned_as member) plan) refl n
       first = first_group plan p e;
     }
 
-    by : (o : Option Planned) → find (is_planned_as member) plan ≡ o → (elim o [ None ↦ NotLong | Some p ↦ cond (is_after_others plan p) EarlierGroup (Next p.asked) ]) ≡ Next asked → IsTurn plan member asked
+    by : (o : Option Planned) → find (is_planned_as member) plan ≡ o → turn_by plan o ≡ Next asked → IsTurn plan member asked
     by None f n = cc
     by (Some p) f n = by_group p (is_after_others plan p) f refl n
 
@@ -331,7 +331,7 @@ turn-next plan member p found first =
     list_any_none (λ (q : Planned). nat_lt (rank q.group) (rank p.group)) plan
     (All-weaker (λ (q : Planned). rank p.group ≤ rank q.group) (λ (q : Planned). nat_lt (rank q.group) (rank p.group) ≡ false)
     (λ q le. le-ltb (rank q.group) (rank p.group) le) plan first) in
-    rw (found, turn_of, none) refl
+    rw (found, none) refl
 
 -- the first of an order of a plan is found by its member
 pub find-first : (p : Planned) (ps plan : List Planned) → IsPermutation (p ∷ ps) plan → ((member : ℕ) → count_by (is_planned_as member) plan ≤ 1)

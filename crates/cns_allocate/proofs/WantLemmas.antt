@@ -3,7 +3,7 @@ use Rattle.std.proofs.Common.{◌≡◌, ◌≤◌, ◌-◌, ℕ, List, subst, a
 use Rattle.std.specs.Prelude.{◌&&◌, ◌==◌, nat_lt, All, IfSome}
 use Rattle.std.proofs.Math.Nat.{le_refl}
 use Rattle.std.proofs.lemmas.Bool.{and_parts, eqb-true}
-use Rattle.cns_netting.specs.History.{credit, debit}
+use Rattle.cns_netting.specs.History.{credit, credit_part, debit}
 use Rattle.cns_netting.specs.Rows.{rows_of}
 use Rattle.cns_netting.specs.declared.entry.NetEntry.{NetEntry}
 use Rattle.cns_netting.specs.declared.position.PositionRow.{PositionRow}
@@ -13,19 +13,19 @@ use Rattle.cns_movements.specs.declared.order.MoveKind.TheVariants.{Delivery}
 use Rattle.cns_covers.specs.Bounds.{want_in}
 use Rattle.cns_covers.specs.declared.priorities.Prioritized.{Prioritized}
 use Rattle.cns_covers.proofs.RowLemmas.{All-filter_map, All-rows_of}
-use Rattle.cns_allocate.specs.Plan.{group_in, long_of, plan_of, planned_of, want_of}
+use Rattle.cns_allocate.specs.Plan.{group_in, plan_of, planned_of, want_of}
 use Rattle.cns_allocate.specs.declared.planned.Planned.{Planned}
 use Rattle.cns_allocate.proofs.PlanLemmas.{All-by_group, IfSome-if, credit_part-difference, wanting}
 
 -- a row is long of no more than its credit is above its debit
 abbrev IsLongWithin : List NetEntry → PositionRow → Type 0
-IsLongWithin h row = long_of row ≤ credit h row.member row.issue - debit h row.member row.issue
+IsLongWithin h row = credit_part row.position ≤ credit h row.member row.issue - debit h row.member row.issue
 
 planned_of-wants : (issue : ℕ) (h : List NetEntry) (book : Orders) (settings : List Prioritized) (were_long : List ℕ) (row : PositionRow)
     → IsLongWithin h row → IfSome (planned_of issue book settings were_long row) (λ (p : Planned). p.asked ≤ want_in h book p.member issue)
 unfolding planned_of want_of
 planned_of-wants issue h book settings were_long row most =
-    let want : ℕ = long_of row - open_sum book.orders book.replies Delivery row.member row.issue in
+    let want : ℕ = credit_part row.position - open_sum book.orders book.replies Delivery row.member row.issue in
     IfSome-if (λ (p : Planned). p.asked ≤ want_in h book p.member issue) ((row.issue == issue) && nat_lt 0 want)
     (record { member = row.member; asked = want; group = group_in issue settings were_long row.member })
     (λ e.

@@ -10,9 +10,7 @@ group_of priority was_long = if priority then Priority else if was_long then Was
 
 -- the place of a group: the first one is 0
 abbrev pub rank : Group → ℕ
-rank Priority = 0
-rank WasLong = 1
-rank Other = 2
+rank group = elim group [ Priority ↦ 0 | WasLong ↦ 1 | Other ↦ 2 ]
 
 -- whether a member is planned in a group
 abbrev pub is_in : Group → Planned → Bool

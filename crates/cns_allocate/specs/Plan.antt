@@ -1,6 +1,6 @@
 -- The plan of an issue: who is to receive its shares, how many, and in which order (this project's own rule).
 -- Histories and settings stand newest first.
-use Rattle.std.specs.Prelude.{ℕ, ◌-◌, ◌≤◌, ◌==◌, ◌&&◌, Bool, nat_lt, List, ◌++◌, Option, Some, None, All, AllPairs, count_by, filter, nat_eq, if◌then◌else◌}
+use Rattle.std.specs.Prelude.{ℕ, ◌-◌, ◌≤◌, ◌==◌, ◌&&◌, nat_lt, List, ◌++◌, Option, Some, None, All, AllPairs, count_by, filter, nat_eq, if◌then◌else◌}
 use Rattle.std.specs.List.{filter_map, list_any}
 use Rattle.cns_netting.specs.History.{credit, credit_part, debit}
 use Rattle.cns_netting.specs.Rows.{rows_of}
@@ -17,22 +17,14 @@ use Rattle.cns_allocate.specs.declared.group.Group.{Group}
 use Rattle.cns_allocate.specs.declared.group.Group.TheVariants.{Priority, WasLong, Other}
 use Rattle.cns_allocate.specs.declared.planned.Planned.{Planned}
 
--- the shares that a position is above 0
-abbrev pub long_of : PositionRow → ℕ
-long_of row = credit_part row.position
-
--- the shares that its member is still to receive: those less the shares of its open deliveries in the issue
+-- the shares that the member of a position is still to receive: those above 0 less the shares of its open deliveries in the issue
 unfoldable pub want_of : Orders → PositionRow → ℕ
-want_of book row = long_of row - open_sum book.orders book.replies Delivery row.member row.issue
-
--- whether a member is one of these
-abbrev pub is_among : List ℕ → ℕ → Bool
-is_among members member = list_any (nat_eq member) members
+want_of book row = credit_part row.position - open_sum book.orders book.replies Delivery row.member row.issue
 
 -- the group of a member in an issue, by the settings of priorities and the members that were long in the issue
 -- directly after the cycle before the latest
 abbrev pub group_in : ℕ → List Prioritized → List ℕ → ℕ → Group
-group_in issue settings were_long member = group_of (is_on settings member issue) (is_among were_long member)
+group_in issue settings were_long member = group_of (is_on settings member issue) (list_any (nat_eq member) were_long)
 
 -- the member of a position as it is planned, where it is of the issue and something is left to receive
 unfoldable pub planned_of : ℕ → Orders → List Prioritized → List ℕ → PositionRow → Option Planned

@@ -1,5 +1,5 @@
 -- Who may draw a ticket next, and which tickets a lot may close with (this project's own rules).
-use Rattle.std.specs.Prelude.{◌≡◌, ℕ, ◌≤◌, ◌==◌, Bool, false, not, nat_lt, List, [], ◌∷◌, length, Some, None, AllPairs, IsPermutation, filter, find, if◌then◌else◌}
+use Rattle.std.specs.Prelude.{◌≡◌, ℕ, ◌≤◌, ◌==◌, Bool, false, not, nat_lt, List, [], ◌∷◌, length, Option, Some, None, AllPairs, IsPermutation, filter, find, if◌then◌else◌}
 use Rattle.std.specs.List.{list_any}
 use Rattle.cns_pool.specs.declared.ticket.Ticket.{Ticket}
 use Rattle.cns_pool.specs.Tiles.{AreChained}
@@ -25,11 +25,14 @@ without member plan = filter (λ (p : Planned). not (p.member == member)) plan
 abbrev pub is_after_others : List Planned → Planned → Bool
 is_after_others plan planned = list_any (λ (q : Planned). nat_lt (rank q.group) (rank planned.group)) plan
 
+-- by those who wait, and the one of them that is the member
+abbrev pub turn_by : List Planned → Option Planned → Turn
+turn_by plan found = elim found [ None ↦ NotLong | Some planned ↦ if is_after_others plan planned then EarlierGroup else Next planned.asked ]
+
 -- what a member is answered that asks for a ticket while these wait: it is not one of them; one of an earlier group waits;
 -- or how many shares its ticket has
 abbrev pub turn_of : List Planned → ℕ → Turn
-turn_of plan member = elim (find (λ (p : Planned). p.member == member) plan)
-    [ None ↦ NotLong | Some planned ↦ if is_after_others plan planned then EarlierGroup else Next planned.asked ]
+turn_of plan member = turn_by plan (find (λ (p : Planned). p.member == member) plan)
 
 -- the first of some planned drew these tickets: the same members and shares, in the same order
 abbrev pub AreDrawnBy : List Ticket → List Planned → Type 0

@@ -1,8 +1,9 @@
 ghost use Rattle.std.specs.Prelude.{◌≡◌, ◌↔◌, ◌^◌, ◌<◌, ◌≤◌, ◌==◌, [], ◌++◌, length, filter, All, IfOk, IfSome, OnOk, IsTrue};
 ghost use Rattle.std.specs.List.{filter_map, position_from};
 ghost use Rattle.cns_netting.specs.declared.position.PositionRow.{PositionRow};
+ghost use Rattle.cns_netting.specs.History.{credit_part};
 ghost use Rattle.cns_allocate.specs.Group.{is_in};
-ghost use Rattle.cns_allocate.specs.Plan.{IsPlan, LongsFit, long_of, plan_of, planned_of};
+ghost use Rattle.cns_allocate.specs.Plan.{IsPlan, LongsFit, plan_of, planned_of};
 ghost use Rattle.cns_allocate.specs.Served.{without};
 ghost use Rattle.cns_allocate.specs.declared.planned.Planned.{Planned};
 
@@ -134,7 +135,7 @@ fn planned_rows(
     priorities: &Priorities,
     were_long: &WereLong,
 ) -> Result<Vec<Planned>, AllocError>
-    requires { All (λ (row : PositionRow). long_of row ≤ 10 ^ 18) rows.now }
+    requires { All (λ (row : PositionRow). credit_part row.position ≤ 10 ^ 18) rows.now }
     ensures { let settings = priorities.now.settings in
         IfOk result (λ planned. planned.items
         ≡ filter_map (planned_of issue orders.now.book settings were_long.now) rows.now) }

@@ -1,6 +1,7 @@
 ghost use Rattle.std.specs.Prelude.{◌≡◌, ◌^◌, ◌≤◌};
+ghost use Rattle.cns_netting.specs.History.{credit_part};
 ghost use Rattle.cns_allocate.specs.Group.{is_in};
-ghost use Rattle.cns_allocate.specs.Plan.{long_of, planned_of, want_of};
+ghost use Rattle.cns_allocate.specs.Plan.{planned_of, want_of};
 
 use crate::group::Group;
 use crate::were_long::WereLong;
@@ -29,7 +30,7 @@ impl Planned {
         priorities: &Priorities,
         were_long: &WereLong,
     ) -> Option<Planned>
-        requires { long_of row.now ≤ 10 ^ 18 }
+        requires { credit_part row.now.position ≤ 10 ^ 18 }
         ensures { let settings = priorities.now.settings in
             result ≡ planned_of issue orders.now.book settings were_long.now row.now }
     {
@@ -60,7 +61,7 @@ impl Planned {
 // The shares of a position above 0, less those of the member's open deliveries in the issue.
 #[tactic(auto, unfolding(crate::specs::Plan::want_of))]
 fn shares_wanted(row: &PositionRow, orders: &OrderBook) -> u64
-    requires { long_of row.now ≤ 10 ^ 18 }
+    requires { credit_part row.now.position ≤ 10 ^ 18 }
     ensures { result ≡ want_of orders.now.book row.now }
 {
     let open = orders.open_of(MoveKind::Delivery, row.member, row.issue);

@@ -1,5 +1,5 @@
-ghost use Rattle.std.specs.Prelude.{◌≡◌, IfOk};
-ghost use Rattle.cns_allocate.specs.Plan.{is_among};
+ghost use Rattle.std.specs.Prelude.{◌≡◌, IfOk, nat_eq};
+ghost use Rattle.std.specs.List.{list_any};
 
 use cns_ids::MemberNo;
 use std::alloc::{AllocError, Global};
@@ -37,7 +37,7 @@ impl<'a> WereLong<'a> {
 
     // Whether a member is one of them.
     pub(crate) fn contains(&self, member: MemberNo) -> bool
-        ensures { result ≡ is_among self.now member }
+        ensures { result ≡ list_any (nat_eq member) self.now }
     {
         self.among.contains(&member)
     }

@@ -10,8 +10,7 @@ use Rattle.cns_movements.specs.declared.order.MoveKind.TheVariants.{Cover, Deliv
 
 -- the shares that a confirmed movement of a kind brings its member's position
 abbrev pub amount_of : MoveKind → ℕ → ℤ
-amount_of Cover moved = pos moved
-amount_of Delivery moved = neg_ℤ (pos moved)
+amount_of kind moved = elim kind [ Cover ↦ pos moved | Delivery ↦ neg_ℤ (pos moved) ]
 
 -- the shares that a member is long of in an issue, less those of its open deliveries
 abbrev pub want_in : List NetEntry → Orders → ℕ → ℕ → ℕ

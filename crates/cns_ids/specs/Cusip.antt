@@ -12,10 +12,7 @@ value_of c = position (nat_eq c) (codes "0123456789ABCDEFGHIJKLMNOPQRSTUVWXYZ*@#
 
 -- what a character adds in its place, counted from 1: in an even place its value is doubled, and the two digits of that are added
 abbrev pub share_at : ℕ → ℕ → ℕ
-share_at place c =
-    let v = unwrap_or (value_of c) 0 in
-    let w = if place % 2 == 0 then 2 * v else v in
-    w / 10 + w % 10
+share_at place c = let v = (if place % 2 == 0 then 2 else 1) * unwrap_or (value_of c) 0 in v / 10 + v % 10
 
 -- the sum over the places from a place on
 unfoldable pub sum_from : ℕ → List ℕ → ℕ

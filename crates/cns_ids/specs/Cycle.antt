@@ -6,12 +6,10 @@ use Rattle.cns_ids.specs.declared.cycle.CycleId.{CycleId}
 
 -- the place of a kind in its date: the night cycle comes first
 abbrev pub rank : CycleKind → ℕ
-rank Night = 0
-rank Day = 1
+rank kind = elim kind [ Night ↦ 0 | Day ↦ 1 ]
 
 abbrev pub is_after : CycleId → CycleId → Bool
 is_after a b = nat_lt b.day a.day || ((b.day == a.day) && nat_lt (rank b.kind) (rank a.kind))
 
 abbrev pub kind_text : CycleKind → List ℕ
-kind_text Night = codes "NIGHT"
-kind_text Day = codes "DAY"
+kind_text kind = elim kind [ Night ↦ codes "NIGHT" | Day ↦ codes "DAY" ]

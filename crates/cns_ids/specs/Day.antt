@@ -1,5 +1,6 @@
 -- Dates of the Gregorian calendar, of the years 1900 to 2199.
 use Rattle.std.specs.Prelude.{ℕ, ◌+◌, ◌-◌, ◌*◌, ◌/◌, ◌%◌, ◌≤◌, ◌==◌, ◌&&◌, nat_le, Bool, List, [], ◌∷◌, length, slice_index, pos}
+use Rattle.std.specs.List.{list_all}
 use Rattle.jiff.specs.Words.{days_in_month}
 use Rattle.cns_ids.specs.Number.{is_digit}
 
@@ -25,9 +26,7 @@ IsDayNumber n = IsRealDay (n / 10000) (n / 100 % 100) (n % 100)
 -- whether a text has the form dddd-dd-dd
 abbrev pub has_day_form : List ℕ → Bool
 has_day_form t =
-    (length t == 10) && is_digit (slice_index t 0) && is_digit (slice_index t 1) && is_digit (slice_index t 2) && is_digit (slice_index t 3)
-    && (slice_index t 4 == 45) && is_digit (slice_index t 5) && is_digit (slice_index t 6) && (slice_index t 7 == 45)
-    && is_digit (slice_index t 8) && is_digit (slice_index t 9)
+    (length t == 10) && list_all (λ i. is_digit (slice_index t i)) (0 ∷ 1 ∷ 2 ∷ 3 ∷ 5 ∷ 6 ∷ 8 ∷ 9 ∷ []) && list_all (λ i. slice_index t i == 45) (4 ∷ 7 ∷ [])
 
 -- the number that two digits from a place on are
 abbrev pub two_digits_at : List ℕ → ℕ → ℕ

@@ -10,5 +10,4 @@ day_from year month day = if is_real_day year month day then Ok (number_of_day y
 -- the date that a text of the form dddd-dd-dd is
 unfoldable pub read_day : List ℕ → Result ℕ BadDate
 read_day t =
-    if has_day_form t then day_from (two_digits_at t 0 * 100 + two_digits_at t 2) (two_digits_at t 5) (two_digits_at t 8)
-    else Err (record {})
+    if has_day_form t then day_from (two_digits_at t 0 * 100 + two_digits_at t 2) (two_digits_at t 5) (two_digits_at t 8) else Err (record {})

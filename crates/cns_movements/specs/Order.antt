@@ -10,8 +10,7 @@ use Rattle.cns_movements.specs.declared.order.Reply.{Reply}
 
 -- a kind's name
 abbrev pub kind_text : MoveKind → List ℕ
-kind_text Cover = codes "COVER"
-kind_text Delivery = codes "DELIVERY"
+kind_text kind = elim kind [ Cover ↦ codes "COVER" | Delivery ↦ codes "DELIVERY" ]
 
 -- whether a kind is a cover, a delivery, or the same as another
 abbrev pub is_cover : MoveKind → Bool
