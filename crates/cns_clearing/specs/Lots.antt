@@ -27,11 +27,11 @@ were_long c issue = longs_among issue (books_of c).previous
 
 -- the plan of an issue
 abbrev pub plan_in : List ClearRecord → ℕ → List Planned
-plan_in c issue = plan_of issue (history_of c) (orders_of c) (books_of c).priorities (were_long c issue)
+plan_in c issue = plan_of issue (books_of c).history (books_of c).orders (books_of c).priorities (were_long c issue)
 
 -- the shares of an issue that covers brought, less those that deliveries took or still may take
 abbrev pub avail_in : List ClearRecord → ℕ → ℕ
-avail_in c issue = avail_of (orders_of c) issue
+avail_in c issue = avail_of (books_of c).orders issue
 
 -- a record is neither a cycle nor an allocation of the issue
 abbrev pub IsQuiet : ℕ → ClearRecord → Type 0
@@ -96,8 +96,7 @@ without_lot issue lots = filter (λ (lot : Lot). not (lot.issue == issue)) lots
 
 -- the lots once a record was added: an allocation closes the lot of its issue
 abbrev pub lots_after : ClearRecord → List Lot → List Lot
-lots_after (Allocate a) lots = without_lot a.issue lots
-lots_after _ lots = lots
+lots_after r lots = elim r [ Allocate a ↦ without_lot a.issue lots | _ ↦ lots ]
 
 -- a record may be added while these lots are open: no cycle runs while one is
 abbrev pub DoesNotDisturb : ClearRecord → List Lot → Type 0

@@ -5,7 +5,9 @@ use Rattle.std.specs.Prelude.{ℕ, ◌+◌, ◌==◌, ◌&&◌, ◌||◌, not, m
 use Rattle.std.specs.Option.{is_none, ok_or, option_flatten}
 use Rattle.cns_ids.specs.Steps.{◌>>=◌, ◌>>◌, need}
 use Rattle.cns_trades.specs.declared.list.Verdict.TheVariants as verdicts
-use Rattle.cns_netting.specs.History.{becoming_due}
+use Rattle.cns_trades.specs.Verdicts.{verdict}
+use Rattle.cns_netting.specs.History.{accepted, becoming_due}
+use Rattle.cns_movements.specs.Confirm.{confirm_answer}
 use Rattle.cns_movements.specs.Order.{numbered, order_of, same_kind}
 use Rattle.cns_movements.specs.declared.book.Confirm.TheVariants as answers
 use Rattle.cns_movements.specs.declared.order.Ask.{Ask}
@@ -20,8 +22,8 @@ use Rattle.cns_records.specs.declared.clear_record.ClearRecord.TheVariants as en
 use Rattle.cns_records.specs.declared.dep_record.DepRecord.{DepRecord}
 use Rattle.cns_records.specs.declared.refusal.Refusal.{Refusal}
 use Rattle.cns_records.specs.declared.refusal.Refusal.TheVariants as refusal
-use Rattle.cns_clearing.specs.Answers.{allocation_of, answer_in, covers_in, verdict_in}
-use Rattle.cns_clearing.specs.Books.{are_spent, deliveries_in, history_of, is_later, latest_of, orders_of}
+use Rattle.cns_clearing.specs.Answers.{allocation_of}
+use Rattle.cns_clearing.specs.Books.{Books, are_spent, books_of, covers_on, deliveries_in, is_later}
 use Rattle.cns_clearing.specs.Lots.{new_lot}
 use Rattle.cns_clearing.specs.Pools.{free_of, lent_of, lot_of}
 use Rattle.cns_depository.specs.Answers.{reply_to}
@@ -55,8 +57,7 @@ Judged = Result Happening Refusal
 
 -- this happens where there is memory for it
 abbrev pub grows : Decision → Happening → Judged
-grows NoMemory happening = Err refusal.OutOfMemory
-grows _ happening = Ok happening
+grows d happening = elim d [ NoMemory ↦ Err refusal.OutOfMemory | _ ↦ Ok happening ]
 
 -- this happens once a record is acknowledged; where its commit failed at the device, this is left
 abbrev pub commits : Decision → Happening → Shown → Judged
@@ -68,12 +69,15 @@ commits _ happening failed = Ok happening
 abbrev pub clear_commits : Decision → ClearRecord → Outcome → Shown → Judged
 clear_commits d r told w = commits d (told, clear_added r w) (clear_failed r w)
 
+abbrev pub book : Shown → Books
+book w = books_of w.clear.records
+
 abbrev pub clear_up : Shown → Result (Unit {0}) Refusal
 clear_up w = need (not w.clear.down) refusal.Down
 
 -- the orders that are made of asks
 abbrev pub next_orders : Shown → List Ask → List Order
-next_orders w asks = numbered (length (orders_of w.clear.records).orders + 1) asks
+next_orders w asks = numbered (length (book w).orders.orders + 1) asks
 
 -- the lot of a number, which has not ended
 abbrev pub going_lot : Shown → ℕ → Result LotState Refusal
@@ -97,16 +101,16 @@ restarts _ before after read unread = (outcomes.Restarted after (after == before
 unfoldable pub judged : Decision → Event → Shown → Judged
 judged d (event.Trade t) w = do
   clear_up w
-  elim (verdict_in w.clear.records t) [ verdicts.New ↦ clear_commits d (entry.Accept t) outcomes.Accepted w | verdict ↦ Err (refusal.Trade verdict) ]
+  elim (verdict (accepted (book w).history) t) [ verdicts.New ↦ clear_commits d (entry.Accept t) outcomes.Accepted w | verdict ↦ Err (refusal.Trade verdict) ]
 judged d (event.Exempt member issue shares) w = clear_up w >> clear_commits d (entry.Exempt member issue shares) outcomes.Done w
 judged d (event.Priority member issue on) w = clear_up w >> clear_commits d (entry.Priority member issue on) outcomes.Done w
 judged d (event.Cycle id) w = do
   clear_up w
-  need (is_later (latest_of w.clear.records) id) refusal.CycleOrder
+  need (is_later (book w).latest id) refusal.CycleOrder
   need (is_empty w.clear.open_lots) refusal.LotsOpen
-  let asks = covers_in w.clear.records id.day
-  need (not (are_spent (orders_of w.clear.records) asks)) refusal.NumbersSpent
-  clear_commits d (entry.Cycle id) (outcomes.Cycled (record { due = becoming_due (history_of w.clear.records) id.day; orders = next_orders w asks })) w
+  let asks = covers_on (book w) id.day
+  need (not (are_spent (book w).orders asks)) refusal.NumbersSpent
+  clear_commits d (entry.Cycle id) (outcomes.Cycled (record { due = becoming_due (book w).history id.day; orders = next_orders w asks })) w
 judged d (event.LotOpen issue) w = do
   clear_up w
   need (is_none (lot_of w.clear.open_lots issue)) refusal.LotAlready
@@ -116,7 +120,7 @@ judged d (event.LotOpen issue) w = do
 judged d (event.LotPour number) w = do
   lot ← going_lot w number
   clear_up w
-  Ok (outcomes.Poured (free_of (orders_of w.clear.records) w.clear.open_lots lot.issue), with_pour lot.issue w)
+  Ok (outcomes.Poured (free_of (book w).orders w.clear.open_lots lot.issue), with_pour lot.issue w)
 judged d (event.Reserve number member) w = do
   lot ← going_lot w number
   asked ← elim (turn_of lot.turns member) [ turn.NotLong ↦ Err refusal.NotLong | turn.EarlierGroup ↦ Err refusal.EarlierGroup | turn.Next asked ↦ Ok asked ]
@@ -132,12 +136,12 @@ judged d (event.LotClose number) w = do
   need (lot.sealed || is_empty lot.turns) refusal.Unserved
   twin ← ok_or (lot_of w.clear.open_lots lot.issue) refusal.NoLot
   let a = allocation_of twin lot.tickets lot.sealed
-  need (not (are_spent (orders_of w.clear.records) (deliveries_in a))) refusal.NumbersSpent
+  need (not (are_spent (book w).orders (deliveries_in a))) refusal.NumbersSpent
   let told = outcomes.Closed (record { granted = min a.poured (asked_sum lot.tickets); orders = next_orders w (deliveries_in a) })
   commits d (told, with_lot number (with_end lot) (clear_added (entry.Allocate a) w)) (clear_failed (entry.Allocate a) w)
 judged d (event.Send number) w = do
   clear_up w
-  o ← ok_or (order_of (orders_of w.clear.records).orders number) refusal.UnknownMove
+  o ← ok_or (order_of (book w).orders.orders number) refusal.UnknownMove
   grows d (outcomes.Sent (length w.orders + 1), record w { orders = w.orders ++ Some o ∷ [] })
 judged d (event.OrderIn packet) w = do
   o ← ok_or (option_flatten (at_number w.orders packet)) refusal.NoPacket
@@ -151,7 +155,7 @@ judged d (event.OrderIn packet) w = do
 judged d (event.ReplyIn packet) w = do
   r ← ok_or (option_flatten (at_number w.replies packet)) refusal.NoPacket
   clear_up w
-  elim (answer_in w.clear.records r) [
+  elim (confirm_answer (book w).orders r) [
     | answers.Done ↦ clear_commits d (entry.Confirm r) (outcomes.Confirmed r) w
     | answers.Again ↦ Ok (outcomes.ConfirmedAgain r, w)
     | answers.UnknownMove ↦ Err refusal.UnknownMove

@@ -11,8 +11,7 @@ use Rattle.cns_records.specs.declared.refusal.Refusal.TheVariants as refusal
 use Rattle.cns_system.specs.Lot.{LotState, IsOfPlan, IsPlanOf, turn_in, ticket_in, with_ticket}
 
 abbrev pub is_empty : {A : Type 0} → List A → Bool
-is_empty [] = true
-is_empty (x ∷ xs) = false
+is_empty xs = elim xs [ [] ↦ true | x ∷ rest ↦ false ]
 
 -- the lots with this one in the place of the number
 abbrev pub update_at : List LotState → ℕ → LotState → List LotState
