@@ -3,21 +3,18 @@ use Rattle.std.proofs.Common.{◌≡◌, ◌<◌, ◌≤◌, ℕ, suc, ◌+◌, 
 use Rattle.std.proofs.lemmas.List.{append-nil, drop_all}
 use Rattle.std.specs.Result.{IsErr}
 use Rattle.std.specs.Io.KnownBytes.{Appends}
-use Rattle.cns_trades.specs.declared.row.Row.{Row}
-use Rattle.cns_system.specs.Scene.{Chance, Comes, comes_to, is_planner, planned, scene_of}
+use Rattle.cns_system.specs.Scene.{Chance, Comes, Scene, comes_to, is_planner, planned, scene_of}
 use Rattle.cns_system.specs.declared.event.NodeName.{NodeName}
 use Rattle.cns_report.specs.Lines.{line_text}
 use Rattle.cns_report.specs.declared.line.Line.TheVariants as line
 use Rattle.cns_batch.specs.declared.runner.Beside.{Beside}
 use Rattle.cns_system.specs.World.{World}
-use Rattle.cns_allocate.specs.declared.planned.Planned.{Planned}
 use Rattle.cns_system.specs.declared.event.Event.{Event}
-use Rattle.cns_system.specs.declared.event.Event.TheVariants as event
 use Rattle.cns_system.specs.declared.outcome.Outcome.{Outcome}
 use Rattle.cns_report.specs.Outcomes.{outcome_line}
-use Rattle.cns_batch.specs.Acts.{Act, Told, after_text, continued, done, each, gives, happened, tells, followed, times, with_outcome}
-use Rattle.cns_batch.specs.Commands.{ends_with, failed, learned, next_reserved, next_taken, reserved, row_taken}
-use Rattle.cns_batch.specs.Runs.{BreaksOff, Continues, IsNextRow, Place, Prints, RunState, Runs, Stops, Writes, course_at, output_at}
+use Rattle.cns_batch.specs.Acts.{Act, Course, Told, ◌>>=◌, done, each, gives, happened, tells}
+use Rattle.cns_batch.specs.Commands.{failed}
+use Rattle.cns_batch.specs.Runs.{BreaksOff, Continues, Place, Prints, RunState, Runs, Stops, Writes, after_text, course_at, output_at}
 use Rattle.cns_batch.proofs.PrintLemmas.{appends_nothing, breaks_after, breaks_front, first_left, writes_more}
 
 -- ---- acts
@@ -37,8 +34,11 @@ continues_more {A} a b d p q r one two = record {
 }
 
 -- what an act does, and then another one
-pub followed_continues : {A B : Type 0} (a b : Act A) (next : A → Act B) (p q : Place) → Continues a b p q → Continues (followed a next) (followed b next) p q
-unfolding followed
+abbrev continued : {A B : Type 0} → Told A → (A → Act B) → Told B
+continued told next = after_text told.text (next told.value told.course)
+
+pub followed_continues : {A B : Type 0} (a b : Act A) (next : A → Act B) (p q : Place) → Continues a b p q → Continues (a >>= next) (b >>= next) p q
+unfolding ◌>>=◌
 followed_continues a b next p q one = record {
   chances = one.chances;
   text = one.text;
@@ -49,8 +49,8 @@ followed_continues a b next p q one = record {
   writes = one.writes;
 }
 
-pub followed_gives : {A B : Type 0} (a : Act A) (v : A) (next : A → Act B) (p q : Place) → Continues a (gives v) p q → Continues (followed a next) (next v) p q
-unfolding followed followed_continues
+pub followed_gives : {A B : Type 0} (a : Act A) (v : A) (next : A → Act B) (p q : Place) → Continues a (gives v) p q → Continues (a >>= next) (next v) p q
+unfolding ◌>>=◌ followed_continues
 followed_gives a v next p q one = record {
   chances = one.chances;
   text = one.text;
@@ -76,12 +76,12 @@ runs_after a b (Err e) p q r one stop = stops_after a b p q r one stop
 
 -- an act, and then another one
 pub runs_followed : {A B E : Type 0} (a : Act A) (v : A) (next : A → Act B) (result : Result B E) (p q r : Place) → Continues a (gives v) p q → Runs (next v) result q r
-    → Runs (followed a next) result p r
-runs_followed a v next result p q r one two = runs_after (followed a next) (next v) result p q r (followed_gives a v next p q one) two
+    → Runs (a >>= next) result p r
+runs_followed a v next result p q r one two = runs_after (a >>= next) (next v) result p q r (followed_gives a v next p q one) two
 
 -- the first of them stops
-pub stops_followed : {A B : Type 0} (a : Act A) (next : A → Act B) (p q : Place) → Stops a p q → Stops (followed a next) p q
-unfolding followed
+pub stops_followed : {A B : Type 0} (a : Act A) (next : A → Act B) (p q : Place) → Stops a p q → Stops (a >>= next) p q
+unfolding ◌>>=◌
 stops_followed a next p q stop =
     let told = a (course_at p.run stop.chances) in
     let rest = (next told.value told.course).text in
@@ -110,6 +110,13 @@ prints_runs text (Ok u) p q writes is = tells_text text p q writes is
 prints_runs text (Err e) p q (size, written) is = record { chances = []; size = size; writes = written }
 
 -- an event happened, and its line was told
+abbrev with_outcome : Event → Course → Outcome × Scene → Told Outcome
+with_outcome e c came = record {
+  course = record c { scene = came.1; chances = drop 1 c.chances };
+  text = outcome_line e came.0;
+  value = came.0;
+}
+
 came_as : (e : Event) (o : Outcome) (p : Place) (old new : World) (chance : Chance) (more : List Chance) → p.run.world ≡ old → comes_to chance e (scene_of old) ≡ (o, scene_of new)
     → happened e (course_at p.run (chance ∷ more)) ≡ record { course = record (course_at p.run more) { scene = scene_of new }; text = outcome_line e o; value = o }
 unfolding happened
@@ -146,28 +153,10 @@ pub each_stops : {A : Type 0} (act : A → Act (Unit {0})) (x : A) (xs : List A)
 unfolding each
 each_stops act x xs p q stop = stops_followed (act x) (λ _. each act xs) p q stop
 
-pub times_step : (n : ℕ) (act : Act (Unit {0})) (p q : Place) → Continues act done p q → Continues (times (suc n) act) (times n act) p q
-unfolding times
-times_step n act p q one = followed_gives act tt (λ _. times n act) p q one
-
-pub times_stops : (n : ℕ) (act : Act (Unit {0})) (p q : Place) → Stops act p q → Stops (times (suc n) act) p q
-unfolding times
-times_stops n act p q stop = stops_followed act (λ _. times n act) p q stop
-
 -- a call that answers a fault stops
 pub runs_fault : {A E : Type 0} (act : Act A) (result : Result A E) (p q : Place) → IsErr result → Stops act p q → Runs act result p q
 runs_fault act (Ok v) p q is stop = absurd (cc is)
 runs_fault act (Err e) p q is stop = stop
-
--- an event of which only a part is given
-pub learns : {A : Type 0} (e : Event) (o : Outcome) (part : Outcome → A) (a : A) (p q : Place) → Continues (happened e) (gives o) p q → a ≡ part o
-    → Continues (learned e part) (gives a) p q
-unfolding learned
-learns e o part a p q one is = rw is (followed_gives (happened e) o (λ outcome. gives (part outcome)) p q one)
-
-pub learns_not : {A : Type 0} (e : Event) (part : Outcome → A) (p q : Place) → Stops (happened e) p q → Stops (learned e part) p q
-unfolding learned
-learns_not e part p q stop = stops_followed (happened e) (λ outcome. gives (part outcome)) p q stop
 
 -- ---- loops
 
@@ -187,60 +176,6 @@ pub each_done : {A : Type 0} (act : A → Act (Unit {0})) (xs : List A) (i : ℕ
     → Continues (each act xs) done p q
 unfolding each
 each_done act xs i p q le so = subst (λ l. Continues (each act xs) (each act l) p q) (drop_all i xs le) so
-
-one_fewer : (n i : ℕ) → i < n → n - i ≡ suc (n - (i + 1))
-one_fewer n i lt = omega (arith, lt)
-
-pub times_next : (n i : ℕ) (act : Act (Unit {0})) (p q r : Place) → i < n → Continues (times n act) (times (n - i) act) p q → Continues act done q r
-    → Continues (times n act) (times (n - (i + 1)) act) p r
-times_next n i act p q r lt so one =
-    continues_more (times n act) (times (n - i) act) (times (n - (i + 1)) act) p q r so
-    (subst (λ k. Continues (times k act) (times (n - (i + 1)) act) q r) (sym (one_fewer n i lt)) (times_step (n - (i + 1)) act q r one))
-
-pub times_ends : (n i : ℕ) (act : Act (Unit {0})) (p q r : Place) → i < n → Continues (times n act) (times (n - i) act) p q → Stops act q r → Stops (times n act) p r
-times_ends n i act p q r lt so stop =
-    stops_after (times n act) (times (n - i) act) p q r so
-    (subst (λ k. Stops (times k act) q r) (sym (one_fewer n i lt)) (times_stops (n - (i + 1)) act q r stop))
-
-pub times_done : (n i : ℕ) (act : Act (Unit {0})) (p q : Place) → n ≤ i → Continues (times n act) (times (n - i) act) p q → Continues (times n act) done p q
-unfolding times
-times_done n i act p q le so = let none : n - i ≡ 0 = omega (arith, le) in subst (λ k. Continues (times n act) (times k act) p q) none so
-
--- a ticket for the next member of a plan, or the last one
-reserved_step : (lot : ℕ) (x : Planned) (plan : List Planned) (p q : Place) → Continues (learned (event.Reserve lot x.member) ends_with) (gives None) p q
-    → Continues (reserved lot (x ∷ plan)) (reserved lot plan) p q
-unfolding reserved
-reserved_step lot x plan p q one = followed_gives (learned (event.Reserve lot x.member) ends_with) None (next_reserved (reserved lot plan)) p q one
-
-pub reserved_next : (lot : ℕ) (plan : List Planned) (i : ℕ) (x : Planned) (p q r : Place) → i < length plan → x ≡ get_or plan i x
-    → Continues (reserved lot plan) (reserved lot (drop i plan)) p q → Continues (learned (event.Reserve lot x.member) ends_with) (gives None) q r
-    → Continues (reserved lot plan) (reserved lot (drop (i + 1) plan)) p r
-reserved_next lot plan i x p q r lt is so one =
-    continues_more (reserved lot plan) (reserved lot (drop i plan)) (reserved lot (drop (i + 1) plan)) p q r so
-    (subst (λ l. Continues (reserved lot l) (reserved lot (drop (i + 1) plan)) q r) (sym (first_left plan i x lt is))
-    (reserved_step lot x (drop (i + 1) plan) q r one))
-
-pub reserved_last : (lot : ℕ) (plan : List Planned) (i : ℕ) (x : Planned) (is_due : Bool) (p q r : Place) → i < length plan → x ≡ get_or plan i x
-    → Continues (reserved lot plan) (reserved lot (drop i plan)) p q → Continues (learned (event.Reserve lot x.member) ends_with) (gives (Some is_due)) q r
-    → Continues (reserved lot plan) (gives is_due) p r
-unfolding reserved
-reserved_last lot plan i x is_due p q r lt is so one =
-    continues_more (reserved lot plan) (reserved lot (drop i plan)) (gives is_due) p q r so
-    (subst (λ l. Continues (reserved lot l) (gives is_due) q r) (sym (first_left plan i x lt is))
-    (followed_gives (learned (event.Reserve lot x.member) ends_with) (Some is_due) (next_reserved (reserved lot (drop (i + 1) plan))) q r one))
-
-pub reserved_stops : (lot : ℕ) (plan : List Planned) (i : ℕ) (x : Planned) (p q r : Place) → i < length plan → x ≡ get_or plan i x
-    → Continues (reserved lot plan) (reserved lot (drop i plan)) p q → Stops (learned (event.Reserve lot x.member) ends_with) q r → Stops (reserved lot plan) p r
-unfolding reserved
-reserved_stops lot plan i x p q r lt is so stop =
-    stops_after (reserved lot plan) (reserved lot (drop i plan)) p q r so
-    (subst (λ l. Stops (reserved lot l) q r) (sym (first_left plan i x lt is))
-    (stops_followed (learned (event.Reserve lot x.member) ends_with) (next_reserved (reserved lot (drop (i + 1) plan))) q r stop))
-
-pub reserved_done : (lot : ℕ) (plan : List Planned) (i : ℕ) (p q : Place) → length plan ≤ i → Continues (reserved lot plan) (reserved lot (drop i plan)) p q
-    → Continues (reserved lot plan) (gives true) p q
-unfolding reserved
-reserved_done lot plan i p q le so = subst (λ l. Continues (reserved lot plan) (reserved lot l) p q) (drop_all i plan le) so
 
 -- ---- acts that are others, by what a script has come to
 
@@ -263,18 +198,6 @@ pub beside_set : {A : Type 0} (a b : Act A) (p q : Place) (beside : Option Besid
     → ((more : List Chance) → a (course_at p.run more) ≡ b (record (course_at p.run more) { beside = beside })) → Continues a b p q
 beside_set a b p q beside is same =
     subst (λ q. Continues a b p q) (sym is) (moves a b p (record p { run = record p.run { beside = beside } }) same refl refl)
-
--- a row is taken
-row_next : (r : Row) (rest : List Row) (p q : Place) → p.run.rows ≡ r ∷ rest → q ≡ record p { run = record p.run { rows = rest } } → Continues next_taken (row_taken r) p q
-unfolding next_taken
-row_next r rest p q rows is =
-    subst (λ q. Continues next_taken (row_taken r) p q) (sym is)
-    (moves next_taken (row_taken r) p (record p { run = record p.run { rows = rest } }) (λ more. rw rows refl) refl refl)
-
-pub takes_row : {E : Type 0} (r : Row) (result : Result (Unit {0}) E) (old new : RunState) (sent : Option (List ℕ)) (q : Place) → IsNextRow (Some r) old new
-    → Runs (row_taken r) result (record { run = new; sent = sent }) q → Runs next_taken result (record { run = old; sent = sent }) q
-takes_row r result old new sent q next runs =
-    runs_after next_taken (row_taken r) result _ _ q (row_next r new.rows _ _ next.0 (ap (λ (s : RunState). record { run = s; sent = sent }) next.1)) runs
 
 -- a failure is planned, or is not
 pub fails_next : (name : NodeName) (stands : Bool) (p q : Place) → is_planner name (scene_of p.run.world) ≡ true → scene_of q.run.world ≡ planned name stands (scene_of p.run.world)

@@ -3,13 +3,7 @@ use Rattle.std.proofs.Common.{◌≡◌, ◌<◌, ◌≤◌, ℕ, suc, zero, ◌
 use Rattle.std.proofs.lemmas.List.{append-nil, drop_all, drop_more}
 use Rattle.std.specs.Result.{IsErr}
 use Rattle.std.specs.Io.KnownBytes.{Appends}
-use Rattle.cns_movements.specs.declared.order.Order.{Order}
-use Rattle.cns_system.specs.declared.event.Event.{Event}
-use Rattle.cns_system.specs.declared.outcome.Outcome.{Outcome}
-use Rattle.cns_report.specs.Ends.{lines_of}
-use Rattle.cns_report.specs.Lines.{line_text, order_lines}
-use Rattle.cns_report.specs.Outcomes.{line_of, orders_of, outcome_line, with_orders}
-use Rattle.cns_report.specs.declared.line.Line.{Line}
+use Rattle.std.specs.List.{flat_map}
 use Rattle.cns_batch.specs.Runs.{BreaksOff, Output, Prints, Writes}
 
 pub appends_nothing : (a : Option (List ℕ)) → Appends a a []
@@ -85,18 +79,6 @@ holds text p q is = subst (λ q. Writes text p q) (sym is) ([], appends_nothing 
 pub prints_held : {E : Type 0} (text : List ℕ) (result : Result (Unit {0}) E) (p q r : Output) → q ≡ record p { held = p.held ++ text } → Prints [] result q r → Prints text result p r
 prints_held text result p q r is flushed = subst (λ t. Prints t result p r) (append-nil text) (prints_after result p q r text [] (holds text p q is) flushed)
 
--- ---- the line of an outcome and those of its orders
-
-pub prints_outcome : {E : Type 0} (e : Event) (o : Outcome) (line : Line) (orders : List Order) (result : Result (Unit {0}) E) (p q r : Output) → line_of e o ≡ Some line → orders ≡ orders_of o
-    → Writes (line_text line) p q → Prints (order_lines orders) result q r → Prints (outcome_line e o) result p r
-prints_outcome e o line orders result p q r some are one more =
-    subst (λ l. Prints (with_orders l (orders_of o)) result p r) (sym some)
-    (subst (λ os. Prints (line_text line ++ order_lines os) result p r) are (prints_after result p q r (line_text line) (order_lines orders) one more))
-
-pub half_outcome : (e : Event) (o : Outcome) (line : Line) (p : Output) (sent : Option (List ℕ)) → line_of e o ≡ Some line → BreaksOff (line_text line) p sent → BreaksOff (outcome_line e o) p sent
-half_outcome e o line p sent some one =
-    subst (λ l. BreaksOff (with_orders l (orders_of o)) p sent) (sym some) (breaks_front p sent (line_text line) (order_lines (orders_of o)) one)
-
 -- ---- rows, one after another
 
 -- what is left of a list begins with the next one
@@ -106,34 +88,32 @@ first_left xs i x lt is = drop_more xs i x lt ∙ ap (λ y. y ∷ drop (i + 1) x
 -- the lines of the first so many rows were told
 pub record AreTold {A : Type 0} (line : A → List ℕ) (rows : List A) (i : ℕ) (p q : Output) : Type 0 where
   pub told : List ℕ
-  pub rest_is : told ++ lines_of line (drop i rows) ≡ lines_of line rows
+  pub rest_is : told ++ flat_map line (drop i rows) ≡ flat_map line rows
   pub writes : Writes told p q
 
 pub none_told : {A : Type 0} (line : A → List ℕ) (rows : List A) (p : Output) → AreTold line rows 0 p p
 none_told line rows p = record { told = []; rest_is = refl; writes = prints_nothing p }
 
 lines_left : {A : Type 0} (line : A → List ℕ) (rows : List A) (i : ℕ) (x : A) → i < length rows → x ≡ get_or rows i x
-    → lines_of line (drop i rows) ≡ line x ++ lines_of line (drop (i + 1) rows)
-unfolding lines_of
-lines_left line rows i x lt is = ap (lines_of line) (first_left rows i x lt is)
+    → flat_map line (drop i rows) ≡ line x ++ flat_map line (drop (i + 1) rows)
+lines_left line rows i x lt is = ap (flat_map line) (first_left rows i x lt is)
 
 pub row_told : {A : Type 0} (line : A → List ℕ) (rows : List A) (i : ℕ) (x : A) (p q r : Output) → i < length rows → x ≡ get_or rows i x
     → AreTold line rows i p q → Writes (line x) q r → AreTold line rows (i + 1) p r
 row_told line rows i x p q r lt is so one = record {
   told = so.told ++ line x;
-  rest_is = append_assoc so.told (line x) (lines_of line (drop (i + 1) rows)) ∙ ap (λ l. so.told ++ l) (sym (lines_left line rows i x lt is)) ∙ so.rest_is;
+  rest_is = append_assoc so.told (line x) (flat_map line (drop (i + 1) rows)) ∙ ap (λ l. so.told ++ l) (sym (lines_left line rows i x lt is)) ∙ so.rest_is;
   writes = writes_more p q r so.told (line x) so.writes one;
 }
 
 pub row_breaks : {A : Type 0} (line : A → List ℕ) (rows : List A) (i : ℕ) (x : A) (p q : Output) (sent : Option (List ℕ)) → i < length rows → x ≡ get_or rows i x
-    → AreTold line rows i p q → BreaksOff (line x) q sent → BreaksOff (lines_of line rows) p sent
+    → AreTold line rows i p q → BreaksOff (line x) q sent → BreaksOff (flat_map line rows) p sent
 row_breaks line rows i x p q sent lt is so one =
-    let rest = lines_of line (drop (i + 1) rows) in
+    let rest = flat_map line (drop (i + 1) rows) in
     subst (λ l. BreaksOff l p sent) (ap (λ l. so.told ++ l) (sym (lines_left line rows i x lt is)) ∙ so.rest_is)
     (breaks_after p q sent so.told (line x ++ rest) so.writes (breaks_front q sent (line x) rest one))
 
-pub all_told : {A : Type 0} (line : A → List ℕ) (rows : List A) (i : ℕ) (p q : Output) → length rows ≤ i → AreTold line rows i p q → Writes (lines_of line rows) p q
-unfolding lines_of
+pub all_told : {A : Type 0} (line : A → List ℕ) (rows : List A) (i : ℕ) (p q : Output) → length rows ≤ i → AreTold line rows i p q → Writes (flat_map line rows) p q
 all_told line rows i p q le so =
-    let all : so.told ≡ lines_of line rows = sym (append-nil so.told) ∙ ap (λ l. so.told ++ lines_of line l) (sym (drop_all i rows le)) ∙ so.rest_is in
+    let all : so.told ≡ flat_map line rows = sym (append-nil so.told) ∙ ap (λ l. so.told ++ flat_map line l) (sym (drop_all i rows le)) ∙ so.rest_is in
     subst (λ l. Writes l p q) all so.writes

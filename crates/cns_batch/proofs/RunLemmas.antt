@@ -4,22 +4,20 @@ use Rattle.std.specs.Prelude.{is_some}
 use Rattle.std.proofs.lemmas.List.{drop-drop, drop_all}
 use Rattle.cns_report.specs.Lines.{line_text as line_bytes}
 use Rattle.cns_report.specs.declared.line.Line.TheVariants as line
-use Rattle.cns_system.specs.declared.event.Event.TheVariants as event
-use Rattle.cns_batch.specs.Acts.{Act, done, followed, tells}
-use Rattle.cns_batch.specs.Commands.{learned, opened_in}
-use Rattle.cns_batch.specs.Run.{begun, beside_begun, command_run, ended, ended_when_due, line_counted, line_run, lines_run, waited}
+use Rattle.cns_batch.specs.Acts.{Act, ◌>>=◌, ◌>>◌, done, tells}
+use Rattle.cns_batch.specs.Commands.{opened}
+use Rattle.cns_batch.specs.Run.{command_run, ended, line_counted, line_run, lines_run, waited}
 use Rattle.cns_batch.specs.Runs.{Continues, Place, Runs, Stops, course_at}
 use Rattle.cns_input.specs.Script.{command_of}
 use Rattle.cns_input.specs.Sections.{line_size, line_text, raw_lines}
 use Rattle.cns_input.specs.declared.command.Command.{Command}
 use Rattle.cns_input.specs.declared.command.Command.TheVariants as command
-use Rattle.cns_batch.specs.declared.runner.Beside.{Beside}
-use Rattle.cns_batch.proofs.ActLemmas.{continues_more, followed_gives, moves, runs_as, stops_after, stops_followed}
+use Rattle.cns_batch.proofs.ActLemmas.{continues_more, followed_gives, runs_as, stops_after, stops_followed}
 use Rattle.cns_input.proofs.SectionLemmas.{lines_step}
 
 -- a line that is neither passed over nor opens a lot beside others
 pub line_plain : (n : ℕ) (c : Command) → (c ≡ command.Skip → ⊥) → ((issue lines : ℕ) → c ≡ command.Beside issue lines → ⊥)
-    → line_run n c ≡ followed (command_run n c) (λ _. line_counted)
+    → line_run n c ≡ command_run n c >> line_counted
 line_plain n command.Skip skip beside = absurd (skip refl)
 line_plain n (command.Beside issue lines) skip beside = absurd (beside issue lines refl)
 line_plain n command.TakeAll skip beside = refl
@@ -32,41 +30,19 @@ line_plain n command.Pump skip beside = refl
 line_plain n command.Report skip beside = refl
 line_plain n command.Bad skip beside = refl
 
-none_waits : (waits : Option Beside) → is_some waits ≡ false → waits ≡ None
-none_waits None is = refl
-none_waits (Some beside) is = absurd (cc is)
-
--- no line is counted where no lot waits
-pub counts_none : (p : Place) → is_some p.run.beside ≡ false → Continues line_counted done p p
-unfolding line_counted ended_when_due
-counts_none p none = moves line_counted done p p (λ more. rw (none_waits p.run.beside none) refl) refl refl
-
 -- BESIDE where a lot waits, and where none does
-begun_again : (waits : Option Beside) (n issue lines : ℕ) → is_some waits ≡ true → begun waits n issue lines ≡ followed (tells (line_bytes (line.BadCommand n))) (λ _. line_counted)
-begun_again None n issue lines some = absurd (cc some)
-begun_again (Some beside) n issue lines some = refl
-
-begun_first : (waits : Option Beside) (n issue lines : ℕ) → is_some waits ≡ false → begun waits n issue lines ≡ followed (learned (event.LotOpen issue) opened_in) (waited lines)
-begun_first None n issue lines none = refl
-begun_first (Some beside) n issue lines none = absurd (cc none)
-
 pub runs_again : {E : Type 0} (n issue lines : ℕ) (result : Result (Unit {0}) E) (p q : Place) → is_some p.run.beside ≡ true
-    → Runs (followed (tells (line_bytes (line.BadCommand n))) (λ _. line_counted)) result p q → Runs (beside_begun n issue lines) result p q
-unfolding beside_begun
+    → Runs (tells (line_bytes (line.BadCommand n)) >> line_counted) result p q → Runs (line_run n (command.Beside issue lines)) result p q
 runs_again n issue lines result p q waits runs =
-    runs_as (beside_begun n issue lines) (followed (tells (line_bytes (line.BadCommand n))) (λ _. line_counted)) result p q
-    (λ more. ap (λ (a : Act (Unit {0})). a (course_at p.run more)) (begun_again p.run.beside n issue lines waits)) runs
+    runs_as (line_run n (command.Beside issue lines)) (tells (line_bytes (line.BadCommand n)) >> line_counted) result p q (λ more. rw waits refl) runs
 
 pub runs_first : {E : Type 0} (n issue lines : ℕ) (result : Result (Unit {0}) E) (p q : Place) → is_some p.run.beside ≡ false
-    → Runs (followed (learned (event.LotOpen issue) opened_in) (waited lines)) result p q → Runs (beside_begun n issue lines) result p q
-unfolding beside_begun
-runs_first n issue lines result p q waits runs =
-    runs_as (beside_begun n issue lines) (followed (learned (event.LotOpen issue) opened_in) (waited lines)) result p q
-    (λ more. ap (λ (a : Act (Unit {0})). a (course_at p.run more)) (begun_first p.run.beside n issue lines waits)) runs
+    → Runs (opened issue >>= waited lines) result p q → Runs (line_run n (command.Beside issue lines)) result p q
+runs_first n issue lines result p q waits runs = runs_as (line_run n (command.Beside issue lines)) (opened issue >>= waited lines) result p q (λ more. rw waits refl) runs
 
 -- lines that are not empty, by the first
 first_line : (n : ℕ) (xs : List ℕ) → 0 < length xs → lines_run n (raw_lines xs)
-    ≡ followed (line_run n (command_of (line_text (take (line_size xs) xs)))) (λ _. lines_run (n + 1) (raw_lines (drop (line_size xs) xs)))
+    ≡ line_run n (command_of (line_text (take (line_size xs) xs))) >> lines_run (n + 1) (raw_lines (drop (line_size xs) xs))
 unfolding lines_run
 first_line n [] pos = absurd (omega (arith, pos))
 first_line n (c ∷ cs) pos = ap (lines_run n) (lines_step c cs)
@@ -85,27 +61,27 @@ is_line script rest line c at size r more z l k =
     record { rest_is = r; some = rw r (omega (arith, length-drop at script, more)); size_is = z; line_is = l; command_is = k }
 
 here : (n : ℕ) (script rest line : List ℕ) (c : Command) (at size : ℕ) → IsLine script rest line c at size
-    → lines_run n (raw_lines (drop at script)) ≡ followed (line_run n c) (λ _. lines_run (n + 1) (raw_lines (drop (at + size) script)))
+    → lines_run n (raw_lines (drop at script)) ≡ line_run n c >> lines_run (n + 1) (raw_lines (drop (at + size) script))
 here n script rest line c at size is =
     let text : c ≡ command_of (line_text (take (line_size rest) rest)) = is.command_is ∙ ap (λ l. command_of (line_text l)) (is.line_is ∙ ap (λ k. take k rest) is.size_is) in
     let back : drop (line_size rest) rest ≡ drop (at + size) script = ap (λ k. drop k rest) (sym is.size_is) ∙ ap (drop size) is.rest_is ∙ drop-drop size at script in
     ap (λ x. lines_run n (raw_lines x)) (sym is.rest_is) ∙ first_line n rest is.some
-    ∙ ap (λ k. followed (line_run n k) (λ _. lines_run (n + 1) (raw_lines (drop (line_size rest) rest)))) (sym text)
-    ∙ ap (λ x. followed (line_run n c) (λ _. lines_run (n + 1) (raw_lines x))) back
+    ∙ ap (λ k. line_run n k >> lines_run (n + 1) (raw_lines (drop (line_size rest) rest))) (sym text)
+    ∙ ap (λ x. line_run n c >> lines_run (n + 1) (raw_lines x)) back
 
 pub script_next : (all : Act (Unit {0})) (n : ℕ) (script rest line : List ℕ) (c : Command) (at size : ℕ) (p q r : Place) → IsLine script rest line c at size
     → Continues all (lines_run n (raw_lines (drop at script))) p q → Continues (line_run n c) done q r
     → Continues all (lines_run (n + 1) (raw_lines (drop (at + size) script))) p r
 script_next all n script rest line c at size p q r is so one =
     let next : Unit {0} → Act (Unit {0}) = λ _. lines_run (n + 1) (raw_lines (drop (at + size) script)) in
-    continues_more all (followed (line_run n c) next) (next tt) p q r (subst (λ a. Continues all a p q) (here n script rest line c at size is) so)
+    continues_more all (line_run n c >>= next) (next tt) p q r (subst (λ a. Continues all a p q) (here n script rest line c at size is) so)
     (followed_gives (line_run n c) tt next q r one)
 
 pub script_stops : (all : Act (Unit {0})) (n : ℕ) (script rest line : List ℕ) (c : Command) (at size : ℕ) (p q r : Place) → IsLine script rest line c at size
     → Continues all (lines_run n (raw_lines (drop at script))) p q → Stops (line_run n c) q r → Stops all p r
 script_stops all n script rest line c at size p q r is so stop =
     let next : Unit {0} → Act (Unit {0}) = λ _. lines_run (n + 1) (raw_lines (drop (at + size) script)) in
-    stops_after all (followed (line_run n c) next) p q r (subst (λ a. Continues all a p q) (here n script rest line c at size is) so)
+    stops_after all (line_run n c >>= next) p q r (subst (λ a. Continues all a p q) (here n script rest line c at size is) so)
     (stops_followed (line_run n c) next q r stop)
 
 pub script_done : (all : Act (Unit {0})) (n : ℕ) (script : List ℕ) (at : ℕ) (p q : Place) → length script ≤ at → Continues all (lines_run n (raw_lines (drop at script))) p q

@@ -4,6 +4,7 @@ use Rattle.std.specs.Prelude.{IfErr, IfSome, OnOk, if◌then◌else◌}
 use Rattle.std.proofs.lemmas.List.{append-nil}
 use Rattle.std.proofs.lemmas.Option.{IfSome_then}
 use Rattle.std.specs.Io.KnownBytes.{Appends}
+use Rattle.cns_ids.specs.Steps.{◌>>=◌}
 use Rattle.cns_journal.specs.Replay.{KeeperState}
 use Rattle.cns_system.specs.Scene.{Chance, Scene, scene_of}
 use Rattle.cns_system.specs.Start.{IsNotOpened, IsStarted}
@@ -14,7 +15,7 @@ use Rattle.cns_batch.specs.Ending.{batch_result}
 use Rattle.cns_batch.specs.Run.{lines_run}
 use Rattle.cns_batch.specs.Runs.{Continues, Place, RunState, Runs, Stops, course_at}
 use Rattle.cns_input.specs.Sections.{raw_lines}
-use Rattle.cns_batch.specs.Text.{BatchLeaves, Input, KeptLeaves, OpensBoth, RunsInput, SaysOf, Tells, WritesAll, WritesNothing, WritesPart, WritesTextPart, fault_of_start, input_of, is_short, new_keeper, text_by, text_from, text_in}
+use Rattle.cns_batch.specs.Text.{BatchLeaves, Input, KeptLeaves, OpensBoth, RunsInput, SaysOf, Tells, WritesAll, WritesNothing, WritesPart, WritesTextPart, fault_of_start, input_of, is_short, new_keeper, first_scene, text_by, text_from}
 use Rattle.cns_input.specs.declared.fault.BatchFault.{BatchFault}
 use Rattle.cns_input.specs.declared.fault.BatchFault.TheVariants as fault
 use Rattle.cns_batch.specs.declared.fault.OutputFault.{OutputFault}
@@ -83,6 +84,9 @@ pub kept_refused : (known : Option (List ℕ)) (bytes : List ℕ) (e : BatchFaul
 kept_refused known bytes e c d old all told = of_all (λ b. KeptLeaves (Err e) b c d c d old old) known bytes all (refused_by e bytes c d old told)
 
 -- ---- over keepers in memory
+
+abbrev text_in : List Chance → Result Input BatchFault → Result (List ℕ) BatchFault
+text_in chances read = read >>= λ input. Ok (text_from chances (first_scene input.openings) input)
 
 text_here : (chances : List Chance) (bytes : List ℕ) (input : Input) (w : World) → input_of bytes ≡ Ok input → IsStarted input.openings new_keeper new_keeper w
     → text_by chances bytes ≡ Ok (text_from chances (scene_of w) input)

@@ -1,5 +1,5 @@
 -- What a script has come to, and acts on it: each leaves a course, tells a text, and gives a value.
-use Rattle.std.specs.Prelude.{ℕ, suc, zero, List, [], ◌∷◌, ◌++◌, Option}
+use Rattle.std.specs.Prelude.{ℕ, List, [], ◌∷◌, ◌++◌, drop, get_or, Option}
 use Rattle.cns_trades.specs.declared.row.Row.{Row}
 use Rattle.cns_system.specs.Scene.{Chance, AsForeseen, Scene, comes_to}
 use Rattle.cns_system.specs.declared.event.Event.{Event}
@@ -35,47 +35,29 @@ done = gives tt
 abbrev pub tells : List ℕ → Act (Unit {0})
 tells text c = record { course = c; text = text; value = tt }
 
--- a text before what is told
-abbrev pub after_text : {A : Type 0} → List ℕ → Told A → Told A
-after_text text told = record told { text = text ++ told.text }
+-- one act, and then another one by what the first gives, with the texts of both (`do` is written with these)
+infixl 10 ◌>>=◌
+unfoldable pub ◌>>=◌ : {A B : Type 0} → Act A → (A → Act B) → Act B
+(first >>= next) c =
+    let told = first c in
+    let rest = next told.value told.course in
+    record rest { text = told.text ++ rest.text }
 
--- one act, and then another one by what the first gives
-abbrev pub continued : {A B : Type 0} → Told A → (A → Act B) → Told B
-continued told next = after_text told.text (next told.value told.course)
-
-unfoldable pub followed : {A B : Type 0} → Act A → (A → Act B) → Act B
-followed first next c = continued (first c) next
+infixl 10 ◌>>◌
+abbrev pub ◌>>◌ : {A B : Type 0} → Act A → Act B → Act B
+first >> next = first >>= λ _. next
 
 -- an act for each of a list, in its order
 unfoldable pub each : {A : Type 0} → (A → Act (Unit {0})) → List A → Act (Unit {0})
 each act [] = done
-each act (x ∷ xs) = followed (act x) (λ _. each act xs)
+each act (x ∷ xs) = act x >> each act xs
 
--- an act so many times
-unfoldable pub times : ℕ → Act (Unit {0}) → Act (Unit {0})
-times zero act = done
-times (suc n) act = followed act (λ _. times n act)
-
--- what comes between at the next event is the first of what is left; nothing does where nothing is left
-abbrev pub next_chance : List Chance → Chance
-next_chance [] = AsForeseen
-next_chance (chance ∷ chances) = chance
-
-abbrev pub later_chances : List Chance → List Chance
-later_chances [] = []
-later_chances (chance ∷ chances) = chances
-
--- an event happens, and its outcome is told
-abbrev pub with_outcome : Event → Course → Outcome × Scene → Told Outcome
-with_outcome e c came = record {
-  course = record c { scene = came.1; chances = later_chances c.chances };
-  text = outcome_line e came.0;
-  value = came.0;
-}
-
+-- an event happens, by the first of what comes between, and by nothing where nothing is left of that; its outcome is told
 unfoldable pub happened : Event → Act Outcome
-happened e c = with_outcome e c (comes_to (next_chance c.chances) e c.scene)
+happened e c =
+    let (outcome, scene) = comes_to (get_or c.chances 0 AsForeseen) e c.scene in
+    record { course = record c { scene = scene; chances = drop 1 c.chances }; text = outcome_line e outcome; value = outcome }
 
 -- an event, whatever it comes to
 abbrev pub single : Event → Act (Unit {0})
-single e = followed (happened e) (λ _. done)
+single e = happened e >> done

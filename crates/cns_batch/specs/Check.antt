@@ -4,7 +4,6 @@ use Rattle.std.specs.Io.KnownBytes.{Appends}
 use Rattle.cns_ids.specs.Cusip.{read_cusip}
 use Rattle.cns_ids.specs.declared.cusip.CusipFault.{CusipFault}
 use Rattle.cns_report.specs.Faults.{cusip_fault_text}
-use Rattle.cns_report.specs.Ends.{line_end}
 use Rattle.cns_input.specs.declared.fault.BatchFault.{BatchFault}
 use Rattle.cns_input.specs.declared.fault.BatchFault.TheVariants as fault
 
@@ -15,7 +14,7 @@ answer_text (Err e) = cusip_fault_text e
 
 -- the line for a text: what reading it as a CUSIP answers
 abbrev pub cusip_line : List ℕ → List ℕ
-cusip_line text = answer_text (read_cusip text) ++ line_end
+cusip_line text = answer_text (read_cusip text) ++ codes "\n"
 
 -- what a fault of a check says of what was written of its line
 abbrev pub EndsLine : BatchFault → List ℕ → Option (List ℕ) → Option (List ℕ) → Type 0

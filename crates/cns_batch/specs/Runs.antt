@@ -5,7 +5,7 @@ use Rattle.cns_trades.specs.declared.row.Row.{Row}
 use Rattle.cns_system.specs.Scene.{Chance, is_planner, planned, scene_of}
 use Rattle.cns_system.specs.declared.event.NodeName.{NodeName}
 use Rattle.cns_system.specs.World.{World}
-use Rattle.cns_batch.specs.Acts.{Act, Course, after_text, gives}
+use Rattle.cns_batch.specs.Acts.{Act, Course, Told, gives}
 use Rattle.cns_batch.specs.declared.runner.Beside.{Beside}
 
 -- what was told and is not yet written, and what its writer holds
@@ -44,6 +44,10 @@ course_at r chances = record { scene = scene_of r.world; rows = r.rows; beside =
 
 abbrev pub output_at : Place → Output
 output_at p = record { held = p.run.held; sent = p.sent }
+
+-- a text before what is told
+abbrev pub after_text : {A : Type 0} → List ℕ → Told A → Told A
+after_text text told = record told { text = text ++ told.text }
 
 -- an act has come so far that another one is left of it
 pub record Continues {A : Type 0} (act left : Act A) (old new : Place) : Type 0 where

@@ -1,24 +1,26 @@
 -- The output text of a whole input, and what a fault says of it.
 use Rattle.std.specs.Prelude.{◌≡◌, ◌⊎◌, ⊤, ℕ, Bool, ◌<◌, ◌≤◌, true, false, List, [], ◌++◌, length, take, Option, Some, None, Result, Ok, Err, if◌then◌else◌}
 use Rattle.std.specs.Io.KnownBytes.{Appends}
+use Rattle.std.specs.Option.{ok_or}
+use Rattle.cns_ids.specs.Steps.{◌>>=◌}
 use Rattle.cns_trades.specs.Openings.{opening_rows}
 use Rattle.cns_trades.specs.Rows.{trade_rows}
 use Rattle.cns_trades.specs.declared.fault.CsvFault.{CsvFault}
 use Rattle.cns_trades.specs.declared.fault.CsvFault.TheVariants as rows
 use Rattle.cns_trades.specs.declared.opening.Opening.{Opening}
-use Rattle.cns_trades.specs.declared.opening.OpeningRow.{OpeningRow}
 use Rattle.cns_trades.specs.declared.row.Row.{Row}
 use Rattle.cns_journal.specs.Keeper.{Succeeds}
 use Rattle.cns_journal.specs.Replay.{KeeperState}
 use Rattle.cns_system.specs.Scene.{Chance, Scene, Sight, scene_of}
+use Rattle.cns_system.specs.Shown.{ClearShown, DepotShown}
 use Rattle.cns_journal.specs.declared.record_log.ReplayFault.TheVariants as replay
 use Rattle.cns_system.specs.Start.{IsNotOpened, IsStarted}
 use Rattle.cns_system.specs.declared.fault.StartFault.{StartFault}
 use Rattle.cns_system.specs.declared.fault.StartFault.TheVariants as start
 use Rattle.cns_system.specs.World.{World}
 use Rattle.cns_batch.specs.Opened.{told_openings}
-use Rattle.cns_batch.specs.Run.{script_text}
-use Rattle.cns_input.specs.Sections.{sections}
+use Rattle.cns_batch.specs.Run.{lines_run}
+use Rattle.cns_input.specs.Sections.{raw_lines, sections}
 use Rattle.cns_input.specs.declared.fault.BatchFault.{BatchFault}
 use Rattle.cns_input.specs.declared.fault.BatchFault.TheVariants as fault
 
@@ -29,23 +31,38 @@ pub record Input : Type 0 where
   pub rows : List Row
   pub script : List ℕ
 
-abbrev pub input_under : List ℕ → Option (List OpeningRow) → Option (List Row) → Result Input BatchFault
-input_under script (Some openings) (Some rows) =
-    Ok (record { openings = (told_openings 1 [] openings).0; told = (told_openings 1 [] openings).1; rows = rows; script = script })
-input_under script (Some openings) None = Err fault.Csv
-input_under script None rows = Err fault.Csv
-
-abbrev pub input_from : Option (List ℕ × List ℕ × List ℕ) → Result Input BatchFault
-input_from None = Err fault.Sections
-input_from (Some p) = input_under p.2 (opening_rows p.0) (trade_rows p.1)
+-- what the sections of an input hold, which are openings, trades and the script; or their fault
+abbrev pub input_in : List ℕ → List ℕ → List ℕ → Result Input BatchFault
+input_in openings trades script = do
+  opened ← ok_or (opening_rows openings) fault.Csv
+  rows ← ok_or (trade_rows trades) fault.Csv
+  let (held, told) = told_openings 1 [] opened
+  Ok (record { openings = held; told = told; rows = rows; script = script })
 
 -- what the bytes of an input hold, or their fault
 abbrev pub input_of : List ℕ → Result Input BatchFault
-input_of bytes = input_from (sections bytes)
+input_of bytes = ok_or (sections bytes) fault.Sections >>= λ (openings, trades, script). input_in openings trades script
 
 -- the output text of an input, from a scene on, by what comes between
 abbrev pub text_from : List Chance → Scene → Input → List ℕ
-text_from chances scene input = input.told ++ script_text chances scene input.rows input.script
+text_from chances scene input =
+    input.told ++ (lines_run 1 (raw_lines input.script) (record { scene = scene; rows = input.rows; beside = None; chances = chances })).text
+
+-- both nodes over keepers in memory without records
+abbrev pub first_scene : List Opening → Scene
+first_scene openings =
+    let clear : ClearShown = record { records = []; tried = None; down = false; open_lots = []; lots = [] } in
+    let depot : DepotShown = record { openings = openings; records = []; tried = None; down = false } in
+    let sight : Sight = record { honest = true; foresight = record { next = Succeeds; stands = None } } in
+    record { shown = record { clear = clear; depot = depot; orders = []; replies = [] }; clear = sight; depot = sight }
+
+-- the output text of an input's bytes over keepers in memory, by what comes between, or the fault of the bytes
+abbrev pub text_by : List Chance → List ℕ → Result (List ℕ) BatchFault
+text_by chances bytes = input_of bytes >>= λ input. Ok (text_from chances (first_scene input.openings) input)
+
+-- and where nothing comes between
+abbrev pub text_of : List ℕ → Result (List ℕ) BatchFault
+text_of bytes = text_by [] bytes
 
 -- a keeper in memory without records
 abbrev pub new_keeper : KeeperState
@@ -55,34 +72,6 @@ new_keeper = record {
   journal = record { kept = []; undecided = None };
   foresight = record { next = Succeeds; stands = None };
 }
-
--- and both nodes over two of them
-abbrev pub new_sight : Sight
-new_sight = record { honest = true; foresight = record { next = Succeeds; stands = None } }
-
-abbrev pub first_scene : List Opening → Scene
-first_scene openings = record {
-  shown = record {
-    clear = record { records = []; tried = None; down = false; open_lots = []; lots = [] };
-    depot = record { openings = openings; records = []; tried = None; down = false };
-    orders = [];
-    replies = [];
-  };
-  clear = new_sight;
-  depot = new_sight;
-}
-
-abbrev pub text_in : List Chance → Result Input BatchFault → Result (List ℕ) BatchFault
-text_in chances (Ok input) = Ok (text_from chances (first_scene input.openings) input)
-text_in chances (Err e) = Err e
-
--- the output text of an input's bytes over keepers in memory, by what comes between, or the fault of the bytes
-abbrev pub text_by : List Chance → List ℕ → Result (List ℕ) BatchFault
-text_by chances bytes = text_in chances (input_of bytes)
-
--- and where nothing comes between
-abbrev pub text_of : List ℕ → Result (List ℕ) BatchFault
-text_of bytes = text_by [] bytes
 
 -- the fault of a batch whose rows cannot be read
 abbrev pub fault_of_rows : CsvFault → BatchFault

@@ -1,12 +1,10 @@
 ghost use Rattle.std.specs.Prelude.{◌≡◌, ◌+◌, ◌<◌, ◌≤◌, ◌⊎◌, [], Ok, MatchResult, IfOk, IfSome, OnOk, IfErr, List, ℕ, drop, length};
 ghost use Rattle.std.specs.Io.KnownBytes.{Appends, IsAtEnd};
-ghost use Rattle.cns_trades.specs.Openings.{opening_rows};
-ghost use Rattle.cns_trades.specs.Rows.{trade_rows};
 ghost use Rattle.cns_batch.specs.Ending.{batch_result};
 ghost use Rattle.cns_batch.specs.Run.{lines_run};
 ghost use Rattle.cns_batch.specs.Runs.{Runs};
 ghost use Rattle.cns_input.specs.Sections.{raw_lines};
-ghost use Rattle.cns_batch.specs.Text.{BatchLeaves, KeptLeaves, RunsInput, Tells, WritesNothing, fault_of_rows, fault_of_start, input_of, input_under};
+ghost use Rattle.cns_batch.specs.Text.{BatchLeaves, KeptLeaves, RunsInput, Tells, WritesNothing, fault_of_rows, fault_of_start, input_in, input_of};
 
 use crate::fault::Told;
 use crate::opening::take_openings;
@@ -73,9 +71,9 @@ pub(crate) fn start_fault(fault: StartFault) -> BatchFault
 // What the rows of an input hold.
 fn read_rows(alloc: Global, openings: &[u8], trades: &[u8]) -> Result<Rows, BatchFault>
     ensures { MatchResult result
-        (λ rows. (script : List ℕ) → input_under script (opening_rows openings.now) (trade_rows trades.now)
+        (λ rows. (script : List ℕ) → input_in openings.now trades.now script
         ≡ Ok (record { openings = rows.openings; told = rows.told; rows = rows.trades; script = script }))
-        (λ e. (script : List ℕ) → Tells e (input_under script (opening_rows openings.now) (trade_rows trades.now))) }
+        (λ e. (script : List ℕ) → Tells e (input_in openings.now trades.now script)) }
 {
     let rows = match read_openings(alloc, openings) {
         Ok(rows) => rows,

@@ -1,7 +1,6 @@
-ghost use Rattle.std.specs.Prelude.{◌≡◌, ◌++◌, IfOk, IfErr, OnOk, is_ok, string_bytes};
+ghost use Rattle.std.specs.Prelude.{◌≡◌, ◌++◌, codes, IfOk, IfErr, OnOk, is_ok, string_bytes};
 ghost use Rattle.std.specs.Io.KnownBytes.{Appends};
 ghost use Rattle.cns_ids.specs.Cusip.{read_cusip};
-ghost use Rattle.cns_report.specs.Ends.{line_end};
 ghost use Rattle.cns_batch.specs.Check.{answer_text, cusip_line, EndsLine};
 
 use crate::output::write_text;
@@ -12,7 +11,7 @@ use std::io::Write;
 
 // The line that names an answer.
 fn answer_line(alloc: Global, answer: Result<Cusip, CusipFault>) -> Result<String, AllocError>
-    ensures { IfOk result (λ t. string_bytes t ≡ answer_text answer ++ line_end) }
+    ensures { IfOk result (λ t. string_bytes t ≡ answer_text answer ++ codes "\n") }
 {
     match answer {
         Ok(_) => format!(in alloc; "ok\n"),

@@ -1,19 +1,20 @@
 // The commands that are several events, or none.
 
-ghost use Rattle.std.specs.Prelude.{◌≡◌};
+ghost use Rattle.std.specs.Prelude.{◌≡◌, ◌∷◌, take};
+ghost use Rattle.cns_records.specs.declared.refusal.Refusal.TheVariants as refusals;
+ghost use Rattle.cns_system.specs.Readers.{unconfirmed};
 ghost use Rattle.cns_system.specs.declared.event.Event.TheVariants as event;
-ghost use Rattle.cns_batch.specs.Acts.{each, times};
-ghost use Rattle.cns_batch.specs.Commands.{all_taken, allocated, ends_with, event_run, failed, is_busy as is_busy_of, is_refused, learned, looked, names_busy as names_busy_of, next_taken, opened_in, order_pumped, pumped, pumped_one, reply_packet, reply_pumped, reserved, sent_packet, served, served_if_open, taken};
+ghost use Rattle.cns_batch.specs.Acts.{done, each, single};
+ghost use Rattle.cns_batch.specs.Commands.{allocated, delivered, event_run, failed, is_busy as is_busy_of, looked, names_busy as names_busy_of, opened, pumped, row_taken, served, served_if_open};
 ghost use Rattle.cns_batch.specs.Runs.{Runs};
 
 use crate::fault::Told;
 use crate::runner::{Beside, Runner};
-use cns_allocate::Planned;
-use cns_ids::{Cusip, MemberNo};
+use cns_ids::Cusip;
 use cns_journal::Keeper;
 use cns_movements::MoveNo;
 use cns_records::Refusal;
-use cns_report::{Line, Subject};
+use cns_report::Line;
 use cns_system::{Event, NodeName, Opened, Outcome};
 use cns_trades::Row;
 use std::io::Write;
@@ -38,167 +39,78 @@ fn names_busy(beside: &Option<Beside>, event: &Event) -> bool
     }
 }
 
-// Whether an event was refused.
-fn is_refused(outcome: &Outcome) -> bool
-    ensures { result ≡ is_refused outcome.now }
-{
-    match outcome {
-        Outcome::Refused(_) => true,
-        _ => false,
-    }
-}
-
-// The packet of an order that was sent.
-pub(crate) fn sent_packet(outcome: &Outcome) -> Option<u64>
-    ensures { result ≡ sent_packet outcome.now }
-{
-    match outcome {
-        Outcome::Sent { packet } => Some(*packet),
-        _ => None,
-    }
-}
-
-// The packet of the reply to an order that came in.
-pub(crate) fn reply_packet(outcome: &Outcome) -> Option<u64>
-    ensures { result ≡ reply_packet outcome.now }
-{
-    match outcome {
-        Outcome::Executed { packet, .. } | Outcome::ExecutedAgain { packet, .. } => Some(*packet),
-        _ => None,
-    }
-}
-
-// The lot, where it was opened.
-fn opened_in(outcome: Outcome) -> Option<Opened>
-    ensures { result ≡ opened_in outcome }
-{
-    match outcome {
-        Outcome::LotOpened(lot) => Some(lot),
-        _ => None,
-    }
-}
-
-// Whether tickets of a lot end with this one, and the lot is to be closed then.
-fn ends_with(outcome: &Outcome) -> Option<bool>
-    ensures { result ≡ ends_with outcome.now }
-{
-    match outcome {
-        Outcome::Drawn(_) => None,
-        Outcome::Refused(Refusal::Sealed) => Some(true),
-        _ => Some(false),
-    }
-}
-
 impl<C: Keeper, D: Keeper> Runner<C, D> {
-    // Takes the next row, where one is left.
-    fn take_next<W: Write>(&mut self, writer: &mut W) -> Told
-        ensures { Runs next_taken result (record { run = self.old; sent = W.contents writer.old }) (record { run = self.new; sent = W.contents writer.new }) }
+    // Takes this row, which stood before those that are left.
+    fn take_row<W: Write>(&mut self, row: &Row, writer: &mut W) -> Told
+        ensures { Runs (row_taken row.now) result (record { run = record self.old { rows = row.now ∷ self.old.rows }; sent = W.contents writer.old }) (record { run = self.new; sent = W.contents writer.new }) }
     {
-        match self.next_row() {
-            None => Ok(()),
-            Some(Row::Trade(trade)) => self.single(Event::Trade(trade), writer),
-            Some(Row::Fault { row, fault }) => self.tell(Line::RowFault { row, fault }, writer),
+        match *row {
+            Row::Trade(trade) => self.single(Event::Trade(trade), writer),
+            Row::Fault { row, fault } => self.tell(Line::RowFault { row, fault }, writer),
         }
-    }
-
-    // Takes the next row so many times.
-    fn take_times<W: Write>(&mut self, count: u64, writer: &mut W) -> Told
-        ensures { Runs (times count next_taken) result (record { run = self.old; sent = W.contents writer.old }) (record { run = self.new; sent = W.contents writer.new }) }
-    {
-        for _turn in 0..count {
-            self.take_next(writer)?;
-        }
-        Ok(())
     }
 
     /// Takes so many of the rows that are left, or all where fewer are.
     pub(crate) fn take<W: Write>(&mut self, rows: u64, writer: &mut W) -> Told
-        ensures { Runs (taken rows) result (record { run = self.old; sent = W.contents writer.old }) (record { run = self.new; sent = W.contents writer.new }) }
+        ensures { Runs (λ c. each row_taken (take rows c.rows) c) result (record { run = self.old; sent = W.contents writer.old }) (record { run = self.new; sent = W.contents writer.new }) }
     {
-        let left = self.rows_left() as u64;
-        self.take_times(rows.min(left), writer)
+        for _turn in 0..rows {
+            let Some(row) = self.next_row() else {
+                return Ok(());
+            };
+            self.take_row(&row, writer)?;
+        }
+        Ok(())
     }
 
     /// Takes all the rows that are left.
     pub(crate) fn take_all<W: Write>(&mut self, writer: &mut W) -> Told
-        ensures { Runs all_taken result (record { run = self.old; sent = W.contents writer.old }) (record { run = self.new; sent = W.contents writer.new }) }
+        ensures { Runs (λ c. each row_taken c.rows c) result (record { run = self.old; sent = W.contents writer.old }) (record { run = self.new; sent = W.contents writer.new }) }
     {
         let left = self.rows_left() as u64;
-        self.take_times(left, writer)
-    }
-
-    // Looks at what was poured into a lot, and answers whether that was refused.
-    fn look_poured<W: Write>(&mut self, lot: u64, writer: &mut W) -> Told<bool>
-        ensures { Runs (learned (event.LookPoured lot) is_refused) result (record { run = self.old; sent = W.contents writer.old }) (record { run = self.new; sent = W.contents writer.new }) }
-    {
-        let outcome = self.event(Event::LookPoured { lot }, writer)?;
-        let refused = is_refused(&outcome);
-        drop(outcome);
-        Ok(refused)
+        self.take(left, writer)
     }
 
     /// Looks at what was poured into a lot and at what its tickets ask for, in one line.
     pub(crate) fn look<W: Write>(&mut self, lot: u64, writer: &mut W) -> Told
         ensures { Runs (looked lot) result (record { run = self.old; sent = W.contents writer.old }) (record { run = self.new; sent = W.contents writer.new }) }
     {
-        if self.look_poured(lot, writer)? {
+        if let Outcome::Refused(_) = self.event(Event::LookPoured { lot }, writer)? {
             return Ok(());
         }
         self.single(Event::LookAsked { lot }, writer)
     }
 
-    // Sends an order, and answers its packet where it was sent.
-    fn send<W: Write>(&mut self, number: u64, writer: &mut W) -> Told<Option<u64>>
-        ensures { Runs (learned (event.Send number) sent_packet) result (record { run = self.old; sent = W.contents writer.old }) (record { run = self.new; sent = W.contents writer.new }) }
+    // Lets the packet of an order arrive, and then that of its reply where it was executed.
+    fn deliver<W: Write>(&mut self, packet: u64, writer: &mut W) -> Told
+        ensures { Runs (delivered packet) result (record { run = self.old; sent = W.contents writer.old }) (record { run = self.new; sent = W.contents writer.new }) }
     {
-        let outcome = self.event(Event::Send { number }, writer)?;
-        let packet = sent_packet(&outcome);
-        drop(outcome);
-        Ok(packet)
-    }
-
-    // Lets the packet of an order arrive, and answers that of the reply where the order was executed.
-    fn deliver<W: Write>(&mut self, packet: u64, writer: &mut W) -> Told<Option<u64>>
-        ensures { Runs (learned (event.OrderIn packet) reply_packet) result (record { run = self.old; sent = W.contents writer.old }) (record { run = self.new; sent = W.contents writer.new }) }
-    {
-        let outcome = self.event(Event::OrderIn { packet }, writer)?;
-        let packet = reply_packet(&outcome);
-        drop(outcome);
-        Ok(packet)
-    }
-
-    // Lets the packet of a reply arrive, where there is one.
-    fn pump_reply<W: Write>(&mut self, packet: Option<u64>, writer: &mut W) -> Told
-        ensures { Runs (reply_pumped packet) result (record { run = self.old; sent = W.contents writer.old }) (record { run = self.new; sent = W.contents writer.new }) }
-    {
-        match packet {
-            Some(packet) => self.single(Event::ReplyIn { packet }, writer),
-            None => Ok(()),
+        match self.event(Event::OrderIn { packet }, writer)? {
+            Outcome::Executed { packet, .. } => {
+                return self.single(Event::ReplyIn { packet }, writer);
+            }
+            Outcome::ExecutedAgain { packet, .. } => {
+                return self.single(Event::ReplyIn { packet }, writer);
+            }
+            _ => {}
         }
-    }
-
-    // Lets the packet of an order arrive, where there is one, and then that of the reply.
-    fn pump_order<W: Write>(&mut self, packet: Option<u64>, writer: &mut W) -> Told
-        ensures { Runs (order_pumped packet) result (record { run = self.old; sent = W.contents writer.old }) (record { run = self.new; sent = W.contents writer.new }) }
-    {
-        let Some(packet) = packet else {
-            return Ok(());
-        };
-        let reply = self.deliver(packet, writer)?;
-        self.pump_reply(reply, writer)
+        Ok(())
     }
 
     // Sends an order, and lets its packet and that of the reply arrive; a refusal ends this.
     fn pump_one<W: Write>(&mut self, number: MoveNo, writer: &mut W) -> Told
-        ensures { Runs (pumped_one number) result (record { run = self.old; sent = W.contents writer.old }) (record { run = self.new; sent = W.contents writer.new }) }
+        ensures { Runs (pumped number) result (record { run = self.old; sent = W.contents writer.old }) (record { run = self.new; sent = W.contents writer.new }) }
     {
-        let packet = self.send(number.number(), writer)?;
-        self.pump_order(packet, writer)
+        let number = number.number();
+        let Outcome::Sent { packet } = self.event(Event::Send { number }, writer)? else {
+            return Ok(());
+        };
+        self.deliver(packet, writer)
     }
 
     // Does so with these orders, one after another.
     fn pump_each<W: Write>(&mut self, numbers: &[MoveNo], writer: &mut W) -> Told
-        ensures { Runs (each pumped_one numbers.now) result (record { run = self.old; sent = W.contents writer.old }) (record { run = self.new; sent = W.contents writer.new }) }
+        ensures { Runs (each pumped numbers.now) result (record { run = self.old; sent = W.contents writer.old }) (record { run = self.new; sent = W.contents writer.new }) }
     {
         for number in numbers {
             self.pump_one(*number, writer)?;
@@ -208,7 +120,7 @@ impl<C: Keeper, D: Keeper> Runner<C, D> {
 
     /// Sends each order that is unconfirmed at the start, by number, and lets its packets arrive.
     pub(crate) fn pump<W: Write>(&mut self, writer: &mut W) -> Told
-        ensures { Runs pumped result (record { run = self.old; sent = W.contents writer.old }) (record { run = self.new; sent = W.contents writer.new }) }
+        ensures { Runs (λ c. each pumped (unconfirmed c.scene.shown.clear.records) c) result (record { run = self.old; sent = W.contents writer.old }) (record { run = self.new; sent = W.contents writer.new }) }
     {
         let numbers = self.system.unconfirmed(self.alloc)?;
         self.pump_each(numbers.as_slice(), writer)
@@ -220,45 +132,40 @@ impl<C: Keeper, D: Keeper> Runner<C, D> {
         issue: Cusip,
         writer: &mut W,
     ) -> Told<Option<Opened>>
-        ensures { Runs (learned (event.LotOpen issue) opened_in) result (record { run = self.old; sent = W.contents writer.old }) (record { run = self.new; sent = W.contents writer.new }) }
+        ensures { Runs (opened issue) result (record { run = self.old; sent = W.contents writer.old }) (record { run = self.new; sent = W.contents writer.new }) }
     {
-        let outcome = self.event(Event::LotOpen { issue }, writer)?;
-        Ok(opened_in(outcome))
+        let Outcome::LotOpened(lot) = self.event(Event::LotOpen { issue }, writer)? else {
+            return Ok(None);
+        };
+        Ok(Some(lot))
     }
 
-    // Draws a member's ticket of a lot, and answers what follows where the tickets end with it.
-    fn draw<W: Write>(&mut self, lot: u64, member: MemberNo, writer: &mut W) -> Told<Option<bool>>
-        ensures { Runs (learned (event.Reserve lot member) ends_with) result (record { run = self.old; sent = W.contents writer.old }) (record { run = self.new; sent = W.contents writer.new }) }
+    // Closes a lot of which no ticket was drawn for this cause, where that is its seal.
+    fn close_sealed<W: Write>(&mut self, lot: u64, refusal: Refusal, writer: &mut W) -> Told
+        ensures { Runs (elim refusal [ refusals.Sealed ↦ single (event.LotClose lot) | _ ↦ done ]) result (record { run = self.old; sent = W.contents writer.old }) (record { run = self.new; sent = W.contents writer.new }) }
     {
-        let outcome = self.event(Event::Reserve { lot, member }, writer)?;
-        let end = ends_with(&outcome);
-        drop(outcome);
-        Ok(end)
-    }
-
-    // Draws a ticket for one member of a plan after another, up to a refusal, and answers whether the lot
-    // is to be closed then: it is where all have one, or where it is sealed.
-    fn reserve_each<W: Write>(&mut self, lot: u64, plan: &[Planned], writer: &mut W) -> Told<bool>
-        ensures { Runs (reserved lot plan.now) result (record { run = self.old; sent = W.contents writer.old }) (record { run = self.new; sent = W.contents writer.new }) }
-    {
-        for planned in plan {
-            if let Some(is_due) = self.draw(lot, planned.member, writer)? {
-                return Ok(is_due);
-            }
+        match refusal {
+            Refusal::Sealed => self.single(Event::LotClose { lot }, writer),
+            _ => Ok(()),
         }
-        Ok(true)
     }
 
     /// Draws a ticket for each member of an opened lot, and closes it.
     ///
     /// A sealed lot is closed with the tickets that it has. Another refusal ends this.
     pub(crate) fn serve<W: Write>(&mut self, lot: &Opened, writer: &mut W) -> Told
-        ensures { Runs (served lot.now) result (record { run = self.old; sent = W.contents writer.old }) (record { run = self.new; sent = W.contents writer.new }) }
+        ensures { Runs (served lot.now.number lot.now.plan) result (record { run = self.old; sent = W.contents writer.old }) (record { run = self.new; sent = W.contents writer.new }) }
     {
-        if self.reserve_each(lot.number, lot.plan.as_slice(), writer)? {
-            return self.single(Event::LotClose { lot: lot.number }, writer);
+        let (number, plan) = (lot.number, lot.plan.as_slice());
+        for planned in plan {
+            let (lot, member) = (number, planned.member);
+            match self.event(Event::Reserve { lot, member }, writer)? {
+                Outcome::Drawn(_) => {}
+                Outcome::Refused(refusal) => return self.close_sealed(number, refusal, writer),
+                _ => return Ok(()),
+            }
         }
-        Ok(())
+        self.single(Event::LotClose { lot: number }, writer)
     }
 
     /// Serves a lot, where it was opened.
@@ -284,8 +191,7 @@ impl<C: Keeper, D: Keeper> Runner<C, D> {
         ensures { Runs (event_run event) result (record { run = self.old; sent = W.contents writer.old }) (record { run = self.new; sent = W.contents writer.new }) }
     {
         if names_busy(&self.beside, &event) {
-            let (subject, refusal) = (Subject::of(&event), Refusal::LotBusy);
-            return self.tell(Line::Refused { subject, refusal }, writer);
+            return self.refuse(&event, Refusal::LotBusy, writer);
         }
         self.single(event, writer)
     }

@@ -9,7 +9,6 @@ ghost use Rattle.cns_system.specs.Lot.{planned_sum};
 ghost use Rattle.cns_batch.specs.Text.{LeavesSomeKeepers, SaysOf, WritesNothing};
 
 use crate::batch::{Parts, Rows, batch_result, read_parts, run_batch_kept, start_fault};
-use crate::commands::{reply_packet, sent_packet};
 use crate::fault::{OutputFault, Told};
 use crate::lines::Lines;
 use crate::page::Page;
@@ -109,12 +108,19 @@ impl<'a, C: Keeper, D: Keeper, G: Gate + Sync, R: Threads + Wait + Sync> DeskRun
 
     // Sends an order, and lets its packet and that of the reply arrive; a refusal ends this.
     fn pump_one<W: Write>(&mut self, number: u64, writer: &mut W) -> Told {
-        let Some(packet) = sent_packet(&self.event(Event::Send { number }, writer)?) else {
-            return Ok(());
-        };
-        match reply_packet(&self.event(Event::OrderIn { packet }, writer)?) {
-            Some(packet) => self.single(Event::ReplyIn { packet }, writer),
-            None => Ok(()),
+        match self.event(Event::Send { number }, writer)? {
+            Outcome::Sent { packet } => self.deliver(packet, writer),
+            _ => Ok(()),
+        }
+    }
+
+    // Lets the packet of an order arrive, and then that of its reply where it was executed.
+    fn deliver<W: Write>(&mut self, packet: u64, writer: &mut W) -> Told {
+        match self.event(Event::OrderIn { packet }, writer)? {
+            Outcome::Executed { packet, .. } | Outcome::ExecutedAgain { packet, .. } => {
+                self.single(Event::ReplyIn { packet }, writer)
+            }
+            _ => Ok(()),
         }
     }
 
@@ -227,7 +233,9 @@ impl<'a, C: Keeper, D: Keeper, G: Gate + Sync, R: Threads + Wait + Sync> DeskRun
             .desk
             .lock(self.rt)
             .finish(self.alloc, lot, drawn.seat.tickets(), cut)?;
-        let told = self.page.end(drawn, sealed, entered.as_slice(), writer);
+        let told = self
+            .page
+            .end(lot, drawn, sealed, entered.as_slice(), writer);
         drop(entered);
         told
     }

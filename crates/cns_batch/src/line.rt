@@ -1,5 +1,4 @@
-ghost use Rattle.std.specs.Prelude.{◌≡◌};
-ghost use Rattle.cns_batch.specs.Run.{beside_begun, beside_served, command_run, ended, ended_when_due, is_due as is_due_of, line_counted, line_run, one_line_fewer as one_line_fewer_of, waited};
+ghost use Rattle.cns_batch.specs.Run.{command_run, ended, line_counted, line_run, waited};
 ghost use Rattle.cns_batch.specs.Runs.{Runs};
 
 use crate::fault::Told;
@@ -11,55 +10,25 @@ use cns_report::Line;
 use cns_system::Opened;
 use std::io::Write;
 
-// One line fewer is to run beside the lot.
-fn one_line_fewer(beside: Option<Beside>) -> Option<Beside>
-    ensures { result ≡ one_line_fewer_of beside }
-{
-    match beside {
-        Some(Beside { lot, lines }) => Some(Beside {
-            lot,
-            lines: lines.saturating_sub(1),
-        }),
-        None => None,
-    }
-}
-
-// Whether a lot waits and no more lines are to run beside it.
-fn is_due(beside: &Option<Beside>) -> bool
-    ensures { result ≡ is_due_of beside.now }
-{
-    match beside {
-        Some(beside) => beside.lines == 0,
-        None => false,
-    }
-}
-
 impl<C: Keeper, D: Keeper> Runner<C, D> {
-    // Serves the lot that waited, where one did and was opened.
-    fn serve_beside<W: Write>(&mut self, beside: Option<Beside>, writer: &mut W) -> Told
-        ensures { Runs (beside_served beside) result (record { run = self.old; sent = W.contents writer.old }) (record { run = self.new; sent = W.contents writer.new }) }
+    /// Serves the lot that waits, where one does and was opened.
+    pub(crate) fn end<W: Write>(&mut self, writer: &mut W) -> Told
+        ensures { Runs ended result (record { run = self.old; sent = W.contents writer.old }) (record { run = self.new; sent = W.contents writer.new }) }
     {
-        match beside {
+        match self.take_beside() {
             Some(Beside { lot, .. }) => self.serve_if_open(lot, writer),
             None => Ok(()),
         }
     }
 
-    /// Serves the lot that waits, where one does.
-    pub(crate) fn end<W: Write>(&mut self, writer: &mut W) -> Told
-        ensures { Runs ended result (record { run = self.old; sent = W.contents writer.old }) (record { run = self.new; sent = W.contents writer.new }) }
+    // Lets a lot wait for so many lines, or serves it where there are none.
+    fn wait_for<W: Write>(&mut self, lines: u64, lot: Option<Opened>, writer: &mut W) -> Told
+        ensures { Runs (waited lines lot) result (record { run = self.old; sent = W.contents writer.old }) (record { run = self.new; sent = W.contents writer.new }) }
     {
-        let beside = self.take_beside();
-        self.serve_beside(beside, writer)
-    }
-
-    // Serves the lot that waits where no more lines are to run beside it.
-    fn end_when_due<W: Write>(&mut self, writer: &mut W) -> Told
-        ensures { Runs ended_when_due result (record { run = self.old; sent = W.contents writer.old }) (record { run = self.new; sent = W.contents writer.new }) }
-    {
-        if is_due(&self.beside) {
-            return self.end(writer);
+        if lines == 0 {
+            return self.serve_if_open(lot, writer);
         }
+        self.set_beside(Some(Beside { lot, lines }));
         Ok(())
     }
 
@@ -67,20 +36,10 @@ impl<C: Keeper, D: Keeper> Runner<C, D> {
     fn count_line<W: Write>(&mut self, writer: &mut W) -> Told
         ensures { Runs line_counted result (record { run = self.old; sent = W.contents writer.old }) (record { run = self.new; sent = W.contents writer.new }) }
     {
-        if !self.is_beside() {
-            return Ok(());
+        match self.take_beside() {
+            Some(Beside { lot, lines }) => self.wait_for(lines.saturating_sub(1), lot, writer),
+            None => Ok(()),
         }
-        let beside = self.take_beside();
-        self.set_beside(one_line_fewer(beside));
-        self.end_when_due(writer)
-    }
-
-    // Lets a lot wait for so many lines.
-    fn wait_for<W: Write>(&mut self, lines: u64, lot: Option<Opened>, writer: &mut W) -> Told
-        ensures { Runs (waited lines lot) result (record { run = self.old; sent = W.contents writer.old }) (record { run = self.new; sent = W.contents writer.new }) }
-    {
-        self.set_beside(Some(Beside { lot, lines }));
-        self.end_when_due(writer)
     }
 
     // Runs the line, by its number, of a command that opens a lot beside the next lines. One of these lines
@@ -92,7 +51,7 @@ impl<C: Keeper, D: Keeper> Runner<C, D> {
         lines: u64,
         writer: &mut W,
     ) -> Told
-        ensures { Runs (beside_begun number issue lines) result (record { run = self.old; sent = W.contents writer.old }) (record { run = self.new; sent = W.contents writer.new }) }
+        ensures { Runs (line_run number (Command.Beside issue lines)) result (record { run = self.old; sent = W.contents writer.old }) (record { run = self.new; sent = W.contents writer.new }) }
     {
         if self.is_beside() {
             self.tell(Line::BadCommand { line: number }, writer)?;

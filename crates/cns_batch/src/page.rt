@@ -1,10 +1,10 @@
 //! What a run told and has not yet written.
 
 ghost use Rattle.std.specs.Prelude.{◌≡◌, [], OnOk};
-ghost use Rattle.cns_report.specs.Ends.{lines_of};
+ghost use Rattle.std.specs.List.{flat_map};
 ghost use Rattle.cns_report.specs.Lines.{line_text};
 ghost use Rattle.cns_report.specs.Outcomes.{outcome_line};
-ghost use Rattle.cns_report.specs.Report.{balance_lines, cycle_report_text};
+ghost use Rattle.cns_report.specs.Report.{balance_line, cycle_report_text};
 ghost use Rattle.cns_clearing.specs.Books.{history_of, latest_of, orders_of};
 ghost use Rattle.cns_clearing.specs.Pools.{rows_of as pools_of};
 ghost use Rattle.cns_depository.specs.Balances.{balance_rows};
@@ -20,7 +20,9 @@ use cns_depository::Depository;
 use cns_ids::Cusip;
 use cns_journal::Keeper;
 use cns_records::Refusal;
-use cns_report::{Line, LotLine, Put, ReportEnd, ReportHead, Subject, Text, line_of, orders_of};
+use cns_report::{
+    EventLine, Line, LotLine, Put, RefusedLine, ReportEnd, ReportHead, Text, orders_of,
+};
 use cns_system::{Allocated, Cut, Drawn, Event, Outcome, System};
 use std::alloc::{AllocError, Global};
 use std::io::Write;
@@ -89,10 +91,7 @@ impl Page {
     ) -> Told
         ensures { Prints (outcome_line event.now outcome.now) result (record { held = self.old; sent = W.contents writer.old }) (record { held = self.new; sent = W.contents writer.new }) }
     {
-        let Some(line) = line_of(event, outcome) else {
-            return Ok(());
-        };
-        self.tell(line, writer)?;
+        self.told(&EventLine { event, outcome }, writer)?;
         self.rows(orders_of(outcome), writer)
     }
 
@@ -124,7 +123,7 @@ impl Page {
     // Tells the lines of rows, one by one.
     #[inline(never)]
     fn each<R: Put, W: Write>(&mut self, rows: &[R], writer: &mut W) -> Told
-        ensures { Prints (lines_of R.text rows.now) result (record { held = self.old; sent = W.contents writer.old }) (record { held = self.new; sent = W.contents writer.new }) }
+        ensures { Prints (flat_map R.text rows.now) result (record { held = self.old; sent = W.contents writer.old }) (record { held = self.new; sent = W.contents writer.new }) }
     {
         for row in rows {
             self.told(row, writer)?;
@@ -135,7 +134,7 @@ impl Page {
     // Tells the lines of rows, with no call where there are none.
     #[inline(always)]
     fn rows<R: Put, W: Write>(&mut self, rows: &[R], writer: &mut W) -> Told
-        ensures { Prints (lines_of R.text rows.now) result (record { held = self.old; sent = W.contents writer.old }) (record { held = self.new; sent = W.contents writer.new }) }
+        ensures { Prints (flat_map R.text rows.now) result (record { held = self.old; sent = W.contents writer.old }) (record { held = self.new; sent = W.contents writer.new }) }
     {
         if rows.is_empty() {
             return Ok(());
@@ -169,7 +168,7 @@ impl Page {
         depository: &Depository<D>,
         writer: &mut W,
     ) -> Told
-        ensures { Prints (balance_lines (balance_rows depository.now.openings depository.now.log.records)) result (record { held = self.old; sent = W.contents writer.old }) (record { held = self.new; sent = W.contents writer.new }) }
+        ensures { Prints (flat_map balance_line (balance_rows depository.now.openings depository.now.log.records)) result (record { held = self.old; sent = W.contents writer.old }) (record { held = self.new; sent = W.contents writer.new }) }
     {
         let balances = depository.balances(alloc)?;
         self.rows(balances.as_slice(), writer)
@@ -192,49 +191,64 @@ impl Page {
     /// Tells that a lot was opened, by its number, the shares that were poured into it and its longs; it is
     /// not yet written.
     pub(crate) fn lot(&mut self, number: u64, poured: u64, longs: usize) -> Result<(), AllocError> {
-        let opened = LotLine::Opened {
+        let opened = LotLine {
             number,
             poured,
             longs,
         };
-        self.text.tell(&Line::Lot(opened))
+        self.text.tell(&opened)
     }
 
-    // Tells what entering a ticket, or ending a lot, came to. A seal is not told unless it is refused.
-    fn entered<W: Write>(&mut self, command: Subject, outcome: &Outcome, writer: &mut W) -> Told {
+    // Tells that no ticket was drawn.
+    fn not_drawn<W: Write>(&mut self, refusal: Refusal, writer: &mut W) -> Told {
+        let word = "reserve";
+        self.told(&RefusedLine { word, refusal }, writer)
+    }
+
+    // Tells what entering a ticket of a lot came to.
+    fn ticket<W: Write>(&mut self, lot: u64, outcome: &Outcome, writer: &mut W) -> Told {
         match outcome {
-            Outcome::Drawn(ticket) => self.tell(Line::Lot(LotLine::Drawn(*ticket)), writer),
-            Outcome::Closed(closed) => {
-                let granted = closed.granted;
-                self.tell(Line::Lot(LotLine::Closed { granted }), writer)?;
-                self.rows(closed.orders.as_slice(), writer)
+            Outcome::Drawn(ticket) => {
+                let member = ticket.member;
+                self.outcome(&Event::Reserve { lot, member }, outcome, writer)
             }
-            Outcome::Refused(refusal) => {
-                let (subject, refusal) = (command, *refusal);
-                self.tell(Line::Refused { subject, refusal }, writer)
-            }
+            Outcome::Refused(refusal) => self.not_drawn(*refusal, writer),
             _ => Ok(()),
         }
     }
 
-    // Tells what entering tickets came to.
-    fn tickets<W: Write>(&mut self, entered: &[Outcome], writer: &mut W) -> Told {
+    // Tells what entering tickets of a lot came to.
+    fn tickets<W: Write>(&mut self, lot: u64, entered: &[Outcome], writer: &mut W) -> Told {
         for outcome in entered {
-            self.entered(Subject::Reserve, outcome, writer)?;
+            self.ticket(lot, outcome, writer)?;
         }
         Ok(())
     }
 
+    // Tells what an event came to that ends a lot. A seal is not told unless it is refused.
+    fn ended<W: Write>(&mut self, event: &Event, outcome: &Outcome, writer: &mut W) -> Told {
+        match outcome {
+            Outcome::Done => Ok(()),
+            _ => self.outcome(event, outcome, writer),
+        }
+    }
+
     // Tells what the close of a lot came to, after a seal where there was one.
-    fn close<W: Write>(&mut self, sealed: bool, entered: &[Outcome], writer: &mut W) -> Told {
-        let mut command = if sealed {
-            Subject::Seal
+    fn close<W: Write>(
+        &mut self,
+        lot: u64,
+        sealed: bool,
+        entered: &[Outcome],
+        writer: &mut W,
+    ) -> Told {
+        let mut event = if sealed {
+            Event::Seal { lot }
         } else {
-            Subject::Close
+            Event::LotClose { lot }
         };
         for outcome in entered {
-            self.entered(command, outcome, writer)?;
-            command = Subject::Close;
+            self.ended(&event, outcome, writer)?;
+            event = Event::LotClose { lot };
         }
         Ok(())
     }
@@ -242,10 +256,7 @@ impl Page {
     // Tells what cut workers off, where something did.
     fn cut<W: Write>(&mut self, cut: Option<Cut>, writer: &mut W) -> Told {
         match cut {
-            Some(cut) => {
-                let (subject, refusal) = (Subject::Reserve, refusal_of(cut));
-                self.tell(Line::Refused { subject, refusal }, writer)
-            }
+            Some(cut) => self.not_drawn(refusal_of(cut), writer),
             None => Ok(()),
         }
     }
@@ -254,6 +265,7 @@ impl Page {
     /// the workers off; and the close, after a seal where there was one.
     pub(crate) fn end<W: Write>(
         &mut self,
+        lot: u64,
         drawn: &Drawn,
         sealed: bool,
         entered: &[Outcome],
@@ -261,12 +273,12 @@ impl Page {
     ) -> Told {
         let tickets = drawn.seat.tickets().len();
         if entered.len() <= tickets {
-            return self.tickets(entered, writer);
+            return self.tickets(lot, entered, writer);
         }
         let (tickets, last) = entered.split_at(tickets);
-        self.tickets(tickets, writer)?;
+        self.tickets(lot, tickets, writer)?;
         self.cut(drawn.cut, writer)?;
-        self.close(sealed, last, writer)
+        self.close(lot, sealed, last, writer)
     }
 
     /// Tells what opening a lot of an issue came to that workers served, and what its end came to.
@@ -277,9 +289,10 @@ impl Page {
         writer: &mut W,
     ) -> Told {
         self.outcome(&Event::LotOpen { issue }, &all.opened, writer)?;
-        match &all.drawn {
-            Some(drawn) => self.end(drawn, drawn.cut.is_some(), all.entered.as_slice(), writer),
-            None => Ok(()),
-        }
+        let (Outcome::LotOpened(opened), Some(drawn)) = (&all.opened, &all.drawn) else {
+            return Ok(());
+        };
+        let (lot, sealed) = (opened.number, drawn.cut.is_some());
+        self.end(lot, drawn, sealed, all.entered.as_slice(), writer)
     }
 }

@@ -1,15 +1,17 @@
 ghost use Rattle.std.specs.Prelude.{◌≡◌, [], None, OnOk, is_some, length};
 ghost use Rattle.cns_report.specs.Lines.{line_text};
+ghost use Rattle.cns_report.specs.Outcomes.{outcome_line};
 ghost use Rattle.cns_records.specs.Clear.{spelling};
 ghost use Rattle.cns_records.specs.Dep.{dep_spelling};
 ghost use Rattle.cns_system.specs.Start.{IsGivenUp};
 ghost use Rattle.cns_batch.specs.Acts.{done, happened, single, tells};
-ghost use Rattle.cns_batch.specs.Commands.{reported};
+ghost use Rattle.cns_batch.specs.Commands.{report_text};
 ghost use Rattle.cns_batch.specs.Runs.{IsNextRow, IsPlanned, Runs};
 
 use crate::fault::Told;
 use crate::page::Page;
 use cns_journal::Keeper;
+use cns_records::Refusal;
 use cns_report::Line;
 use cns_system::{Event, NodeName, Opened, Outcome, System};
 use cns_trades::{Row, TradeRows};
@@ -113,9 +115,21 @@ impl<C: Keeper, D: Keeper> Runner<C, D> {
         self.page.tell(line, writer)
     }
 
+    /// Tells that an event is refused, which does not happen.
+    pub(crate) fn refuse<W: Write>(
+        &mut self,
+        event: &Event,
+        refusal: Refusal,
+        writer: &mut W,
+    ) -> Told
+        ensures { Runs (tells (outcome_line event.now (Outcome.Refused refusal))) result (record { run = self.old; sent = W.contents writer.old }) (record { run = self.new; sent = W.contents writer.new }) }
+    {
+        self.page.outcome(event, &Outcome::Refused(refusal), writer)
+    }
+
     /// Tells the report.
     pub(crate) fn report<W: Write>(&mut self, writer: &mut W) -> Told
-        ensures { Runs reported result (record { run = self.old; sent = W.contents writer.old }) (record { run = self.new; sent = W.contents writer.new }) }
+        ensures { Runs (λ c. tells (report_text c.scene.shown) c) result (record { run = self.old; sent = W.contents writer.old }) (record { run = self.new; sent = W.contents writer.new }) }
     {
         self.page.report(self.alloc, &self.system, writer)
     }

@@ -1,6 +1,4 @@
-use crate::common::{
-    APPLE, apple, assert_same, cycle_of, member_of, order_of, reply_of, ticket_of,
-};
+use crate::common::{APPLE, Deed, apple, assert_same, cycle_of, event_of, member_of, order_of};
 use cns_clearing::PoolRow;
 use cns_depository::{Account, BalanceRow, OpeningFault};
 use cns_ids::{CusipFault, CycleKind, ReadFault};
@@ -8,15 +6,17 @@ use cns_movements::{Asked, MoveKind, MoveNo, Order};
 use cns_netting::PositionRow;
 use cns_records::Refusal;
 use cns_report::{
-    Line, LotLine, OrderLine, Subject, Text, write_balance_report, write_cycle_report, write_line,
-    write_orders, write_report_end,
+    Line, LotLine, RefusedLine, Text, write_balance_report, write_cycle_report, write_line,
+    write_report_end,
 };
-use cns_system::NodeName;
-use cns_trades::{RowFault, TradeId, Verdict};
+use cns_system::{Event, NodeName, Outcome};
+use cns_trades::{RowFault, Verdict};
 use std::alloc::Global;
 use std::process::Abort;
 
 mod outcome;
+
+use outcome::see_told;
 
 // That this line has these bytes.
 fn see(rt: &impl Abort, alloc: Global, line: Line, want: &str) {
@@ -81,23 +81,6 @@ fn row_faults(rt: HostRuntime) {
     }
 }
 
-// What may be refused, and its word.
-const SUBJECTS: [(Subject, &str); 13] = [
-    (Subject::Exempt, "exempt"),
-    (Subject::Priority, "priority"),
-    (Subject::Cycle, "cycle"),
-    (Subject::Lot, "lot"),
-    (Subject::Pour, "pour"),
-    (Subject::Reserve, "reserve"),
-    (Subject::Look, "look"),
-    (Subject::Seal, "seal"),
-    (Subject::Close, "close"),
-    (Subject::Send, "send"),
-    (Subject::Order, "order"),
-    (Subject::Reply, "reply"),
-    (Subject::Restart, "restart"),
-];
-
 // The refusals, and their names.
 const REFUSALS: [(Refusal, &str); 25] = [
     (Refusal::Down, "Down"),
@@ -127,55 +110,55 @@ const REFUSALS: [(Refusal, &str); 25] = [
     (Refusal::Device, "Device"),
 ];
 
-#[test]
-fn refusals(rt: HostRuntime) {
-    let refusal = Refusal::Down;
-    for (subject, word) in &SUBJECTS {
-        let subject = *subject;
-        let line = Line::Refused { subject, refusal };
-        see_named(&rt, rt.alloc(), line, word, "refused Down");
-    }
-    let id = TradeId::read(b"A1").expect(&rt, "a trade's name");
-    for (refusal, name) in &REFUSALS {
-        let (subject, refusal) = (Subject::Cycle, *refusal);
-        let line = Line::Refused { subject, refusal };
-        let trade = Line::TradeRefused { id, refusal };
-        see_named(&rt, rt.alloc(), line, "cycle refused", name);
-        see_named(&rt, rt.alloc(), trade, "trade A1 refused", name);
-    }
+// That an event that is refused so is told by its word and a name.
+fn see_refused(
+    rt: &impl Abort,
+    alloc: Global,
+    event: &Event,
+    refusal: Refusal,
+    want: (&str, &str),
+) {
+    let (word, name) = want;
+    let want = format!(in alloc; "{word} refused {name}\n").expect(rt, "memory");
+    see_told(rt, alloc, event, &Outcome::Refused(refusal), want.as_str());
+    drop(want);
 }
 
-fn restarted(node: NodeName, records: u64, kept: bool) -> Line {
-    Line::Restarted {
-        node,
-        records,
-        kept,
+#[test]
+fn refusals(rt: HostRuntime) {
+    let cycle = event_of(&rt, &Deed::Cycle);
+    let trade = event_of(&rt, &Deed::Sell(b"A1", 2));
+    for (refusal, name) in &REFUSALS {
+        see_refused(&rt, rt.alloc(), &cycle, *refusal, ("cycle", name));
+        see_refused(&rt, rt.alloc(), &trade, *refusal, ("trade A1", name));
     }
+    let mut out = Text::new(rt.alloc());
+    let (word, refusal) = ("reserve", Refusal::Sealed);
+    let line = RefusedLine { word, refusal };
+    out.tell(&line).expect(&rt, "memory");
+    assert_same(
+        &rt,
+        &out.as_bytes(),
+        &b"reserve refused Sealed\n".as_slice(),
+    );
+    drop(out);
 }
 
 #[test]
 fn command_lines(rt: HostRuntime) {
-    let trade = TradeId::read(b"A1").expect(&rt, "a trade's name");
-    let (id, due) = (cycle_of(&rt, b"2025-03-04", CycleKind::Night), 2);
-    let came_back = restarted(NodeName::Clear, 6, false);
-    let came_back_with_one_more = restarted(NodeName::Depot, 1, true);
     let lines = [
-        (Line::TradeAccepted(trade), "trade A1 accepted\n"),
         (Line::BadCommand { line: 1 }, "line 1 bad command\n"),
-        (Line::ExemptionSet, "exempt ok\n"),
-        (Line::PrioritySet, "priority ok\n"),
         (Line::FailurePlanned, "fail ok\n"),
         (Line::FailureNotPlanned, "fail refused NotPlanned\n"),
-        (Line::Cycle { id, due }, "cycle 2025-03-04 NIGHT due 2\n"),
-        (came_back, "restart CLEAR records 6 kept no\n"),
-        (
-            came_back_with_one_more,
-            "restart DEPOT records 1 kept yes\n",
-        ),
     ];
     for (line, want) in &lines {
         see(&rt, rt.alloc(), *line, want);
     }
+    let (records, kept) = (1, true);
+    let event = Event::Restart(NodeName::Depot);
+    let outcome = Outcome::Restarted { records, kept };
+    let want = "restart DEPOT records 1 kept yes\n";
+    see_told(&rt, rt.alloc(), &event, &outcome, want);
 }
 
 // A cover of member 1, and the largest delivery under the last number.
@@ -187,25 +170,10 @@ fn two_orders(rt: &impl Abort) -> [Order; 2] {
 
 #[test]
 fn order_lines(rt: HostRuntime) {
-    let (number, packet) = (1, 2);
-    let reply = reply_of(&rt, 1, 20);
-    let executed = OrderLine::Executed { reply, packet };
-    let reply = reply_of(&rt, 1, 20);
-    let again = OrderLine::ExecutedAgain { reply, packet };
-    let done = OrderLine::Confirmed(reply_of(&rt, 1, 20));
-    let done_again = OrderLine::ConfirmedAgain(reply_of(&rt, 1, 20));
-    let lines = [
-        (OrderLine::Sent { number, packet }, "send 1 packet 2\n"),
-        (executed, "exec 1 moved 20 packet 2\n"),
-        (again, "again 1 moved 20 packet 2\n"),
-        (done, "confirm 1 moved 20 done\n"),
-        (done_again, "confirm 1 moved 20 again\n"),
-    ];
-    for (line, want) in &lines {
-        see(&rt, rt.alloc(), Line::Order(*line), want);
-    }
     let mut out = Text::new(rt.alloc());
-    write_orders(&mut out, &two_orders(&rt)).expect(&rt, "memory");
+    for order in &two_orders(&rt) {
+        out.tell(order).expect(&rt, "memory");
+    }
     let want = "\
         order 1 COVER 0001 037833100 60\n\
         order 1000000 DELIVERY 0042 037833100 1000000000000000000\n";
@@ -213,33 +181,19 @@ fn order_lines(rt: HostRuntime) {
     drop(out);
 }
 
-fn looked(asked: u64, sealed: bool) -> LotLine {
-    LotLine::LookedAsked { asked, sealed }
-}
-
 #[test]
 fn lot_lines(rt: HostRuntime) {
-    let ticket = ticket_of(&rt, &(3, 30, 10));
     let (number, poured, longs) = (1, 40, 2);
-    let opened = LotLine::Opened {
+    let opened = LotLine {
         number,
         poured,
         longs,
     };
-    let (shares, granted) = (0, 30);
-    let lines = [
-        (opened, "lot 1 poured 40 longs 2\n"),
-        (LotLine::Poured { shares }, "pour 0\n"),
-        (LotLine::Drawn(ticket), "ticket 0003 start 30 asked 10\n"),
-        (LotLine::LookedPoured { poured }, "look poured 40"),
-        (looked(10, true), " asked 10 sealed yes\n"),
-        (looked(0, false), " asked 0 sealed no\n"),
-        (LotLine::Sealed, "seal ok\n"),
-        (LotLine::Closed { granted }, "close granted 30\n"),
-    ];
-    for (line, want) in &lines {
-        see(&rt, rt.alloc(), Line::Lot(*line), want);
-    }
+    let mut out = Text::new(rt.alloc());
+    out.tell(&opened).expect(&rt, "memory");
+    let want = "lot 1 poured 40 longs 2\n";
+    assert_same(&rt, &out.as_bytes(), &want.as_bytes());
+    drop(out);
 }
 
 #[test]

@@ -9,12 +9,9 @@ use Rattle.cns_depository.specs.declared.openings.OpeningFault.{OpeningFault}
 use Rattle.cns_depository.specs.declared.openings.OpeningFault.TheVariants as opening
 use Rattle.cns_trades.specs.declared.fault.RowFault.{RowFault}
 use Rattle.cns_trades.specs.declared.fault.RowFault.TheVariants as fault
-use Rattle.cns_trades.specs.declared.list.Verdict.{Verdict}
-use Rattle.cns_trades.specs.declared.list.Verdict.TheVariants as verdicts
 
 abbrev pub read_fault_text : ReadFault → List ℕ
-read_fault_text number.BadNumber = codes "BadNumber"
-read_fault_text number.OutOfRange = codes "OutOfRange"
+read_fault_text = elim [ number.BadNumber ↦ codes "BadNumber" | number.OutOfRange ↦ codes "OutOfRange" ]
 
 abbrev pub cusip_fault_text : CusipFault → List ℕ
 cusip_fault_text cusip.Length = codes "Length"
@@ -36,10 +33,3 @@ abbrev pub opening_fault_text : OpeningFault → List ℕ
 opening_fault_text opening.Double = codes "Double"
 opening_fault_text opening.IssueSum = codes "IssueSum"
 opening_fault_text opening.OutOfMemory = codes "OutOfMemory"
-
-abbrev pub verdict_text : Verdict → List ℕ
-verdict_text verdicts.New = codes "New"
-verdict_text verdicts.Same = codes "Same"
-verdict_text verdicts.Conflict = codes "Conflict"
-verdict_text verdicts.SameMember = codes "SameMember"
-verdict_text verdicts.Full = codes "Full"

@@ -1,4 +1,3 @@
-pub mod Ends
 pub mod Right
 pub mod Faults
 pub mod Refusals

@@ -1,32 +1,38 @@
 -- The names of commands and refusals, as lines show them (this project's own format).
-use Rattle.std.specs.Prelude.{ℕ, List, codes}
+use Rattle.std.specs.Prelude.{ℕ, List, ◌++◌, codes}
 use Rattle.cns_records.specs.declared.refusal.Refusal.{Refusal}
 use Rattle.cns_records.specs.declared.refusal.Refusal.TheVariants as refusal
+use Rattle.cns_system.specs.declared.event.Event.{Event}
+use Rattle.cns_system.specs.declared.event.Event.TheVariants as event
 use Rattle.cns_system.specs.declared.event.NodeName.{NodeName}
 use Rattle.cns_system.specs.declared.event.NodeName.TheVariants as node
-use Rattle.cns_report.specs.Faults.{verdict_text}
-use Rattle.cns_report.specs.declared.subject.Subject.{Subject}
-use Rattle.cns_report.specs.declared.subject.Subject.TheVariants as subject
+use Rattle.cns_trades.specs.declared.list.Verdict.TheVariants as verdict
 
-abbrev pub subject_text : Subject → List ℕ
-subject_text subject.Trade = codes "trade"
-subject_text subject.Exempt = codes "exempt"
-subject_text subject.Priority = codes "priority"
-subject_text subject.Cycle = codes "cycle"
-subject_text subject.Send = codes "send"
-subject_text subject.Order = codes "order"
-subject_text subject.Reply = codes "reply"
-subject_text subject.Lot = codes "lot"
-subject_text subject.Pour = codes "pour"
-subject_text subject.Reserve = codes "reserve"
-subject_text subject.Look = codes "look"
-subject_text subject.Seal = codes "seal"
-subject_text subject.Close = codes "close"
-subject_text subject.Restart = codes "restart"
+-- the word that a refusal of an event begins with; that of a trade has the trade's name behind it
+abbrev pub word_of : Event → List ℕ
+word_of (event.Trade t) = codes "trade " ++ t.id
+word_of (event.Exempt member issue shares) = codes "exempt"
+word_of (event.Priority member issue on) = codes "priority"
+word_of (event.Cycle id) = codes "cycle"
+word_of (event.LotOpen issue) = codes "lot"
+word_of (event.LotPour lot) = codes "pour"
+word_of (event.Reserve lot member) = codes "reserve"
+word_of (event.LookPoured lot) = codes "look"
+word_of (event.LookAsked lot) = codes "look"
+word_of (event.Seal lot) = codes "seal"
+word_of (event.LotClose lot) = codes "close"
+word_of (event.Send number) = codes "send"
+word_of (event.OrderIn packet) = codes "order"
+word_of (event.ReplyIn packet) = codes "reply"
+word_of (event.Restart node) = codes "restart"
 
 -- a trade is refused by the name of its verdict
 abbrev pub refusal_text : Refusal → List ℕ
-refusal_text (refusal.Trade verdict) = verdict_text verdict
+refusal_text (refusal.Trade verdict.New) = codes "New"
+refusal_text (refusal.Trade verdict.Same) = codes "Same"
+refusal_text (refusal.Trade verdict.Conflict) = codes "Conflict"
+refusal_text (refusal.Trade verdict.SameMember) = codes "SameMember"
+refusal_text (refusal.Trade verdict.Full) = codes "Full"
 refusal_text refusal.Down = codes "Down"
 refusal_text refusal.Device = codes "Device"
 refusal_text refusal.CycleOrder = codes "CycleOrder"
@@ -50,5 +56,4 @@ refusal_text (refusal.BadJournal place) = codes "BadJournal"
 refusal_text refusal.OutOfMemory = codes "OutOfMemory"
 
 abbrev pub node_text : NodeName → List ℕ
-node_text node.Clear = codes "CLEAR"
-node_text node.Depot = codes "DEPOT"
+node_text = elim [ node.Clear ↦ codes "CLEAR" | node.Depot ↦ codes "DEPOT" ]

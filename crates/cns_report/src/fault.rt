@@ -1,5 +1,5 @@
 ghost use Rattle.std.specs.Prelude.{◌≡◌};
-ghost use Rattle.cns_report.specs.Faults.{cusip_fault_text, read_fault_text, opening_fault_text, row_fault_text, verdict_text};
+ghost use Rattle.cns_report.specs.Faults.{cusip_fault_text, read_fault_text, opening_fault_text, row_fault_text};
 ghost use Rattle.cns_report.specs.Refusals.{refusal_text};
 
 use crate::put::Put;
@@ -65,7 +65,7 @@ pub(crate) fn opening_fault_name(fault: OpeningFault) -> &'static str
 
 // The name of a verdict.
 fn verdict_name(verdict: Verdict) -> &'static str
-    ensures { result.now ≡ verdict_text verdict }
+    ensures { result.now ≡ refusal_text (Refusal.Trade verdict) }
 {
     match verdict {
         Verdict::New => "New",

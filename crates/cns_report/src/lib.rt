@@ -5,6 +5,7 @@
 #![tactic(auto)]
 
 mod account;
+mod event;
 mod fault;
 mod line;
 mod outcome;
@@ -12,16 +13,15 @@ mod position;
 mod put;
 mod report;
 mod row;
-mod subject;
 mod text;
 mod write;
 
-pub use line::{Line, LotLine, OrderLine};
-pub use outcome::{line_of, orders_of, outcome_line};
+pub use event::{EventLine, LotLine, RefusedLine};
+pub use line::Line;
+pub use outcome::{orders_of, outcome_line};
 pub use put::Put;
 pub use report::{
     ReportEnd, ReportHead, write_balance_report, write_cycle_report, write_report_end,
 };
-pub use subject::Subject;
 pub use text::{Draft, Text};
-pub use write::{write_line, write_orders};
+pub use write::write_line;

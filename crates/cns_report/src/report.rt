@@ -1,5 +1,6 @@
-ghost use Rattle.std.specs.Prelude.{◌≡◌, ◌++◌, OnOk, OnErr};
-ghost use Rattle.cns_report.specs.Report.{balance_lines, cycle_report_text, report_end, report_head};
+ghost use Rattle.std.specs.Prelude.{◌≡◌, ◌++◌, OnOk, OnErr, codes};
+ghost use Rattle.std.specs.List.{flat_map};
+ghost use Rattle.cns_report.specs.Report.{balance_line, cycle_report_text, report_head};
 
 use crate::put::{LF, Put, SPACE};
 use crate::row::Rows;
@@ -31,9 +32,8 @@ impl Put for ReportHead {
 pub struct ReportEnd;
 
 impl Put for ReportEnd {
-    ghost text = { λ end. report_end };
+    ghost text = { λ end. codes "END\n" };
 
-    #[tactic(auto, unfolding(crate::specs::Report::report_end))]
     fn put(&self, draft: &mut Draft) -> Result<(), AllocError> {
         draft.add(b"END\n")
     }
@@ -42,7 +42,7 @@ impl Put for ReportEnd {
 /// The depository's part of the report: the balances other than 0, which the caller hands in by
 /// issue, then account.
 pub fn write_balance_report(out: &mut Text, rows: &[BalanceRow]) -> Result<(), AllocError>
-    ensures ok { OnOk result (out.new ≡ out.old ++ balance_lines rows.now) }
+    ensures ok { OnOk result (out.new ≡ out.old ++ flat_map balance_line rows.now) }
     ensures err { OnErr result (out.new ≡ out.old) }
 {
     out.tell(&Rows(rows))
@@ -65,7 +65,7 @@ pub fn write_cycle_report(
 
 /// The report's last line: `END`.
 pub fn write_report_end(out: &mut Text) -> Result<(), AllocError>
-    ensures ok { OnOk result (out.new ≡ out.old ++ report_end) }
+    ensures ok { OnOk result (out.new ≡ out.old ++ codes "END\n") }
     ensures err { OnErr result (out.new ≡ out.old) }
 {
     out.tell(&ReportEnd)

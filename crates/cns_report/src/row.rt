@@ -1,6 +1,6 @@
 //! Lines of lists: positions, pools, balances and orders.
-ghost use Rattle.cns_report.specs.Ends.{lines_of};
-ghost use Rattle.cns_report.specs.Lines.{ordered_line};
+ghost use Rattle.std.specs.List.{flat_map};
+ghost use Rattle.cns_report.specs.Outcomes.{ordered_line};
 ghost use Rattle.cns_report.specs.Report.{balance_line, pool_line, position_line};
 
 use crate::position::RightIn20;
@@ -49,7 +49,7 @@ impl Put for BalanceRow {
 impl Put for Order {
     ghost text = { ordered_line };
 
-    #[tactic(auto, unfolding(crate::specs::Lines::ordered_line))]
+    #[tactic(auto, unfolding(crate::specs::Outcomes::ordered_line))]
     fn put(&self, draft: &mut Draft) -> Result<(), AllocError> {
         let of = ("order ", self.number.number(), SPACE, self.kind);
         let from = (SPACE, self.member, SPACE, self.issue);
@@ -62,9 +62,8 @@ impl Put for Order {
 pub(crate) struct Rows<'a, R>(pub(crate) &'a [R]);
 
 impl<R: Put> Put for Rows<'_, R> {
-    ghost text = { λ rows. lines_of R.text rows.0.now };
+    ghost text = { λ rows. flat_map R.text rows.0.now };
 
-    #[tactic(auto, unfolding(crate::specs::Ends::lines_of))]
     fn put(&self, draft: &mut Draft) -> Result<(), AllocError> {
         for row in self.0 {
             row.put(draft)?;

@@ -7,7 +7,13 @@ use cns_system::{Event, NodeName, Outcome};
 use std::alloc::Global;
 use std::process::Abort;
 
-fn see(rt: &impl Abort, alloc: Global, event: &Event, outcome: &Outcome, want: &str) {
+pub(super) fn see_told(
+    rt: &impl Abort,
+    alloc: Global,
+    event: &Event,
+    outcome: &Outcome,
+    want: &str,
+) {
     let mut out = Text::new(alloc);
     outcome_line(&mut out, event, outcome).expect(rt, "memory");
     assert_same(rt, &out.as_bytes(), &want.as_bytes());
@@ -68,7 +74,7 @@ fn a_day_is_told(rt: HostRuntime) {
     for (deed, want) in &DAY {
         let event = event_of(&rt, deed);
         let outcome = both.step(event);
-        see(&rt, rt.alloc(), &event, &outcome, want);
+        see_told(&rt, rt.alloc(), &event, &outcome, want);
         drop(outcome);
     }
     drop(both);
@@ -97,7 +103,7 @@ static DOWN: [Told; 15] = [
 fn refusals_are_told(rt: HostRuntime) {
     let down = Outcome::Refused(Refusal::Down);
     for (deed, want) in &DOWN {
-        see(&rt, rt.alloc(), &event_of(&rt, deed), &down, want);
+        see_told(&rt, rt.alloc(), &event_of(&rt, deed), &down, want);
     }
 }
 
@@ -106,8 +112,8 @@ fn an_outcome_that_the_event_never_has(rt: HostRuntime) {
     let (records, kept) = (1, true);
     let up = Outcome::Restarted { records, kept };
     let (send, restart) = (Event::Send { number: 1 }, Event::Restart(NodeName::Clear));
-    see(&rt, rt.alloc(), &send, &Outcome::Accepted, "");
-    see(&rt, rt.alloc(), &send, &Outcome::Done, "");
-    see(&rt, rt.alloc(), &send, &up, "");
-    see(&rt, rt.alloc(), &restart, &Outcome::Sent { packet: 1 }, "");
+    see_told(&rt, rt.alloc(), &send, &Outcome::Accepted, "");
+    see_told(&rt, rt.alloc(), &send, &Outcome::Done, "");
+    see_told(&rt, rt.alloc(), &send, &up, "");
+    see_told(&rt, rt.alloc(), &restart, &Outcome::Sent { packet: 1 }, "");
 }

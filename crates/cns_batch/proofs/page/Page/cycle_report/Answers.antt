@@ -2,7 +2,7 @@ use Rattle.std.proofs.Common.{◌++◌, ◌≡◌, ◌∙◌, ap}
 use Rattle.cns_clearing.specs.Books.{history_of, orders_of}
 use Rattle.cns_clearing.specs.Pools.{rows_of as pools_of}
 use Rattle.cns_netting.specs.Rows.{rows_of}
-use Rattle.cns_report.specs.Ends.{lines_of}
+use Rattle.std.specs.List.{flat_map}
 use Rattle.cns_report.specs.Report.{cycle_report_text, pool_line, position_line, report_head}
 use Rattle.cns_batch.specs.Runs.{Output}
 use Rattle.cns_batch.proofs.PrintLemmas.{breaks_after, breaks_front, breaks_here, prints_after, prints_fault, writes_more}
@@ -14,8 +14,8 @@ returns-in_err-told g c =
     let p : Output = record { held = c.args.self.now; sent = g.W.Write.contents c.args.writer.now } in
     let records = c.args.clearing.now.log.records in
     let head = report_head c.latest-latest.result in
-    let positions = lines_of position_line (rows_of (history_of records)) in
-    let pools = lines_of pool_line (pools_of (orders_of records) c.args.clearing.now.lots) in
+    let positions = flat_map position_line (rows_of (history_of records)) in
+    let pools = flat_map pool_line (pools_of (orders_of records) c.args.clearing.now.lots) in
     rw (← c.latest-latest.ensures)
     (prints_fault (head ++ positions ++ pools) c.from_residual.result p _ c.from_residual.ensures.0
     (breaks_front p _ (head ++ positions) pools (breaks_front p _ head positions c.in_err-told.ensures)))
@@ -27,8 +27,8 @@ returns-in_err-positions g c =
     let q : Output = record { held = c.told.new.self; sent = g.W.Write.contents c.told.new.writer } in
     let records = c.args.clearing.now.log.records in
     let head = report_head c.latest-latest.result in
-    let positions = lines_of position_line (rows_of (history_of records)) in
-    let pools = lines_of pool_line (pools_of (orders_of records) c.args.clearing.now.lots) in
+    let positions = flat_map position_line (rows_of (history_of records)) in
+    let pools = flat_map pool_line (pools_of (orders_of records) c.args.clearing.now.lots) in
     rw (← c.latest-latest.ensures)
     (prints_fault (head ++ positions ++ pools) c.from_residual-in_err-positions.result p q c.from_residual-in_err-positions.ensures.0
     (breaks_front p q.sent (head ++ positions) pools (breaks_after p q q.sent head positions c.in_ok-told.ensures (breaks_here positions q))))
@@ -40,8 +40,8 @@ returns-in_err-rows g c =
     let q : Output = record { held = c.told.new.self; sent = g.W.Write.contents c.told.new.writer } in
     let records = c.args.clearing.now.log.records in
     let head = report_head c.latest-latest.result in
-    let positions = lines_of position_line c.as_slice.result.now in
-    let pools = lines_of pool_line (pools_of (orders_of records) c.args.clearing.now.lots) in
+    let positions = flat_map position_line c.as_slice.result.now in
+    let pools = flat_map pool_line (pools_of (orders_of records) c.args.clearing.now.lots) in
     let rows : c.as_slice.result.now ≡ rows_of (history_of records) = c.as_slice.ensures.value ∙ c.in_ok-positions.ensures ∙ ap rows_of c.book.ensures.history in
     rw (← c.latest-latest.ensures, ← rows)
     (prints_fault (head ++ positions ++ pools) c.from_residual-in_err-rows.result p _ c.from_residual-in_err-rows.ensures.0
@@ -55,8 +55,8 @@ returns-in_err-pools g c =
     let r : Output = record { held = c.rows-2.new.self; sent = g.W.Write.contents c.rows-2.new.writer } in
     let records = c.args.clearing.now.log.records in
     let head = report_head c.latest-latest.result in
-    let positions = lines_of position_line c.as_slice.result.now in
-    let pools = lines_of pool_line (pools_of (orders_of records) c.args.clearing.now.lots) in
+    let positions = flat_map position_line c.as_slice.result.now in
+    let pools = flat_map pool_line (pools_of (orders_of records) c.args.clearing.now.lots) in
     let rows : c.as_slice.result.now ≡ rows_of (history_of records) = c.as_slice.ensures.value ∙ c.in_ok-positions.ensures ∙ ap rows_of c.book.ensures.history in
     rw (← c.latest-latest.ensures, ← rows)
     (prints_fault (head ++ positions ++ pools) c.from_residual-in_err-pools.result p r c.from_residual-in_err-pools.ensures.0
@@ -70,8 +70,8 @@ returns g c =
     let r : Output = record { held = c.rows-2.new.self; sent = g.W.Write.contents c.rows-2.new.writer } in
     let records = c.args.clearing.now.log.records in
     let head = report_head c.latest-latest.result in
-    let positions = lines_of position_line c.as_slice.result.now in
-    let pools = lines_of pool_line c.as_slice-2.result.now in
+    let positions = flat_map position_line c.as_slice.result.now in
+    let pools = flat_map pool_line c.as_slice-2.result.now in
     let rows : c.as_slice.result.now ≡ rows_of (history_of records) = c.as_slice.ensures.value ∙ c.in_ok-positions.ensures ∙ ap rows_of c.book.ensures.history in
     let pool_rows : c.as_slice-2.result.now ≡ pools_of (orders_of records) c.args.clearing.now.lots = c.as_slice-2.ensures ∙ c.in_ok-pools.ensures in
     rw (← c.latest-latest.ensures, ← rows, ← pool_rows)

@@ -1,14 +1,10 @@
-use Rattle.cns_system.specs.declared.event.Event.TheVariants as event
-use Rattle.cns_batch.specs.Commands.{allocated, learned, opened_in, served_if_open}
+use Rattle.cns_batch.specs.Commands.{allocated, opened, served_if_open}
 use Rattle.cns_batch.proofs.ActLemmas.{runs_fault, runs_followed, stops_followed}
 use Rattle.cns_batch.proofs.runner.Runner.allocate.Goals as goal
 
 pub returns-in_err-lot : goal.returns-in_err-lot
-unfolding allocated
 returns-in_err-lot g c =
-    runs_fault (allocated c.args.issue) c.from_residual.result _ _ c.from_residual.ensures.0
-    (stops_followed (learned (event.LotOpen c.args.issue) opened_in) served_if_open _ _ c.in_err-lot.ensures)
+    runs_fault (allocated c.args.issue) c.from_residual.result _ _ c.from_residual.ensures.0 (stops_followed (opened c.args.issue) served_if_open _ _ c.in_err-lot.ensures)
 
 pub returns : goal.returns
-unfolding allocated
-returns g c = runs_followed (learned (event.LotOpen c.args.issue) opened_in) c.in_ok-lot.lot served_if_open _ _ _ _ c.in_ok-lot.ensures c.serve_if_open.ensures
+returns g c = runs_followed (opened c.args.issue) c.in_ok-lot.lot served_if_open _ _ _ _ c.in_ok-lot.ensures c.serve_if_open.ensures

@@ -1,22 +1,20 @@
 use Rattle.cns_system.specs.declared.event.Event.TheVariants as event
-use Rattle.cns_batch.specs.Commands.{is_refused, learned, looked, looked_further}
-use Rattle.std.proofs.Common.{false, true}
+use Rattle.cns_batch.specs.Acts.{happened}
+use Rattle.cns_batch.specs.Commands.{looked}
 use Rattle.cns_batch.proofs.ActLemmas.{followed_gives, runs_fault, runs_followed, stops_followed}
+use Rattle.cns_batch.proofs.CommandLemmas.{after_look, looks_further}
 use Rattle.cns_batch.proofs.runner.Runner.look.Goals as goal
 
-pub returns-in_err-look_poured : goal.returns-in_err-look_poured
+pub returns-in_err-event : goal.returns-in_err-event
 unfolding looked
-returns-in_err-look_poured g c =
-    runs_fault (looked c.args.lot) c.from_residual.result _ _ c.from_residual.ensures.0
-    (stops_followed (learned (event.LookPoured c.args.lot) is_refused) (looked_further c.args.lot) _ _ c.in_err-look_poured.ensures)
+returns-in_err-event g c =
+    runs_fault (looked c.args.lot) c.from_residual.result _ _ c.from_residual.ensures.0 (stops_followed (happened (event.LookPoured c.args.lot)) (after_look c.args.lot) _ _ c.in_err-event.ensures)
 
-pub returns-then-branch : goal.returns-then-branch
+pub returns-in-Refused : goal.returns-in-Refused
 unfolding looked
-returns-then-branch g c =
-    followed_gives (learned (event.LookPoured c.args.lot) is_refused) true (looked_further c.args.lot) _ _ (rw c.if-branch.true at c.in_ok-look_poured.ensures)
+returns-in-Refused g c = followed_gives (happened (event.LookPoured c.args.lot)) _ (after_look c.args.lot) _ _ (rw c.in-Refused.is at c.in_ok-event.ensures)
 
 pub returns : goal.returns
 unfolding looked
 returns g c =
-    runs_followed (learned (event.LookPoured c.args.lot) is_refused) false (looked_further c.args.lot) _ _ _ _ (rw c.if-branch.false at c.in_ok-look_poured.ensures)
-    c.single.ensures
+    runs_followed (happened (event.LookPoured c.args.lot)) _ (after_look c.args.lot) _ _ _ _ c.in_ok-event.ensures (rw (looks_further c.args.lot _ c.in_default.not-Refused) c.single.ensures)

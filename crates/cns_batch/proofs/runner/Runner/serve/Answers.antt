@@ -1,24 +1,47 @@
-use Rattle.std.proofs.Common.{false, true}
-use Rattle.cns_batch.specs.Commands.{closed_if, reserved, served}
-use Rattle.cns_batch.proofs.ActLemmas.{followed_gives, runs_fault, runs_followed, stops_followed}
+use Rattle.std.proofs.Common.{drop, ◌+◌}
+use Rattle.cns_system.specs.declared.event.Event.TheVariants as event
+use Rattle.cns_system.specs.declared.outcome.Outcome.TheVariants as outcomes
+use Rattle.cns_batch.specs.Acts.{single}
+use Rattle.cns_batch.specs.Commands.{served}
+use Rattle.cns_batch.proofs.ActLemmas.{continues_here, runs_after, runs_fault}
+use Rattle.cns_batch.proofs.CommandLemmas.{after_ticket, no_ticket, served_done, served_next, served_stops}
 use Rattle.cns_batch.proofs.runner.Runner.serve.Goals as goal
 
-pub returns-in_err-reserve_each : goal.returns-in_err-reserve_each
-unfolding served
-returns-in_err-reserve_each g c =
-    let lot = c.args.lot.now in
-    runs_fault (served lot) c.from_residual.result _ _ c.from_residual.ensures.0
-    (stops_followed (reserved lot.number lot.plan) (closed_if lot.number) _ _ (rw c.as_slice.ensures.value at c.in_err-reserve_each.ensures))
+pub loop-planned-init : goal.loop-planned-init
+loop-planned-init g c = continues_here (served c.args.lot.now.number c.as_slice-plan.result.now) _
 
-pub returns-then-branch : goal.returns-then-branch
-unfolding served
-returns-then-branch g c =
-    let lot = c.args.lot.now in
-    runs_followed (reserved lot.number lot.plan) true (closed_if lot.number) _ _ _ _ (rw (c.as_slice.ensures.value, c.if-branch.true) at c.in_ok-reserve_each.ensures)
-    c.single.ensures
+pub returns-in_err-event : goal.returns-in_err-event
+returns-in_err-event g c =
+    rw (← c.as_slice-plan.ensures.value)
+    (runs_fault (served c.args.lot.now.number c.as_slice-plan.result.now) c.from_residual.result _ _ c.from_residual.ensures.0
+    (served_stops c.args.lot.now.number c.as_slice-plan.result.now c.loop-planned.planned-index c.planned-item.result _ _ _ c.loop-planned-test.true c.planned-item.is c.loop-planned.invariant c.in_err-event.ensures))
+
+pub returns-in-Refused : goal.returns-in-Refused
+returns-in-Refused g c =
+    let number = c.args.lot.now.number in
+    let plan = c.as_slice-plan.result.now in
+    rw (← c.as_slice-plan.ensures.value)
+    (runs_after (served number plan) (after_ticket number (drop (c.loop-planned.planned-index + 1) plan) (outcomes.Refused c.in-Refused.refusal)) _ _ _ _
+    (served_next number plan c.loop-planned.planned-index c.planned-item.result (outcomes.Refused c.in-Refused.refusal) _ _ _ c.loop-planned-test.true c.planned-item.is c.loop-planned.invariant
+    (rw c.in-Refused.is at c.in_ok-event.ensures))
+    c.close_sealed.ensures)
+
+pub returns-in_default : goal.returns-in_default
+returns-in_default g c =
+    let number = c.args.lot.now.number in
+    let plan = c.as_slice-plan.result.now in
+    let here = served_next number plan c.loop-planned.planned-index c.planned-item.result c.in_ok-event.field-0 _ _ _ c.loop-planned-test.true c.planned-item.is c.loop-planned.invariant c.in_ok-event.ensures in
+    rw (← c.as_slice-plan.ensures.value)
+    (rw (no_ticket number (drop (c.loop-planned.planned-index + 1) plan) c.in_ok-event.field-0 c.in_default.not-Drawn c.in_default.not-Refused) at here)
+
+pub loop-planned-preserved : goal.loop-planned-preserved
+loop-planned-preserved g c =
+    served_next c.args.lot.now.number c.as_slice-plan.result.now c.loop-planned.planned-index c.planned-item.result (outcomes.Drawn c.in-Drawn.field-0) _ _ _ c.loop-planned-test.true c.planned-item.is c.loop-planned.invariant
+    (rw c.in-Drawn.is at c.in_ok-event.ensures)
 
 pub returns : goal.returns
-unfolding served
 returns g c =
-    let lot = c.args.lot.now in
-    followed_gives (reserved lot.number lot.plan) false (closed_if lot.number) _ _ (rw (c.as_slice.ensures.value, c.if-branch.false) at c.in_ok-reserve_each.ensures)
+    let number = c.args.lot.now.number in
+    let plan = c.as_slice-plan.result.now in
+    rw (← c.as_slice-plan.ensures.value)
+    (runs_after (served number plan) (single (event.LotClose number)) _ _ _ _ (served_done number plan c.loop-planned.planned-index _ _ c.loop-planned-test.false c.loop-planned.invariant) c.single.ensures)

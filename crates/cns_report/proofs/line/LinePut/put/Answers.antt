@@ -2,10 +2,6 @@ use Rattle.std.proofs.Common.{rules}
 use Rattle.cns_report.specs.Lines.{line_text}
 use Rattle.cns_report.proofs.line.LinePut.put.Goals as goal
 
-pub returns-in-PrioritySet-clause-begun : goal.returns-in-PrioritySet-clause-begun
-unfolding line_text
-returns-in-PrioritySet-clause-begun c = rw c.in-PrioritySet.is c.add-in-PrioritySet.ensures.begun
-
 pub returns-in-OpeningRowFault-clause-begun : goal.returns-in-OpeningRowFault-clause-begun
 unfolding line_text
 returns-in-OpeningRowFault-clause-begun c = rw c.in-OpeningRowFault.is (search rules)

@@ -1,0 +1,10 @@
+use Rattle.std.proofs.Common.{refl}
+use Rattle.cns_records.specs.declared.refusal.Refusal.{Refusal}
+use Rattle.cns_report.specs.Outcomes.{outcome_line}
+use Rattle.cns_system.specs.declared.outcome.Outcome.TheVariants as outcomes
+use Rattle.cns_batch.proofs.ActLemmas.{prints_runs}
+use Rattle.cns_batch.proofs.runner.Runner.refuse.Goals as goal
+
+pub returns : goal.returns
+returns g c =
+    prints_runs (outcome_line c.args.event.now (outcomes.Refused c.args.refusal)) c.outcome.result _ _ (rw (← c.self.view_is) c.outcome.ensures) (rw (← c.self.view_is) refl)
