@@ -1,5 +1,5 @@
 -- What the deliveries of tickets are of, one by one and together.
-use Rattle.std.proofs.Common.{◌≡◌, ◌≤◌, ◌+◌, ℕ, suc, min, cond, List, [], ◌∷◌, length, Bool, true, false, not, None, Some, ap, refl, arith, ◌∙◌}
+use Rattle.std.proofs.Common.{◌≡◌, ◌≤◌, ◌+◌, ℕ, suc, min, cond, List, [], ◌∷◌, length, Bool, true, false, not, Option, None, Some, ap, refl, arith, ◌∙◌}
 use Rattle.std.specs.Prelude.{◌==◌, All, IfSome, count_by, filter, sum_by, if◌then◌else◌}
 use Rattle.std.specs.List.{cons_option}
 use Rattle.std.proofs.lemmas.Bool.{eqb-true}
@@ -8,13 +8,18 @@ use Rattle.cns_pool.specs.declared.ticket.Ticket.{Ticket}
 use Rattle.cns_pool.specs.Tiles.{AreChained, Tiles}
 use Rattle.cns_pool.specs.Pool.{asked_sum, intervals_of}
 use Rattle.cns_pool.proofs.TileLemmas.{AreChained-Tiles}
+use Rattle.cns_movements.specs.Order.{ask_for}
 use Rattle.cns_movements.specs.declared.order.Ask.{Ask}
 use Rattle.cns_movements.specs.declared.order.MoveKind.TheVariants.{Delivery}
 use Rattle.cns_covers.proofs.RowLemmas.{All-filter_map}
-use Rattle.cns_allocate.specs.Deliveries.{deliveries_of, delivery_ask}
+use Rattle.cns_allocate.specs.Deliveries.{deliveries_of}
 use Rattle.cns_allocate.specs.Grants.{grant_of}
 use Rattle.cns_allocate.proofs.GrantLemmas.{sum_by-grant_of}
 use Rattle.cns_allocate.proofs.PlanLemmas.{count_by-filter_map}
+
+-- the delivery of a ticket, where it is granted a share
+abbrev pub delivery_ask : ℕ → ℕ → Ticket → Option Ask
+delivery_ask issue poured t = ask_for Delivery t.member issue (grant_of poured t)
 
 -- the delivery of a ticket that is granted a share
 abbrev granted_ask : ℕ → ℕ → Ticket → Ask
@@ -23,7 +28,6 @@ granted_ask issue poured t = record { kind = Delivery; member = t.member; issue 
 -- a ticket's delivery is of its grant
 delivery_ask-sum : (issue poured : ℕ) (t : Ticket) (asks : List Ask)
     → sum_by (λ (a : Ask). a.asked) (cons_option (delivery_ask issue poured t) asks) ≡ grant_of poured t + sum_by (λ (a : Ask). a.asked) asks
-unfolding delivery_ask
 delivery_ask-sum issue poured t asks = by (grant_of poured t == 0) refl
   where
     by : (b : Bool) → (grant_of poured t == 0) ≡ b
@@ -52,7 +56,6 @@ abbrev pub IsDeliveryWithin : ℕ → (ℕ → ℕ) → Ask → Type 0
 IsDeliveryWithin issue limit a = (a.kind ≡ Delivery) × (a.issue ≡ issue) × (a.asked ≤ limit a.member)
 
 delivery_ask-within : (issue poured : ℕ) (limit : ℕ → ℕ) (t : Ticket) → t.asked ≤ limit t.member → IfSome (delivery_ask issue poured t) (IsDeliveryWithin issue limit)
-unfolding delivery_ask
 delivery_ask-within issue poured limit t most = by (grant_of poured t == 0)
   where
     by : (b : Bool) → IfSome (if b then None else Some (granted_ask issue poured t)) (IsDeliveryWithin issue limit)
@@ -67,7 +70,6 @@ deliveries_within issue poured tickets limit most =
     (delivery_ask-within issue poured limit) tickets most
 
 delivery_ask-member : (issue poured member : ℕ) (t : Ticket) → IfSome (delivery_ask issue poured t) (λ (a : Ask). (a.member == member) ≡ true → (t.member == member) ≡ true)
-unfolding delivery_ask
 delivery_ask-member issue poured member t = by (grant_of poured t == 0)
   where
     by : (b : Bool) → IfSome (if b then None else Some (granted_ask issue poured t)) (λ (a : Ask). (a.member == member) ≡ true → (t.member == member) ≡ true)
@@ -87,7 +89,6 @@ deliveries_once issue poured tickets once member =
 
 -- there are no more deliveries than tickets
 pub deliveries_few : (issue poured : ℕ) (tickets : List Ticket) → length (deliveries_of issue poured tickets) ≤ length tickets
-unfolding delivery_ask
 deliveries_few issue poured [] = omega arith
 deliveries_few issue poured (t ∷ ts) = by (grant_of poured t == 0) (deliveries_few issue poured ts)
   where
@@ -99,7 +100,6 @@ deliveries_few issue poured (t ∷ ts) = by (grant_of poured t == 0) (deliveries
 -- there is one for each ticket that is granted a share
 pub deliveries_counted : (issue poured : ℕ) (tickets : List Ticket)
     → length (filter (λ (t : Ticket). not (grant_of poured t == 0)) tickets) ≡ length (deliveries_of issue poured tickets)
-unfolding delivery_ask
 deliveries_counted issue poured [] = refl
 deliveries_counted issue poured (t ∷ ts) = by (grant_of poured t == 0) (deliveries_counted issue poured ts)
   where

@@ -1,8 +1,10 @@
 ghost use Rattle.std.specs.Prelude.{◌≡◌, ◌^◌, ◌≤◌, ℕ, length, min, sum_by, IfOk};
 ghost use Rattle.cns_pool.specs.Tiles.{Tiles};
 ghost use Rattle.cns_pool.specs.Pool.{asked_sum, intervals_of};
+ghost use Rattle.cns_movements.specs.Order.{ask_for};
 ghost use Rattle.cns_movements.specs.declared.order.Ask.{Ask};
-ghost use Rattle.cns_allocate.specs.Deliveries.{deliveries_of, delivery_ask};
+ghost use Rattle.cns_allocate.specs.Grants.{grant_of};
+ghost use Rattle.cns_allocate.specs.Deliveries.{deliveries_of};
 
 use crate::grant::grant;
 use cns_ids::Cusip;
@@ -44,10 +46,9 @@ pub fn delivery_count(tickets: &[Ticket], poured: u64) -> usize
 }
 
 // The delivery of a ticket, where it is granted a share.
-#[tactic(auto, unfolding(crate::specs::Deliveries::delivery_ask))]
 fn delivery_of(issue: Cusip, ticket: &Ticket, poured: u64) -> Option<Ask>
     requires { poured ≤ 10 ^ 18 }
-    ensures { result ≡ delivery_ask issue poured ticket.now }
+    ensures { result ≡ ask_for MoveKind.Delivery ticket.now.member issue (grant_of poured ticket.now) }
 {
     let asked = Asked::new(grant(ticket, poured))?;
     Some(Ask {

@@ -23,7 +23,7 @@ use Rattle.cns_journal.specs.declared.record_log.CommitFault.TheVariants as comm
 use Rattle.cns_journal.specs.declared.record_log.ReplayFault.{ReplayFault}
 use Rattle.cns_journal.specs.declared.record_log.ReplayFault.TheVariants.{OutOfMemory, BadJournal, Device}
 use Rattle.cns_journal.specs.declared.record_log.Restarted.{Restarted}
-use Rattle.cns_clearing.specs.Books.{Allows, AreBooksOf, AreSound, Books, IsAllowed, books_of, no_books, tickets_of, with_record}
+use Rattle.cns_clearing.specs.Books.{Allows, AreBooksOf, AreSound, Books, IsAllowed, books_of, tickets_of, with_record}
 use Rattle.cns_clearing.specs.Lots.{AreLots, DoesNotDisturb, lots_after}
 use Rattle.cns_clearing.specs.Node.{ClearNode, IsNode, IsOpened, NodePlanned, RestartLeaves}
 use Rattle.cns_clearing.specs.declared.lot.Lot.{Lot}
@@ -71,8 +71,7 @@ books_more b c r are allowed payload = record {
   fits = (payload, are.fits);
 }
 
-pub none_yet : (b : Books) → b ≡ no_books → AreBooksOf b []
-unfolding books_of
+pub none_yet : (b : Books) → b ≡ books_of [] → AreBooksOf b []
 none_yet b none = record { books_are = none; lawful = tt; fits = tt }
 
 pub node_books : (b : Books) (node : ClearNode) → IsNode b node → AreBooksOf b node.log.records

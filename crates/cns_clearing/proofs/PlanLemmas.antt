@@ -14,7 +14,7 @@ use Rattle.cns_covers.specs.Bounds.{want_in}
 use Rattle.cns_records.specs.Clear.{AreWritable}
 use Rattle.cns_records.specs.declared.clear_record.ClearRecord.{ClearRecord}
 use Rattle.cns_clearing.specs.Books.{IsLawful, books_of, history_of, orders_of}
-use Rattle.cns_clearing.specs.Lots.{AreQuiet, IsLot, avail_in, long_member, longs_among, plan_in, were_long}
+use Rattle.cns_clearing.specs.Lots.{AreQuiet, IsLot, avail_in, longs_among, plan_in, were_long}
 use Rattle.cns_clearing.specs.declared.lot.Lot.{Lot}
 use Rattle.cns_clearing.proofs.BooksLemmas.{lawful_before, lawful_sound, writable_before}
 use Rattle.cns_clearing.proofs.PoolLemmas.{avail_since}
@@ -49,13 +49,12 @@ lot_pours c lot lawful is =
 
 -- the members that are long in an issue stand among the rows of it
 pub longs_in_part : (issue : ℕ) (rows : List PositionRow) → longs_among issue (filter (is_row_in issue) rows) ≡ longs_among issue rows
-unfolding long_member
 longs_in_part issue [] = refl
 longs_in_part issue (row ∷ rows) = by (row.issue == issue) refl (longs_in_part issue rows)
   where
     by : (b : Bool) → (row.issue == issue) ≡ b → longs_among issue (filter (is_row_in issue) rows) ≡ longs_among issue rows
         → longs_among issue (if b then row ∷ filter (is_row_in issue) rows else filter (is_row_in issue) rows) ≡ longs_among issue (row ∷ rows)
-    by true e rest = ap (cons_option (long_member issue row)) rest
+    by true e rest = ap (cons_option (if (row.issue == issue) && not (credit_part row.position == 0) then Some row.member else None)) rest
     by false e rest =
         rest ∙ sym (ap (λ (b : Bool). cons_option (if b && not (credit_part row.position == 0) then Some row.member else None) (longs_among issue rows)) e)
 

@@ -47,9 +47,6 @@ pub record Books : Type 0 where
   pub recent : List PositionRow
   pub previous : List PositionRow
 
-abbrev pub no_books : Books
-no_books = record { history = []; orders = record { orders = []; replies = [] }; exemptions = []; priorities = []; latest = None; recent = []; previous = [] }
-
 -- the covers that a cycle of this date orders: of the trades that are due from then on, and the orders and confirmations before
 abbrev pub covers_on : Books → ℕ → List Ask
 covers_on b day = covers_of (Netted day ∷ b.history) b.orders b.exemptions
@@ -79,7 +76,7 @@ with_record (Confirm r) b = record b { history = settled_by (order_of b.orders.o
 
 -- the books of these records
 unfoldable pub books_of : List ClearRecord → Books
-books_of [] = no_books
+books_of [] = record { history = []; orders = record { orders = []; replies = [] }; exemptions = []; priorities = []; latest = None; recent = []; previous = [] }
 books_of (r ∷ c) = with_record r (books_of c)
 
 abbrev pub history_of : List ClearRecord → List NetEntry

@@ -1,5 +1,5 @@
 -- Open lots, and the allocations that close them (this project's own rules). Records stand newest first.
-use Rattle.std.specs.Prelude.{◌≡◌, ℕ, ◌≤◌, ◌==◌, ◌&&◌, not, false, List, [], ◌∷◌, ◌++◌, length, map, filter, All, count_by, Option, Some, None, if◌then◌else◌}
+use Rattle.std.specs.Prelude.{◌≡◌, ℕ, ◌≤◌, ◌==◌, ◌&&◌, not, false, List, [], ◌∷◌, ◌++◌, length, map, filter, All, count_by, Some, None, if◌then◌else◌}
 use Rattle.std.specs.List.{filter_map}
 use Rattle.cns_netting.specs.History.{credit_part}
 use Rattle.cns_netting.specs.declared.position.PositionRow.{PositionRow}
@@ -13,13 +13,9 @@ use Rattle.cns_clearing.specs.Books.{books_of, history_of, orders_of, tickets_of
 use Rattle.cns_clearing.specs.Pools.{avail_of}
 use Rattle.cns_clearing.specs.declared.lot.Lot.{Lot}
 
--- the member of a position, where it is long in the issue
-unfoldable pub long_member : ℕ → PositionRow → Option ℕ
-long_member issue row = if (row.issue == issue) && not (credit_part row.position == 0) then Some row.member else None
-
 -- the members that are long in an issue
 abbrev pub longs_among : ℕ → List PositionRow → List ℕ
-longs_among issue rows = filter_map (long_member issue) rows
+longs_among issue rows = filter_map (λ row. if (row.issue == issue) && not (credit_part row.position == 0) then Some row.member else None) rows
 
 -- the members that were long in an issue directly after the cycle before the latest
 abbrev pub were_long : List ClearRecord → ℕ → List ℕ

@@ -1,14 +1,14 @@
-ghost use Rattle.std.specs.Prelude.{◌≡◌, ◌<◌, ◌≤◌, ◌∷◌, length, false, IfOk, OnOk};
+ghost use Rattle.std.specs.Prelude.{◌≡◌, ◌<◌, ◌≤◌, ◌==◌, ◌&&◌, [], ◌∷◌, length, false, not, IfOk, OnOk, if◌then◌else◌};
 ghost use Rattle.cns_trades.specs.Verdicts.{verdict as verdict_on};
-ghost use Rattle.cns_netting.specs.History.{accepted, becoming_due, position_of};
+ghost use Rattle.cns_netting.specs.History.{accepted, becoming_due, credit_part, position_of};
 ghost use Rattle.cns_movements.specs.Book.{with_asks};
 ghost use Rattle.cns_movements.specs.Confirm.{confirm_answer};
 ghost use Rattle.cns_movements.specs.Order.{order_of};
 ghost use Rattle.cns_covers.specs.Bounds.{amount_of as amount_in, want_in};
 ghost use Rattle.cns_netting.specs.Rows.{rows_of};
 ghost use Rattle.cns_allocate.specs.Plan.{plan_of};
-ghost use Rattle.cns_clearing.specs.Books.{AreSound, AreEffects, Allows, asks_of, due_by, with_record, no_books, covers_on, deliveries_in, tickets_of, is_later as is_later_cycle, are_spent_by};
-ghost use Rattle.cns_clearing.specs.Lots.{longs_among, long_member as long_member_of};
+ghost use Rattle.cns_clearing.specs.Books.{AreSound, AreEffects, Allows, asks_of, due_by, with_record, books_of, covers_on, deliveries_in, tickets_of, is_later as is_later_cycle, are_spent_by};
+ghost use Rattle.cns_clearing.specs.Lots.{longs_among};
 ghost use Rattle.cns_clearing.specs.Pools.{avail_of as avail_in};
 ghost use Rattle.cns_clearing.specs.Room.{HasRoom};
 
@@ -72,8 +72,9 @@ impl Model for Books {
 
 impl Books {
     /// The books of no records. They take no memory.
+    #[tactic(auto, unfolding(crate::specs::Books::books_of))]
     pub(crate) fn new(alloc: Global) -> Books
-        ensures { result.books ≡ no_books }
+        ensures { result.books ≡ books_of [] }
     {
         Books {
             trades: TradeList::new(alloc),
@@ -382,9 +383,9 @@ fn longs_in(alloc: Global, rows: &[PositionRow], issue: Cusip) -> Result<Vec<Mem
 }
 
 // The member of a position, where it is long in the issue.
-#[tactic(auto, unfolding(crate::specs::Lots::long_member))]
 fn long_member(issue: Cusip, row: &PositionRow) -> Option<MemberNo>
-    ensures { result ≡ long_member_of issue row.now }
+    ensures { result
+        ≡ (if (row.now.issue == issue) && not (credit_part row.now.position == 0) then Some row.now.member else None) }
 {
     if row.issue == issue && row.position > 0 {
         Some(row.member)

@@ -29,8 +29,9 @@ use Rattle.cns_movements.specs.OpenShares.{asked_by}
 use Rattle.cns_movements.proofs.AskLemmas.{asked_by-numbered, covers_leave_deliveries, deliveries_leave_covers, open_sum_asked}
 use Rattle.cns_movements.proofs.ReplyLemmas.{nothing_either, open_sum-with_reply}
 use Rattle.cns_covers.specs.Bounds.{AreBounded, AreDeliverable, amount_of, want_in}
-use Rattle.cns_covers.specs.Covers.{ShortsFit, cover_ask, cover_of, covers_of}
+use Rattle.cns_covers.specs.Covers.{ShortsFit, cover_of, covers_of}
 use Rattle.cns_covers.specs.declared.exemptions.Exempted.{Exempted}
+use Rattle.cns_covers.proofs.RowLemmas.{cover_ask}
 
 -- with no entry and no order there is nothing to bound
 pub bounded_empty : AreBounded [] (record { orders = []; replies = [] })
@@ -102,7 +103,7 @@ other_place k x less =
 -- the covers of holdings of other places
 asked_by-others : (h : List NetEntry) (book : Orders) (settings : List Exempted) (k : Holding) (ks : List Holding)
     → All (λ (q : Holding). holding_cmp k q ≡ Less) ks → asked_by Cover k.member k.issue (filter_map (cover_ask h book settings) ks) ≡ 0
-unfolding asked_by cover_ask
+unfolding asked_by
 asked_by-others h book settings k [] apart = refl
 asked_by-others h book settings k (x ∷ xs) apart =
     let rest = asked_by-others h book settings k xs (All-tail (λ (q : Holding). holding_cmp k q ≡ Less) x xs apart) in
@@ -118,7 +119,7 @@ at_most false n = omega arith
 -- the covers of a list of holdings, each there once
 asked_by-covers : (h : List NetEntry) (book : Orders) (settings : List Exempted) (ks : List Holding) (m i : ℕ) → AreAscending ks
     → asked_by Cover m i (filter_map (cover_ask h book settings) ks) ≤ cover_of h book settings m i
-unfolding asked_by cover_ask
+unfolding asked_by
 asked_by-covers h book settings [] m i up = omega arith
 asked_by-covers h book settings (k ∷ ks) m i up = by ((k.member == m) && (k.issue == i)) refl (asked_by-covers h book settings ks m i up.1)
   where
@@ -144,7 +145,6 @@ covers-sum h book settings m i n =
 
 -- what a cycle orders are covers
 pub covers_are_covers : (h : List NetEntry) (book : Orders) (settings : List Exempted) → All (λ (a : Ask). a.kind ≡ Cover) (covers_of h book settings)
-unfolding cover_ask
 covers_are_covers h book settings = of_holdings (holdings_of h)
   where
     more : (k : Holding) (asks : List Ask) (c : ℕ) (none : Bool) → All (λ (a : Ask). a.kind ≡ Cover) asks

@@ -16,9 +16,9 @@ use Rattle.cns_netting.proofs.BookLemmas.{sold-most}
 use Rattle.cns_movements.specs.Book.{Orders}
 use Rattle.cns_movements.specs.declared.order.MoveKind.TheVariants.{Cover}
 use Rattle.cns_movements.specs.Order.{ask_for}
-use Rattle.cns_covers.specs.Covers.{IsUnsettled, ShortsFit, cover_ask, covers_of, has_ask, left_of, row_ask, short_of}
+use Rattle.cns_covers.specs.Covers.{IsUnsettled, ShortsFit, covers_of, has_ask, left_of, row_ask, short_of}
 use Rattle.cns_covers.specs.declared.exemptions.Exempted.{Exempted}
-use Rattle.cns_covers.proofs.RowLemmas.{All-rows_of}
+use Rattle.cns_covers.proofs.RowLemmas.{All-rows_of, cover_ask}
 
 -- the size of a difference below 0
 debit_part-difference : (c d : ℕ) → debit_part (pos c -ℤ pos d) ≡ d - c
@@ -35,7 +35,7 @@ ask_for-level member issue c d less e = let none_left : 0 ≡ (d - c) - less = o
 -- the cover of a holding is that of its row
 row_ask-open_row : (h : List NetEntry) (book : Orders) (settings : List Exempted) (k : Holding)
     → option_and_then (row_ask book settings) (open_row h k) ≡ cover_ask h book settings k
-unfolding row_ask open_row cover_ask
+unfolding row_ask open_row
 row_ask-open_row h book settings k = by (credit h k.member k.issue == debit h k.member k.issue) refl
   where
     by : (b : Bool) → (credit h k.member k.issue == debit h k.member k.issue) ≡ b

@@ -8,6 +8,16 @@ use Rattle.cns_netting.specs.Rows.{holdings_of, open_row, rows_of}
 use Rattle.cns_netting.specs.declared.entry.NetEntry.{NetEntry}
 use Rattle.cns_ids.specs.declared.holding.Holding.{Holding}
 use Rattle.cns_netting.specs.declared.position.PositionRow.{PositionRow}
+use Rattle.cns_movements.specs.Book.{Orders}
+use Rattle.cns_movements.specs.Order.{ask_for}
+use Rattle.cns_movements.specs.declared.order.Ask.{Ask}
+use Rattle.cns_movements.specs.declared.order.MoveKind.TheVariants.{Cover}
+use Rattle.cns_covers.specs.Covers.{cover_of}
+use Rattle.cns_covers.specs.declared.exemptions.Exempted.{Exempted}
+
+-- the cover of a holding, where something is left to cover
+abbrev pub cover_ask : List NetEntry → Orders → List Exempted → Holding → Option Ask
+cover_ask h book settings k = ask_for Cover k.member k.issue (cover_of h book settings k.member k.issue)
 
 -- what holds of an element that may be there, and of those after it
 All-cons_option : {X : Type 0} (P : X → Type 0) (o : Option X) (xs : List X) → IfSome o P → All P xs → All P (cons_option o xs)

@@ -5,7 +5,6 @@ use Rattle.cns_netting.specs.History.{credit, debit, debit_part}
 use Rattle.cns_netting.specs.Rows.{holdings_of}
 use Rattle.cns_netting.specs.declared.entry.NetEntry.{NetEntry}
 use Rattle.cns_netting.specs.declared.entry.NetEntry.TheVariants.{Accepted, Netted, Settled}
-use Rattle.cns_ids.specs.declared.holding.Holding.{Holding}
 use Rattle.cns_netting.specs.declared.position.PositionRow.{PositionRow}
 use Rattle.cns_movements.specs.Order.{ask_for, open_sum}
 use Rattle.cns_movements.specs.Book.{Orders}
@@ -19,13 +18,9 @@ abbrev pub cover_of : List NetEntry → Orders → List Exempted → ℕ → ℕ
 cover_of h book settings member issue =
     (debit h member issue - credit h member issue) - (open_sum book.orders book.replies Cover member issue + exempt_of settings member issue)
 
--- the cover of a holding, where something is left to cover
-unfoldable pub cover_ask : List NetEntry → Orders → List Exempted → Holding → Option Ask
-cover_ask h book settings k = ask_for Cover k.member k.issue (cover_of h book settings k.member k.issue)
-
--- the covers of a history, by issue, then member
+-- the covers of a history, by issue, then member: that of each holding, where something is left to cover
 abbrev pub covers_of : List NetEntry → Orders → List Exempted → List Ask
-covers_of h book settings = filter_map (cover_ask h book settings) (holdings_of h)
+covers_of h book settings = filter_map (λ k. ask_for Cover k.member k.issue (cover_of h book settings k.member k.issue)) (holdings_of h)
 
 -- no member is short of more than 10^18 shares in an issue
 pub record ShortsFit (h : List NetEntry) : Type 0 where

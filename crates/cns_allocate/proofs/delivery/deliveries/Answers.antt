@@ -3,8 +3,7 @@ use borrow.Author.Tests.{tests}
 use Rattle.std.proofs.lemmas.Iterator.{YieldsList-from_slice, items_from_collect}
 use Rattle.std.proofs.lemmas.Iterator.Consumers.{YieldsList-from_filter_map}
 use Rattle.std.proofs.lemmas.Result.{IfOk-weaker}
-use Rattle.cns_allocate.specs.Deliveries.{delivery_ask}
-use Rattle.cns_allocate.proofs.DeliveryLemmas.{deliveries-tiles}
+use Rattle.cns_allocate.proofs.DeliveryLemmas.{deliveries-tiles, delivery_ask}
 use Rattle.cns_allocate.proofs.delivery.deliveries.Goals as goal
 
 pub returns-clause-sum : goal.returns-clause-sum
