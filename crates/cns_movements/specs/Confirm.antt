@@ -9,10 +9,9 @@ use Rattle.cns_movements.specs.declared.book.Confirm.TheVariants.{Done, Again, U
 
 -- by the order of the number, what is confirmed of it, and what the confirmation says that it moved
 abbrev pub answer_by : Option Order → Option ℕ → ℕ → Confirm
-answer_by order confirmed moved = elim order [
-  | None ↦ UnknownMove
-  | Some o ↦ elim confirmed [ Some before ↦ if before == moved then Again else Conflict | None ↦ if nat_lt o.asked moved then TooMuch else Done ]
-]
+answer_by None confirmed moved = UnknownMove
+answer_by (Some o) (Some before) moved = if before == moved then Again else Conflict
+answer_by (Some o) None moved = if nat_lt o.asked moved then TooMuch else Done
 
 -- the answer of a book to a confirmation
 abbrev pub confirm_answer : Orders → Reply → Confirm

@@ -89,11 +89,10 @@ after_restart (Forgets known) (outcomes.Refused refusal.OutOfMemory) f = record 
 after_restart chance _ f = f
 
 abbrev pub clear_foresight : Chance → Event → Outcome → Foresight → Foresight
-clear_foresight chance e outcome f = elim e [
-  | event.Restart name ↦ elim name [ node.Clear ↦ after_restart chance outcome f | node.Depot ↦ f ]
-  | event.OrderIn packet ↦ f
-  | _ ↦ after_commit outcome f
-]
+clear_foresight chance (event.Restart node.Clear) outcome f = after_restart chance outcome f
+clear_foresight chance (event.Restart node.Depot) outcome f = f
+clear_foresight chance (event.OrderIn packet) outcome f = f
+clear_foresight chance e outcome f = after_commit outcome f
 
 abbrev pub depot_foresight : Chance → Event → Outcome → Foresight → Foresight
 depot_foresight chance (event.Restart node.Depot) outcome f = after_restart chance outcome f
