@@ -1,5 +1,5 @@
 -- A script, one line after another.
-use Rattle.std.proofs.Common.{◌≡◌, ◌≤◌, ◌<◌, ◌+◌, ℕ, true, false, List, [], ◌∷◌, length, take, drop, Option, Some, None, Result, refl, sym, ap, ◌∙◌, subst, arith, length-drop}
+use Rattle.std.proofs.Common.{◌≡◌, ◌≤◌, ◌<◌, ◌+◌, ℕ, true, false, List, [], ◌∷◌, length, take, drop, Result, refl, sym, ap, ◌∙◌, subst, arith, length-drop}
 use Rattle.std.specs.Prelude.{is_some}
 use Rattle.std.proofs.lemmas.List.{drop-drop, drop_all}
 use Rattle.cns_report.specs.Lines.{line_text as line_bytes}
@@ -7,7 +7,7 @@ use Rattle.cns_report.specs.declared.line.Line.TheVariants as line
 use Rattle.cns_batch.specs.Acts.{Act, ◌>>=◌, ◌>>◌, done, tells}
 use Rattle.cns_batch.specs.Commands.{opened}
 use Rattle.cns_batch.specs.Run.{command_run, ended, line_counted, line_run, lines_run, waited}
-use Rattle.cns_batch.specs.Runs.{Continues, Place, Runs, Stops, course_at}
+use Rattle.cns_batch.specs.Runs.{Continues, Place, Runs, Stops}
 use Rattle.cns_input.specs.Script.{command_of}
 use Rattle.cns_input.specs.Sections.{line_size, line_text, raw_lines}
 use Rattle.cns_input.specs.declared.command.Command.{Command}

@@ -21,7 +21,7 @@ use Rattle.cns_report.specs.Lines.{line_text}
 use Rattle.cns_report.specs.Outcomes.{outcome_line}
 use Rattle.cns_report.specs.Report.{balance_line, cycle_report_text}
 use Rattle.cns_report.specs.declared.line.Line.TheVariants as line
-use Rattle.cns_batch.specs.Acts.{Act, ◌>>=◌, ◌>>◌, done, gives, happened, single, tells}
+use Rattle.cns_batch.specs.Acts.{Act, ◌>>=◌, done, gives, happened, single, tells}
 use Rattle.cns_batch.specs.declared.runner.Beside.{Beside}
 
 -- this row, the first of those that are left, is taken: a good one is a trade, and a faulty one is told

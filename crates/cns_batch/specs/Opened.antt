@@ -11,7 +11,8 @@ use Rattle.cns_report.specs.declared.line.Line.TheVariants as line
 -- speaks against the opening
 abbrev pub told_opening : ℕ → List Opening → OpeningRow → List Opening × List ℕ
 told_opening n held (row.Fault number f) = (held, line_text (line.OpeningRowFault number f))
-told_opening n held (row.Opening o) = elim (opening_fault held o) [ None ↦ (held ++ o ∷ [], []) | Some f ↦ (held, line_text (line.OpeningRefused n f)) ]
+told_opening n held (row.Opening o) =
+    elim (opening_fault held o) [ None ↦ (held ++ o ∷ [], []) | Some f ↦ (held, line_text (line.OpeningRefused n f)) ]
 
 -- rows one after another, numbered from n on
 unfoldable pub told_openings : ℕ → List Opening → List OpeningRow → List Opening × List ℕ

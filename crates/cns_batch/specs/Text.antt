@@ -1,5 +1,5 @@
 -- The output text of a whole input, and what a fault says of it.
-use Rattle.std.specs.Prelude.{◌≡◌, ◌⊎◌, ⊤, ℕ, Bool, ◌<◌, ◌≤◌, true, false, List, [], ◌++◌, length, take, Option, Some, None, Result, Ok, Err, if◌then◌else◌}
+use Rattle.std.specs.Prelude.{◌≡◌, ◌⊎◌, ⊤, ℕ, Bool, ◌<◌, ◌≤◌, true, false, List, [], ◌++◌, length, take, Option, None, Result, Ok, Err, if◌then◌else◌}
 use Rattle.std.specs.Io.KnownBytes.{Appends}
 use Rattle.std.specs.Option.{ok_or}
 use Rattle.cns_ids.specs.Steps.{◌>>=◌}

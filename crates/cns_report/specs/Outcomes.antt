@@ -8,6 +8,7 @@ use Rattle.cns_ids.specs.Day.{day_text}
 use Rattle.cns_ids.specs.Member.{member_text}
 use Rattle.cns_movements.specs.Order.{kind_text as move_text}
 use Rattle.cns_movements.specs.declared.order.Order.{Order}
+use Rattle.cns_movements.specs.declared.order.Reply.{Reply}
 use Rattle.cns_system.specs.declared.event.Event.{Event}
 use Rattle.cns_system.specs.declared.event.Event.TheVariants as event
 use Rattle.cns_system.specs.declared.outcome.Outcome.{Outcome}
@@ -16,6 +17,10 @@ use Rattle.cns_report.specs.Refusals.{node_text, refusal_text, word_of}
 
 abbrev pub yes_or_no : Bool → List ℕ
 yes_or_no answer = if answer then codes "yes" else codes "no"
+
+-- N moved Q
+abbrev pub moved_text : Reply → List ℕ
+moved_text r = decimal r.number ++ codes " moved " ++ decimal r.moved
 
 -- the line of an event and what it came to, before those of the orders that it made; nothing where the event never comes to that. Each
 -- line ends with LF. The two looks at a lot share one: the first tells its first part.
@@ -29,13 +34,16 @@ event_line (event.Priority member issue on) outcome.Done = codes "priority ok\n"
 -- seal ok
 event_line (event.Seal lot) outcome.Done = codes "seal ok\n"
 -- cycle DATE KIND due N
-event_line (event.Cycle id) (outcome.Cycled done) = codes "cycle " ++ day_text id.day ++ 32 ∷ kind_text id.kind ++ codes " due " ++ decimal done.due ++ codes "\n"
+event_line (event.Cycle id) (outcome.Cycled done) =
+    codes "cycle " ++ day_text id.day ++ 32 ∷ kind_text id.kind ++ codes " due " ++ decimal done.due ++ codes "\n"
 -- lot N poured Q longs N
-event_line e (outcome.LotOpened lot) = codes "lot " ++ decimal lot.number ++ codes " poured " ++ decimal lot.poured ++ codes " longs " ++ decimal (length lot.plan) ++ codes "\n"
+event_line e (outcome.LotOpened lot) =
+    codes "lot " ++ decimal lot.number ++ codes " poured " ++ decimal lot.poured ++ codes " longs " ++ decimal (length lot.plan) ++ codes "\n"
 -- pour Q
 event_line e (outcome.Poured shares) = codes "pour " ++ decimal shares ++ codes "\n"
 -- ticket MEMBER start Q asked Q
-event_line e (outcome.Drawn t) = codes "ticket " ++ member_text t.member ++ codes " start " ++ decimal t.start ++ codes " asked " ++ decimal t.asked ++ codes "\n"
+event_line e (outcome.Drawn t) =
+    codes "ticket " ++ member_text t.member ++ codes " start " ++ decimal t.start ++ codes " asked " ++ decimal t.asked ++ codes "\n"
 -- look poured Q asked Q sealed yes, or .. no
 event_line e (outcome.LookedPoured poured) = codes "look poured " ++ decimal poured
 event_line e (outcome.LookedAsked asked is_sealed) = codes " asked " ++ decimal asked ++ codes " sealed " ++ yes_or_no is_sealed ++ codes "\n"
@@ -44,22 +52,24 @@ event_line e (outcome.Closed done) = codes "close granted " ++ decimal done.gran
 -- send N packet K
 event_line (event.Send number) (outcome.Sent packet) = codes "send " ++ decimal number ++ codes " packet " ++ decimal packet ++ codes "\n"
 -- exec N moved Q packet K
-event_line e (outcome.Executed r packet) = codes "exec " ++ decimal r.number ++ codes " moved " ++ decimal r.moved ++ codes " packet " ++ decimal packet ++ codes "\n"
+event_line e (outcome.Executed r packet) = codes "exec " ++ moved_text r ++ codes " packet " ++ decimal packet ++ codes "\n"
 -- again N moved Q packet K
-event_line e (outcome.ExecutedAgain r packet) = codes "again " ++ decimal r.number ++ codes " moved " ++ decimal r.moved ++ codes " packet " ++ decimal packet ++ codes "\n"
+event_line e (outcome.ExecutedAgain r packet) = codes "again " ++ moved_text r ++ codes " packet " ++ decimal packet ++ codes "\n"
 -- confirm N moved Q done
-event_line e (outcome.Confirmed r) = codes "confirm " ++ decimal r.number ++ codes " moved " ++ decimal r.moved ++ codes " done\n"
+event_line e (outcome.Confirmed r) = codes "confirm " ++ moved_text r ++ codes " done\n"
 -- confirm N moved Q again
-event_line e (outcome.ConfirmedAgain r) = codes "confirm " ++ decimal r.number ++ codes " moved " ++ decimal r.moved ++ codes " again\n"
+event_line e (outcome.ConfirmedAgain r) = codes "confirm " ++ moved_text r ++ codes " again\n"
 -- restart NODE records N kept yes, or .. no
-event_line (event.Restart node) (outcome.Restarted records kept) = codes "restart " ++ node_text node ++ codes " records " ++ decimal records ++ codes " kept " ++ yes_or_no kept ++ codes "\n"
+event_line (event.Restart node) (outcome.Restarted records kept) =
+    codes "restart " ++ node_text node ++ codes " records " ++ decimal records ++ codes " kept " ++ yes_or_no kept ++ codes "\n"
 -- WORD refused NAME, or trade ID refused NAME
 event_line e (outcome.Refused r) = word_of e ++ codes " refused " ++ refusal_text r ++ codes "\n"
 event_line _ _ = []
 
 -- order N KIND MEMBER CUSIP ASKED, of an order as it was made
 unfoldable pub ordered_line : Order → List ℕ
-ordered_line o = codes "order " ++ decimal o.number ++ 32 ∷ move_text o.kind ++ 32 ∷ member_text o.member ++ 32 ∷ cusip_text o.issue ++ 32 ∷ decimal o.asked ++ codes "\n"
+ordered_line o =
+    codes "order " ++ decimal o.number ++ 32 ∷ move_text o.kind ++ 32 ∷ member_text o.member ++ 32 ∷ cusip_text o.issue ++ 32 ∷ decimal o.asked ++ codes "\n"
 
 -- the orders that a cycle or a close made
 abbrev pub orders_of : Outcome → List Order

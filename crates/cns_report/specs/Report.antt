@@ -25,7 +25,8 @@ position_line row = codes "POS " ++ cusip_text row.issue ++ 32 ∷ member_text r
 
 -- POOL CUSIP free Q lent Q out Q
 unfoldable pub pool_line : PoolRow → List ℕ
-pool_line row = codes "POOL " ++ cusip_text row.issue ++ codes " free " ++ decimal row.free ++ codes " lent " ++ decimal row.lent ++ codes " out " ++ decimal row.out ++ codes "\n"
+pool_line row =
+    codes "POOL " ++ cusip_text row.issue ++ codes " free " ++ decimal row.free ++ codes " lent " ++ decimal row.lent ++ codes " out " ++ decimal row.out ++ codes "\n"
 
 unfoldable pub cycle_report_text : Option CycleId → List PositionRow → List PoolRow → List ℕ
 cycle_report_text latest positions pools = report_head latest ++ flat_map position_line positions ++ flat_map pool_line pools

@@ -1,5 +1,4 @@
 use Rattle.std.proofs.Common.{refl}
-use Rattle.cns_records.specs.declared.refusal.Refusal.{Refusal}
 use Rattle.cns_report.specs.Outcomes.{outcome_line}
 use Rattle.cns_system.specs.declared.outcome.Outcome.TheVariants as outcomes
 use Rattle.cns_batch.proofs.ActLemmas.{prints_runs}
