@@ -7,9 +7,9 @@ use Rattle.cns_trades.specs.declared.row.Row.TheVariants as row
 use Rattle.cns_netting.specs.Rows.{rows_of}
 use Rattle.cns_allocate.specs.declared.planned.Planned.{Planned}
 use Rattle.cns_records.specs.declared.refusal.Refusal.TheVariants as refusal
-use Rattle.cns_clearing.specs.Books.{history_of, latest_of, orders_of}
 use Rattle.cns_clearing.specs.Pools.{rows_of as pools_of}
 use Rattle.cns_depository.specs.Balances.{balance_rows}
+use Rattle.cns_system.specs.Happens.{book}
 use Rattle.cns_system.specs.Scene.{is_planner, planned}
 use Rattle.cns_system.specs.Shown.{Shown}
 use Rattle.cns_system.specs.declared.event.Event.{Event}
@@ -82,5 +82,5 @@ failed name stands c =
 
 abbrev pub report_text : Shown → List ℕ
 report_text w =
-    cycle_report_text (latest_of w.clear.records) (rows_of (history_of w.clear.records)) (pools_of (orders_of w.clear.records) w.clear.open_lots)
+    cycle_report_text (book w).latest (rows_of (book w).history) (pools_of (book w).orders w.clear.open_lots)
     ++ flat_map balance_line (balance_rows w.depot.openings w.depot.records) ++ codes "END\n"

@@ -3,7 +3,8 @@ use Rattle.std.specs.Prelude.{ℕ, ◌+◌, ◌-◌, ◌==◌, List, [], ◌∷�
 use Rattle.std.specs.Option.{option_and_then}
 use Rattle.cns_report.specs.Lines.{line_text as line_bytes}
 use Rattle.cns_report.specs.declared.line.Line.TheVariants as line
-use Rattle.cns_system.specs.Readers.{unconfirmed}
+use Rattle.cns_movements.specs.Order.{unconfirmed_of}
+use Rattle.cns_system.specs.Happens.{book}
 use Rattle.cns_system.specs.declared.numbered.Opened.{Opened}
 use Rattle.cns_batch.specs.Acts.{Act, ◌>>=◌, ◌>>◌, done, each, tells}
 use Rattle.cns_batch.specs.Commands.{allocated, event_run, failed, looked, opened, pumped, report_text, row_taken, served_if_open}
@@ -24,7 +25,7 @@ command_run n (command.Look lot) = looked lot
 command_run n (command.Allocate issue) = allocated issue
 command_run n (command.Beside issue lines) = tells (line_bytes (line.BadCommand n))
 command_run n (command.Fail name stands) = failed name stands
-command_run n command.Pump = λ c. each pumped (unconfirmed c.scene.shown.clear.records) c
+command_run n command.Pump = λ c. let b = (book c.scene.shown).orders in each pumped (unconfirmed_of b.orders b.replies) c
 command_run n command.Report = λ c. tells (report_text c.scene.shown) c
 command_run n command.Bad = tells (line_bytes (line.BadCommand n))
 
