@@ -14,7 +14,7 @@ use Rattle.cns_records.specs.Clear.{AreWritable}
 use Rattle.cns_records.specs.declared.clear_record.ClearRecord.{ClearRecord}
 use Rattle.cns_records.specs.declared.clear_record.ClearRecord.TheVariants.{Accept, Exempt, Priority, Cycle, Allocate, Confirm}
 use Rattle.cns_clearing.specs.Books.{Books, IsLawful, books_of, history_of, orders_of, settled_by}
-use Rattle.cns_clearing.specs.Pools.{covered_of, delivered_of}
+use Rattle.cns_clearing.specs.Pools.{covered_of, delivered_of, kind_part}
 use Rattle.cns_clearing.proofs.BooksLemmas.{lawful_bounded}
 use Rattle.cns_clearing.proofs.PositionLemmas.{lawful_moved}
 
@@ -34,19 +34,15 @@ writable_members (Cycle id ∷ c) fits = writable_members c fits.1
 writable_members (Allocate a ∷ c) fits = writable_members c fits.1
 writable_members (Confirm r ∷ c) fits = members_settled (order_of (orders_of c).orders r.number) r.moved (history_of c) (writable_members c fits.1)
 
--- what an order of a kind and an issue moved
-abbrev moved_by_order : MoveKind → List Reply → ℕ → Order → ℕ
-moved_by_order kind rs issue o = if same_kind kind o.kind && (o.issue == issue) then moved_part rs o else 0
-
 -- what orders of a kind moved for a member in an issue is its part of what they moved in the issue
 pub member_part : (kind : MoveKind) (rs : List Reply) (orders : List Order) (member issue : ℕ)
-    → moved_sum orders rs kind member issue ≡ part_of (λ (o : Order). o.member) (moved_by_order kind rs issue) orders member
+    → moved_sum orders rs kind member issue ≡ part_of (λ (o : Order). o.member) (kind_part kind issue (moved_part rs)) orders member
 unfolding moved_sum
 member_part kind rs [] member issue = refl
 member_part kind rs (o ∷ orders) member issue =
     omega (
       arith,
-      sum_by-cons (λ (x : Order). if x.member == member then moved_by_order kind rs issue x else 0) o orders,
+      sum_by-cons (λ (x : Order). if x.member == member then kind_part kind issue (moved_part rs) x else 0) o orders,
       sum_by-cons (λ (x : Order). if is_of kind member issue x then moved_part rs x else 0) o orders,
       by (same_kind kind o.kind) (o.member == member) (o.issue == issue),
       member_part kind rs orders member issue,
@@ -60,9 +56,9 @@ member_part kind rs (o ∷ orders) member issue =
 
 -- what was settled with the members either way is what the orders of a kind moved, where none but the members 1 to 9999 can have any
 settled_total : (kind : MoveKind) (rs : List Reply) (orders : List Order) (issue : ℕ) (settled bound : ℕ → ℕ) → ((m : ℕ) → settled m ≡ moved_sum orders rs kind m issue)
-    → ((m : ℕ) → settled m ≤ bound m) → IsUpTo 9999 bound → total 9999 settled ≡ sum_by (moved_by_order kind rs issue) orders
+    → ((m : ℕ) → settled m ≤ bound m) → IsUpTo 9999 bound → total 9999 settled ≡ sum_by (kind_part kind issue (moved_part rs)) orders
 settled_total kind rs orders issue settled bound is most upto =
-    let f = moved_by_order kind rs issue in
+    let f = kind_part kind issue (moved_part rs) in
     let part : (m : ℕ) → settled m ≡ part_of (λ (o : Order). o.member) f orders m = λ m. is m ∙ member_part kind rs orders m issue in
     total-same 9999 _ _ part ∙ parts_total 9999 (λ (o : Order). o.member) f orders (upto_less 9999 _ bound (λ m. omega (arith, part m, most m)) upto)
 

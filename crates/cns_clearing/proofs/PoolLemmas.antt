@@ -6,7 +6,7 @@ use Rattle.std.proofs.lemmas.List.Elements.{All-head, All-tail, All-weaker}
 use Rattle.std.proofs.lemmas.List.Sums.{sum_by-append, sum_by-cons}
 use Rattle.std.proofs.lemmas.Option.{same_Some}
 use Rattle.cns_movements.specs.Book.{IsOrderBook, Orders, with_asks, with_reply}
-use Rattle.cns_movements.specs.Order.{is_cover, is_delivery, moved_of, moved_part, numbered, order_of}
+use Rattle.cns_movements.specs.Order.{is_cover, is_delivery, moved_of, moved_part, numbered, open_part, order_of}
 use Rattle.cns_movements.specs.declared.order.Ask.{Ask}
 use Rattle.cns_movements.specs.declared.order.MoveKind.TheVariants.{Cover, Delivery}
 use Rattle.cns_movements.specs.declared.order.Order.{Order}
@@ -23,21 +23,21 @@ use Rattle.cns_records.specs.declared.clear_record.ClearRecord.{ClearRecord}
 use Rattle.cns_records.specs.declared.clear_record.ClearRecord.TheVariants.{Accept, Exempt, Priority, Cycle, Allocate, Confirm}
 use Rattle.cns_clearing.specs.Books.{Books, Allows, IsLawful, books_of, deliveries_in, tickets_of, with_record}
 use Rattle.cns_clearing.specs.Lots.{AreQuiet, IsQuiet, avail_in}
-use Rattle.cns_clearing.specs.Pools.{asked_of_pool, avail_of, covered_by_order, covered_of, delivered_by_order, delivered_of, out_by_order, out_of, taken_by_order, taken_of, taken_part}
+use Rattle.cns_clearing.specs.Pools.{asked_of_pool, avail_of, covered_of, delivered_of, kind_part, out_of, taken_of, taken_part}
 use Rattle.cns_clearing.proofs.BooksLemmas.{lawful_bounded}
 
 -- ---- as they are
 
 -- what deliveries take is what they ask for while they are not confirmed, and what they moved from then on
 taken_parts : (rs : List Reply) (issue : ℕ) (orders : List Order)
-    → sum_by (taken_by_order rs issue) orders ≡ sum_by (out_by_order rs issue) orders + sum_by (delivered_by_order rs issue) orders
+    → sum_by (kind_part Delivery issue (taken_part rs)) orders ≡ sum_by (kind_part Delivery issue (open_part rs)) orders + sum_by (kind_part Delivery issue (moved_part rs)) orders
 taken_parts rs issue [] = refl
 taken_parts rs issue (o ∷ orders) =
     omega (
       arith,
-      sum_by-cons (taken_by_order rs issue) o orders,
-      sum_by-cons (out_by_order rs issue) o orders,
-      sum_by-cons (delivered_by_order rs issue) o orders,
+      sum_by-cons (kind_part Delivery issue (taken_part rs)) o orders,
+      sum_by-cons (kind_part Delivery issue (open_part rs)) o orders,
+      sum_by-cons (kind_part Delivery issue (moved_part rs)) o orders,
       by (is_delivery o.kind && (o.issue == issue)) (moved_of rs o.number),
       taken_parts rs issue orders,
     )
@@ -59,14 +59,14 @@ is_delivery_of issue a = is_delivery a.kind && (a.issue == issue)
 
 -- new orders take what those of them that are deliveries ask for
 new_taken : (n : ℕ) (asks : List Ask) (rs : List Reply) (issue : ℕ) → ((j : ℕ) → n ≤ j → moved_of rs j ≡ None)
-    → sum_by (taken_by_order rs issue) (numbered n asks) ≡ asked_of_pool issue asks
+    → sum_by (kind_part Delivery issue (taken_part rs)) (numbered n asks) ≡ asked_of_pool issue asks
 unfolding asked_of_pool
 new_taken n [] rs issue none = refl
 new_taken n (a ∷ asks) rs issue none =
     let o : Order = record { number = n; kind = a.kind; member = a.member; issue = a.issue; asked = a.asked } in
     let rest = new_taken (suc n) asks rs issue (λ j le. none j (omega arith)) in
-    let here : taken_by_order rs issue o ≡ (if is_delivery_of issue a then a.asked else 0) = rw (none n (omega arith)) refl in
-    omega (arith, sum_by-cons (taken_by_order rs issue) o (numbered (suc n) asks), rest, here)
+    let here : kind_part Delivery issue (taken_part rs) o ≡ (if is_delivery_of issue a then a.asked else 0) = rw (none n (omega arith)) refl in
+    omega (arith, sum_by-cons (kind_part Delivery issue (taken_part rs)) o (numbered (suc n) asks), rest, here)
 
 -- but have moved nothing, whichever orders are counted
 pub moved_with_asks : (counted : Order → Bool) (book : Orders) (asks : List Ask) → IsOrderBook book
@@ -85,7 +85,7 @@ unfolding taken_of
 taken_ordered book asks issue lawful =
     let next : ℕ = length book.orders + 1 in
     let new = new_taken next asks book.replies issue (λ j le. moved_of_above book.orders book.replies j lawful.numbered lawful.known (omega arith)) in
-    omega (arith, sum_by-append (taken_by_order book.replies issue) book.orders (numbered next asks), new)
+    omega (arith, sum_by-append (kind_part Delivery issue (taken_part book.replies)) book.orders (numbered next asks), new)
 
 -- covers deliver nothing
 pub covers_deliver_nothing : (asks : List Ask) (issue : ℕ) → All (λ (a : Ask). a.kind ≡ Cover) asks → asked_of_pool issue asks ≡ 0
@@ -117,7 +117,7 @@ delivered_most (a ∷ asks) issue = omega (arith, at_most (is_delivery_of issue 
 -- ---- with one more confirmation
 
 -- a first confirmation raises what covers brought, or leaves it
-confirm_covers_no_less : (book : Orders) (r : Reply) (issue : ℕ) → IsTaken book r → (o : Order) → covered_by_order book.replies issue o ≤ covered_by_order (r ∷ book.replies) issue o
+confirm_covers_no_less : (book : Orders) (r : Reply) (issue : ℕ) → IsTaken book r → (o : Order) → kind_part Cover issue (moved_part book.replies) o ≤ kind_part Cover issue (moved_part (r ∷ book.replies)) o
 confirm_covers_no_less book r issue taken o =
     elim (cases_eq r.number o.number) [
       | inl e ↦
@@ -126,14 +126,14 @@ confirm_covers_no_less book r issue taken o =
           let was = nothing_either (is_cover o.kind && (o.issue == issue)) (moved_part book.replies o) none in
           omega (arith, was)
       | inr ne ↦
-          let same : covered_by_order (r ∷ book.replies) issue o ≡ covered_by_order book.replies issue o =
+          let same : kind_part Cover issue (moved_part (r ∷ book.replies)) o ≡ kind_part Cover issue (moved_part book.replies) o =
           ap (λ (m : Option ℕ). if is_cover o.kind && (o.issue == issue) then unwrap_or m 0 else 0) (moved_of_other r book.replies o.number ne) in
           omega (arith, same)
     ]
 
 -- and lowers what deliveries take, or leaves it
 confirm_takes_no_more : (book : Orders) (r : Reply) (issue : ℕ) → IsTaken book r → (o : Order) → order_of book.orders o.number ≡ Some o
-    → taken_by_order (r ∷ book.replies) issue o ≤ taken_by_order book.replies issue o
+    → kind_part Delivery issue (taken_part (r ∷ book.replies)) o ≤ kind_part Delivery issue (taken_part book.replies) o
 confirm_takes_no_more book r issue taken o found =
     elim (cases_eq r.number o.number) [
       | inl e ↦
@@ -155,13 +155,13 @@ confirm_takes_no_more book r issue taken o found =
 pub covered_confirmed : (book : Orders) (r : Reply) (issue : ℕ) → IsOrderBook book → IsTaken book r → covered_of book issue ≤ covered_of (with_reply book r) issue
 unfolding covered_of
 covered_confirmed book r issue lawful taken =
-    sum_le_found (covered_by_order book.replies issue) (covered_by_order (r ∷ book.replies) issue) book.orders 1 lawful.numbered
+    sum_le_found (kind_part Cover issue (moved_part book.replies)) (kind_part Cover issue (moved_part (r ∷ book.replies))) book.orders 1 lawful.numbered
     (λ o found. confirm_covers_no_less book r issue taken o)
 
 pub taken_confirmed : (book : Orders) (r : Reply) (issue : ℕ) → IsOrderBook book → IsTaken book r → taken_of (with_reply book r) issue ≤ taken_of book issue
 unfolding taken_of
 taken_confirmed book r issue lawful taken =
-    sum_le_found (taken_by_order (r ∷ book.replies) issue) (taken_by_order book.replies issue) book.orders 1 lawful.numbered
+    sum_le_found (kind_part Delivery issue (taken_part (r ∷ book.replies))) (kind_part Delivery issue (taken_part book.replies)) book.orders 1 lawful.numbered
     (λ o found. confirm_takes_no_more book r issue taken o found)
 
 -- ---- with more records

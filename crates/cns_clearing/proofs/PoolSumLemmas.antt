@@ -3,6 +3,7 @@ use Rattle.std.proofs.Common.{◌≡◌, ℕ, suc, ◌+◌, ◌*◌, ◌^◌, �
 use Rattle.std.specs.Prelude.{◌==◌, ◌&&◌, ◌||◌, Option, None, is_some, sum_by, if◌then◌else◌}
 use Rattle.std.proofs.lemmas.Bool.{eq-eqb}
 use Rattle.std.proofs.lemmas.List.Sums.{sum_by-append, sum_by-cons}
+use Rattle.cns_movements.specs.declared.order.MoveKind.TheVariants.{Delivery}
 use Rattle.cns_movements.specs.Book.{IsOrderBook, Orders, with_asks, with_reply}
 use Rattle.cns_movements.specs.Order.{is_cover, is_delivery, moved_part, numbered, open_part, order_of}
 use Rattle.cns_movements.specs.declared.order.Ask.{Ask}
@@ -11,7 +12,7 @@ use Rattle.cns_movements.specs.declared.order.Reply.{Reply}
 use Rattle.cns_movements.proofs.ConfirmLemmas.{IsTaken}
 use Rattle.cns_movements.proofs.OrderLemmas.{length-numbered, sum_le_found}
 use Rattle.cns_movements.proofs.ReplyLemmas.{moved_of_above, moved_with_reply, open_new, open_with_reply, parts_le_asked}
-use Rattle.cns_clearing.specs.Pools.{asked_of_pool, covered_of, delivered_of, out_by_order, out_of}
+use Rattle.cns_clearing.specs.Pools.{asked_of_pool, covered_of, delivered_of, kind_part, out_of}
 use Rattle.cns_clearing.specs.PoolSums.{ArePools, AreSumsOf, is_asked, is_named, sums_at}
 use Rattle.cns_clearing.specs.declared.pool_sums.PoolSums.{PoolSums}
 use Rattle.cns_movements.proofs.BookLemmas.{with_asks_lawful, with_reply_lawful}
@@ -98,7 +99,7 @@ out_ordered book asks issue lawful =
     let new =
     open_new (λ (o : Order). is_delivery o.kind && (o.issue == issue)) next asks book.replies
     (λ j le. moved_of_above book.orders book.replies j lawful.numbered lawful.known (omega arith)) in
-    omega (arith, sum_by-append (out_by_order book.replies issue) book.orders (numbered next asks), new, numbered_out next asks issue)
+    omega (arith, sum_by-append (kind_part Delivery issue (open_part book.replies)) book.orders (numbered next asks), new, numbered_out next asks issue)
 
 asked_ordered : (book : Orders) (asks : List Ask) → sum_by (λ (o : Order). o.asked) book.orders ≤ 10 ^ 18 * length book.orders
     → sum_by (λ (a : Ask). a.asked) asks ≤ 10 ^ 18 * length asks

@@ -15,9 +15,10 @@ use Rattle.cns_records.specs.Clear.{AreWritable}
 use Rattle.cns_records.specs.declared.allocation.Allocation.{Allocation}
 use Rattle.cns_records.specs.declared.clear_record.ClearRecord.{ClearRecord}
 use Rattle.cns_records.specs.declared.clear_record.ClearRecord.TheVariants.{Accept, Exempt, Priority, Cycle, Allocate, Confirm}
+use Rattle.cns_movements.specs.Order.{moved_part}
 use Rattle.cns_clearing.specs.Books.{Books, Allows, IsAllocable, IsLawful, books_of, covers_on, deliveries_in, orders_of, tickets_of, with_record}
 use Rattle.cns_clearing.specs.Lots.{avail_in}
-use Rattle.cns_clearing.specs.Pools.{asked_of_pool, avail_of, covered_by_order, covered_of, taken_of}
+use Rattle.cns_clearing.specs.Pools.{asked_of_pool, avail_of, covered_of, kind_part, taken_of}
 use Rattle.cns_clearing.proofs.BalanceLemmas.{member_part}
 use Rattle.cns_clearing.proofs.BooksLemmas.{lawful_bounded, lawful_sound}
 use Rattle.cns_clearing.proofs.PoolLemmas.{allocation_issue, covered_confirmed, covered_ordered, covers_deliver_nothing, delivered_most, others_deliver_nothing, taken_confirmed, taken_ordered}
@@ -32,7 +33,7 @@ covered_most c issue lawful fits =
     let b : Books = books_of c in
     let sound = lawful_sound c lawful fits in
     let total =
-    moved_total (due b.history) b.orders.orders (covered_by_order b.orders.replies issue) issue
+    moved_total (due b.history) b.orders.orders (kind_part Cover issue (moved_part b.orders.replies)) issue
     (λ member. omega (
       arith,
       member_part Cover b.orders.replies b.orders.orders member issue,

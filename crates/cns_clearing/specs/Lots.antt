@@ -9,7 +9,7 @@ use Rattle.cns_allocate.specs.declared.planned.Planned.{Planned}
 use Rattle.cns_records.specs.declared.allocation.Allocation.{Allocation}
 use Rattle.cns_records.specs.declared.clear_record.ClearRecord.{ClearRecord}
 use Rattle.cns_records.specs.declared.clear_record.ClearRecord.TheVariants.{Accept, Exempt, Priority, Cycle, Allocate, Confirm}
-use Rattle.cns_clearing.specs.Books.{books_of, history_of, orders_of, tickets_of}
+use Rattle.cns_clearing.specs.Books.{books_of, tickets_of}
 use Rattle.cns_clearing.specs.Pools.{avail_of}
 use Rattle.cns_clearing.specs.declared.lot.Lot.{Lot}
 

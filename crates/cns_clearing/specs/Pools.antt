@@ -4,13 +4,19 @@ use Rattle.std.specs.Prelude.{ℕ, ◌+◌, ◌-◌, ◌&&◌, ◌==◌, List, [
 use Rattle.std.specs.List.{filter_map}
 use Rattle.std.specs.Ordering.{nat_cmp}
 use Rattle.std.specs.BTreeSet.{insert_key}
-use Rattle.cns_movements.specs.Order.{is_cover, is_delivery, moved_of, moved_part, open_part}
+use Rattle.cns_movements.specs.Order.{is_delivery, moved_of, moved_part, open_part, same_kind}
 use Rattle.cns_movements.specs.Book.{Orders}
 use Rattle.cns_movements.specs.declared.order.Ask.{Ask}
+use Rattle.cns_movements.specs.declared.order.MoveKind.{MoveKind}
+use Rattle.cns_movements.specs.declared.order.MoveKind.TheVariants.{Cover, Delivery}
 use Rattle.cns_movements.specs.declared.order.Order.{Order}
 use Rattle.cns_movements.specs.declared.order.Reply.{Reply}
 use Rattle.cns_clearing.specs.declared.lot.Lot.{Lot}
 use Rattle.cns_clearing.specs.declared.pools.PoolRow.{PoolRow}
+
+-- what an order adds to a sum over those of a kind in an issue
+abbrev pub kind_part : MoveKind → ℕ → (Order → ℕ) → Order → ℕ
+kind_part kind issue amount o = if same_kind kind o.kind && (o.issue == issue) then amount o else 0
 
 -- what a delivery takes of the pool: what it moved, and what it asks for while it is not confirmed
 abbrev pub taken_part : List Reply → Order → ℕ
@@ -18,19 +24,19 @@ taken_part replies o = unwrap_or (moved_of replies o.number) o.asked
 
 -- the shares that confirmed covers brought in an issue
 unfoldable pub covered_of : Orders → ℕ → ℕ
-covered_of book issue = sum_by (λ o. if is_cover o.kind && (o.issue == issue) then moved_part book.replies o else 0) book.orders
+covered_of book issue = sum_by (kind_part Cover issue (moved_part book.replies)) book.orders
 
 -- the shares that deliveries took, or still may take
 unfoldable pub taken_of : Orders → ℕ → ℕ
-taken_of book issue = sum_by (λ o. if is_delivery o.kind && (o.issue == issue) then taken_part book.replies o else 0) book.orders
+taken_of book issue = sum_by (kind_part Delivery issue (taken_part book.replies)) book.orders
 
 -- the shares that unconfirmed deliveries ask for
 unfoldable pub out_of : Orders → ℕ → ℕ
-out_of book issue = sum_by (λ o. if is_delivery o.kind && (o.issue == issue) then open_part book.replies o else 0) book.orders
+out_of book issue = sum_by (kind_part Delivery issue (open_part book.replies)) book.orders
 
 -- the shares that confirmed deliveries took in an issue
 unfoldable pub delivered_of : Orders → ℕ → ℕ
-delivered_of book issue = sum_by (λ o. if is_delivery o.kind && (o.issue == issue) then moved_part book.replies o else 0) book.orders
+delivered_of book issue = sum_by (kind_part Delivery issue (moved_part book.replies)) book.orders
 
 -- the shares that the deliveries of an issue among new orders ask for
 unfoldable pub asked_of_pool : ℕ → List Ask → ℕ
@@ -66,16 +72,3 @@ pool_row book lots issue =
 -- the pools that have shares, by issue
 abbrev pub rows_of : Orders → List Lot → List PoolRow
 rows_of book lots = filter_map (pool_row book lots) (issues_of book.orders)
-
--- what one order adds to those sums, for proofs
-abbrev pub covered_by_order : List Reply → ℕ → Order → ℕ
-covered_by_order replies issue o = if is_cover o.kind && (o.issue == issue) then moved_part replies o else 0
-
-abbrev pub taken_by_order : List Reply → ℕ → Order → ℕ
-taken_by_order replies issue o = if is_delivery o.kind && (o.issue == issue) then taken_part replies o else 0
-
-abbrev pub out_by_order : List Reply → ℕ → Order → ℕ
-out_by_order replies issue o = if is_delivery o.kind && (o.issue == issue) then open_part replies o else 0
-
-abbrev pub delivered_by_order : List Reply → ℕ → Order → ℕ
-delivered_by_order replies issue o = if is_delivery o.kind && (o.issue == issue) then moved_part replies o else 0

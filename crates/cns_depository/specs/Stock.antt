@@ -1,5 +1,5 @@
 -- The stock record: balances as sums over the executed movements, which stand newest first (this project's own rules).
-use Rattle.std.specs.Prelude.{◌≡◌, ℕ, ◌+◌, ◌-◌, min, ◌&&◌, ◌==◌, List, Option, None, find, sum_by, if◌then◌else◌}
+use Rattle.std.specs.Prelude.{◌≡◌, ℕ, ◌+◌, ◌-◌, min, ◌&&◌, ◌==◌, Bool, List, Option, None, find, sum_by, if◌then◌else◌}
 use Rattle.cns_journal.specs.Replay.{AreAllowed}
 use Rattle.cns_movements.specs.declared.order.Order.{Order}
 use Rattle.cns_records.specs.declared.dep_record.DepRecord.{DepRecord}
@@ -20,12 +20,16 @@ moved_by (Exec o moved) = moved
 abbrev pub record_of : List DepRecord → ℕ → Option DepRecord
 record_of p n = find (λ e. (order_in e).number == n) p
 
+-- what the movement of a record adds to a sum over those in an issue that pass a test
+abbrev pub moved_where : (Order → Bool) → ℕ → DepRecord → ℕ
+moved_where test issue e = if test (order_in e) && ((order_in e).issue == issue) then moved_by e else 0
+
 -- the shares of an issue moved into an account, and out of it
 unfoldable pub moved_in : List DepRecord → Account → ℕ → ℕ
-moved_in p a issue = sum_by (λ e. if enters a (order_in e) && ((order_in e).issue == issue) then moved_by e else 0) p
+moved_in p a issue = sum_by (moved_where (enters a) issue) p
 
 unfoldable pub moved_out : List DepRecord → Account → ℕ → ℕ
-moved_out p a issue = sum_by (λ e. if leaves a (order_in e) && ((order_in e).issue == issue) then moved_by e else 0) p
+moved_out p a issue = sum_by (moved_where (leaves a) issue) p
 
 -- the balance of an account in an issue: its opening, and what was moved in, less what was moved out
 unfoldable pub balance_of : List Opening → List DepRecord → Account → ℕ → ℕ
@@ -43,10 +47,3 @@ pub record IsExecutable (openings : List Opening) (p : List DepRecord) (e : DepR
 -- each record could stand after those before it
 abbrev pub IsLawfulDepot : List Opening → List DepRecord → Type 0
 IsLawfulDepot openings p = AreAllowed (IsExecutable openings) p
-
--- what one record adds to those sums, for proofs
-abbrev pub part_in : Account → ℕ → DepRecord → ℕ
-part_in a issue e = if enters a (order_in e) && ((order_in e).issue == issue) then moved_by e else 0
-
-abbrev pub part_out : Account → ℕ → DepRecord → ℕ
-part_out a issue e = if leaves a (order_in e) && ((order_in e).issue == issue) then moved_by e else 0

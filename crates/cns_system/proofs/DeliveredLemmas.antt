@@ -9,7 +9,7 @@ use Rattle.std.proofs.lemmas.Option.{none-some, same_Some}
 use Rattle.cns_movements.specs.Book.{Orders}
 use Rattle.cns_movements.specs.Order.{IsNumbered, is_cover, is_delivery, moved_of, moved_part, order_of}
 use Rattle.cns_movements.specs.declared.order.MoveKind.{MoveKind}
-use Rattle.cns_movements.specs.declared.order.MoveKind.TheVariants.{Delivery}
+use Rattle.cns_movements.specs.declared.order.MoveKind.TheVariants.{Cover, Delivery}
 use Rattle.cns_movements.specs.declared.order.Order.{Order}
 use Rattle.cns_movements.specs.declared.order.Reply.{Reply}
 use Rattle.cns_movements.proofs.OrderLemmas.{sum_but_one, sum_le_found}
@@ -19,13 +19,13 @@ use Rattle.cns_records.specs.declared.clear_record.ClearRecord.{ClearRecord}
 use Rattle.cns_records.specs.declared.dep_record.DepRecord.{DepRecord}
 use Rattle.cns_records.specs.declared.dep_record.DepRecord.TheVariants.{Exec}
 use Rattle.cns_clearing.specs.Books.{IsLawful, orders_of}
-use Rattle.cns_clearing.specs.Pools.{covered_by_order, covered_of, taken_by_order, taken_of, taken_part}
+use Rattle.cns_clearing.specs.Pools.{covered_of, kind_part, taken_of, taken_part}
 use Rattle.cns_clearing.proofs.BooksLemmas.{lawful_bounded}
 use Rattle.cns_clearing.proofs.TotalLemmas.{taken_covered}
 use Rattle.cns_depository.specs.declared.account.Account.{Account}
 use Rattle.cns_depository.specs.declared.account.Account.TheVariants.{Cns}
-use Rattle.cns_depository.specs.Account.{giver, giver_by}
-use Rattle.cns_depository.specs.Stock.{IsLawfulDepot, balance_of, moved_by, moved_in, moved_out, movement, order_in, part_out, record_of}
+use Rattle.cns_depository.specs.Account.{giver, giver_by, leaves}
+use Rattle.cns_depository.specs.Stock.{IsLawfulDepot, balance_of, moved_by, moved_in, moved_out, moved_where, movement, order_in, record_of}
 use Rattle.cns_system.specs.Accord.{IsKnown}
 use Rattle.cns_system.specs.Agreement.{IsExecuted}
 use Rattle.cns_system.proofs.AccordLemmas.{executed_stays, ordered_found}
@@ -156,7 +156,7 @@ module _ (book : Orders) (p : List DepRecord) (issue : ℕ) (numbered : IsNumber
       let test : Order → Bool = λ o. is_cover o.kind && (o.issue == issue) in
       let all = executed_sum test book.orders p numbered known once in
       let less =
-      sum_le_found (covered_by_order book.replies issue) (executed_where test p) book.orders 1 numbered
+      sum_le_found (kind_part Cover issue (moved_part book.replies)) (executed_where test p) book.orders 1 numbered
       (λ o found. part_le (test o) (moved_part book.replies o) (executed_part p o) (confirmed_executed o)) in
       omega (arith, all, less)
 
@@ -167,7 +167,7 @@ module _ (book : Orders) (p : List DepRecord) (issue : ℕ) (numbered : IsNumber
       let test : Order → Bool = λ o. is_delivery o.kind && (o.issue == issue) in
       let all = executed_sum test book.orders p numbered known once in
       let less =
-      sum_le_found (executed_where test p) (taken_by_order book.replies issue) book.orders 1 numbered
+      sum_le_found (executed_where test p) (kind_part Delivery issue (taken_part book.replies)) book.orders 1 numbered
       (λ o found. part_le (test o) (executed_part p o) (taken_part book.replies o) (executed_taken o found)) in
       omega (arith, all, less)
 
@@ -179,8 +179,8 @@ unfolding moved_out
 delivery_out o p delivers =
     let kind : is_delivery o.kind ≡ true = ap is_delivery delivers in
     let issue : (o.issue == o.issue) ≡ true = eq-eqb o.issue o.issue refl in
-    let here : part_out Cns o.issue (Exec o o.asked) ≡ o.asked = rw (kind, issue) refl in
-    omega (arith, sum_by-cons (part_out Cns o.issue) (Exec o o.asked) p, here)
+    let here : moved_where (leaves Cns) o.issue (Exec o o.asked) ≡ o.asked = rw (kind, issue) refl in
+    omega (arith, sum_by-cons (moved_where (leaves Cns) o.issue) (Exec o o.asked) p, here)
 
 -- the CNS account has what a delivery asks for that was not executed: with it too deliveries take no more than covers brought, and
 -- what covers brought was executed

@@ -1,5 +1,5 @@
 -- Busy lots by number, and what an event leaves of them.
-use Rattle.std.proofs.Common.{◌≡◌, ◌∙◌, ◌≤◌, ◌<◌, ◌-◌, ◌+◌, ℕ, zero, suc, Bool, true, false, cond, List, [], ◌∷◌, take, get_or, length, Option, Some, None, Result, Ok, Err, ap, sym, subst, refl, arith, inl, inr}
+use Rattle.std.proofs.Common.{◌≡◌, ◌∙◌, ◌≤◌, ◌<◌, ◌+◌, ℕ, zero, suc, Bool, true, false, cond, List, [], ◌∷◌, take, get_or, length, Option, Some, None, Result, Ok, Err, ap, sym, subst, refl, arith, inl, inr}
 use Rattle.std.specs.Prelude.{◌⊎◌, ◌==◌, All, MatchOption, option_map, slice_get, slice_set, unwrap_or, if◌then◌else◌}
 use Rattle.std.proofs.lemmas.Bool.{eq-eqb, eqb-false, eqb-true, false_from_ne_true}
 use Rattle.std.proofs.lemmas.List.Elements.{All-cons, All-head, All-map, All-nil, All-tail, All-weaker}

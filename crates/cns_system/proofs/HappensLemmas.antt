@@ -30,7 +30,7 @@ use Rattle.cns_system.specs.Lot.{with_end, with_seal}
 use Rattle.cns_system.specs.Lots.{LotLeaves, ReserveLeaves}
 use Rattle.cns_system.specs.Numbered.{NumberedNode, CloseLeaves, OpenLeaves, PourLeaves}
 use Rattle.cns_system.specs.Outcomes.{asked_outcome, close_outcome, cycle_outcome, done_outcome, open_outcome, pour_outcome, poured_outcome, reply_outcome, reserve_outcome, restart_outcome, trade_outcome}
-use Rattle.cns_system.specs.Shown.{Shown, clear_added, clear_reread, clear_unread, depot_reread, depot_unread, shown_of}
+use Rattle.cns_system.specs.Shown.{Shown, clear_reread, clear_unread, depot_reread, depot_unread, shown_of}
 use Rattle.cns_system.specs.Step.{AtClear, ByLots, ByNode, ClearRestarts, DepotRestartStep, Looks, ReplyInStep, Step}
 use Rattle.cns_system.specs.World.{World, order_in_packet, reply_in_packet}
 use Rattle.cns_system.specs.declared.event.Event.{Event}

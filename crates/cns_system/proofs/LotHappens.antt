@@ -1,6 +1,6 @@
 -- What is asked of a lot comes to what happens by a decision that fits it.
 use Rattle.std.proofs.Common.{◌≡◌, ◌≢◌, ◌<◌, ◌≤◌, ℕ, ◌+◌, ◌++◌, Bool, true, false, List, [], ◌∷◌, length, Option, Some, None, Result, Ok, Err, inl, inr, refl, sym, ap, ◌∙◌}
-use Rattle.std.specs.Prelude.{◌⊎◌, ◌||◌, not, min, IsSomeAnd}
+use Rattle.std.specs.Prelude.{◌||◌, not, min, IsSomeAnd}
 use Rattle.std.proofs.lemmas.Bool.{le-ltb, lt-ltb}
 use Rattle.cns_ids.specs.Steps.{◌>>=◌, ◌>>◌, need}
 use Rattle.cns_pool.specs.Pool.{asked_sum}

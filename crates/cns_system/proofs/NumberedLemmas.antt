@@ -1,7 +1,7 @@
 -- What the calls of a node with its lots by number leave.
-use Rattle.std.proofs.Common.{◌≡◌, ◌≤◌, ◌-◌, ◌+◌, ℕ, zero, suc, List, [], ◌∷◌, ◌++◌, length, take, Option, Some, None, Result, Ok, Err, Bool, true, false, ap, sym, subst, refl, arith, ◌∙◌, inl, inr, length-append}
-use Rattle.std.specs.Prelude.{◌==◌, ◌⊎◌, All, IsSomeAnd, option_map, slice_get, unwrap_or, if◌then◌else◌}
-use Rattle.std.proofs.lemmas.Bool.{eq-eqb, eqb-true, false_from_ne_true}
+use Rattle.std.proofs.Common.{◌≡◌, ◌≤◌, ℕ, List, [], ◌∷◌, ◌++◌, length, Option, Some, None, Result, Ok, Err, Bool, true, false, ap, sym, subst, refl, arith, ◌∙◌, inl, inr}
+use Rattle.std.specs.Prelude.{◌==◌, ◌⊎◌, IsSomeAnd, option_map, unwrap_or, if◌then◌else◌}
+use Rattle.std.proofs.lemmas.Bool.{eqb-true, false_from_ne_true}
 use Rattle.std.proofs.lemmas.Option.{same_Some}
 use Rattle.cns_netting.specs.Book.{IsBook}
 use Rattle.cns_netting.specs.declared.entry.NetEntry.{NetEntry}

@@ -1,5 +1,5 @@
 -- What the world shows after a call of a node, and what a decision makes of a commit.
-use Rattle.std.proofs.Common.{◌≡◌, ◌≢◌, ◌++◌, Bool, true, [], ◌∷◌, Some, Result, refl, sym, ap, ◌∙◌}
+use Rattle.std.proofs.Common.{◌≡◌, ◌≢◌, ◌++◌, Bool, true, [], ◌∷◌, Some, Result, refl, ap}
 use Rattle.cns_ids.specs.Steps.{◌>>◌, need}
 use Rattle.std.proofs.lemmas.List.{map-append}
 use Rattle.cns_journal.specs.RecordLog.{LogState}
