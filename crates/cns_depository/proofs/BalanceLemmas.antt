@@ -13,7 +13,7 @@ use Rattle.cns_depository.specs.declared.account.Account.{Account}
 use Rattle.cns_depository.specs.declared.account.Account.TheVariants.{Cns, Member}
 use Rattle.cns_depository.specs.Account.{enters, giver, giver_by, leaves}
 use Rattle.cns_depository.specs.Openings.{opening_shares}
-use Rattle.cns_depository.specs.Stock.{IsExecutable, IsLawfulDepot, balance_of, moved_by, moved_in, moved_out, moved_where, order_in}
+use Rattle.cns_depository.specs.Stock.{IsExecutable, IsLawfulDepot, balance_of, moved_by, moved_in, moved_out, part_where, order_in}
 
 pub and_left : (a b : Bool) → (a && b) ≡ true → a ≡ true
 and_left true b both = refl
@@ -37,7 +37,7 @@ leaves_giver Cns o is = delivery_giver o.kind o.member is
 leaves_giver (Member m) o is = cover_giver o.kind o.member m is
 
 -- what an executed record moves out of an account is at most its balance before
-part_out_le : (openings : List Opening) (p : List DepRecord) (e : DepRecord) (a : Account) (issue : ℕ) → IsExecutable openings p e → moved_where (leaves a) issue e ≤ balance_of openings p a issue
+part_out_le : (openings : List Opening) (p : List DepRecord) (e : DepRecord) (a : Account) (issue : ℕ) → IsExecutable openings p e → part_where (leaves a) issue e ≤ balance_of openings p a issue
 part_out_le openings p e a issue allowed =
     let o = order_in e in
     let test = leaves a o && eqb o.issue issue in
@@ -49,10 +49,10 @@ part_out_le openings p e a issue allowed =
           let from : giver o ≡ a = leaves_giver a o (and_left (leaves a o) (eqb o.issue issue) given) in
           let of : o.issue ≡ issue = eqb-true o.issue issue (and_right (leaves a o) (eqb o.issue issue) given) in
           let same : held ≡ balance_of openings p a issue = ap (λ (x : Account). balance_of openings p x o.issue) from ∙ ap (λ (i : ℕ). balance_of openings p a i) of in
-          let part : moved_where (leaves a) issue e ≡ moved_by e = cond-true test (moved_by e) 0 given in
+          let part : part_where (leaves a) issue e ≡ moved_by e = cond-true test (moved_by e) 0 given in
           omega (arith, part, less, same)
       | inr other ↦
-          let part : moved_where (leaves a) issue e ≡ 0 = cond-false test (moved_by e) 0 other in
+          let part : part_where (leaves a) issue e ≡ 0 = cond-false test (moved_by e) 0 other in
           omega (arith, part)
     ]
 
@@ -61,6 +61,6 @@ pub moved_out_covered : (openings : List Opening) (p : List DepRecord) (a : Acco
 unfolding moved_in moved_out balance_of
 moved_out_covered openings [] a issue lawful = omega arith
 moved_out_covered openings (e ∷ p) a issue lawful =
-    let before : sum_by (moved_where (leaves a) issue) p ≤ opening_shares openings a issue + sum_by (moved_where (enters a) issue) p = moved_out_covered openings p a issue lawful.1 in
-    let part : moved_where (leaves a) issue e ≤ (opening_shares openings a issue + sum_by (moved_where (enters a) issue) p) - sum_by (moved_where (leaves a) issue) p = part_out_le openings p e a issue lawful.0 in
-    omega (arith, sum_by-cons (moved_where (leaves a) issue) e p, sum_by-cons (moved_where (enters a) issue) e p, before, part)
+    let before : sum_by (part_where (leaves a) issue) p ≤ opening_shares openings a issue + sum_by (part_where (enters a) issue) p = moved_out_covered openings p a issue lawful.1 in
+    let part : part_where (leaves a) issue e ≤ (opening_shares openings a issue + sum_by (part_where (enters a) issue) p) - sum_by (part_where (leaves a) issue) p = part_out_le openings p e a issue lawful.0 in
+    omega (arith, sum_by-cons (part_where (leaves a) issue) e p, sum_by-cons (part_where (enters a) issue) e p, before, part)

@@ -23,7 +23,7 @@ use Rattle.cns_depository.specs.declared.place.Place.{Place}
 use Rattle.cns_depository.specs.declared.balances.BalanceRow.{BalanceRow}
 use Rattle.cns_depository.specs.Account.{enters}
 use Rattle.cns_depository.specs.Openings.{is_opening_of, member_opening, opening_shares}
-use Rattle.cns_depository.specs.Stock.{balance_of, moved_by, moved_in, moved_where, order_in}
+use Rattle.cns_depository.specs.Stock.{balance_of, moved_by, moved_in, part_where, order_in}
 use Rattle.cns_depository.specs.Balances.{account_cmp, place_cmp, place_at, opened_places, places_of, balance_row, balance_rows, row_place, AreComplete, AreAscending}
 use Rattle.cns_depository.specs.contracts.place.PlaceOrd.TheImpl.Laws.{total-law}
 use Rattle.cns_depository.proofs.BalanceLemmas.{and_left, and_right}
@@ -131,8 +131,8 @@ moved_place openings (e ∷ p) a i held = by (enters a (order_in e) && eqb (orde
         let at : o.issue ≡ i = eqb-true o.issue i (and_right (enters a o) (eqb o.issue i) h) in
         subst (λ (x : ℕ). IsAmong (place_at x a) (with_order (places_of openings p) o)) at (order_has (places_of openings p) o a (and_left (enters a o) (eqb o.issue i) h))
     by false h rest =
-        let none : moved_where (enters a) i e ≡ 0 = cond-false (enters a (order_in e) && eqb (order_in e).issue i) (moved_by e) 0 h in
-        order_keeps (places_of openings p) (order_in e) (place_at i a) (rest (λ z. held (omega (arith, sum_by-cons (moved_where (enters a) i) e p, none, z))))
+        let none : part_where (enters a) i e ≡ 0 = cond-false (enters a (order_in e) && eqb (order_in e).issue i) (moved_by e) 0 h in
+        order_keeps (places_of openings p) (order_in e) (place_at i a) (rest (λ z. held (omega (arith, sum_by-cons (part_where (enters a) i) e p, none, z))))
 
 -- a balance other than 0 is of a place that is named
 pub held_place : (openings : List Opening) (p : List DepRecord) (a : Account) (i : ℕ) → balance_of openings p a i ≢ 0 → IsAmong (place_at i a) (places_of openings p)

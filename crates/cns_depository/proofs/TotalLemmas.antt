@@ -18,7 +18,7 @@ use Rattle.cns_depository.specs.declared.moved.Moved.{Moved}
 use Rattle.cns_depository.specs.declared.place.Place.{Place}
 use Rattle.cns_depository.specs.Account.{enters, giver, giver_by, leaves, receiver, receiver_by}
 use Rattle.cns_depository.specs.Balances.{place_at}
-use Rattle.cns_depository.specs.Stock.{moved_by, moved_in, moved_out, moved_where, order_in, record_of}
+use Rattle.cns_depository.specs.Stock.{moved_by, moved_in, moved_out, part_where, order_in, record_of}
 use Rattle.cns_depository.proofs.BalanceLemmas.{and_left, and_right}
 use Rattle.cns_depository.specs.Totals.{AreTotalsOf, place_eq, HasIndex}
 
@@ -165,12 +165,12 @@ totals_more moved now indices after p e totals few small entered left found =
     record {
       entered = λ a i.
           let here = ap (λ (b : Bool). if b then m else 0) (received a i o) in
-          omega (arith, entered (place_at i a), totals.entered a i, here, sum_by-cons (moved_where (enters a) i) e p);
+          omega (arith, entered (place_at i a), totals.entered a i, here, sum_by-cons (part_where (enters a) i) e p);
       left = λ a i.
           let here = ap (λ (b : Bool). if b then m else 0) (given a i o) in
-          omega (arith, left (place_at i a), totals.left a i, here, sum_by-cons (moved_where (leaves a) i) e p);
+          omega (arith, left (place_at i a), totals.left a i, here, sum_by-cons (part_where (leaves a) i) e p);
       found = λ n. subst (HasIndex (e ∷ p) n) (sym (found n)) (index_more p e n (indices n) (totals.found n));
       few = omega (arith, few);
-      entered_small = λ a i. omega (arith, totals.entered_small a i, small, at_most (enters a o && (o.issue == i)) m, sum_by-cons (moved_where (enters a) i) e p);
-      left_small = λ a i. omega (arith, totals.left_small a i, small, at_most (leaves a o && (o.issue == i)) m, sum_by-cons (moved_where (leaves a) i) e p);
+      entered_small = λ a i. omega (arith, totals.entered_small a i, small, at_most (enters a o && (o.issue == i)) m, sum_by-cons (part_where (enters a) i) e p);
+      left_small = λ a i. omega (arith, totals.left_small a i, small, at_most (leaves a o && (o.issue == i)) m, sum_by-cons (part_where (leaves a) i) e p);
     }

@@ -21,15 +21,15 @@ abbrev pub record_of : List DepRecord → ℕ → Option DepRecord
 record_of p n = find (λ e. (order_in e).number == n) p
 
 -- what the movement of a record adds to a sum over those in an issue that pass a test
-abbrev pub moved_where : (Order → Bool) → ℕ → DepRecord → ℕ
-moved_where test issue e = if test (order_in e) && ((order_in e).issue == issue) then moved_by e else 0
+abbrev pub part_where : (Order → Bool) → ℕ → DepRecord → ℕ
+part_where test issue e = if test (order_in e) && ((order_in e).issue == issue) then moved_by e else 0
 
 -- the shares of an issue moved into an account, and out of it
 unfoldable pub moved_in : List DepRecord → Account → ℕ → ℕ
-moved_in p a issue = sum_by (moved_where (enters a) issue) p
+moved_in p a issue = sum_by (part_where (enters a) issue) p
 
 unfoldable pub moved_out : List DepRecord → Account → ℕ → ℕ
-moved_out p a issue = sum_by (moved_where (leaves a) issue) p
+moved_out p a issue = sum_by (part_where (leaves a) issue) p
 
 -- the balance of an account in an issue: its opening, and what was moved in, less what was moved out
 unfoldable pub balance_of : List Opening → List DepRecord → Account → ℕ → ℕ

@@ -75,16 +75,18 @@ events =
     ∷ ("PRIORITY", three member_in issue_in (word_in (("ON", true) ∷ ("OFF", false) ∷ [])) event.Priority)
     ∷ []
 
-abbrev pub commands : List (String × (List (List ℕ) → Option Command))
-commands =
+-- those that have words behind theirs
+abbrev pub longer : List (String × (List (List ℕ) → Option Command))
+longer =
     ("TAKE", one take_in (λ take. take))
     ∷ ("LOOK", one place_in command.Look)
     ∷ ("ALLOCATE", one issue_in command.Allocate)
     ∷ ("BESIDE", two issue_in (number 0 1000) command.Beside)
     ∷ ("FAIL", two node_in (word_in (("KEEP", true) ∷ ("DROP", false) ∷ [])) command.Fail)
-    ∷ ("PUMP", none command.Pump)
-    ∷ ("REPORT", none command.Report)
     ∷ map (λ row. (row.0, λ words. option_map command.Single (row.1 words))) events
+
+abbrev pub commands : List (String × (List (List ℕ) → Option Command))
+commands = ("PUMP", none command.Pump) ∷ ("REPORT", none command.Report) ∷ longer
 
 -- what words are by a table: the first one says how those behind it are read
 abbrev pub by_table : {R : Type 0} → List (String × (List (List ℕ) → Option R)) → List (List ℕ) → Option R

@@ -2,7 +2,7 @@ ghost use Rattle.std.specs.Prelude.{◌≡◌, ◌==◌, ◌<◌, ◌∷◌, [],
 ghost use Rattle.std.specs.List.{position_from};
 ghost use Rattle.cns_trades.specs.Fields.{same_text};
 ghost use Rattle.cns_input.specs.Words.{words_after, words_of};
-ghost use Rattle.cns_input.specs.Script.{by_table, command_of as command_of_line, commands, events, issue_in, member_in, node_in, place_in, take_in};
+ghost use Rattle.cns_input.specs.Script.{by_table, command_of as command_of_line, commands, events, longer, none as none_of, issue_in, member_in, node_in, place_in, take_in};
 
 use cns_ids::{Cusip, CycleId, CycleKind, Day, MemberNo, Shares, read_number};
 use cns_system::{Event, NodeName};
@@ -216,9 +216,9 @@ fn read_event(word: &[u8], rest: Option<&[u8]>) -> Option<Event>
     }
 }
 
-// The command that a word and those behind it are.
-fn read_command(word: &[u8], rest: Option<&[u8]>) -> Option<Command>
-    ensures { result ≡ by_table commands (word.now ∷ words_after rest.entry) }
+// The command that a word with others behind it is.
+fn read_longer(word: &[u8], rest: Option<&[u8]>) -> Option<Command>
+    ensures { result ≡ by_table longer (word.now ∷ words_after rest.entry) }
 {
     if is_word(word, b"TAKE") {
         read_take(one(rest)?)
@@ -240,12 +240,38 @@ fn read_command(word: &[u8], rest: Option<&[u8]>) -> Option<Command>
             node: read_node(node)?,
             stands: read_one_of(stands, b"KEEP", true, b"DROP", false)?,
         })
-    } else if is_word(word, b"PUMP") {
-        none(rest).then_some(Command::Pump)
-    } else if is_word(word, b"REPORT") {
-        none(rest).then_some(Command::Report)
     } else {
         read_event(word, rest).map(Command::Single)
+    }
+}
+
+// The same, with no look at the table for a word that stands alone.
+fn read_with_others(word: &[u8], rest: Option<&[u8]>) -> Option<Command>
+    ensures { result ≡ by_table longer (word.now ∷ words_after rest.entry) }
+{
+    match rest {
+        Some(_) => read_longer(word, rest),
+        None => None,
+    }
+}
+
+// A command, where no word is behind its own.
+fn alone(command: Command, rest: Option<&[u8]>) -> Option<Command>
+    ensures { result ≡ none_of command (words_after rest.entry) }
+{
+    if none(rest) { Some(command) } else { None }
+}
+
+// The command that a word and those behind it are.
+fn read_command(word: &[u8], rest: Option<&[u8]>) -> Option<Command>
+    ensures { result ≡ by_table commands (word.now ∷ words_after rest.entry) }
+{
+    if is_word(word, b"PUMP") {
+        alone(Command::Pump, rest)
+    } else if is_word(word, b"REPORT") {
+        alone(Command::Report, rest)
+    } else {
+        read_with_others(word, rest)
     }
 }
 

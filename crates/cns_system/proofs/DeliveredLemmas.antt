@@ -25,7 +25,7 @@ use Rattle.cns_clearing.proofs.TotalLemmas.{taken_covered}
 use Rattle.cns_depository.specs.declared.account.Account.{Account}
 use Rattle.cns_depository.specs.declared.account.Account.TheVariants.{Cns}
 use Rattle.cns_depository.specs.Account.{giver, giver_by, leaves}
-use Rattle.cns_depository.specs.Stock.{IsLawfulDepot, balance_of, moved_by, moved_in, moved_out, moved_where, movement, order_in, record_of}
+use Rattle.cns_depository.specs.Stock.{IsLawfulDepot, balance_of, moved_by, moved_in, moved_out, part_where, movement, order_in, record_of}
 use Rattle.cns_system.specs.Accord.{IsKnown}
 use Rattle.cns_system.specs.Agreement.{IsExecuted}
 use Rattle.cns_system.proofs.AccordLemmas.{executed_stays, ordered_found}
@@ -179,8 +179,8 @@ unfolding moved_out
 delivery_out o p delivers =
     let kind : is_delivery o.kind ≡ true = ap is_delivery delivers in
     let issue : (o.issue == o.issue) ≡ true = eq-eqb o.issue o.issue refl in
-    let here : moved_where (leaves Cns) o.issue (Exec o o.asked) ≡ o.asked = rw (kind, issue) refl in
-    omega (arith, sum_by-cons (moved_where (leaves Cns) o.issue) (Exec o o.asked) p, here)
+    let here : part_where (leaves Cns) o.issue (Exec o o.asked) ≡ o.asked = rw (kind, issue) refl in
+    omega (arith, sum_by-cons (part_where (leaves Cns) o.issue) (Exec o o.asked) p, here)
 
 -- the CNS account has what a delivery asks for that was not executed: with it too deliveries take no more than covers brought, and
 -- what covers brought was executed
