@@ -82,5 +82,5 @@ failed name stands c =
 
 abbrev pub report_text : Shown → List ℕ
 report_text w =
-    cycle_report_text (book w).latest (rows_of (book w).history) (pools_of (book w).orders w.clear.open_lots)
-    ++ flat_map balance_line (balance_rows w.depot.openings w.depot.records) ++ codes "END\n"
+    cycle_report_text (book w).latest (rows_of (book w).history) (pools_of (book w).orders w.open_lots)
+    ++ flat_map balance_line (balance_rows w.openings w.depot.records) ++ codes "END\n"

@@ -12,7 +12,9 @@ use Rattle.cns_trades.specs.declared.row.Row.{Row}
 use Rattle.cns_journal.specs.Keeper.{Succeeds}
 use Rattle.cns_journal.specs.Replay.{KeeperState}
 use Rattle.cns_system.specs.Scene.{Chance, Scene, Sight, scene_of}
-use Rattle.cns_system.specs.Shown.{ClearShown, DepotShown}
+use Rattle.cns_records.specs.declared.clear_record.ClearRecord.{ClearRecord}
+use Rattle.cns_records.specs.declared.dep_record.DepRecord.{DepRecord}
+use Rattle.cns_system.specs.Shown.{LogShown, Shown}
 use Rattle.cns_journal.specs.declared.record_log.ReplayFault.TheVariants as replay
 use Rattle.cns_system.specs.Start.{IsNotOpened, IsStarted}
 use Rattle.cns_system.specs.declared.fault.StartFault.{StartFault}
@@ -51,10 +53,11 @@ text_from chances scene input =
 -- both nodes over keepers in memory without records
 abbrev pub first_scene : List Opening → Scene
 first_scene openings =
-    let clear : ClearShown = record { records = []; tried = None; down = false; open_lots = []; lots = [] } in
-    let depot : DepotShown = record { openings = openings; records = []; tried = None; down = false } in
+    let clear : LogShown ClearRecord = record { records = []; tried = None; down = false } in
+    let depot : LogShown DepRecord = record { records = []; tried = None; down = false } in
     let sight : Sight = record { honest = true; foresight = record { next = Succeeds; stands = None } } in
-    record { shown = record { clear = clear; depot = depot; orders = []; replies = [] }; clear = sight; depot = sight }
+    let shown : Shown = record { clear = clear; open_lots = []; lots = []; openings = openings; depot = depot; orders = []; replies = [] } in
+    record { shown = shown; clear = sight; depot = sight }
 
 -- the output text of an input's bytes over keepers in memory, by what comes between, or the fault of the bytes
 abbrev pub text_by : List Chance → List ℕ → Result (List ℕ) BatchFault

@@ -1,6 +1,6 @@
 -- What entering the tickets of a busy lot leaves.
 use Rattle.std.proofs.Common.{◌≡◌, ◌∙◌, ◌<◌, ◌+◌, ℕ, zero, suc, Bool, true, false, not, cond, List, [], ◌∷◌, ◌++◌, length, take, drop, get_or, Option, Some, None, Result, Ok, Err, ap, sym, subst, refl, arith, inl, inr}
-use Rattle.std.specs.Prelude.{◌==◌, ◌&&◌, ◌||◌, eqb, All, IfErr, IfOk, IsErr, IsErrAnd, IsSomeAnd, OnErr, slice_get}
+use Rattle.std.specs.Prelude.{◌==◌, ◌&&◌, ◌||◌, eqb, All, IfErr, IfOk, IsErr, IsErrAnd, IsSomeAnd, OnErr, slice_get, slice_set, ◌-◌}
 use Rattle.std.proofs.lemmas.Bool.{eq-eqb, eqb-true, false_from_ne_true}
 use Rattle.std.proofs.lemmas.List.Elements.{All-filter, All-head, All-tail, All-weaker, filter_passes}
 use Rattle.std.proofs.lemmas.List.{drop_more, map-append, take-append-drop, take_more}
@@ -16,7 +16,7 @@ use Rattle.cns_system.specs.Floor.{AreBusy, AreInOrder, BusyLot, FloorState, IsB
 use Rattle.cns_system.specs.Headline.{AreStrict, IsAgreed}
 use Rattle.cns_system.specs.Lot.{LotState, ticket_in, turn_in, with_ticket}
 use Rattle.cns_wire.specs.Packet.{at_number}
-use Rattle.cns_system.specs.Lots.{DrawLeaves, HasOpenLot, LotGives, ReserveLeaves, WouldDraw, WouldReserve, update_at}
+use Rattle.cns_system.specs.Lots.{DrawLeaves, HasOpenLot, LotGives, ReserveLeaves, WouldDraw, WouldReserve}
 use Rattle.cns_system.specs.Numbered.{NumberedNode}
 use Rattle.cns_system.specs.Outcomes.{done_outcome, reserve_outcome}
 use Rattle.cns_system.specs.Run.{Occurs, Run}
@@ -139,7 +139,7 @@ no_lot number member _ lots P gives = absurd gives
 pub would_at : (number member : ℕ) (result : Result Ticket Refusal) (lots : List LotState) (l : LotState) → at_number lots number ≡ Some l → l.ended ≡ false
     → WouldDraw member result l → WouldReserve number member result lots
 would_at number member (Ok t) lots l found going would =
-    (update_at lots number (with_ticket t l), open-from lots number _ l found going (would.1.0, would.1.1, would.1.2, refl))
+    (slice_set lots (number - 1) (with_ticket t l), open-from lots number _ l found going (would.1.0, would.1.1, would.1.2, refl))
 would_at number member (Err refusal.NotLong) lots l found going would = (lots, (open-from lots number _ l found going would.1.0, refl))
 would_at number member (Err refusal.EarlierGroup) lots l found going would = (lots, (open-from lots number _ l found going would.1.0, refl))
 would_at number member (Err refusal.Sealed) lots l found going would = (lots, (open-from lots number _ l found going (would.1.0, would.1.1), refl))

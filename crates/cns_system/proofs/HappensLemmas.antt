@@ -25,12 +25,12 @@ use Rattle.cns_netting.specs.History.{becoming_due}
 use Rattle.cns_clearing.specs.declared.answer.Cycled.{Cycled}
 use Rattle.cns_clearing.specs.declared.lot.Lot.{Lot}
 use Rattle.cns_depository.specs.Node.{RestartLeaves as DepotRestartLeaves}
-use Rattle.cns_system.specs.Happens.{Decision, Goes, Happening, Judged, clear_commits, happens, judged, next_orders, settled}
+use Rattle.cns_system.specs.Happens.{Decision, Goes, Judged, clear_commits, happens, judged, next_orders, settled}
 use Rattle.cns_system.specs.Lot.{with_end, with_seal}
 use Rattle.cns_system.specs.Lots.{LotLeaves, ReserveLeaves}
 use Rattle.cns_system.specs.Numbered.{NumberedNode, CloseLeaves, OpenLeaves, PourLeaves}
 use Rattle.cns_system.specs.Outcomes.{asked_outcome, close_outcome, cycle_outcome, done_outcome, open_outcome, pour_outcome, poured_outcome, reply_outcome, reserve_outcome, restart_outcome, trade_outcome}
-use Rattle.cns_system.specs.Shown.{Shown, clear_reread, clear_unread, depot_reread, depot_unread, shown_of}
+use Rattle.cns_system.specs.Shown.{LogShown, Shown, log_shown, shown_of}
 use Rattle.cns_system.specs.Step.{AtClear, ByLots, ByNode, ClearRestarts, DepotRestartStep, Looks, ReplyInStep, Step}
 use Rattle.cns_system.specs.World.{World, order_in_packet, reply_in_packet}
 use Rattle.cns_system.specs.declared.event.Event.{Event}
@@ -41,7 +41,7 @@ use Rattle.cns_system.specs.declared.outcome.Outcome.TheVariants as outcomes
 use Rattle.cns_system.proofs.Decided.{Fits, FitsDone}
 use Rattle.cns_system.proofs.LinkHappens.{no_reply, order_in_by, reply_by, send_by}
 use Rattle.cns_system.proofs.LotHappens.{close_by, look_asked_by, look_poured_by, open_by, pour_by, reserve_by, seal_by}
-use Rattle.cns_system.proofs.ShownLemmas.{IsAtClear, IsAtDepot, came, refuse, clear_same, clear_when_added, clear_when_failed, commit_fails, commit_goes, commit_short, passes}
+use Rattle.cns_system.proofs.ShownLemmas.{IsAtClear, IsAtDepot, came, refuse, clear_same, clear_when_added, clear_when_failed, commit_fails, commit_goes, commit_short, passes, some_there}
 
 -- ---- trades
 
@@ -111,16 +111,12 @@ cycle_early : (d : Decision) (id : CycleId) (w : Shown) → w.clear.down ≡ fal
 unfolding happens judged
 cycle_early d id w up early = rw (up, early) refl
 
-cycle_beside_lots : (d : Decision) (id : CycleId) (w : Shown) → w.clear.down ≡ false → is_later (latest_of w.clear.records) id ≡ true → w.clear.open_lots ≢ []
+cycle_beside_lots : (d : Decision) (id : CycleId) (w : Shown) → w.clear.down ≡ false → is_later (latest_of w.clear.records) id ≡ true → w.open_lots ≢ []
     → happens d (event.Cycle id) w ≡ refuse refusal.LotsOpen w
 unfolding happens judged
-cycle_beside_lots d id w up later some = by w.clear.open_lots refl
-  where
-    by : (lots : List Lot) → w.clear.open_lots ≡ lots → happens d (event.Cycle id) w ≡ refuse refusal.LotsOpen w
-    by [] e = absurd (some e)
-    by (lot ∷ lots) e = rw (up, later, e) refl
+cycle_beside_lots d id w up later some = rw (up, later, some_there w.open_lots some) refl
 
-cycle_spent : (d : Decision) (id : CycleId) (w : Shown) → w.clear.down ≡ false → is_later (latest_of w.clear.records) id ≡ true → w.clear.open_lots ≡ []
+cycle_spent : (d : Decision) (id : CycleId) (w : Shown) → w.clear.down ≡ false → is_later (latest_of w.clear.records) id ≡ true → w.open_lots ≡ []
     → are_spent (orders_of w.clear.records) (covers_in w.clear.records id.day) ≡ true → happens d (event.Cycle id) w ≡ refuse refusal.NumbersSpent w
 unfolding happens judged
 cycle_spent d id w up later none spent = rw (up, later, none, spent) refl
@@ -129,7 +125,7 @@ cycle_spent d id w up later none spent = rw (up, later, none, spent) refl
 abbrev cycled : Shown → CycleId → List Ask → Outcome
 cycled w id asks = outcomes.Cycled (record { due = becoming_due (history_of w.clear.records) id.day; orders = next_orders w asks })
 
-cycle_numbered : (d : Decision) (id : CycleId) (w : Shown) → w.clear.down ≡ false → is_later (latest_of w.clear.records) id ≡ true → w.clear.open_lots ≡ []
+cycle_numbered : (d : Decision) (id : CycleId) (w : Shown) → w.clear.down ≡ false → is_later (latest_of w.clear.records) id ≡ true → w.open_lots ≡ []
     → are_spent (orders_of w.clear.records) (covers_in w.clear.records id.day) ≡ false
     → happens d (event.Cycle id) w ≡ settled w (clear_commits d (entry.Cycle id) (cycled w id (covers_in w.clear.records id.day)) w)
 unfolding happens judged
@@ -159,17 +155,26 @@ cycle_by d id (Err _) old new at left fits = absurd left.0
 
 -- ---- restarts
 
+-- the world with this log of the clearing node, all whose lots have ended, and with this one of the depository
+abbrev clear_with : Shown → LogShown ClearRecord → Shown
+clear_with w log = record w { clear = log; open_lots = []; lots = map with_end w.lots }
+
+abbrev depot_with : Shown → LogShown DepRecord → Shown
+depot_with w log = record w { depot = log }
+
 -- the clearing node with the records that it read, and as a refused restart leaves it
 clear_read : (foresight : Foresight) (old new : World) → IsAtClear old new
     → new.clear.clear.log ≡ record old.clear.clear.log { records = new.clear.clear.log.records; tried = None; down = false; foresight = foresight }
-    → new.clear.clear.lots ≡ [] → new.clear.lots ≡ map with_end old.clear.lots → shown_of new ≡ clear_reread new.clear.clear.log.records (shown_of old)
+    → new.clear.clear.lots ≡ [] → new.clear.lots ≡ map with_end old.clear.lots
+    → shown_of new ≡ clear_with (shown_of old) (record { records = new.clear.clear.log.records; tried = None; down = false })
 clear_read foresight old new at log none ended =
     let tried = ap (λ (l : LogState ClearRecord). l.tried) log in
     let down = ap (λ (l : LogState ClearRecord). l.down) log in rw (tried, down, none, ended, at.depot, at.orders, at.replies) refl
 
 clear_not_read : (failures : ℕ) (foresight : Foresight) (old new : World) → IsAtClear old new
     → new.clear.clear.log ≡ record old.clear.clear.log { down = true; failures = failures; foresight = foresight }
-    → new.clear.clear.lots ≡ [] → new.clear.lots ≡ map with_end old.clear.lots → shown_of new ≡ clear_unread (shown_of old)
+    → new.clear.clear.lots ≡ [] → new.clear.lots ≡ map with_end old.clear.lots
+    → shown_of new ≡ clear_with (shown_of old) (record (log_shown old.clear.clear.log) { down = true })
 clear_not_read failures foresight old new at log none ended = rw (log, none, ended, at.depot, at.orders, at.replies) refl
 
 clear_restart_by : (d : Decision) (result : Result Restarted ReplayFault) (old new : World) → IsAtClear old new → ClearRestarts result old.clear new.clear
@@ -184,14 +189,15 @@ clear_restart_by d (Err replay.Device) old new at ((left, none), ended) fits = r
 -- the depository likewise
 depot_read : (foresight : Foresight) (old new : World) → IsAtDepot old new → new.replies ≡ old.replies
     → new.depot.log ≡ record old.depot.log { records = new.depot.log.records; tried = None; down = false; foresight = foresight }
-    → new.depot.openings ≡ old.depot.openings → shown_of new ≡ depot_reread new.depot.log.records (shown_of old)
+    → new.depot.openings ≡ old.depot.openings
+    → shown_of new ≡ depot_with (shown_of old) (record { records = new.depot.log.records; tried = None; down = false })
 depot_read foresight old new at replies log openings =
     let tried = ap (λ (l : LogState DepRecord). l.tried) log in
     let down = ap (λ (l : LogState DepRecord). l.down) log in rw (tried, down, openings, at.clear, at.orders, replies) refl
 
 depot_not_read : (failures : ℕ) (foresight : Foresight) (old new : World) → IsAtDepot old new → new.replies ≡ old.replies
     → new.depot.log ≡ record old.depot.log { down = true; failures = failures; foresight = foresight }
-    → new.depot.openings ≡ old.depot.openings → shown_of new ≡ depot_unread (shown_of old)
+    → new.depot.openings ≡ old.depot.openings → shown_of new ≡ depot_with (shown_of old) (record (log_shown old.depot.log) { down = true })
 depot_not_read failures foresight old new at replies log openings = rw (log, openings, at.clear, at.orders, replies) refl
 
 depot_restart_by : (d : Decision) (result : Result Restarted ReplayFault) (old new : World) → IsAtDepot old new → new.replies ≡ old.replies
@@ -206,7 +212,7 @@ depot_restart_by d (Err replay.Device) old new at replies (left, openings) fits 
 -- ---- all events
 
 -- an event at the clearing node, by what its call answers
-at_clear : {R : Type 0} (told : R → Outcome) (Leaves : R → NumberedNode → NumberedNode → Type 0) (d : Decision) (e : Event) (outcome : Outcome) (old new : World) (happening : Happening)
+at_clear : {R : Type 0} (told : R → Outcome) (Leaves : R → NumberedNode → NumberedNode → Type 0) (d : Decision) (e : Event) (outcome : Outcome) (old new : World) (happening : Outcome × Shown)
     → ((result : R) → IsAtClear old new → Leaves result old.clear new.clear → Fits d e (told result) (shown_of new) → happening ≡ (told result, shown_of new))
     → Fits d e outcome (shown_of new) → AtClear told Leaves outcome old new → happening ≡ (outcome, shown_of new)
 at_clear told Leaves d e outcome old new happening by fits (depot, orders, replies, (result, is, leaves)) =

@@ -29,7 +29,7 @@ use Rattle.cns_depository.specs.declared.fault.Answer.{Answer}
 use Rattle.cns_depository.specs.declared.fault.Answer.TheVariants as answer
 use Rattle.cns_depository.specs.declared.fault.DepFault.{DepFault}
 use Rattle.cns_depository.specs.declared.fault.DepFault.TheVariants as fault
-use Rattle.cns_system.specs.Happens.{Decision, NoMemory, Happening, clear_commits, commits, grows, happens, judged, same_order, settled, with_reply}
+use Rattle.cns_system.specs.Happens.{Decision, NoMemory, clear_commits, commits, grows, happens, judged, same_order, settled, with_reply}
 use Rattle.cns_system.specs.Outcomes.{order_outcome, reply_outcome}
 use Rattle.cns_system.specs.Shown.{Shown, depot_added, depot_failed, shown_of}
 use Rattle.cns_system.specs.Step.{ByNode, IsItsOwn, IsNotSent, IsSent, OrderInStep, OrderTaken, Puts, SendStep}
@@ -140,7 +140,7 @@ unfolding happens judged
 order_down d packet o w held down = rw (held, down) refl
 
 order_new : (d : Decision) (packet : ℕ) (o : Order) (w : Shown) → Holds packet (Some o) w → w.depot.down ≡ false → record_of w.depot.records o.number ≡ None
-    → happens d (event.OrderIn packet) w ≡ settled w (let e = movement w.depot.openings w.depot.records o in let r = reply_to o (moved_by e) in
+    → happens d (event.OrderIn packet) w ≡ settled w (let e = movement w.openings w.depot.records o in let r = reply_to o (moved_by e) in
     commits d (outcomes.Executed r (length w.replies + 1), with_reply r (depot_added e w)) (depot_failed e w))
 unfolding happens judged
 order_new d packet o w held up none = rw held (ap (settled w) (passes (not w.depot.down) refusal.Down _ (ap not up)) ∙ rw none refl)
@@ -224,7 +224,7 @@ unfolding happens judged
 reply_down d packet r w held down = rw (held, down) refl
 
 -- what a reply comes to, by what the book answers it
-abbrev reply_judged : Confirm → Decision → Reply → Shown → Happening
+abbrev reply_judged : Confirm → Decision → Reply → Shown → Outcome × Shown
 reply_judged answers.Done d r w = settled w (clear_commits d (entry.Confirm r) (outcomes.Confirmed r) w)
 reply_judged answers.Again d r w = (outcomes.ConfirmedAgain r, w)
 reply_judged answers.UnknownMove d r w = refuse refusal.UnknownMove w

@@ -1,6 +1,6 @@
 -- What is asked of a lot comes to what happens by a decision that fits it.
 use Rattle.std.proofs.Common.{◌≡◌, ◌≢◌, ◌<◌, ◌≤◌, ℕ, ◌+◌, ◌++◌, Bool, true, false, List, [], ◌∷◌, length, Option, Some, None, Result, Ok, Err, inl, inr, refl, sym, ap, ◌∙◌}
-use Rattle.std.specs.Prelude.{◌||◌, not, min, IsSomeAnd}
+use Rattle.std.specs.Prelude.{◌||◌, not, min, IsSomeAnd, slice_set, ◌-◌, ◌==◌}
 use Rattle.std.proofs.lemmas.Bool.{le-ltb, lt-ltb}
 use Rattle.cns_ids.specs.Steps.{◌>>=◌, ◌>>◌, need}
 use Rattle.cns_pool.specs.Pool.{asked_sum}
@@ -22,10 +22,10 @@ use Rattle.cns_system.specs.Happens.{Decision, Goes, NoMemory, DeviceFails, Judg
 use Rattle.cns_system.specs.Lot.{LotState, ticket_in, turn_in, with_end, with_seal, with_ticket}
 use Rattle.cns_system.specs.Lot.{new_lot as numbered_lot}
 use Rattle.cns_wire.specs.Packet.{at_number}
-use Rattle.cns_system.specs.Lots.{HasEndedLot, LotLeaves, ReserveLeaves, is_empty, update_at}
+use Rattle.cns_system.specs.Lots.{HasEndedLot, LotLeaves, ReserveLeaves}
 use Rattle.cns_system.specs.Numbered.{NumberedNode, CloseLeaves, IsMet, IsOpened, OpenLeaves, PourLeaves}
 use Rattle.cns_system.specs.Outcomes.{asked_outcome, close_outcome, done_outcome, open_outcome, pour_outcome, poured_outcome, reserve_outcome}
-use Rattle.cns_system.specs.Shown.{Shown, clear_added, clear_failed, shown_clear, shown_of, with_lot, with_new_lot, with_pour}
+use Rattle.cns_system.specs.Shown.{Shown, clear_added, clear_failed, shown_of, with_lot, with_new_lot, with_pour}
 use Rattle.cns_system.specs.Step.{ByLots, Looks, shown}
 use Rattle.cns_system.specs.World.{World}
 use Rattle.cns_system.specs.declared.entry.Look.{Look}
@@ -35,22 +35,22 @@ use Rattle.cns_system.specs.declared.outcome.Outcome.{Outcome}
 use Rattle.cns_system.specs.declared.outcome.Outcome.TheVariants as outcomes
 use Rattle.cns_system.proofs.Decided.{Fits}
 use Rattle.cns_system.proofs.LotsLemmas.{open-parts}
-use Rattle.cns_system.proofs.ShownLemmas.{IsAtClear, came, refuse, clear_same, clear_when_failed, commit_fails, commit_goes, commit_short, with_room, without_room, passes}
+use Rattle.cns_system.proofs.ShownLemmas.{IsAtClear, came, refuse, clear_same, clear_when_failed, commit_fails, commit_goes, commit_short, with_room, without_room, passes, some_there}
 
 -- ---- what a number finds
 
 -- a lot that is none, or has ended, refuses
-at_none : (n : ℕ) (w : Shown) → at_number w.clear.lots n ≡ None → going_lot w n ≡ Err refusal.NoLot
+at_none : (n : ℕ) (w : Shown) → at_number w.lots n ≡ None → going_lot w n ≡ Err refusal.NoLot
 at_none n w none = rw none refl
 
-at_stale : (n : ℕ) (w : Shown) → HasEndedLot w.clear.lots n → going_lot w n ≡ Err refusal.StaleLot
-at_stale n w is = by (at_number w.clear.lots n) refl is
+at_stale : (n : ℕ) (w : Shown) → HasEndedLot w.lots n → going_lot w n ≡ Err refusal.StaleLot
+at_stale n w is = by (at_number w.lots n) refl is
   where
-    by : (o : Option LotState) → at_number w.clear.lots n ≡ o → IsSomeAnd o (λ (lot : LotState). lot.ended ≡ true) → going_lot w n ≡ Err refusal.StaleLot
+    by : (o : Option LotState) → at_number w.lots n ≡ o → IsSomeAnd o (λ (lot : LotState). lot.ended ≡ true) → going_lot w n ≡ Err refusal.StaleLot
     by None e h = absurd h
     by (Some lot) e h = rw (e, h) refl
 
-at_open : (n : ℕ) (w : Shown) (lot : LotState) → at_number w.clear.lots n ≡ Some lot → lot.ended ≡ false → going_lot w n ≡ Ok lot
+at_open : (n : ℕ) (w : Shown) (lot : LotState) → at_number w.lots n ≡ Some lot → lot.ended ≡ false → going_lot w n ≡ Ok lot
 at_open n w lot found going = rw (found, going) refl
 
 -- what is asked of such a lot is refused, and of another one it is what comes then
@@ -61,7 +61,7 @@ found_at : (n : ℕ) (w : Shown) (lot : LotState) (next : LotState → Judged) �
 found_at n w lot next e = rw e refl
 
 -- the lots by number changed, and the node did not
-by_number : (old new : World) (n : ℕ) (lot : LotState) → IsAtClear old new → new.clear.clear ≡ old.clear.clear → new.clear.lots ≡ update_at old.clear.lots n lot
+by_number : (old new : World) (n : ℕ) (lot : LotState) → IsAtClear old new → new.clear.clear ≡ old.clear.clear → new.clear.lots ≡ slice_set old.clear.lots (n - 1) lot
     → shown_of new ≡ with_lot n lot (shown_of old)
 by_number old new n lot at same lots = rw (same, lots, at.depot, at.orders, at.replies) refl
 
@@ -71,7 +71,7 @@ node_same old new at same = clear_same old new at (ap (λ (n : NumberedNode). n.
 
 -- ---- looks, and a seal
 
-look_poured_open : (d : Decision) (n : ℕ) (look : Look) (w : Shown) (lot : LotState) → at_number w.clear.lots n ≡ Some lot → lot.ended ≡ false → look ≡ shown w.clear.open_lots lot
+look_poured_open : (d : Decision) (n : ℕ) (look : Look) (w : Shown) (lot : LotState) → at_number w.lots n ≡ Some lot → lot.ended ≡ false → look ≡ shown w.open_lots lot
     → happens d (event.LookPoured n) w ≡ (outcomes.LookedPoured look.poured, w)
 unfolding happens judged
 look_poured_open d n look w lot found going is = rw (found, going, is) refl
@@ -88,7 +88,7 @@ look_poured_by d n (Err refusal.StaleLot) old new at (stale, same) =
     came _ _ _ _ (refused_at n (shown_of old) refusal.StaleLot _ (at_stale n (shown_of old) stale)) (node_same old new at same)
 look_poured_by d n (Err _) old new at left = absurd left.0
 
-look_asked_open : (d : Decision) (n : ℕ) (look : Look) (w : Shown) (lot : LotState) → at_number w.clear.lots n ≡ Some lot → lot.ended ≡ false → look ≡ shown w.clear.open_lots lot
+look_asked_open : (d : Decision) (n : ℕ) (look : Look) (w : Shown) (lot : LotState) → at_number w.lots n ≡ Some lot → lot.ended ≡ false → look ≡ shown w.open_lots lot
     → happens d (event.LookAsked n) w ≡ (outcomes.LookedAsked look.asked look.sealed, w)
 unfolding happens judged
 look_asked_open d n look w lot found going is = rw (found, going, is) refl
@@ -119,12 +119,12 @@ seal_by d n (Err _) old new at left = absurd left.0
 
 -- ---- a pour
 
-pour_open : (d : Decision) (n : ℕ) (w : Shown) (lot : LotState) → at_number w.clear.lots n ≡ Some lot → lot.ended ≡ false → w.clear.down ≡ false
-    → happens d (event.LotPour n) w ≡ (outcomes.Poured (free_of (orders_of w.clear.records) w.clear.open_lots lot.issue), with_pour lot.issue w)
+pour_open : (d : Decision) (n : ℕ) (w : Shown) (lot : LotState) → at_number w.lots n ≡ Some lot → lot.ended ≡ false → w.clear.down ≡ false
+    → happens d (event.LotPour n) w ≡ (outcomes.Poured (free_of (orders_of w.clear.records) w.open_lots lot.issue), with_pour lot.issue w)
 unfolding happens judged
 pour_open d n w lot found going up = rw (found, going, up) refl
 
-pour_down : (d : Decision) (n : ℕ) (w : Shown) (lot : LotState) → at_number w.clear.lots n ≡ Some lot → lot.ended ≡ false → w.clear.down ≡ true
+pour_down : (d : Decision) (n : ℕ) (w : Shown) (lot : LotState) → at_number w.lots n ≡ Some lot → lot.ended ≡ false → w.clear.down ≡ true
     → happens d (event.LotPour n) w ≡ refuse refusal.Down w
 unfolding happens judged
 pour_down d n w lot found going down = rw (found, going, down) refl
@@ -154,7 +154,7 @@ pour_by d n (Err _) old new at left = absurd left
 
 -- ---- a member's ticket
 
-reserve_next : (d : Decision) (n m : ℕ) (t : Ticket) (w : Shown) (lot : LotState) → at_number w.clear.lots n ≡ Some lot → lot.ended ≡ false → turn_in lot m ≡ turn.Next t.asked
+reserve_next : (d : Decision) (n m : ℕ) (t : Ticket) (w : Shown) (lot : LotState) → at_number w.lots n ≡ Some lot → lot.ended ≡ false → turn_in lot m ≡ turn.Next t.asked
     → lot.sealed ≡ false → t ≡ ticket_in lot m t.asked → happens d (event.Reserve n m) w ≡ (outcomes.Drawn t, with_lot n (with_ticket t lot) w)
 unfolding happens judged
 reserve_next d n m t w lot found going turn unsealed is =
@@ -162,17 +162,17 @@ reserve_next d n m t w lot found going turn unsealed is =
     let drawn : happens d (event.Reserve n m) w ≡ (outcomes.Drawn next, with_lot n (with_ticket next lot) w) = rw (found, going, turn, unsealed) refl in
     drawn ∙ ap (λ (u : Ticket). (outcomes.Drawn u, with_lot n (with_ticket u lot) w)) (sym is)
 
-reserve_not_long : (d : Decision) (n m : ℕ) (w : Shown) (lot : LotState) → at_number w.clear.lots n ≡ Some lot → lot.ended ≡ false → turn_in lot m ≡ turn.NotLong
+reserve_not_long : (d : Decision) (n m : ℕ) (w : Shown) (lot : LotState) → at_number w.lots n ≡ Some lot → lot.ended ≡ false → turn_in lot m ≡ turn.NotLong
     → happens d (event.Reserve n m) w ≡ refuse refusal.NotLong w
 unfolding happens judged
 reserve_not_long d n m w lot found going turn = rw (found, going, turn) refl
 
-reserve_early : (d : Decision) (n m : ℕ) (w : Shown) (lot : LotState) → at_number w.clear.lots n ≡ Some lot → lot.ended ≡ false → turn_in lot m ≡ turn.EarlierGroup
+reserve_early : (d : Decision) (n m : ℕ) (w : Shown) (lot : LotState) → at_number w.lots n ≡ Some lot → lot.ended ≡ false → turn_in lot m ≡ turn.EarlierGroup
     → happens d (event.Reserve n m) w ≡ refuse refusal.EarlierGroup w
 unfolding happens judged
 reserve_early d n m w lot found going turn = rw (found, going, turn) refl
 
-reserve_sealed : (d : Decision) (n m asked : ℕ) (w : Shown) (lot : LotState) → at_number w.clear.lots n ≡ Some lot → lot.ended ≡ false → turn_in lot m ≡ turn.Next asked
+reserve_sealed : (d : Decision) (n m asked : ℕ) (w : Shown) (lot : LotState) → at_number w.lots n ≡ Some lot → lot.ended ≡ false → turn_in lot m ≡ turn.Next asked
     → lot.sealed ≡ true → happens d (event.Reserve n m) w ≡ refuse refusal.Sealed w
 unfolding happens judged
 reserve_sealed d n m asked w lot found going turn shut = rw (found, going, turn, shut) refl
@@ -205,33 +205,34 @@ open_down : (d : Decision) (issue : ℕ) (w : Shown) → w.clear.down ≡ true �
 unfolding happens judged
 open_down d issue w down = rw down refl
 
-open_beside : (d : Decision) (issue : ℕ) (w : Shown) → w.clear.down ≡ false → lot_of w.clear.open_lots issue ≢ None
+open_beside : (d : Decision) (issue : ℕ) (w : Shown) → w.clear.down ≡ false → lot_of w.open_lots issue ≢ None
     → happens d (event.LotOpen issue) w ≡ refuse refusal.LotAlready w
 unfolding happens judged
-open_beside d issue w up some = by (lot_of w.clear.open_lots issue) refl
+open_beside d issue w up some = by (lot_of w.open_lots issue) refl
   where
-    by : (o : Option Lot) → lot_of w.clear.open_lots issue ≡ o → happens d (event.LotOpen issue) w ≡ refuse refusal.LotAlready w
+    by : (o : Option Lot) → lot_of w.open_lots issue ≡ o → happens d (event.LotOpen issue) w ≡ refuse refusal.LotAlready w
     by None e = absurd (some e)
     by (Some lot) e = rw (up, e) refl
 
-open_spent : (d : Decision) (issue : ℕ) (w : Shown) → w.clear.down ≡ false → lot_of w.clear.open_lots issue ≡ None → 1000000 ≤ length w.clear.lots
+open_spent : (d : Decision) (issue : ℕ) (w : Shown) → w.clear.down ≡ false → lot_of w.open_lots issue ≡ None → 1000000 ≤ length w.lots
     → happens d (event.LotOpen issue) w ≡ refuse refusal.LotsSpent w
 unfolding happens judged
-open_spent d issue w up none spent = rw (up, none, le-ltb (length w.clear.lots) 1000000 spent) refl
+open_spent d issue w up none spent = rw (up, none, le-ltb (length w.lots) 1000000 spent) refl
 
 -- what is told of a lot that is opened
 abbrev opened_lot : Shown → ℕ → Outcome
 opened_lot w issue =
     let lot = new_lot w.clear.records issue in
-    outcomes.LotOpened (record { number = length w.clear.lots + 1; poured = lot.poured; plan = lot.plan })
+    outcomes.LotOpened (record { number = length w.lots + 1; poured = lot.poured; plan = lot.plan })
 
-open_alone : (d : Decision) (issue : ℕ) (w : Shown) → w.clear.down ≡ false → lot_of w.clear.open_lots issue ≡ None → length w.clear.lots < 1000000
+open_alone : (d : Decision) (issue : ℕ) (w : Shown) → w.clear.down ≡ false → lot_of w.open_lots issue ≡ None → length w.lots < 1000000
     → happens d (event.LotOpen issue) w ≡ settled w (grows d (opened_lot w issue, with_new_lot (new_lot w.clear.records issue) w))
 unfolding happens judged
-open_alone d issue w up none room = rw (up, none, lt-ltb (length w.clear.lots) 1000000 room) refl
+open_alone d issue w up none room = rw (up, none, lt-ltb (length w.lots) 1000000 room) refl
 
-opened_is : (w : Shown) (old : NumberedNode) (issue : ℕ) (opened : Opened) → w.clear ≡ shown_clear old → IsOpened old issue opened → opened_lot w issue ≡ outcomes.LotOpened opened
-opened_is w old issue opened e is = rw (e, ← is.number, ← is.poured, ← is.plan) refl
+opened_is : (w : Shown) (old : NumberedNode) (issue : ℕ) (opened : Opened) → w.clear.records ≡ old.clear.log.records → w.lots ≡ old.lots → IsOpened old issue opened
+    → opened_lot w issue ≡ outcomes.LotOpened opened
+opened_is w old issue opened records lots is = rw (records, lots, ← is.number, ← is.poured, ← is.plan) refl
 
 opened_world : (issue : ℕ) (old new : World) → IsAtClear old new
     → new.clear.clear ≡ record old.clear.clear { lots = old.clear.clear.lots ++ new_lot old.clear.clear.log.records issue ∷ [] }
@@ -244,7 +245,7 @@ pub open_by : (d : Decision) (issue : ℕ) (result : Result Opened Refusal) (old
 open_by d issue (Ok opened) old new at (room, is, (up, none, plan, clear), lots) fits =
     came _ _ _ _
     (open_alone d issue (shown_of old) up none room ∙ with_room d _ (shown_of old) fits
-    ∙ ap (λ (o : Outcome). (o, with_new_lot (new_lot old.clear.clear.log.records issue) (shown_of old))) (opened_is (shown_of old) old.clear issue opened refl is))
+    ∙ ap (λ (o : Outcome). (o, with_new_lot (new_lot old.clear.clear.log.records issue) (shown_of old))) (opened_is (shown_of old) old.clear issue opened refl refl is))
     (opened_world issue old new at clear lots)
 open_by d issue (Err refusal.Down) old new at (down, same) fits = came _ _ _ _ (open_down d issue (shown_of old) down) (node_same old new at same)
 open_by d issue (Err refusal.LotAlready) old new at (up, some, same) fits = came _ _ _ _ (open_beside d issue (shown_of old) up some) (node_same old new at same)
@@ -256,26 +257,22 @@ open_by d issue (Err _) old new at left fits = absurd left
 
 -- ---- the close of a lot
 
-close_down : (d : Decision) (n : ℕ) (w : Shown) (lot : LotState) → at_number w.clear.lots n ≡ Some lot → lot.ended ≡ false → w.clear.down ≡ true
+close_down : (d : Decision) (n : ℕ) (w : Shown) (lot : LotState) → at_number w.lots n ≡ Some lot → lot.ended ≡ false → w.clear.down ≡ true
     → happens d (event.LotClose n) w ≡ refuse refusal.Down w
 unfolding happens judged
 close_down d n w lot found going down = rw (found, going, down) refl
 
-close_early : (d : Decision) (n : ℕ) (w : Shown) (lot : LotState) → at_number w.clear.lots n ≡ Some lot → lot.ended ≡ false → w.clear.down ≡ false → lot.sealed ≡ false
+close_early : (d : Decision) (n : ℕ) (w : Shown) (lot : LotState) → at_number w.lots n ≡ Some lot → lot.ended ≡ false → w.clear.down ≡ false → lot.sealed ≡ false
     → lot.turns ≢ [] → happens d (event.LotClose n) w ≡ refuse refusal.Unserved w
 unfolding happens judged
-close_early d n w lot found going up unsealed some = by lot.turns refl
-  where
-    by : (left : List Planned) → lot.turns ≡ left → happens d (event.LotClose n) w ≡ refuse refusal.Unserved w
-    by [] e = absurd (some e)
-    by (p ∷ left) e = rw (found, going, up, unsealed, e) refl
+close_early d n w lot found going up unsealed some = rw (found, going, up, unsealed, some_there lot.turns some) refl
 
 -- a sealed lot is closed, and one for which no member waits
-met : (lot : LotState) → IsMet lot → (lot.sealed || is_empty lot.turns) ≡ true
+met : (lot : LotState) → IsMet lot → (lot.sealed || (length lot.turns == 0)) ≡ true
 met lot (inl shut) = rw shut refl
 met lot (inr none) = by lot.sealed
   where
-    by : (b : Bool) → (b || is_empty lot.turns) ≡ true
+    by : (b : Bool) → (b || (length lot.turns == 0)) ≡ true
     by true = refl
     by false = rw none refl
 
@@ -290,11 +287,11 @@ abbrev allocates : Decision → ℕ → Shown → LotState → Allocation → Ju
 allocates d n w lot a = need (not (are_spent (orders_of w.clear.records) (deliveries_in a))) refusal.NumbersSpent >> commits_close d n w lot a
 
 -- a lot that may close, as the node's open lot of its issue makes it an allocation
-close_allocates : (d : Decision) (n : ℕ) (w : Shown) (lot : LotState) (twin : Lot) (a : Allocation) → at_number w.clear.lots n ≡ Some lot → lot.ended ≡ false → w.clear.down ≡ false
-    → IsMet lot → lot_of w.clear.open_lots lot.issue ≡ Some twin → a ≡ allocation_of twin lot.tickets lot.sealed → judged d (event.LotClose n) w ≡ allocates d n w lot a
+close_allocates : (d : Decision) (n : ℕ) (w : Shown) (lot : LotState) (twin : Lot) (a : Allocation) → at_number w.lots n ≡ Some lot → lot.ended ≡ false → w.clear.down ≡ false
+    → IsMet lot → lot_of w.open_lots lot.issue ≡ Some twin → a ≡ allocation_of twin lot.tickets lot.sealed → judged d (event.LotClose n) w ≡ allocates d n w lot a
 unfolding judged
 close_allocates d n w lot twin a found going up may has is =
-    found_at n w lot _ (at_open n w lot found going) ∙ passes (not w.clear.down) refusal.Down _ (ap not up) ∙ passes (lot.sealed || is_empty lot.turns) refusal.Unserved _ (met lot may)
+    found_at n w lot _ (at_open n w lot found going) ∙ passes (not w.clear.down) refusal.Down _ (ap not up) ∙ passes (lot.sealed || (length lot.turns == 0)) refusal.Unserved _ (met lot may)
     ∙ rw has refl ∙ ap (allocates d n w lot) (sym is)
 
 close_spent : (d : Decision) (n : ℕ) (a : Allocation) (w : Shown) (lot : LotState) → are_spent (orders_of w.clear.records) (deliveries_in a) ≡ true
@@ -310,7 +307,7 @@ closed_is : (w : Shown) (lot : LotState) (a : Allocation) (done : Closed) → Is
 closed_is w lot a done is = rw (← is.granted, ← is.orders) refl
 
 closed_world : (n : ℕ) (lot : LotState) (a : Allocation) (old new : World) → IsAtClear old new → Added (entry.Allocate a) old.clear.clear new.clear.clear
-    → new.clear.lots ≡ update_at old.clear.lots n (with_end lot) → shown_of new ≡ with_lot n (with_end lot) (clear_added (entry.Allocate a) (shown_of old))
+    → new.clear.lots ≡ slice_set old.clear.lots (n - 1) (with_end lot) → shown_of new ≡ with_lot n (with_end lot) (clear_added (entry.Allocate a) (shown_of old))
 closed_world n lot a old new at (up, added, open_lots) lots = rw (added.0, open_lots, lots, at.depot, at.orders, at.replies) refl
 
 -- a lot that may close, by what the node answers
@@ -325,7 +322,7 @@ module _ (d : Decision) (n : ℕ) (lot : LotState) (old new : World) (at : IsAtC
       → happens d (event.LotClose n) (shown_of old) ≡ settled (shown_of old) (commits_close d n (shown_of old) lot a)
   closes_numbered a up may room = closes a up may ∙ ap (settled (shown_of old)) (close_numbered d n a (shown_of old) lot room)
 
-  closed_done : (done : Closed) → LotCloseLeaves lot.issue lot.tickets lot.sealed (Ok done) old.clear.clear new.clear.clear → new.clear.lots ≡ update_at old.clear.lots n (with_end lot)
+  closed_done : (done : Closed) → LotCloseLeaves lot.issue lot.tickets lot.sealed (Ok done) old.clear.clear new.clear.clear → new.clear.lots ≡ slice_set old.clear.lots (n - 1) (with_end lot)
       → d ≡ Goes → happens d (event.LotClose n) (shown_of old) ≡ (outcomes.Closed done, shown_of new)
   closed_done done (a, may, allowed, made, added) lots goes =
       closes_numbered a added.0 may allowed.numbers ∙ commit_goes d _ _ _ _ _ goes (closed_world n lot a old new at added lots)

@@ -8,7 +8,7 @@ use Rattle.cns_records.specs.declared.refusal.Refusal.{Refusal}
 use Rattle.cns_records.specs.declared.refusal.Refusal.TheVariants.{NotLong, EarlierGroup, Sealed}
 use Rattle.cns_system.specs.Lot.{LotState, with_end}
 use Rattle.cns_wire.specs.Packet.{at_number}
-use Rattle.cns_system.specs.Lots.{update_at, DrawLeaves, HasOpenLot, ReserveLeaves}
+use Rattle.cns_system.specs.Lots.{DrawLeaves, HasOpenLot, ReserveLeaves}
 
 -- the lot that was opened with a number and has not ended
 pub record IsOpen (lots : List LotState) (number : ℕ) (P : LotState → Type 0) : Type 0 where
@@ -43,7 +43,7 @@ read_at lots items number place l d same is_place found = rw (same, is_place) (i
 pub record IsRead (lots items : List LotState) (number place : ℕ) (l : LotState) : Type 0 where
   pub found : at_number lots number ≡ Some l
   pub going : l.ended ≡ false
-  pub changed : (new : LotState) → slice_set items place new ≡ update_at lots number new
+  pub changed : (new : LotState) → slice_set items place new ≡ slice_set lots (number - 1) new
   pub stays : slice_set items place l ≡ lots
 
 pub lot-read : (lots items : List LotState) (number place : ℕ) (l : LotState) → items ≡ lots → HasOpenLot lots number (λ (k : LotState). place ≡ number - 1)
@@ -61,16 +61,16 @@ lot-read lots items number place l same is read =
 
 -- a change of a lot in its place
 pub change_leaves : (change : LotState → LotState) (lots items : List LotState) (number place : ℕ) (l new : LotState) → IsRead lots items number place l → new ≡ change l
-    → HasOpenLot lots number (λ (k : LotState). slice_set items place new ≡ update_at lots number (change k))
+    → HasOpenLot lots number (λ (k : LotState). slice_set items place new ≡ slice_set lots (number - 1) (change k))
 change_leaves change lots items number place l new is changed =
-    open-from lots number (λ (k : LotState). slice_set items place new ≡ update_at lots number (change k)) l is.found is.going
-    (is.changed new ∙ ap (λ (k : LotState). update_at lots number k) changed)
+    open-from lots number (λ (k : LotState). slice_set items place new ≡ slice_set lots (number - 1) (change k)) l is.found is.going
+    (is.changed new ∙ ap (λ (k : LotState). slice_set lots (number - 1) k) changed)
 
 -- a reserve of a lot in its place
 pub reserve_leaves : (lots items : List LotState) (number place member : ℕ) (result : Result Ticket Refusal) (l new : LotState) → IsRead lots items number place l
     → DrawLeaves member result l new → ReserveLeaves number member result lots (slice_set items place new)
 reserve_leaves lots items number place member (Ok ticket) l new is draws =
-    open-from lots number _ l is.found is.going (draws.0, draws.1, draws.2, is.changed new ∙ ap (λ (k : LotState). update_at lots number k) draws.3)
+    open-from lots number _ l is.found is.going (draws.0, draws.1, draws.2, is.changed new ∙ ap (λ (k : LotState). slice_set lots (number - 1) k) draws.3)
 reserve_leaves lots items number place member (Err NotLong) l new is draws =
     (open-from lots number _ l is.found is.going draws.0, ap (λ (k : LotState). slice_set items place k) draws.1 ∙ is.stays)
 reserve_leaves lots items number place member (Err EarlierGroup) l new is draws =

@@ -1,6 +1,6 @@
 -- What the calls of a node with its lots by number leave.
 use Rattle.std.proofs.Common.{◌≡◌, ◌≤◌, ℕ, List, [], ◌∷◌, ◌++◌, length, Option, Some, None, Result, Ok, Err, Bool, true, false, ap, sym, subst, refl, arith, ◌∙◌, inl, inr}
-use Rattle.std.specs.Prelude.{◌==◌, ◌⊎◌, IsSomeAnd, option_map, unwrap_or, if◌then◌else◌}
+use Rattle.std.specs.Prelude.{◌==◌, ◌⊎◌, IsSomeAnd, option_map, unwrap_or, if◌then◌else◌, slice_set, ◌-◌}
 use Rattle.std.proofs.lemmas.Bool.{eqb-true, false_from_ne_true}
 use Rattle.std.proofs.lemmas.Option.{same_Some}
 use Rattle.cns_netting.specs.Book.{IsBook}
@@ -27,7 +27,7 @@ use Rattle.cns_records.specs.declared.refusal.Refusal.TheVariants as refusal
 use Rattle.cns_clearing.specs.declared.lot.Lot.{Lot}
 use Rattle.cns_system.specs.Lot.{LotState, IsOfPlan, new_lot, planned_sum, ticket_in, with_end, with_seal, with_ticket}
 use Rattle.cns_wire.specs.Packet.{at_number}
-use Rattle.cns_system.specs.Lots.{update_at, HasOpenLot, IsTurnFor, LotLeaves, ReserveLeaves}
+use Rattle.cns_system.specs.Lots.{HasOpenLot, IsTurnFor, LotLeaves, ReserveLeaves}
 use Rattle.cns_system.specs.Numbered.{AreTied, CloseLeaves, IsMet, NumberedNode}
 use Rattle.cns_system.proofs.LotsLemmas.{open-from, open-parts}
 use Rattle.cns_system.proofs.TiedLemmas.{found_of, found_poured, found_without, poured_keeps, tied_changed, tied_more}
@@ -36,7 +36,7 @@ use Rattle.cns_system.proofs.TiedLemmas.{found_of, found_poured, found_without, 
 
 -- a lot that stays of its issue and its plan
 stays_tied : (open_lots : List Lot) (lots : List LotState) (n : ℕ) (l x : LotState) → AreTied open_lots lots → at_number lots n ≡ Some l → l.ended ≡ false
-    → x.issue ≡ l.issue → ((plan : List Planned) → IsOfPlan plan l → IsOfPlan plan x) → AreTied open_lots (update_at lots n x)
+    → x.issue ≡ l.issue → ((plan : List Planned) → IsOfPlan plan l → IsOfPlan plan x) → AreTied open_lots (slice_set lots (n - 1) x)
 stays_tied open_lots lots n l x are found going issue stays =
     let tied = are.each n l found going in
     tied_changed open_lots open_lots lots n l x are found going issue
@@ -57,7 +57,7 @@ drawn_stays plan l member t turn next is = record {
 pub seal_tied : (open_lots : List Lot) (n : ℕ) (r : Result (Unit {0}) Refusal) (lots after : List LotState) → AreTied open_lots lots → LotLeaves with_seal n r lots after
     → AreTied open_lots after
 seal_tied open_lots n (Ok u) lots after are h =
-    let at = open-parts lots n (λ (l : LotState). after ≡ update_at lots n (with_seal l)) h in
+    let at = open-parts lots n (λ (l : LotState). after ≡ slice_set lots (n - 1) (with_seal l)) h in
     subst (AreTied open_lots) (sym at.holds) (stays_tied open_lots lots n at.lot (with_seal at.lot) are at.found at.going refl (λ plan is. record { is = is.is; served = is.served; turns = is.turns }))
 seal_tied open_lots n (Err refusal.NoLot) lots after are h = subst (AreTied open_lots) (sym h.1) are
 seal_tied open_lots n (Err refusal.StaleLot) lots after are h = subst (AreTied open_lots) (sym h.1) are
@@ -168,10 +168,10 @@ pour_tied old new lots issue shares are h =
 
 -- what a change of an open lot leaves
 pub change_is : (change : LotState → LotState) (n : ℕ) (r : Result (Unit {0}) Refusal) (lots after : List LotState) (l : LotState) → at_number lots n ≡ Some l → l.ended ≡ false
-    → LotLeaves change n r lots after → after ≡ update_at lots n (change l)
+    → LotLeaves change n r lots after → after ≡ slice_set lots (n - 1) (change l)
 change_is change n (Ok u) lots after l found going h =
-    let at = open-parts lots n (λ (k : LotState). after ≡ update_at lots n (change k)) h in
-    at.holds ∙ ap (λ (k : LotState). update_at lots n (change k)) (same_Some at.lot l (sym at.found ∙ found))
+    let at = open-parts lots n (λ (k : LotState). after ≡ slice_set lots (n - 1) (change k)) h in
+    at.holds ∙ ap (λ (k : LotState). slice_set lots (n - 1) (change k)) (same_Some at.lot l (sym at.found ∙ found))
 change_is change n (Err refusal.NoLot) lots after l found going h = let no : None ≡ Some l = sym h.0 ∙ found in cc
 change_is change n (Err refusal.StaleLot) lots after l found going h =
     let Q : Option LotState → Type 0 = λ o. IsSomeAnd o (λ (k : LotState). k.ended ≡ true) in

@@ -1,6 +1,6 @@
 -- The tickets that are entered of a lot that was busy are of one plan.
 use Rattle.std.proofs.Common.{◌≡◌, ◌∙◌, ◌-◌, ◌≤◌, ℕ, Bool, true, false, List, [], ◌∷◌, ◌++◌, Some, Result, Ok, Err, ap, sym, subst, refl, inl, inr}
-use Rattle.std.specs.Prelude.{◌⊎◌, ◌==◌}
+use Rattle.std.specs.Prelude.{◌⊎◌, ◌==◌, slice_set}
 use Rattle.std.specs.List.{list_any}
 use Rattle.std.proofs.lemmas.List.{append_assoc, append-nil}
 use Rattle.std.proofs.lemmas.List.Sorted.{IsPermutation-refl}
@@ -21,7 +21,7 @@ use Rattle.cns_system.specs.Finish.{AreCutOff, AreEntered, AreOfOnePlan, IsClose
 use Rattle.cns_system.specs.Floor.{AreBusy, BusyLot, FloorState, IsBusy, busy_at}
 use Rattle.cns_system.specs.Lot.{IsPlanOf, LotState, with_ticket}
 use Rattle.cns_wire.specs.Packet.{at_number}
-use Rattle.cns_system.specs.Lots.{ArePlanned, ReserveLeaves, update_at}
+use Rattle.cns_system.specs.Lots.{ArePlanned, ReserveLeaves}
 use Rattle.cns_system.specs.Numbered.{CloseLeaves, IsMet, NumberedNode}
 use Rattle.cns_system.specs.Outcomes.{close_outcome, reserve_outcome}
 use Rattle.cns_system.specs.Run.{Run}
@@ -43,9 +43,9 @@ record Has (n : ℕ) (lots : List LotState) (tickets : List Ticket) : Type 0 whe
   tickets_are : lot.tickets ≡ tickets
   unsealed : lot.sealed ≡ false
 
-found_updated : (lots : List LotState) (n : ℕ) (l x : LotState) → at_number lots n ≡ Some l → at_number (update_at lots n x) n ≡ Some x
+found_updated : (lots : List LotState) (n : ℕ) (l x : LotState) → at_number lots n ≡ Some l → at_number (slice_set lots (n - 1) x) n ≡ Some x
 found_updated lots n l x found =
-    let at = at_place lots n l found in from_place (update_at lots n x) n x at.0 (get_set_same lots (n - 1) l x at.1)
+    let at = at_place lots n l found in from_place (slice_set lots (n - 1) x) n x at.0 (get_set_same lots (n - 1) l x at.1)
 
 has_more : (n member : ℕ) (t : Ticket) (lots new : List LotState) (tickets : List Ticket) → Has n lots tickets → ReserveLeaves n member (Ok t) lots new
     → Has n new (tickets ++ t ∷ [])

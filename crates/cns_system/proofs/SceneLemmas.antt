@@ -1,5 +1,6 @@
 -- An event comes to what it does by a chance, and leaves what that chance makes known of both keepers.
 use Rattle.std.proofs.Common.{◌≡◌, ◌≢◌, ℕ, ◌+◌, ◌&&◌, Bool, true, false, List, length, Option, Some, None, Result, Ok, Err, inl, inr, refl, sym, ap, ◌∙◌, subst}
+use Rattle.std.specs.Prelude.{unwrap_or}
 use Rattle.std.proofs.lemmas.Bool.{and_left, and_parts, and_right, false_from_ne_true}
 use Rattle.cns_ids.specs.declared.cycle.CycleId.{CycleId}
 use Rattle.cns_trades.specs.declared.trade.Trade.{Trade}
@@ -41,7 +42,7 @@ use Rattle.cns_system.specs.Lots.{LotLeaves, ReserveLeaves}
 use Rattle.cns_system.specs.Numbered.{NumberedNode, CloseLeaves, OpenLeaves, PourLeaves}
 use Rattle.cns_system.specs.Outcomes.{asked_outcome, close_outcome, cycle_outcome, done_outcome, open_outcome, order_outcome, pour_outcome, poured_outcome, reply_outcome, reserve_outcome, restart_outcome, trade_outcome}
 use Rattle.cns_system.specs.Readers.{PlanStep}
-use Rattle.cns_system.specs.Scene.{AsForeseen, Chance, Comes, ComesBack, Decides, Forgets, Plans, Scene, Sight, after_commit, after_restart, clear_foresight, comes_back, comes_to, commit_decision, decision_at, depot_foresight, given_back, is_foreseen, restart_decision, scene_of, sight_of}
+use Rattle.cns_system.specs.Scene.{AsForeseen, Chance, Comes, ComesBack, Decides, Forgets, Plans, Scene, Sight, after_commit, after_restart, comes_to, commit_decision, decision_at, given_back, is_foreseen, known_after, known_of, node_of, restart_decision, scene_of, sight_of, with_known}
 use Rattle.cns_system.specs.Shown.{Shown, shown_of}
 use Rattle.cns_system.specs.Step.{AtClear, ByLots, ByNode, ClearRestarts, DepotRestartStep, IsNotSent, Looks, OrderInStep, OrderTaken, ReplyInStep, SendStep, Step}
 use Rattle.cns_system.specs.World.{World, order_in_packet, reply_in_packet}
@@ -60,18 +61,20 @@ use Rattle.cns_system.proofs.LotsLemmas.{open-parts}
 -- ---- from a chance to what an event comes to
 
 -- both nodes with what is known of the keepers, by what is known of each
-scene_same : (outcome : Outcome) (w : Shown) (a b c d : Sight) → c ≡ a → d ≡ b
-    → ◌≡◌ {A = Outcome × Scene} (outcome, record { shown = w; clear = a; depot = b }) (outcome, record { shown = w; clear = c; depot = d })
-scene_same outcome w a b c d clear depot = rw (clear, depot) refl
+scene_same : (w : Shown) (a b c d : Sight) → c ≡ a → d ≡ b
+    → ◌≡◌ {A = Scene} (record { shown = w; clear = c; depot = d }) (record { shown = w; clear = a; depot = b })
+scene_same w a b c d clear depot = rw (clear, depot) refl
+
+-- what is known of both keepers after an event
+abbrev scene_after : Chance → Event → Outcome → Shown → Scene → Scene
+scene_after chance e outcome w s = with_known (node_of e) (known_after chance e outcome (known_of (node_of e) s)) (record s { shown = w })
 
 -- a chance gives a decision that fits what an event came to, and what is known of both keepers after it
 comes_by : (chance : Chance) (e : Event) (outcome : Outcome) (old new : World) → Fits (decision_at chance e (scene_of old)) e outcome (shown_of new)
-    → sight_of new.clear.clear.log ≡ record (sight_of old.clear.clear.log) { foresight = clear_foresight chance e outcome old.clear.clear.log.foresight }
-    → sight_of new.depot.log ≡ record (sight_of old.depot.log) { foresight = depot_foresight chance e outcome old.depot.log.foresight }
-    → Step e outcome old new → Comes e outcome old new
+    → scene_of new ≡ scene_after chance e outcome (shown_of new) (scene_of old) → Step e outcome old new → Comes e outcome old new
 unfolding comes_to
-comes_by chance e outcome old new fits clear depot step =
-    (chance, rw (step_happens (decision_at chance e (scene_of old)) e outcome old new fits step) (scene_same outcome (shown_of new) _ _ _ _ clear depot))
+comes_by chance e outcome old new fits leaves step =
+    (chance, rw (step_happens (decision_at chance e (scene_of old)) e outcome old new fits step) (ap (λ (s : Scene). (outcome, s)) (sym leaves)))
 
 -- ---- commits
 
@@ -297,17 +300,13 @@ IsClearEvent _ = Unit {0}
 -- by what is known of the clearing node's keeper such an event is decided, and only of it is something else known after the event
 record OfClear (e : Event) : Type 0 where
   decision : (chance : Chance) (s : Scene) → decision_at chance e s ≡ commit_decision s.clear.foresight.next chance
-  clear : (chance : Chance) (outcome : Outcome) (f : Foresight) → clear_foresight chance e outcome f ≡ after_commit outcome f
-  depot : (chance : Chance) (outcome : Outcome) (f : Foresight) → depot_foresight chance e outcome f ≡ f
+  leaves : (chance : Chance) (outcome : Outcome) (w : Shown) (s : Scene)
+      → scene_after chance e outcome w s ≡ with_known node.Clear (after_commit outcome s.clear.foresight) (record s { shown = w })
 
 of_clear : (e : Event) → IsClearEvent e → OfClear e
 of_clear (event.Restart name) at = absurd at
 of_clear (event.OrderIn packet) at = absurd at
-of_clear _ at = record {
-  decision = λ chance s. refl;
-  clear = λ chance outcome f. refl;
-  depot = λ chance outcome f. refl;
-}
+of_clear _ at = record { decision = λ chance s. refl; leaves = λ chance outcome w s. refl }
 
 clear_comes : (e : Event) (outcome : Outcome) (old new : World) → IsClearEvent e
     → ClearCommits e outcome (shown_of new) old.clear.clear new.clear.clear
@@ -315,8 +314,9 @@ clear_comes : (e : Event) (outcome : Outcome) (old new : World) → IsClearEvent
 clear_comes e outcome old new at commits depot step =
     let of = of_clear e at in
     comes_by commits.chance e outcome old new (rw (of.decision commits.chance (scene_of old)) commits.fits)
-    (rw (of.clear commits.chance outcome old.clear.clear.log.foresight) commits.leaves)
-    (rw (of.depot commits.chance outcome old.depot.log.foresight, depot) refl) step
+    (scene_same (shown_of new) _ _ _ _ commits.leaves (ap (λ (n : DepNode). sight_of n.log) depot)
+    ∙ sym (of.leaves commits.chance outcome (shown_of new) (scene_of old)))
+    step
 
 -- an event at the clearing node, by its call's answer
 at_clear : {R : Type 0} (e : Event) (told : R → Outcome) (Leaves : R → NumberedNode → NumberedNode → Type 0) (outcome : Outcome) (old new : World)
@@ -379,7 +379,7 @@ order_comes : (packet : ℕ) (outcome : Outcome) (old new : World) → DepotComm
     → new.clear ≡ old.clear → Step (event.OrderIn packet) outcome old new → Comes (event.OrderIn packet) outcome old new
 order_comes packet outcome old new commits clear step =
     comes_by commits.chance (event.OrderIn packet) outcome old new commits.fits
-    (ap (λ (n : NumberedNode). sight_of n.clear.log) clear) commits.leaves step
+    (scene_same (shown_of new) _ _ _ _ (ap (λ (n : NumberedNode). sight_of n.clear.log) clear) commits.leaves) step
 
 order_in_comes : (packet : ℕ) (held : Option Order) (outcome : Outcome) (old new : World) → Step (event.OrderIn packet) outcome old new
     → OrderInStep held outcome old new → Comes (event.OrderIn packet) outcome old new
@@ -421,23 +421,18 @@ abbrev chance_of : Bool → Chance
 chance_of true = ComesBack
 chance_of false = AsForeseen
 
-came_back : (kept : Bool) (stands : Option Bool) → ((known : Bool) → stands ≡ Some known → kept ≡ known) → comes_back stands (chance_of kept) ≡ kept
+came_back : (kept : Bool) (stands : Option Bool) → ((known : Bool) → stands ≡ Some known → kept ≡ known) → unwrap_or stands kept ≡ kept
 came_back kept (Some known) as_known = sym (as_known known refl)
-came_back true None as_known = refl
-came_back false None as_known = refl
-
-not_given : {R : Type 0} (tried : Option R) (records : List R) → given_back tried false records ≡ records
-not_given None records = refl
-not_given (Some r) records = refl
+came_back kept None as_known = refl
 
 given_when : {R : Type 0} (kept : Bool) (old new : LogState R) → Restarts kept old new → given_back old.tried kept old.records ≡ new.records
-given_when false old new is = not_given old.tried old.records ∙ sym is
+given_when false old new is = sym is
 given_when true old new (r, tried, is) = rw (tried, is) refl
 
 -- an honest keeper of which something is known gives its journal back
 gives : {R : Type 0} (reads : List R → Decision) (kept : Bool) (s : Sight) (tried : Option R) (records : List R)
     → (s.honest && is_foreseen s.foresight.next) ≡ true
-    → restart_decision reads s tried records (chance_of kept) ≡ reads (given_back tried (comes_back s.foresight.stands (chance_of kept)) records)
+    → restart_decision reads s tried records (chance_of kept) ≡ reads (given_back tried (unwrap_or s.foresight.stands kept) records)
 gives reads true s tried records known = rw known refl
 gives reads false s tried records known = rw known refl
 
@@ -496,7 +491,8 @@ clear_restart_comes outcome old new step (depot, orders, replies, (result, is, l
     (restart_rereads spelling IsAllowed HasPayload ClearReads e result (shown_of new) old.clear.clear.log new.clear.clear.log (λ c e. absurd (cc e))
     (λ d reads. reads) left.0.0)
     in
-    comes_by rereads.chance e outcome old new rereads.fits rereads.leaves (ap (λ (n : DepNode). sight_of n.log) depot) step
+    comes_by rereads.chance e outcome old new rereads.fits
+    (scene_same (shown_of new) _ _ _ _ rereads.leaves (ap (λ (n : DepNode). sight_of n.log) depot)) step
 
 depot_restart_comes : (outcome : Outcome) (old new : World) → Step (event.Restart node.Depot) outcome old new → DepotRestartStep outcome old new
     → Comes (event.Restart node.Depot) outcome old new
@@ -507,7 +503,8 @@ depot_restart_comes outcome old new step (clear, orders, replies, (result, is, l
     (restart_rereads dep_spelling (IsExecutable old.depot.openings) HasDepPayload DepotReads e result (shown_of new) old.depot.log new.depot.log
     (λ p e. absurd (cc e)) (λ d reads. reads) left.0)
     in
-    comes_by rereads.chance e outcome old new rereads.fits (ap (λ (n : NumberedNode). sight_of n.clear.log) clear) rereads.leaves step
+    comes_by rereads.chance e outcome old new rereads.fits
+    (scene_same (shown_of new) _ _ _ _ (ap (λ (n : NumberedNode). sight_of n.clear.log) clear) rereads.leaves) step
 
 -- ---- all events
 

@@ -1,6 +1,8 @@
 -- What the world shows after a call of a node, and what a decision makes of a commit.
-use Rattle.std.proofs.Common.{◌≡◌, ◌≢◌, ◌++◌, Bool, true, [], ◌∷◌, Some, Result, refl, ap}
+use Rattle.std.proofs.Common.{◌≡◌, ◌≢◌, ◌++◌, Bool, true, false, List, [], ◌∷◌, length, Some, Result, refl, ap, arith}
+use Rattle.std.specs.Prelude.{◌==◌}
 use Rattle.cns_ids.specs.Steps.{◌>>◌, need}
+use Rattle.std.proofs.lemmas.Bool.Decides.{nat_tests}
 use Rattle.std.proofs.lemmas.List.{map-append}
 use Rattle.cns_journal.specs.RecordLog.{LogState}
 use Rattle.cns_movements.specs.declared.order.Reply.{Reply}
@@ -11,7 +13,7 @@ use Rattle.cns_records.specs.declared.refusal.Refusal.TheVariants as refusal
 use Rattle.cns_wire.specs.Frame.{reply_frame}
 use Rattle.cns_clearing.specs.Node as clear
 use Rattle.cns_depository.specs.Node as depot
-use Rattle.cns_system.specs.Happens.{Decision, Goes, NoMemory, DeviceFails, ClearReads, DepotReads, FindsBad, Happening, commits, grows, settled, with_reply}
+use Rattle.cns_system.specs.Happens.{Decision, Goes, NoMemory, DeviceFails, ClearReads, DepotReads, FindsBad, commits, grows, settled, with_reply}
 use Rattle.cns_system.specs.Shown.{Shown, clear_added, clear_failed, depot_added, depot_failed, shown_of}
 use Rattle.cns_system.specs.World.{World, reply_spelt}
 use Rattle.cns_system.specs.declared.outcome.Outcome.{Outcome}
@@ -67,15 +69,20 @@ depot_when_failed e old new at (up, (log, risen, failed), openings) replies =
 pub passes : {A : Type 0} (holds : Bool) (r : Refusal) (next : Result A Refusal) → holds ≡ true → (need holds r >> next) ≡ next
 passes holds r next e = rw e refl
 
-abbrev pub refuse : Refusal → Shown → Happening
+-- a list of some has not length 0
+pub some_there : {A : Type 0} (xs : List A) → xs ≢ [] → (length xs == 0) ≡ false
+some_there [] some = absurd (some refl)
+some_there (x ∷ xs) some = grind (arith, nat_tests)
+
+abbrev pub refuse : Refusal → Shown → Outcome × Shown
 refuse r w = (outcomes.Refused r, w)
 
 -- what happens, by the world that is left
-pub came : (happening : Happening) (outcome : Outcome) (w w' : Shown) → happening ≡ (outcome, w) → w' ≡ w → happening ≡ (outcome, w')
+pub came : (happening : Outcome × Shown) (outcome : Outcome) (w w' : Shown) → happening ≡ (outcome, w) → w' ≡ w → happening ≡ (outcome, w')
 came happening outcome w w' is same = rw same is
 
 -- there is memory, and there is none
-pub with_room : (d : Decision) (happening : Happening) (w : Shown) → d ≢ NoMemory → settled w (grows d happening) ≡ happening
+pub with_room : (d : Decision) (happening : Outcome × Shown) (w : Shown) → d ≢ NoMemory → settled w (grows d happening) ≡ happening
 with_room NoMemory happening w room = absurd (room refl)
 with_room Goes happening w room = refl
 with_room DeviceFails happening w room = refl
@@ -83,16 +90,16 @@ with_room (ClearReads c) happening w room = refl
 with_room (DepotReads p) happening w room = refl
 with_room (FindsBad place) happening w room = refl
 
-pub without_room : (d : Decision) (happening : Happening) (w w' : Shown) → d ≡ NoMemory → w' ≡ w → settled w (grows d happening) ≡ refuse refusal.OutOfMemory w'
+pub without_room : (d : Decision) (happening : Outcome × Shown) (w w' : Shown) → d ≡ NoMemory → w' ≡ w → settled w (grows d happening) ≡ refuse refusal.OutOfMemory w'
 without_room d happening w w' short same = rw (same, short) refl
 
 -- a commit that goes, one for which there is no memory, and one that fails at the device
 pub commit_goes : (d : Decision) (o : Outcome) (w w' w'' failed : Shown) → d ≡ Goes → w'' ≡ w' → settled w (commits d (o, w') failed) ≡ (o, w'')
 commit_goes d o w w' w'' failed goes same = rw (same, goes) refl
 
-pub commit_short : (d : Decision) (happening : Happening) (w w' failed : Shown) → d ≡ NoMemory → w' ≡ w → settled w (commits d happening failed) ≡ refuse refusal.OutOfMemory w'
+pub commit_short : (d : Decision) (happening : Outcome × Shown) (w w' failed : Shown) → d ≡ NoMemory → w' ≡ w → settled w (commits d happening failed) ≡ refuse refusal.OutOfMemory w'
 commit_short d happening w w' failed short same = rw (same, short) refl
 
-pub commit_fails : (d : Decision) (happening : Happening) (w w' failed : Shown) → d ≡ DeviceFails → w' ≡ failed
+pub commit_fails : (d : Decision) (happening : Outcome × Shown) (w w' failed : Shown) → d ≡ DeviceFails → w' ≡ failed
     → settled w (commits d happening failed) ≡ refuse refusal.Device w'
 commit_fails d happening w w' failed fails same = rw (same, fails) refl

@@ -1,6 +1,6 @@
 -- What each event may leave of the lots by number.
 use Rattle.std.proofs.Common.{◌≡◌, ◌∙◌, ◌≤◌, ◌-◌, ℕ, true, false, not, List, [], ◌∷◌, ◌++◌, length, map, Option, Some, None, Result, Ok, Err, ap, sym, subst, refl, arith, inl, inr, length-set}
-use Rattle.std.specs.Prelude.{◌⊎◌, slice_get}
+use Rattle.std.specs.Prelude.{◌⊎◌, slice_get, slice_set}
 use Rattle.std.proofs.lemmas.List.{length-append, length-map}
 use Rattle.cns_clearing.specs.Answers.{CycleLeaves, ReplyLeaves, SettingLeaves, TradeLeaves}
 use Rattle.cns_clearing.specs.Lots.{lots_after}
@@ -24,7 +24,7 @@ use Rattle.cns_records.specs.declared.refusal.Refusal.TheVariants as refusal
 use Rattle.cns_wire.specs.Packet.{at_number}
 use Rattle.cns_system.specs.Floor.{has_not_ended, is_open, lot_changed}
 use Rattle.cns_system.specs.Lot.{LotState, with_end, with_seal}
-use Rattle.cns_system.specs.Lots.{LotLeaves, ReserveLeaves, update_at}
+use Rattle.cns_system.specs.Lots.{LotLeaves, ReserveLeaves}
 use Rattle.cns_system.specs.Numbered.{NumberedNode, AreTied, CloseLeaves, OpenLeaves, PourLeaves}
 use Rattle.cns_system.specs.Step.{OrderInStep, ReplyInStep, SendStep, Step}
 use Rattle.cns_system.specs.World.{World, order_in_packet, reply_in_packet}
@@ -55,7 +55,7 @@ spares_same changed old new same = record {
 pub open_found : (lots : List LotState) (n : ℕ) (l : LotState) → at_number lots n ≡ Some l → l.ended ≡ false → is_open lots n ≡ true
 open_found lots n l found going = ap has_not_ended found ∙ ap not going
 
-pub spares_update : (old new : List LotState) (m : ℕ) (k x : LotState) → at_number old m ≡ Some k → k.ended ≡ false → new ≡ update_at old m x → Spares (Some m) old new
+pub spares_update : (old new : List LotState) (m : ℕ) (k x : LotState) → at_number old m ≡ Some k → k.ended ≡ false → new ≡ slice_set old (m - 1) x → Spares (Some m) old new
 spares_update old new m k x found going is = record {
   longer = let len = ap length is ∙ length-set _ _ _ in omega (arith, len);
   same = λ n l spared given here up. by n l spared (at_changed old m n k x l found (ap (λ (lots : List LotState). at_number lots n) (sym is) ∙ here));

@@ -13,7 +13,7 @@ use Rattle.cns_clearing.specs.declared.lot.Lot.{Lot}
 use Rattle.cns_records.specs.declared.clear_record.ClearRecord.{ClearRecord}
 use Rattle.cns_system.specs.Lot.{LotState, IsOfPlan, with_end}
 use Rattle.cns_wire.specs.Packet.{at_number}
-use Rattle.cns_system.specs.Lots.{ArePlanned, update_at}
+use Rattle.cns_system.specs.Lots.{ArePlanned}
 use Rattle.cns_system.specs.Numbered.{AreTied, IsTied}
 
 -- ---- the node's lot of an issue
@@ -119,7 +119,7 @@ record IsFrom (lots : List LotState) (m : ℕ) (k : LotState) : Type 0 where
   going : before.ended ≡ false
   issue : before.issue ≡ k.issue
 
-pub at_changed : (lots : List LotState) (n m : ℕ) (l x k : LotState) → at_number lots n ≡ Some l → at_number (update_at lots n x) m ≡ Some k
+pub at_changed : (lots : List LotState) (n m : ℕ) (l x k : LotState) → at_number lots n ≡ Some l → at_number (slice_set lots (n - 1) x) m ≡ Some k
     → ((m ≡ n) × (x ≡ k)) ⊎ ((m ≡ n → ⊥) × (at_number lots m ≡ Some k))
 at_changed lots n m l x k found changed = by (cases_eq m n)
   where
@@ -127,7 +127,7 @@ at_changed lots n m l x k found changed = by (cases_eq m n)
     here = at_place lots n l found
 
     there : (1 ≤ m) × (slice_get (slice_set lots (n - 1) x) (m - 1) ≡ Some k)
-    there = at_place (update_at lots n x) m k changed
+    there = at_place (slice_set lots (n - 1) x) m k changed
 
     by : (m ≡ n) ⊎ (m ≡ n → ⊥) → ((m ≡ n) × (x ≡ k)) ⊎ ((m ≡ n → ⊥) × (at_number lots m ≡ Some k))
     by (inl e) =
@@ -142,7 +142,7 @@ at_changed lots n m l x k found changed = by (cases_eq m n)
 -- a lot of a number that has not ended changes, and stays of its issue; the lots of other issues stay
 pub tied_changed : (open_lots after : List Lot) (lots : List LotState) (n : ℕ) (l x : LotState) → AreTied open_lots lots → at_number lots n ≡ Some l → l.ended ≡ false
     → x.issue ≡ l.issue → (x.ended ≡ false → IsTied after x)
-    → ((other : ℕ) → (other ≡ l.issue → ⊥) → lot_of after other ≡ lot_of open_lots other) → AreTied after (update_at lots n x)
+    → ((other : ℕ) → (other ≡ l.issue → ⊥) → lot_of after other ≡ lot_of open_lots other) → AreTied after (slice_set lots (n - 1) x)
 tied_changed open_lots after lots n l x are found going issue one others = record {
   each = λ m k at up. each m k at up (at_changed lots n m l x k found at);
   once = λ m p k j at_m at_p up_k up_j same.
@@ -151,7 +151,7 @@ tied_changed open_lots after lots n l x are found going issue one others = recor
       are.once m p first.before second.before first.found second.found first.going second.going (first.issue ∙ same ∙ sym second.issue);
 }
   where
-    each : (m : ℕ) (k : LotState) → at_number (update_at lots n x) m ≡ Some k → k.ended ≡ false
+    each : (m : ℕ) (k : LotState) → at_number (slice_set lots (n - 1) x) m ≡ Some k → k.ended ≡ false
         → ((m ≡ n) × (x ≡ k)) ⊎ ((m ≡ n → ⊥) × (at_number lots m ≡ Some k)) → IsTied after k
     each m k at up (inl h) = subst (λ (y : LotState). y.ended ≡ false → IsTied after y) h.1 one up
     each m k at up (inr h) =
@@ -159,7 +159,7 @@ tied_changed open_lots after lots n l x are found going issue one others = recor
         let other : k.issue ≡ l.issue → ⊥ = λ e. h.0 (are.once m n k l h.1 found up going e) in
         record { twin = tied.twin; found = others k.issue other ∙ tied.found; is = tied.is }
 
-    from : (m : ℕ) (k : LotState) → at_number (update_at lots n x) m ≡ Some k → k.ended ≡ false
+    from : (m : ℕ) (k : LotState) → at_number (slice_set lots (n - 1) x) m ≡ Some k → k.ended ≡ false
         → ((m ≡ n) × (x ≡ k)) ⊎ ((m ≡ n → ⊥) × (at_number lots m ≡ Some k)) → IsFrom lots m k
     from m k at up (inl h) = record {
       before = l;

@@ -10,13 +10,6 @@ use Rattle.cns_records.specs.declared.refusal.Refusal.{Refusal}
 use Rattle.cns_records.specs.declared.refusal.Refusal.TheVariants as refusal
 use Rattle.cns_system.specs.Lot.{LotState, IsOfPlan, IsPlanOf, turn_in, ticket_in, with_ticket}
 
-abbrev pub is_empty : {A : Type 0} → List A → Bool
-is_empty xs = elim xs [ [] ↦ true | x ∷ rest ↦ false ]
-
--- the lots with this one in the place of the number
-abbrev pub update_at : List LotState → ℕ → LotState → List LotState
-update_at lots number new = slice_set lots (number - 1) new
-
 -- the lots, and for how many more there is room
 pub record LotsRoom : Type 0 where
   pub lots : List LotState
@@ -48,7 +41,7 @@ LotGives P number (Err _) lots = ⊥
 
 -- what a change of the lot of a number leaves
 abbrev pub LotLeaves : (LotState → LotState) → ℕ → Result (Unit {0}) Refusal → List LotState → List LotState → Type 0
-LotLeaves change number (Ok _) old new = HasOpenLot old number (λ (lot : LotState). new ≡ update_at old number (change lot))
+LotLeaves change number (Ok _) old new = HasOpenLot old number (λ (lot : LotState). new ≡ slice_set old (number - 1) (change lot))
 LotLeaves change number (Err refusal.NoLot) old new = (at_number old number ≡ None) × (new ≡ old)
 LotLeaves change number (Err refusal.StaleLot) old new = HasEndedLot old number × (new ≡ old)
 LotLeaves change number (Err _) old new = ⊥
@@ -62,7 +55,7 @@ abbrev pub ReserveLeaves : ℕ → ℕ → Result Ticket Refusal → List LotSta
 ReserveLeaves number member (Ok ticket) old new =
     HasOpenLot old number
     (λ (lot : LotState).
-    (lot.sealed ≡ false) × IsTurnFor member lot ticket.asked × (ticket ≡ ticket_in lot member ticket.asked) × (new ≡ update_at old number (with_ticket ticket lot)))
+    (lot.sealed ≡ false) × IsTurnFor member lot ticket.asked × (ticket ≡ ticket_in lot member ticket.asked) × (new ≡ slice_set old (number - 1) (with_ticket ticket lot)))
 ReserveLeaves number member (Err refusal.NoLot) old new = (at_number old number ≡ None) × (new ≡ old)
 ReserveLeaves number member (Err refusal.StaleLot) old new = HasEndedLot old number × (new ≡ old)
 ReserveLeaves number member (Err refusal.NotLong) old new = HasOpenLot old number (λ (lot : LotState). turn_in lot member ≡ turn.NotLong) × (new ≡ old)

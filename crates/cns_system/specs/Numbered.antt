@@ -1,6 +1,6 @@
 -- A clearing node with its lots by number, and what each call answers and leaves (this project's own rules). A refusal tells that
 -- those named before it did not apply; only `Device` leaves anything changed.
-use Rattle.std.specs.Prelude.{◌≡◌, ◌≢◌, ◌⊎◌, ℕ, ◌+◌, ◌<◌, ◌≤◌, true, false, List, [], ◌∷◌, ◌++◌, length, Some, None, Result, Ok, Err}
+use Rattle.std.specs.Prelude.{◌≡◌, ◌≢◌, ◌⊎◌, ℕ, ◌+◌, ◌<◌, ◌≤◌, true, false, List, [], ◌∷◌, ◌++◌, length, Some, None, Result, Ok, Err, slice_set, ◌-◌}
 use Rattle.cns_clearing.specs.Answers.{LotCloseLeaves, LotOpenLeaves, LotPourLeaves}
 use Rattle.cns_clearing.specs.Lots.{avail_in, plan_in}
 use Rattle.cns_clearing.specs.Node.{ClearNode}
@@ -11,7 +11,7 @@ use Rattle.cns_records.specs.declared.refusal.Refusal.{Refusal}
 use Rattle.cns_records.specs.declared.refusal.Refusal.TheVariants as refusal
 use Rattle.cns_system.specs.Lot.{LotState, IsOfPlan, new_lot, with_end}
 use Rattle.cns_wire.specs.Packet.{at_number}
-use Rattle.cns_system.specs.Lots.{update_at, HasEndedLot, HasOpenLot}
+use Rattle.cns_system.specs.Lots.{HasEndedLot, HasOpenLot}
 use Rattle.cns_system.specs.declared.numbered.Opened.{Opened}
 
 -- the node, and the lots in the order of their numbers
@@ -68,7 +68,7 @@ abbrev pub CloseLeaves : ℕ → Result Closed Refusal → NumberedNode → Numb
 CloseLeaves number (Ok done) old new =
     HasOpenLot old.lots number
     (λ (lot : LotState).
-    IsMet lot × LotCloseLeaves lot.issue lot.tickets lot.sealed (Ok done) old.clear new.clear × (new.lots ≡ update_at old.lots number (with_end lot)))
+    IsMet lot × LotCloseLeaves lot.issue lot.tickets lot.sealed (Ok done) old.clear new.clear × (new.lots ≡ slice_set old.lots (number - 1) (with_end lot)))
 CloseLeaves number (Err refusal.NoLot) old new = (at_number old.lots number ≡ None) × (new ≡ old)
 CloseLeaves number (Err refusal.StaleLot) old new = HasEndedLot old.lots number × (new ≡ old)
 CloseLeaves number (Err refusal.Down) old new = HasOpenLot old.lots number (λ (lot : LotState). old.clear.log.down ≡ true) × (new ≡ old)

@@ -32,9 +32,22 @@ sight_of log = record { honest = log.honest; foresight = log.foresight }
 abbrev pub scene_of : World → Scene
 scene_of w = record { shown = shown_of w; clear = sight_of w.clear.clear.log; depot = sight_of w.depot.log }
 
+-- the node whose keeper an event may call
+abbrev pub node_of : Event → NodeName
+node_of e = elim e [ event.Restart name ↦ name | event.OrderIn packet ↦ node.Depot | _ ↦ node.Clear ]
+
+-- what is known beforehand of a node's keeper
+abbrev pub known_of : NodeName → Scene → Foresight
+known_of name s = elim name [ node.Clear ↦ s.clear.foresight | node.Depot ↦ s.depot.foresight ]
+
+-- this is known of a node's keeper instead
+abbrev pub with_known : NodeName → Foresight → Scene → Scene
+with_known node.Clear f s = record s { clear = record s.clear { foresight = f } }
+with_known node.Depot f s = record s { depot = record s.depot { foresight = f } }
+
 -- what comes between at an event: nothing; at a restart, an undecided record comes back of which that was not known; at a restart,
--- there is no memory, and this is known of the undecided record from then on; or the surroundings decide, of a commit of which
--- something is known, and of the restart of an honest keeper of which something is known, only that there is no memory
+-- there is no memory, and this is known of the undecided record from then on; or the surroundings decide: of a commit of which
+-- something is known, only that there is no memory, and of the restart of an honest keeper of which something is known, nothing
 pub data Chance : Type 0 where
   AsForeseen : Chance
   ComesBack : Chance
@@ -52,28 +65,22 @@ commit_decision _ chance = Goes
 abbrev pub is_foreseen : Forecast → Bool
 is_foreseen next = elim next [ Unforeseen ↦ false | _ ↦ true ]
 
--- whether an undecided record comes back, where that is known and else
-abbrev pub comes_back : Option Bool → Chance → Bool
-comes_back known chance = unwrap_or known (elim chance [ ComesBack ↦ true | _ ↦ false ])
-
 -- the records, and then the undecided one where it comes back
 abbrev pub given_back : {R : Type 0} → Option R → Bool → List R → List R
-given_back (Some r) true records = r ∷ records
-given_back _ _ records = records
+given_back tried comes records = if comes then elim tried [ None ↦ records | Some r ↦ r ∷ records ] else records
 
--- the decision at a restart: an honest keeper of which something is known gives its journal back
+-- the decision at a restart: an honest keeper of which something is known gives its journal back, with the undecided record where
+-- that is known to stand, or comes back
 abbrev pub restart_decision : {R : Type 0} → (List R → Decision) → Sight → Option R → List R → Chance → Decision
-restart_decision reads s tried records (Decides NoMemory) = NoMemory
 restart_decision reads s tried records (Forgets known) = NoMemory
 restart_decision reads s tried records chance =
-    if s.honest && is_foreseen s.foresight.next then reads (given_back tried (comes_back s.foresight.stands chance) records)
+    if s.honest && is_foreseen s.foresight.next then reads (given_back tried (unwrap_or s.foresight.stands (elim chance [ ComesBack ↦ true | _ ↦ false ])) records)
     else elim chance [ Decides d ↦ d | _ ↦ Goes ]
 
 abbrev pub decision_at : Chance → Event → Scene → Decision
 decision_at chance (event.Restart node.Clear) s = restart_decision ClearReads s.clear s.shown.clear.tried s.shown.clear.records chance
 decision_at chance (event.Restart node.Depot) s = restart_decision DepotReads s.depot s.shown.depot.tried s.shown.depot.records chance
-decision_at chance (event.OrderIn packet) s = commit_decision s.depot.foresight.next chance
-decision_at chance e s = commit_decision s.clear.foresight.next chance
+decision_at chance e s = commit_decision (known_of (node_of e) s).next chance
 
 -- what is known after a commit: of one that failed as was planned, whether its record stands
 abbrev pub after_commit : Outcome → Foresight → Foresight
@@ -88,24 +95,15 @@ after_restart chance (outcomes.Refused (refusal.BadJournal place)) f = record f 
 after_restart (Forgets known) (outcomes.Refused refusal.OutOfMemory) f = record f { stands = known }
 after_restart chance _ f = f
 
-abbrev pub clear_foresight : Chance → Event → Outcome → Foresight → Foresight
-clear_foresight chance (event.Restart node.Clear) outcome f = after_restart chance outcome f
-clear_foresight chance (event.Restart node.Depot) outcome f = f
-clear_foresight chance (event.OrderIn packet) outcome f = f
-clear_foresight chance e outcome f = after_commit outcome f
-
-abbrev pub depot_foresight : Chance → Event → Outcome → Foresight → Foresight
-depot_foresight chance (event.Restart node.Depot) outcome f = after_restart chance outcome f
-depot_foresight chance (event.OrderIn packet) outcome f = after_commit outcome f
-depot_foresight chance e outcome f = f
+-- what is known of the keeper of an event's node after it
+abbrev pub known_after : Chance → Event → Outcome → Foresight → Foresight
+known_after chance e outcome f = elim e [ event.Restart name ↦ after_restart chance outcome f | _ ↦ after_commit outcome f ]
 
 -- what an event comes to by what comes between, and leaves
 unfoldable pub comes_to : Chance → Event → Scene → Outcome × Scene
 comes_to chance e s =
-    let came = happens (decision_at chance e s) e s.shown in
-    let clear = record s.clear { foresight = clear_foresight chance e came.0 s.clear.foresight } in
-    let depot = record s.depot { foresight = depot_foresight chance e came.0 s.depot.foresight } in
-    (came.0, record { shown = came.1; clear = clear; depot = depot })
+    let (outcome, shown) = happens (decision_at chance e s) e s.shown in
+    (outcome, with_known (node_of e) (known_after chance e outcome (known_of (node_of e) s)) (record s { shown = shown }))
 
 -- so it is by something that comes between
 abbrev pub Comes : Event → Outcome → World → World → Type 0
@@ -113,13 +111,11 @@ Comes e outcome old new = (chance : Chance) × (comes_to chance e (scene_of old)
 
 -- the next commit of a node is planned to fail
 abbrev pub planned : NodeName → Bool → Scene → Scene
-planned node.Clear stands s = record s { clear = record s.clear { foresight = record s.clear.foresight { next = Fails stands } } }
-planned node.Depot stands s = record s { depot = record s.depot { foresight = record s.depot.foresight { next = Fails stands } } }
+planned name stands s = with_known name (record (known_of name s) { next = Fails stands }) s
 
 -- whether a node's keeper plans failures
 abbrev pub is_planner : NodeName → Scene → Bool
-is_planner node.Clear s = is_foreseen s.clear.foresight.next
-is_planner node.Depot s = is_foreseen s.depot.foresight.next
+is_planner name s = is_foreseen (known_of name s).next
 
 -- what a plan leaves of the scene, by its answer
 abbrev pub Plans : NodeName → Bool → Result (Unit {0}) NotPlanned → Scene → Scene → Type 0
