@@ -11,7 +11,7 @@ use Rattle.cns_records.specs.declared.dep_record.DepRecord.{DepRecord}
 use Rattle.cns_trades.specs.declared.opening.Opening.{Opening}
 use Rattle.cns_depository.specs.declared.account.Account.{Account}
 use Rattle.cns_depository.specs.declared.account.Account.TheVariants.{Cns, Member}
-use Rattle.cns_depository.specs.Account.{enters, giver, giver_by, leaves}
+use Rattle.cns_depository.specs.Account.{enters, giver, leaves}
 use Rattle.cns_depository.specs.Openings.{opening_shares}
 use Rattle.cns_depository.specs.Stock.{IsExecutable, IsLawfulDepot, balance_of, moved_by, moved_in, moved_out, part_where, order_in}
 
@@ -23,18 +23,15 @@ pub and_right : (a b : Bool) → (a && b) ≡ true → b ≡ true
 and_right true b both = both
 and_right false b both = absurd cc
 
-delivery_giver : (kind : MoveKind) (member : ℕ) → is_delivery kind ≡ true → giver_by kind member ≡ Cns
-delivery_giver Cover member is = absurd cc
-delivery_giver Delivery member is = refl
-
-cover_giver : (kind : MoveKind) (member m : ℕ) → (is_cover kind && eqb member m) ≡ true → giver_by kind member ≡ Member m
-cover_giver Cover member m is = ap Member (eqb-true member m is)
-cover_giver Delivery member m is = absurd cc
-
 -- the account that shares leave is the one that gives
 leaves_giver : (a : Account) (o : Order) → leaves a o ≡ true → giver o ≡ a
-leaves_giver Cns o is = delivery_giver o.kind o.member is
-leaves_giver (Member m) o is = cover_giver o.kind o.member m is
+leaves_giver a o = by a o.kind refl
+  where
+    by : (x : Account) (kind : MoveKind) → o.kind ≡ kind → leaves x o ≡ true → giver o ≡ x
+    by Cns Cover is gives = cc (rw is at gives)
+    by Cns Delivery is gives = rw is refl
+    by (Member m) Cover is gives = rw is (ap Member (eqb-true o.member m (rw is at gives)))
+    by (Member m) Delivery is gives = cc (rw is at gives)
 
 -- what an executed record moves out of an account is at most its balance before
 part_out_le : (openings : List Opening) (p : List DepRecord) (e : DepRecord) (a : Account) (issue : ℕ) → IsExecutable openings p e → part_where (leaves a) issue e ≤ balance_of openings p a issue

@@ -19,7 +19,7 @@ use Rattle.cns_depository.specs.declared.balances.BalanceRow.{BalanceRow}
 use Rattle.cns_depository.specs.declared.moved.Moved.{Moved}
 use Rattle.cns_depository.specs.declared.place.Place.{Place}
 use Rattle.cns_depository.specs.declared.stock.Stock.{Stock}
-use Rattle.cns_depository.specs.Balances.{balance_row, balance_rows, opened_places, place_at, place_cmp, places_of}
+use Rattle.cns_depository.specs.Balances.{balance_row, balance_rows, place_at, place_cmp, places_of}
 use Rattle.cns_depository.specs.Openings.{opening_shares}
 use Rattle.cns_depository.specs.Stock.{balance_of, moved_in}
 use Rattle.cns_depository.specs.Totals.{IsStockOf, moved_at, place_eq}
@@ -146,17 +146,17 @@ moved_named s p a issue stock some =
 
 -- a balance other than 0 is of a place that is opened, or into which something was moved
 stock_place : (s : Stock) (openings : List Opening) (p : List DepRecord) (a : Account) (issue : ℕ) → IsStockOf s p → balance_of openings p a issue ≢ 0
-    → IsAmong (place_at issue a) (fold (insert_key place_cmp) (opened_places openings) (keys s.moved))
-unfolding balance_of opened_places
+    → IsAmong (place_at issue a) (fold (insert_key place_cmp) (places_of openings []) (keys s.moved))
+unfolding balance_of places_of
 stock_place s openings p a issue stock held =
     elim (cases_Bool (eqb (opening_shares openings a issue) 0)) [
       | inl none ↦
           let zero_of : opening_shares openings a issue ≡ 0 = eqb-true (opening_shares openings a issue) 0 none in
-          added_has (keys s.moved) (opened_places openings) (place_at issue a) (moved_named s p a issue stock (λ z. held (omega (arith, zero_of, z))))
-      | inr some ↦ added_keeps (keys s.moved) (opened_places openings) (place_at issue a) (opened a (λ z. absurd cc))
+          added_has (keys s.moved) (places_of openings []) (place_at issue a) (moved_named s p a issue stock (λ z. held (omega (arith, zero_of, z))))
+      | inr some ↦ added_keeps (keys s.moved) (places_of openings []) (place_at issue a) (opened a (λ z. absurd cc))
     ]
   where
-    opened : (b : Account) → opening_shares openings b issue ≢ 0 → IsAmong (place_at issue b) (opened_places openings)
+    opened : (b : Account) → opening_shares openings b issue ≢ 0 → IsAmong (place_at issue b) (places_of openings [])
     opened Cns some = absurd (some refl)
     opened (Member m) some = opened_has openings [] m issue some
 
@@ -168,18 +168,18 @@ row_held openings p q row is none =
 
 -- the places of the openings and of a stock have the rows
 pub rows_by_stock : (s : Stock) (openings : List Opening) (p : List DepRecord) → IsStockOf s p
-    → filter_map (balance_row openings p) (fold (insert_key place_cmp) (opened_places openings) (keys s.moved)) ≡ balance_rows openings p
-unfolding opened_places IsStrictlySortedBy
+    → filter_map (balance_row openings p) (fold (insert_key place_cmp) (places_of openings []) (keys s.moved)) ≡ balance_rows openings p
+unfolding places_of IsStrictlySortedBy
 rows_by_stock s openings p stock =
-    same_rows (balance_row openings p) (fold (insert_key place_cmp) (opened_places openings) (keys s.moved)) (places_of openings p)
-    (added_sorted (keys s.moved) (opened_places openings) (opened_sorted openings [] tt)) (places_sorted openings p)
+    same_rows (balance_row openings p) (fold (insert_key place_cmp) (places_of openings []) (keys s.moved)) (places_of openings p)
+    (added_sorted (keys s.moved) (places_of openings []) (opened_sorted openings [] tt)) (places_sorted openings p)
     (λ q row is in'. held_place openings p q.account q.issue (row_held openings p q row is))
     (λ q row is in'. stock_place s openings p q.account q.issue stock (row_held openings p q row is))
 
 -- where nothing is opened and nothing was moved there is no row
 pub no_rows : (s : Stock) (openings : List Opening) (p : List DepRecord) → IsStockOf s p → length openings ≡ 0 → keys s.moved ≡ [] → [] ≡ balance_rows openings p
-unfolding opened_places
+unfolding places_of
 no_rows s [] p stock none unmoved =
-    let nowhere : fold (insert_key place_cmp) (opened_places []) (keys s.moved) ≡ [] = rw unmoved refl in
+    let nowhere : fold (insert_key place_cmp) (places_of [] []) (keys s.moved) ≡ [] = rw unmoved refl in
     ap (filter_map (balance_row [] p)) (sym nowhere) ∙ rows_by_stock s [] p stock
 no_rows s (o ∷ openings) p stock none unmoved = absurd cc

@@ -3,7 +3,8 @@ use Rattle.std.proofs.Common.{◌≡◌, ℕ, ◌+◌, ◌^◌, ◌≤◌, List,
 use Rattle.std.specs.Prelude.{sum_by, if◌then◌else◌, ◌==◌}
 use Rattle.std.proofs.lemmas.List.Sums.{sum_by-cons, sum_by-append}
 use Rattle.cns_trades.specs.declared.opening.Opening.{Opening}
-use Rattle.cns_depository.specs.Openings.{is_opening_of, issue_sum, member_opening, DoIssuesFit}
+use Rattle.cns_depository.specs.declared.account.Account.TheVariants.{Member}
+use Rattle.cns_depository.specs.Openings.{is_opening_of, issue_sum, opening_shares, DoIssuesFit}
 
 -- one more opening adds its shares to the sum of its issue, and leaves the others
 pub issue_sum-more : (xs : List Opening) (o : Opening) (issue : ℕ) → issue_sum (xs ++ o ∷ []) issue ≡ issue_sum xs issue + (if o.issue == issue then o.shares else 0)
@@ -20,8 +21,8 @@ fits_more xs o fits within issue =
     grind (arith, more, before, within)
 
 -- a member opens with no more than the sum of the issue
-pub member_le_issue : (xs : List Opening) (member issue : ℕ) → member_opening xs member issue ≤ issue_sum xs issue
-unfolding issue_sum member_opening
+pub member_le_issue : (xs : List Opening) (member issue : ℕ) → opening_shares xs (Member member) issue ≤ issue_sum xs issue
+unfolding issue_sum
 member_le_issue [] member issue = omega arith
 member_le_issue (o ∷ xs) member issue =
     let f : Opening → ℕ = λ (x : Opening). if is_opening_of member issue x then x.shares else 0 in
@@ -31,5 +32,5 @@ member_le_issue (o ∷ xs) member issue =
     omega (arith, sum_by-cons f o xs, sum_by-cons g o xs, rest, head)
 
 -- so it opens with at most 10^18, where the issues fit
-pub member_small : (xs : List Opening) (member issue : ℕ) → DoIssuesFit xs → member_opening xs member issue ≤ 10 ^ 18
+pub member_small : (xs : List Opening) (member issue : ℕ) → DoIssuesFit xs → opening_shares xs (Member member) issue ≤ 10 ^ 18
 member_small xs member issue fits = omega (arith, member_le_issue xs member issue, fits issue)

@@ -22,9 +22,9 @@ use Rattle.cns_depository.specs.declared.account.Account.TheVariants.{Cns, Membe
 use Rattle.cns_depository.specs.declared.place.Place.{Place}
 use Rattle.cns_depository.specs.declared.balances.BalanceRow.{BalanceRow}
 use Rattle.cns_depository.specs.Account.{enters}
-use Rattle.cns_depository.specs.Openings.{is_opening_of, member_opening, opening_shares}
+use Rattle.cns_depository.specs.Openings.{is_opening_of, opening_shares}
 use Rattle.cns_depository.specs.Stock.{balance_of, moved_by, moved_in, part_where, order_in}
-use Rattle.cns_depository.specs.Balances.{account_cmp, place_cmp, place_at, opened_places, places_of, balance_row, balance_rows, row_place, AreComplete, AreAscending}
+use Rattle.cns_depository.specs.Balances.{account_cmp, place_cmp, place_at, places_of, balance_row, balance_rows, row_place, AreComplete, AreAscending}
 use Rattle.cns_depository.specs.contracts.place.PlaceOrd.TheImpl.Laws.{total-law}
 use Rattle.cns_depository.proofs.BalanceLemmas.{and_left, and_right}
 use Rattle.cns_depository.proofs.PlaceLemmas.{place_order}
@@ -84,12 +84,11 @@ opened_keeps : (os : List Opening) (ps : List Place) (q : Place) → IsAmong q p
 opened_keeps [] ps q in' = in'
 opened_keeps (o ∷ os) ps q in' = opened_keeps os (with_opening ps o) q (insert_keeps ps (place_at o.issue (Member o.member)) q in')
 
-pub opened_has : (os : List Opening) (ps : List Place) (m i : ℕ) → member_opening os m i ≢ 0 → IsAmong (place_at i (Member m)) (fold with_opening ps os)
-unfolding member_opening
+pub opened_has : (os : List Opening) (ps : List Place) (m i : ℕ) → opening_shares os (Member m) i ≢ 0 → IsAmong (place_at i (Member m)) (fold with_opening ps os)
 opened_has [] ps m i held = absurd (held refl)
 opened_has (o ∷ os) ps m i held = by (is_opening_of m i o) refl (opened_has os (with_opening ps o) m i)
   where
-    by : (b : Bool) → is_opening_of m i o ≡ b → (member_opening os m i ≢ 0 → IsAmong (place_at i (Member m)) (fold with_opening (with_opening ps o) os))
+    by : (b : Bool) → is_opening_of m i o ≡ b → (opening_shares os (Member m) i ≢ 0 → IsAmong (place_at i (Member m)) (fold with_opening (with_opening ps o) os))
         → IsAmong (place_at i (Member m)) (fold with_opening (with_opening ps o) os)
     by true e rest =
         let of : o.member ≡ m = eqb-true o.member m (and_left (eqb o.member m) (eqb o.issue i) e) in
@@ -114,7 +113,7 @@ order_has ps o (Member m) enters_it =
     subst (λ (x : ℕ). IsAmong (place_at o.issue (Member x)) (with_order ps o)) of (insert_has (insert_key place_cmp ps (place_at o.issue Cns)) (place_at o.issue (Member o.member)))
 
 opening_place : (openings : List Opening) (p : List DepRecord) (a : Account) (i : ℕ) → opening_shares openings a i ≢ 0 → IsAmong (place_at i a) (places_of openings p)
-unfolding places_of opened_places
+unfolding places_of
 opening_place openings [] Cns i held = absurd (held refl)
 opening_place openings [] (Member m) i held = opened_has openings [] m i held
 opening_place openings (e ∷ p) a i held = order_keeps (places_of openings p) (order_in e) (place_at i a) (opening_place openings p a i held)
@@ -213,7 +212,7 @@ opened_sorted [] ps sorted = sorted
 opened_sorted (o ∷ os) ps sorted = opened_sorted os (with_opening ps o) (sorted_insert ps (place_at o.issue (Member o.member)) sorted)
 
 pub places_sorted : (openings : List Opening) (p : List DepRecord) → IsStrictlySortedBy place_cmp (places_of openings p)
-unfolding places_of opened_places IsStrictlySortedBy
+unfolding places_of IsStrictlySortedBy
 places_sorted openings [] = opened_sorted openings [] tt
 places_sorted openings (e ∷ p) =
     let o = order_in e in

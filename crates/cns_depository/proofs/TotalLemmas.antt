@@ -16,7 +16,7 @@ use Rattle.cns_depository.specs.declared.account.Account.{Account}
 use Rattle.cns_depository.specs.declared.account.Account.TheVariants.{Cns, Member}
 use Rattle.cns_depository.specs.declared.moved.Moved.{Moved}
 use Rattle.cns_depository.specs.declared.place.Place.{Place}
-use Rattle.cns_depository.specs.Account.{enters, giver, giver_by, leaves, receiver, receiver_by}
+use Rattle.cns_depository.specs.Account.{enters, giver, leaves, receiver}
 use Rattle.cns_depository.specs.Balances.{place_at}
 use Rattle.cns_depository.specs.Stock.{moved_by, moved_in, moved_out, part_where, order_in, record_of}
 use Rattle.cns_depository.proofs.BalanceLemmas.{and_left, and_right}
@@ -97,29 +97,23 @@ swap false false = refl
 
 -- the place of the account that receives is the one that the order enters
 received : (a : Account) (issue : ℕ) (o : Order) → place_eq (place_at o.issue (receiver o)) (place_at issue a) ≡ (enters a o && (o.issue == issue))
-received Cns issue o = by o.kind
+received a issue o = by a o.kind refl
   where
-    by : (kind : MoveKind) → place_eq (place_at o.issue (receiver_by kind o.member)) (place_at issue Cns) ≡ (is_cover kind && (o.issue == issue))
-    by Cover = swap (o.issue == issue) true
-    by Delivery = swap (o.issue == issue) false
-received (Member m) issue o = by o.kind
-  where
-    by : (kind : MoveKind) → place_eq (place_at o.issue (receiver_by kind o.member)) (place_at issue (Member m)) ≡ ((is_delivery kind && (o.member == m)) && (o.issue == issue))
-    by Cover = swap (o.issue == issue) false
-    by Delivery = swap (o.issue == issue) (o.member == m)
+    by : (x : Account) (kind : MoveKind) → o.kind ≡ kind → place_eq (place_at o.issue (receiver o)) (place_at issue x) ≡ (enters x o && (o.issue == issue))
+    by Cns Cover is = rw is (swap (o.issue == issue) true)
+    by Cns Delivery is = rw is (swap (o.issue == issue) false)
+    by (Member m) Cover is = rw is (swap (o.issue == issue) false)
+    by (Member m) Delivery is = rw is (swap (o.issue == issue) (o.member == m))
 
 -- and that of the account that gives is the one that it leaves
 given : (a : Account) (issue : ℕ) (o : Order) → place_eq (place_at o.issue (giver o)) (place_at issue a) ≡ (leaves a o && (o.issue == issue))
-given Cns issue o = by o.kind
+given a issue o = by a o.kind refl
   where
-    by : (kind : MoveKind) → place_eq (place_at o.issue (giver_by kind o.member)) (place_at issue Cns) ≡ (is_delivery kind && (o.issue == issue))
-    by Cover = swap (o.issue == issue) false
-    by Delivery = swap (o.issue == issue) true
-given (Member m) issue o = by o.kind
-  where
-    by : (kind : MoveKind) → place_eq (place_at o.issue (giver_by kind o.member)) (place_at issue (Member m)) ≡ ((is_cover kind && (o.member == m)) && (o.issue == issue))
-    by Cover = swap (o.issue == issue) (o.member == m)
-    by Delivery = swap (o.issue == issue) false
+    by : (x : Account) (kind : MoveKind) → o.kind ≡ kind → place_eq (place_at o.issue (giver o)) (place_at issue x) ≡ (leaves x o && (o.issue == issue))
+    by Cns Cover is = rw is (swap (o.issue == issue) false)
+    by Cns Delivery is = rw is (swap (o.issue == issue) true)
+    by (Member m) Cover is = rw is (swap (o.issue == issue) (o.member == m))
+    by (Member m) Delivery is = rw is (swap (o.issue == issue) false)
 
 -- ---- the totals
 

@@ -1,27 +1,18 @@
 -- Accounts, and which of them an order moves shares from and to (this project's own rule).
-use Rattle.std.specs.Prelude.{ℕ, Bool, ◌&&◌, ◌==◌}
+use Rattle.std.specs.Prelude.{Bool, ◌&&◌, ◌==◌}
 use Rattle.cns_movements.specs.Order.{is_cover, is_delivery}
-use Rattle.cns_movements.specs.declared.order.MoveKind.{MoveKind}
 use Rattle.cns_movements.specs.declared.order.MoveKind.TheVariants.{Cover, Delivery}
 use Rattle.cns_movements.specs.declared.order.Order.{Order}
 use Rattle.cns_depository.specs.declared.account.Account.{Account}
 use Rattle.cns_depository.specs.declared.account.Account.TheVariants.{Cns, Member}
 
--- the account that gives, of a movement of this kind and member
-abbrev pub giver_by : MoveKind → ℕ → Account
-giver_by kind member = elim kind [ Cover ↦ Member member | Delivery ↦ Cns ]
-
 -- the account that gives
 abbrev pub giver : Order → Account
-giver o = giver_by o.kind o.member
-
--- the account that receives, of a movement of this kind and member
-abbrev pub receiver_by : MoveKind → ℕ → Account
-receiver_by kind member = elim kind [ Cover ↦ Cns | Delivery ↦ Member member ]
+giver o = elim o.kind [ Cover ↦ Member o.member | Delivery ↦ Cns ]
 
 -- the account that receives
 abbrev pub receiver : Order → Account
-receiver o = receiver_by o.kind o.member
+receiver o = elim o.kind [ Cover ↦ Cns | Delivery ↦ Member o.member ]
 
 -- whether an order moves shares into an account
 abbrev pub enters : Account → Order → Bool

@@ -28,13 +28,9 @@ place_cmp a b = ordering_then (nat_cmp a.issue b.issue) (account_cmp a.account b
 abbrev pub place_at : ℕ → Account → Place
 place_at issue account = record { issue = issue; account = account }
 
--- the places that some opening names, each once, ascending
-unfoldable pub opened_places : List Opening → List Place
-opened_places openings = fold (λ ps o. insert_key place_cmp ps (place_at o.issue (Member o.member))) [] openings
-
 -- the places that some opening or order names, each once, ascending
 unfoldable pub places_of : List Opening → List DepRecord → List Place
-places_of openings [] = opened_places openings
+places_of openings [] = fold (λ ps o. insert_key place_cmp ps (place_at o.issue (Member o.member))) [] openings
 places_of openings (e ∷ p) =
     let o = order_in e in insert_key place_cmp (insert_key place_cmp (places_of openings p) (place_at o.issue Cns)) (place_at o.issue (Member o.member))
 

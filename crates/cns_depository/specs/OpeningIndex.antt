@@ -1,8 +1,10 @@
 -- What an index of openings has (this project's own rule).
 use Rattle.std.specs.Prelude.{◌≡◌, ℕ, Bool, ◌&&◌, ◌==◌, List, Option, Some, None, unwrap_or, if◌then◌else◌}
+use Rattle.std.specs.List.{list_any}
 use Rattle.cns_trades.specs.declared.opening.Opening.{Opening}
+use Rattle.cns_depository.specs.declared.account.Account.TheVariants.{Member}
 use Rattle.cns_depository.specs.declared.opening_index.Holding.{Holding}
-use Rattle.cns_depository.specs.Openings.{is_open, issue_sum, member_opening, DoIssuesFit}
+use Rattle.cns_depository.specs.Openings.{is_opening_of, issue_sum, opening_shares, DoIssuesFit}
 
 -- a member's holding in an issue, and what an opening is of
 abbrev pub holding_at : ℕ → ℕ → Holding
@@ -17,7 +19,8 @@ holding_eq a b = (a.member == b.member) && (a.issue == b.issue)
 
 -- the shares with which a member opens in an issue, where it has an opening there
 abbrev pub opened_with : List Opening → ℕ → ℕ → Option ℕ
-opened_with openings member issue = if is_open openings member issue then Some (member_opening openings member issue) else None
+opened_with openings member issue =
+    if list_any (is_opening_of member issue) openings then Some (opening_shares openings (Member member) issue) else None
 
 -- the shares of each holding, and the sum of each issue
 pub record IsIndex (openings : List Opening) (held : Holding → Option ℕ) (sums : ℕ → Option ℕ) : Type 0 where

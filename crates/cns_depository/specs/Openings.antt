@@ -11,26 +11,19 @@ use Rattle.cns_depository.specs.declared.openings.OpeningFault.TheVariants.{Doub
 abbrev pub is_opening_of : ℕ → ℕ → Opening → Bool
 is_opening_of member issue o = (o.member == member) && (o.issue == issue)
 
--- whether a member has an opening in an issue
-abbrev pub is_open : List Opening → ℕ → ℕ → Bool
-is_open openings member issue = list_any (is_opening_of member issue) openings
-
 -- the shares of all openings in an issue
 unfoldable pub issue_sum : List Opening → ℕ → ℕ
 issue_sum openings issue = sum_by (λ (o : Opening). if o.issue == issue then o.shares else 0) openings
 
--- the shares with which a member opens in an issue
-unfoldable pub member_opening : List Opening → ℕ → ℕ → ℕ
-member_opening openings member issue = sum_by (λ (o : Opening). if is_opening_of member issue o then o.shares else 0) openings
-
 -- the shares with which an account opens in an issue; the CNS account opens with none
 abbrev pub opening_shares : List Opening → Account → ℕ → ℕ
-opening_shares openings account issue = elim account [ Cns ↦ 0 | Member m ↦ member_opening openings m issue ]
+opening_shares openings Cns issue = 0
+opening_shares openings (Member m) issue = sum_by (λ (o : Opening). if is_opening_of m issue o then o.shares else 0) openings
 
 -- why an opening is refused, where it is
 abbrev pub opening_fault : List Opening → Opening → Option OpeningFault
 opening_fault openings o =
-    if is_open openings o.member o.issue then Some Double
+    if list_any (is_opening_of o.member o.issue) openings then Some Double
     else if nat_lt (10 ^ 18) (issue_sum openings o.issue + o.shares) then Some IssueSum else None
 
 -- what adding an opening leaves, by its answer: only an accepted one changes the list

@@ -1,8 +1,8 @@
-ghost use Rattle.std.specs.Prelude.{◌≡◌, fold, IfOk, List};
+ghost use Rattle.std.specs.Prelude.{◌≡◌, fold, IfOk, List, []};
 ghost use Rattle.std.specs.BTreeSet.{insert_key};
 ghost use Rattle.std.specs.HashMap.{keys};
 ghost use Rattle.cns_records.specs.declared.dep_record.DepRecord.{DepRecord};
-ghost use Rattle.cns_depository.specs.Balances.{opened_places as opened_places_of, balance_row as balance_row_of, balance_rows as balance_rows_of, place_cmp};
+ghost use Rattle.cns_depository.specs.Balances.{balance_row as balance_row_of, balance_rows as balance_rows_of, place_cmp, places_of};
 ghost use Rattle.cns_depository.specs.Totals.{IsStockOf};
 
 use crate::account::Account;
@@ -52,7 +52,7 @@ impl BalanceRows {
 
 // The places that some opening names, each once, in order.
 fn opened_places(alloc: Global, openings: &[Opening]) -> Result<BTreeSet<Place>, AllocError>
-    ensures { IfOk result (λ s. s.keys ≡ opened_places_of openings.now) }
+    ensures { IfOk result (λ s. s.keys ≡ places_of openings.now []) }
 {
     let mut places = BTreeSet::new(alloc);
     for opening in openings {
@@ -67,7 +67,7 @@ fn opened_places(alloc: Global, openings: &[Opening]) -> Result<BTreeSet<Place>,
 // The places that some opening names, or into which or out of which something was moved, each once, in
 // order.
 fn places(alloc: Global, openings: &Openings, stock: &Stock) -> Result<BTreeSet<Place>, AllocError>
-    ensures { IfOk result (λ s. s.keys ≡ fold (insert_key place_cmp) (opened_places_of openings.now) (keys stock.now.moved)) }
+    ensures { IfOk result (λ s. s.keys ≡ fold (insert_key place_cmp) (places_of openings.now []) (keys stock.now.moved)) }
 {
     let mut places = opened_places(alloc, openings.as_slice())?;
     stock.add_places(&mut places)?;
@@ -80,7 +80,7 @@ fn places_in_order(
     openings: &Openings,
     stock: &Stock,
 ) -> Result<Vec<Place>, AllocError>
-    ensures { IfOk result (λ v. v.items ≡ fold (insert_key place_cmp) (opened_places_of openings.now) (keys stock.now.moved)) }
+    ensures { IfOk result (λ v. v.items ≡ fold (insert_key place_cmp) (places_of openings.now []) (keys stock.now.moved)) }
 {
     let places = places(alloc, openings, stock)?;
     places.iter().copied().collect(alloc)

@@ -1,11 +1,12 @@
 use Rattle.std.proofs.Common.{◌≡◌, ℕ, Option, ◌∙◌, ap, arith}
 use Rattle.std.specs.Prelude.{unwrap_or}
-use Rattle.cns_depository.specs.Openings.{member_opening}
+use Rattle.cns_depository.specs.declared.account.Account.TheVariants.{Member}
+use Rattle.cns_depository.specs.Openings.{opening_shares}
 use Rattle.cns_depository.proofs.OpeningLemmas.{member_small}
 use Rattle.cns_depository.proofs.IndexLemmas.{opened_shares}
 use Rattle.cns_depository.proofs.openings.Openings.shares.Goals as goal
 
-held_is : (c : goal.After-held) → c.held.result ≡ member_opening c.self.inside.list.items c.in-Member.member c.args.issue
+held_is : (c : goal.After-held) → c.held.result ≡ opening_shares c.self.inside.list.items (Member c.in-Member.member) c.args.issue
 held_is c =
     c.held.ensures ∙ ap (λ (s : Option ℕ). unwrap_or s 0) (c.self.invariant.held_is c.in-Member.member c.args.issue)
     ∙ opened_shares c.self.inside.list.items c.in-Member.member c.args.issue
