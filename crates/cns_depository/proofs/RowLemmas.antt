@@ -24,7 +24,7 @@ use Rattle.cns_depository.specs.declared.balances.BalanceRow.{BalanceRow}
 use Rattle.cns_depository.specs.Account.{enters}
 use Rattle.cns_depository.specs.Openings.{is_opening_of, opening_shares}
 use Rattle.cns_depository.specs.Stock.{balance_of, moved_by, moved_in, part_where, order_in}
-use Rattle.cns_depository.specs.Balances.{account_cmp, place_cmp, place_at, places_of, balance_row, balance_rows, row_place, AreComplete, AreAscending}
+use Rattle.cns_depository.specs.Balances.{place_cmp, place_at, places_of, balance_row, balance_rows, rank, row_place, AreComplete, AreAscending}
 use Rattle.cns_depository.specs.contracts.place.PlaceOrd.TheImpl.Laws.{total-law}
 use Rattle.cns_depository.proofs.BalanceLemmas.{and_left, and_right}
 use Rattle.cns_depository.proofs.PlaceLemmas.{place_order}
@@ -33,11 +33,11 @@ use Rattle.cns_depository.proofs.PlaceLemmas.{place_order}
 same_number : (x y : ℕ) → nat_cmp x y ≡ Equal → x ≡ y
 same_number x y e = ranked x y Equal (sym e)
 
-same_account : (a b : Account) → account_cmp a b ≡ Equal → a ≡ b
+same_account : (a b : Account) → rank a ≡ rank b → a ≡ b
 same_account Cns Cns e = refl
-same_account Cns (Member m) e = absurd cc
-same_account (Member m) Cns e = absurd cc
-same_account (Member m) (Member k) e = ap Member (same_number m k e)
+same_account Cns (Member m) e = absurd (omega (arith, e))
+same_account (Member m) Cns e = absurd (omega (arith, e))
+same_account (Member m) (Member k) e = ap Member (omega (arith, e))
 
 both_equal : (x y : Ordering) → ordering_then x y ≡ Equal → (x ≡ Equal) × (y ≡ Equal)
 both_equal Less y e = absurd cc
@@ -46,8 +46,9 @@ both_equal Greater y e = absurd cc
 
 pub same_place : (a b : Place) → place_cmp a b ≡ Equal → a ≡ b
 same_place a b e =
-    let both = both_equal (nat_cmp a.issue b.issue) (account_cmp a.account b.account) e in
-    ap (λ (i : ℕ). place_at i a.account) (same_number a.issue b.issue both.0) ∙ ap (λ (x : Account). place_at b.issue x) (same_account a.account b.account both.1)
+    let both = both_equal (nat_cmp a.issue b.issue) (nat_cmp (rank a.account) (rank b.account)) e in
+    let account = same_account a.account b.account (same_number (rank a.account) (rank b.account) both.1) in
+    ap (λ (i : ℕ). place_at i a.account) (same_number a.issue b.issue both.0) ∙ ap (λ (x : Account). place_at b.issue x) account
 
 -- a place is one of these
 abbrev pub IsAmong : Place → List Place → Type 0

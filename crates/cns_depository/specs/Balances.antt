@@ -1,9 +1,8 @@
 -- The balances of a depository, by issue, then account (this project's own rules).
-use Rattle.std.specs.Prelude.{◌≢◌, ℕ, ◌==◌, List, [], ◌∷◌, Option, Some, None, map, fold, if◌then◌else◌}
+use Rattle.std.specs.Prelude.{◌≢◌, ℕ, ◌+◌, ◌==◌, List, [], ◌∷◌, Option, Some, None, map, fold, if◌then◌else◌}
 use Rattle.std.specs.List.{filter_map, Contains}
 use Rattle.std.specs.List.Sorted.{IsStrictlySortedBy}
 use Rattle.std.specs.declared.cmp.Ordering.{Ordering}
-use Rattle.std.specs.declared.cmp.Ordering.TheVariants.{Less, Equal, Greater}
 use Rattle.std.specs.Ordering.{nat_cmp, ordering_then}
 use Rattle.std.specs.BTreeSet.{insert_key}
 use Rattle.cns_records.specs.declared.dep_record.DepRecord.{DepRecord}
@@ -14,16 +13,13 @@ use Rattle.cns_depository.specs.declared.place.Place.{Place}
 use Rattle.cns_depository.specs.declared.balances.BalanceRow.{BalanceRow}
 use Rattle.cns_depository.specs.Stock.{order_in, balance_of}
 
--- the order of accounts: the CNS account first, then the members by number
-abbrev pub account_cmp : Account → Account → Ordering
-account_cmp Cns Cns = Equal
-account_cmp Cns (Member m) = Less
-account_cmp (Member m) Cns = Greater
-account_cmp (Member m) (Member k) = nat_cmp m k
+-- the rank of an account: the CNS account first, then the members by number
+abbrev pub rank : Account → ℕ
+rank account = elim account [ Cns ↦ 0 | Member m ↦ m + 1 ]
 
 -- the order of places: by issue, then account
 abbrev pub place_cmp : Place → Place → Ordering
-place_cmp a b = ordering_then (nat_cmp a.issue b.issue) (account_cmp a.account b.account)
+place_cmp a b = ordering_then (nat_cmp a.issue b.issue) (nat_cmp (rank a.account) (rank b.account))
 
 abbrev pub place_at : ℕ → Account → Place
 place_at issue account = record { issue = issue; account = account }
