@@ -19,7 +19,7 @@ use Rattle.cns_depository.specs.declared.balances.BalanceRow.{BalanceRow}
 use Rattle.cns_depository.specs.declared.moved.Moved.{Moved}
 use Rattle.cns_depository.specs.declared.place.Place.{Place}
 use Rattle.cns_depository.specs.declared.stock.Stock.{Stock}
-use Rattle.cns_depository.specs.Balances.{balance_row, balance_rows, place_at, place_cmp, places_of}
+use Rattle.cns_depository.specs.Balances.{balance_row, balance_rows, place_cmp, places_of}
 use Rattle.cns_depository.specs.Openings.{opening_shares}
 use Rattle.cns_depository.specs.Stock.{balance_of, moved_in}
 use Rattle.cns_depository.specs.Totals.{IsStockOf, moved_at, place_eq}
@@ -140,23 +140,23 @@ found_among (e ∷ es) q found = by (place_eq q e.0) refl (found_among es q) fou
     by true is more there = inl (sym (equal_places q e.0 is))
     by false is more there = inr (more there)
 
-moved_named : (s : Stock) (p : List DepRecord) (a : Account) (issue : ℕ) → IsStockOf s p → moved_in p a issue ≢ 0 → IsAmong (place_at issue a) (keys s.moved)
+moved_named : (s : Stock) (p : List DepRecord) (a : Account) (issue : ℕ) → IsStockOf s p → moved_in p a issue ≢ 0 → IsAmong (record { issue = issue; account = a }) (keys s.moved)
 moved_named s p a issue stock some =
-    found_among s.moved.entries (place_at issue a) (λ none. some (sym (stock.entered a issue) ∙ ap (λ (m : Option Moved). (moved_at m).entered) none))
+    found_among s.moved.entries _ (λ none. some (sym (stock.entered a issue) ∙ ap (λ (m : Option Moved). (moved_at m).entered) none))
 
 -- a balance other than 0 is of a place that is opened, or into which something was moved
 stock_place : (s : Stock) (openings : List Opening) (p : List DepRecord) (a : Account) (issue : ℕ) → IsStockOf s p → balance_of openings p a issue ≢ 0
-    → IsAmong (place_at issue a) (fold (insert_key place_cmp) (places_of openings []) (keys s.moved))
+    → IsAmong (record { issue = issue; account = a }) (fold (insert_key place_cmp) (places_of openings []) (keys s.moved))
 unfolding balance_of places_of
 stock_place s openings p a issue stock held =
     elim (cases_Bool (eqb (opening_shares openings a issue) 0)) [
       | inl none ↦
           let zero_of : opening_shares openings a issue ≡ 0 = eqb-true (opening_shares openings a issue) 0 none in
-          added_has (keys s.moved) (places_of openings []) (place_at issue a) (moved_named s p a issue stock (λ z. held (omega (arith, zero_of, z))))
-      | inr some ↦ added_keeps (keys s.moved) (places_of openings []) (place_at issue a) (opened a (λ z. absurd cc))
+          added_has (keys s.moved) (places_of openings []) _ (moved_named s p a issue stock (λ z. held (omega (arith, zero_of, z))))
+      | inr some ↦ added_keeps (keys s.moved) (places_of openings []) _ (opened a (λ z. absurd cc))
     ]
   where
-    opened : (b : Account) → opening_shares openings b issue ≢ 0 → IsAmong (place_at issue b) (places_of openings [])
+    opened : (b : Account) → opening_shares openings b issue ≢ 0 → IsAmong (record { issue = issue; account = b }) (places_of openings [])
     opened Cns some = absurd (some refl)
     opened (Member m) some = opened_has openings [] m issue some
 

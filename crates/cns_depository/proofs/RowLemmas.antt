@@ -24,7 +24,7 @@ use Rattle.cns_depository.specs.declared.balances.BalanceRow.{BalanceRow}
 use Rattle.cns_depository.specs.Account.{enters}
 use Rattle.cns_depository.specs.Openings.{is_opening_of, opening_shares}
 use Rattle.cns_depository.specs.Stock.{balance_of, moved_by, moved_in, part_where, order_in}
-use Rattle.cns_depository.specs.Balances.{place_cmp, place_at, places_of, balance_row, balance_rows, rank, row_place, AreComplete, AreAscending}
+use Rattle.cns_depository.specs.Balances.{place_cmp, places_of, balance_row, balance_rows, rank, row_place, AreComplete, AreAscending}
 use Rattle.cns_depository.specs.contracts.place.PlaceOrd.TheImpl.Laws.{total-law}
 use Rattle.cns_depository.proofs.BalanceLemmas.{and_left, and_right}
 use Rattle.cns_depository.proofs.PlaceLemmas.{place_order}
@@ -48,7 +48,8 @@ pub same_place : (a b : Place) → place_cmp a b ≡ Equal → a ≡ b
 same_place a b e =
     let both = both_equal (nat_cmp a.issue b.issue) (nat_cmp (rank a.account) (rank b.account)) e in
     let account = same_account a.account b.account (same_number (rank a.account) (rank b.account) both.1) in
-    ap (λ (i : ℕ). place_at i a.account) (same_number a.issue b.issue both.0) ∙ ap (λ (x : Account). place_at b.issue x) account
+    let issue = same_number a.issue b.issue both.0 in
+    λ i. record { issue = issue i; account = account i }
 
 -- a place is one of these
 abbrev pub IsAmong : Place → List Place → Type 0
@@ -75,27 +76,26 @@ insert_has (x ∷ xs) k = by (place_cmp k x) refl (insert_has xs k)
 
 -- places with the one that an opening names, and with those that an order names, each once, ascending
 abbrev pub with_opening : List Place → Opening → List Place
-with_opening ps o = insert_key place_cmp ps (place_at o.issue (Member o.member))
+with_opening ps o = insert_key place_cmp ps (record { issue = o.issue; account = Member o.member })
 
 abbrev with_order : List Place → Order → List Place
-with_order ps o = insert_key place_cmp (insert_key place_cmp ps (place_at o.issue Cns)) (place_at o.issue (Member o.member))
+with_order ps o = insert_key place_cmp (insert_key place_cmp ps (record { issue = o.issue; account = Cns })) (record { issue = o.issue; account = Member o.member })
 
 -- the places of openings
 opened_keeps : (os : List Opening) (ps : List Place) (q : Place) → IsAmong q ps → IsAmong q (fold with_opening ps os)
 opened_keeps [] ps q in' = in'
-opened_keeps (o ∷ os) ps q in' = opened_keeps os (with_opening ps o) q (insert_keeps ps (place_at o.issue (Member o.member)) q in')
+opened_keeps (o ∷ os) ps q in' = opened_keeps os (with_opening ps o) q (insert_keeps ps _ q in')
 
-pub opened_has : (os : List Opening) (ps : List Place) (m i : ℕ) → opening_shares os (Member m) i ≢ 0 → IsAmong (place_at i (Member m)) (fold with_opening ps os)
+pub opened_has : (os : List Opening) (ps : List Place) (m i : ℕ) → opening_shares os (Member m) i ≢ 0 → IsAmong (record { issue = i; account = Member m }) (fold with_opening ps os)
 opened_has [] ps m i held = absurd (held refl)
 opened_has (o ∷ os) ps m i held = by (is_opening_of m i o) refl (opened_has os (with_opening ps o) m i)
   where
-    by : (b : Bool) → is_opening_of m i o ≡ b → (opening_shares os (Member m) i ≢ 0 → IsAmong (place_at i (Member m)) (fold with_opening (with_opening ps o) os))
-        → IsAmong (place_at i (Member m)) (fold with_opening (with_opening ps o) os)
+    by : (b : Bool) → is_opening_of m i o ≡ b → (opening_shares os (Member m) i ≢ 0 → IsAmong (record { issue = i; account = Member m }) (fold with_opening (with_opening ps o) os))
+        → IsAmong (record { issue = i; account = Member m }) (fold with_opening (with_opening ps o) os)
     by true e rest =
         let of : o.member ≡ m = eqb-true o.member m (and_left (eqb o.member m) (eqb o.issue i) e) in
         let at : o.issue ≡ i = eqb-true o.issue i (and_right (eqb o.member m) (eqb o.issue i) e) in
-        let same : place_at o.issue (Member o.member) ≡ place_at i (Member m) = ap (λ (x : ℕ). place_at x (Member o.member)) at ∙ ap (λ (x : ℕ). place_at i (Member x)) of in
-        opened_keeps os (with_opening ps o) (place_at i (Member m)) (subst (λ (q : Place). IsAmong q (with_opening ps o)) same (insert_has ps (place_at o.issue (Member o.member))))
+        opened_keeps os (with_opening ps o) _ (subst (λ (q : Place). IsAmong q (with_opening ps o)) (λ j. record { issue = at j; account = Member (of j) }) (insert_has ps _))
     by false e rest =
         let f : Opening → ℕ = λ (x : Opening). if is_opening_of m i x then x.shares else 0 in
         let none : f o ≡ 0 = cond-false (is_opening_of m i o) o.shares 0 e in
@@ -103,39 +103,38 @@ opened_has (o ∷ os) ps m i held = by (is_opening_of m i o) refl (opened_has os
 
 -- the places of records
 order_keeps : (ps : List Place) (o : Order) (q : Place) → IsAmong q ps → IsAmong q (with_order ps o)
-order_keeps ps o q in' =
-    insert_keeps (insert_key place_cmp ps (place_at o.issue Cns)) (place_at o.issue (Member o.member)) q (insert_keeps ps (place_at o.issue Cns) q in')
+order_keeps ps o q in' = insert_keeps _ _ q (insert_keeps ps _ q in')
 
-order_has : (ps : List Place) (o : Order) (a : Account) → enters a o ≡ true → IsAmong (place_at o.issue a) (with_order ps o)
-order_has ps o Cns enters_it =
-    insert_keeps (insert_key place_cmp ps (place_at o.issue Cns)) (place_at o.issue (Member o.member)) (place_at o.issue Cns) (insert_has ps (place_at o.issue Cns))
+order_has : (ps : List Place) (o : Order) (a : Account) → enters a o ≡ true → IsAmong (record { issue = o.issue; account = a }) (with_order ps o)
+order_has ps o Cns enters_it = insert_keeps _ _ _ (insert_has ps _)
 order_has ps o (Member m) enters_it =
     let of : o.member ≡ m = eqb-true o.member m (and_right (is_delivery o.kind) (eqb o.member m) enters_it) in
-    subst (λ (x : ℕ). IsAmong (place_at o.issue (Member x)) (with_order ps o)) of (insert_has (insert_key place_cmp ps (place_at o.issue Cns)) (place_at o.issue (Member o.member)))
+    let before = insert_key place_cmp ps (record { issue = o.issue; account = Cns }) in
+    subst (λ (x : ℕ). IsAmong (record { issue = o.issue; account = Member x }) (with_order ps o)) of (insert_has before (record { issue = o.issue; account = Member o.member }))
 
-opening_place : (openings : List Opening) (p : List DepRecord) (a : Account) (i : ℕ) → opening_shares openings a i ≢ 0 → IsAmong (place_at i a) (places_of openings p)
+opening_place : (openings : List Opening) (p : List DepRecord) (a : Account) (i : ℕ) → opening_shares openings a i ≢ 0 → IsAmong (record { issue = i; account = a }) (places_of openings p)
 unfolding places_of
 opening_place openings [] Cns i held = absurd (held refl)
 opening_place openings [] (Member m) i held = opened_has openings [] m i held
-opening_place openings (e ∷ p) a i held = order_keeps (places_of openings p) (order_in e) (place_at i a) (opening_place openings p a i held)
+opening_place openings (e ∷ p) a i held = order_keeps (places_of openings p) (order_in e) _ (opening_place openings p a i held)
 
-moved_place : (openings : List Opening) (p : List DepRecord) (a : Account) (i : ℕ) → moved_in p a i ≢ 0 → IsAmong (place_at i a) (places_of openings p)
+moved_place : (openings : List Opening) (p : List DepRecord) (a : Account) (i : ℕ) → moved_in p a i ≢ 0 → IsAmong (record { issue = i; account = a }) (places_of openings p)
 unfolding places_of moved_in
 moved_place openings [] a i held = absurd (held refl)
 moved_place openings (e ∷ p) a i held = by (enters a (order_in e) && eqb (order_in e).issue i) refl (moved_place openings p a i)
   where
-    by : (b : Bool) → (enters a (order_in e) && eqb (order_in e).issue i) ≡ b → (moved_in p a i ≢ 0 → IsAmong (place_at i a) (places_of openings p))
-        → IsAmong (place_at i a) (with_order (places_of openings p) (order_in e))
+    by : (b : Bool) → (enters a (order_in e) && eqb (order_in e).issue i) ≡ b → (moved_in p a i ≢ 0 → IsAmong (record { issue = i; account = a }) (places_of openings p))
+        → IsAmong (record { issue = i; account = a }) (with_order (places_of openings p) (order_in e))
     by true h rest =
         let o = order_in e in
         let at : o.issue ≡ i = eqb-true o.issue i (and_right (enters a o) (eqb o.issue i) h) in
-        subst (λ (x : ℕ). IsAmong (place_at x a) (with_order (places_of openings p) o)) at (order_has (places_of openings p) o a (and_left (enters a o) (eqb o.issue i) h))
+        subst (λ (x : ℕ). IsAmong (record { issue = x; account = a }) (with_order (places_of openings p) o)) at (order_has (places_of openings p) o a (and_left (enters a o) (eqb o.issue i) h))
     by false h rest =
         let none : part_where (enters a) i e ≡ 0 = cond-false (enters a (order_in e) && eqb (order_in e).issue i) (moved_by e) 0 h in
-        order_keeps (places_of openings p) (order_in e) (place_at i a) (rest (λ z. held (omega (arith, sum_by-cons (part_where (enters a) i) e p, none, z))))
+        order_keeps (places_of openings p) (order_in e) _ (rest (λ z. held (omega (arith, sum_by-cons (part_where (enters a) i) e p, none, z))))
 
 -- a balance other than 0 is of a place that is named
-pub held_place : (openings : List Opening) (p : List DepRecord) (a : Account) (i : ℕ) → balance_of openings p a i ≢ 0 → IsAmong (place_at i a) (places_of openings p)
+pub held_place : (openings : List Opening) (p : List DepRecord) (a : Account) (i : ℕ) → balance_of openings p a i ≢ 0 → IsAmong (record { issue = i; account = a }) (places_of openings p)
 unfolding balance_of
 held_place openings p a i held =
     elim (cases_Bool (eqb (opening_shares openings a i) 0)) [
@@ -172,8 +171,8 @@ held_row openings p k held =
 -- each balance other than 0 has its row
 pub rows_complete : (openings : List Opening) (p : List DepRecord) → AreComplete openings p (balance_rows openings p)
 rows_complete openings p a i held =
-    row_among (balance_row openings p) (places_of openings p) (place_at i a) (record { issue = i; account = a; shares = balance_of openings p a i }) (held_place openings p a i held)
-    (held_row openings p (place_at i a) held)
+    row_among (balance_row openings p) (places_of openings p) _ (record { issue = i; account = a; shares = balance_of openings p a i }) (held_place openings p a i held)
+    (held_row openings p (record { issue = i; account = a }) held)
 
 -- the order of places is one
 pub place_total : IsTotalOrder place_cmp
@@ -210,15 +209,12 @@ sorted_insert (x ∷ xs) k sorted = by (place_cmp k x) refl (sorted_insert xs k 
 
 pub opened_sorted : (os : List Opening) (ps : List Place) → IsStrictlySortedBy place_cmp ps → IsStrictlySortedBy place_cmp (fold with_opening ps os)
 opened_sorted [] ps sorted = sorted
-opened_sorted (o ∷ os) ps sorted = opened_sorted os (with_opening ps o) (sorted_insert ps (place_at o.issue (Member o.member)) sorted)
+opened_sorted (o ∷ os) ps sorted = opened_sorted os (with_opening ps o) (sorted_insert ps _ sorted)
 
 pub places_sorted : (openings : List Opening) (p : List DepRecord) → IsStrictlySortedBy place_cmp (places_of openings p)
 unfolding places_of IsStrictlySortedBy
 places_sorted openings [] = opened_sorted openings [] tt
-places_sorted openings (e ∷ p) =
-    let o = order_in e in
-    sorted_insert (insert_key place_cmp (places_of openings p) (place_at o.issue Cns)) (place_at o.issue (Member o.member))
-    (sorted_insert (places_of openings p) (place_at o.issue Cns) (places_sorted openings p))
+places_sorted openings (e ∷ p) = sorted_insert _ _ (sorted_insert (places_of openings p) _ (places_sorted openings p))
 
 -- a place gives a row of its own
 abbrev GivesOwn : (Place → Option BalanceRow) → Type 0

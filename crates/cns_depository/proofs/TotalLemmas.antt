@@ -7,7 +7,6 @@ use Rattle.std.proofs.lemmas.Bool.{eqb-true, cond-true, cond-false}
 use Rattle.std.proofs.lemmas.List.{get_or_append_left, length-reverse, reverse-append}
 use Rattle.std.proofs.lemmas.List.Sums.{sum_by-cons}
 use Rattle.std.proofs.lemmas.Option.{slice_get-get_or}
-use Rattle.cns_movements.specs.Order.{is_cover, is_delivery}
 use Rattle.cns_movements.specs.declared.order.MoveKind.{MoveKind}
 use Rattle.cns_movements.specs.declared.order.MoveKind.TheVariants.{Cover, Delivery}
 use Rattle.cns_movements.specs.declared.order.Order.{Order}
@@ -17,7 +16,6 @@ use Rattle.cns_depository.specs.declared.account.Account.TheVariants.{Cns, Membe
 use Rattle.cns_depository.specs.declared.moved.Moved.{Moved}
 use Rattle.cns_depository.specs.declared.place.Place.{Place}
 use Rattle.cns_depository.specs.Account.{enters, giver, leaves, receiver}
-use Rattle.cns_depository.specs.Balances.{place_at}
 use Rattle.cns_depository.specs.Stock.{moved_by, moved_in, moved_out, part_where, order_in, record_of}
 use Rattle.cns_depository.proofs.BalanceLemmas.{and_left, and_right}
 use Rattle.cns_depository.specs.Totals.{AreTotalsOf, place_eq, HasIndex}
@@ -60,7 +58,7 @@ index_some_of p n i o stands some = let at = subst (HasIndex p n) some stands in
 
 -- ---- places
 
-equal_accounts : (issue other : ℕ) (a b : Account) → place_eq (place_at issue a) (place_at other b) ≡ true → (issue ≡ other) × (a ≡ b)
+equal_accounts : (issue other : ℕ) (a b : Account) → place_eq (record { issue = issue; account = a }) (record { issue = other; account = b }) ≡ true → (issue ≡ other) × (a ≡ b)
 equal_accounts issue other Cns Cns e = (eqb-true issue other (and_left (eqb issue other) true e), refl)
 equal_accounts issue other Cns (Member k) e = cc (and_right (eqb issue other) false e)
 equal_accounts issue other (Member m) Cns e = cc (and_right (eqb issue other) false e)
@@ -96,20 +94,20 @@ swap false true = refl
 swap false false = refl
 
 -- the place of the account that receives is the one that the order enters
-received : (a : Account) (issue : ℕ) (o : Order) → place_eq (place_at o.issue (receiver o)) (place_at issue a) ≡ (enters a o && (o.issue == issue))
+received : (a : Account) (issue : ℕ) (o : Order) → place_eq (record { issue = o.issue; account = receiver o }) (record { issue = issue; account = a }) ≡ (enters a o && (o.issue == issue))
 received a issue o = by a o.kind refl
   where
-    by : (x : Account) (kind : MoveKind) → o.kind ≡ kind → place_eq (place_at o.issue (receiver o)) (place_at issue x) ≡ (enters x o && (o.issue == issue))
+    by : (x : Account) (kind : MoveKind) → o.kind ≡ kind → place_eq (record { issue = o.issue; account = receiver o }) (record { issue = issue; account = x }) ≡ (enters x o && (o.issue == issue))
     by Cns Cover is = rw is (swap (o.issue == issue) true)
     by Cns Delivery is = rw is (swap (o.issue == issue) false)
     by (Member m) Cover is = rw is (swap (o.issue == issue) false)
     by (Member m) Delivery is = rw is (swap (o.issue == issue) (o.member == m))
 
 -- and that of the account that gives is the one that it leaves
-given : (a : Account) (issue : ℕ) (o : Order) → place_eq (place_at o.issue (giver o)) (place_at issue a) ≡ (leaves a o && (o.issue == issue))
+given : (a : Account) (issue : ℕ) (o : Order) → place_eq (record { issue = o.issue; account = giver o }) (record { issue = issue; account = a }) ≡ (leaves a o && (o.issue == issue))
 given a issue o = by a o.kind refl
   where
-    by : (x : Account) (kind : MoveKind) → o.kind ≡ kind → place_eq (place_at o.issue (giver o)) (place_at issue x) ≡ (leaves x o && (o.issue == issue))
+    by : (x : Account) (kind : MoveKind) → o.kind ≡ kind → place_eq (record { issue = o.issue; account = giver o }) (record { issue = issue; account = x }) ≡ (leaves x o && (o.issue == issue))
     by Cns Cover is = rw is (swap (o.issue == issue) false)
     by Cns Delivery is = rw is (swap (o.issue == issue) true)
     by (Member m) Cover is = rw is (swap (o.issue == issue) (o.member == m))
@@ -125,8 +123,8 @@ at_most false n = omega arith
 pub totals_none : (moved : Place → Moved) (indices : ℕ → Option ℕ) → ((k : Place) → moved k ≡ record { entered = 0; left = 0 }) → ((n : ℕ) → indices n ≡ None) → AreTotalsOf moved indices []
 unfolding moved_in moved_out
 totals_none moved indices nothing none = record {
-  entered = λ a i. ap (λ (m : Moved). m.entered) (nothing (place_at i a));
-  left = λ a i. ap (λ (m : Moved). m.left) (nothing (place_at i a));
+  entered = λ a i. ap (λ (m : Moved). m.entered) (nothing (record { issue = i; account = a }));
+  left = λ a i. ap (λ (m : Moved). m.left) (nothing (record { issue = i; account = a }));
   found = λ n. subst (HasIndex [] n) (sym (none n)) refl;
   few = omega arith;
   entered_small = λ a i. omega arith;
@@ -137,8 +135,8 @@ totals_none moved indices nothing none = record {
 pub totals_kept : (moved now : Place → Moved) (indices after : ℕ → Option ℕ) (p : List DepRecord) → ((k : Place) → now k ≡ moved k) → ((n : ℕ) → after n ≡ indices n)
     → AreTotalsOf moved indices p → AreTotalsOf now after p
 totals_kept moved now indices after p same found totals = record {
-  entered = λ a i. ap (λ (m : Moved). m.entered) (same (place_at i a)) ∙ totals.entered a i;
-  left = λ a i. ap (λ (m : Moved). m.left) (same (place_at i a)) ∙ totals.left a i;
+  entered = λ a i. ap (λ (m : Moved). m.entered) (same (record { issue = i; account = a })) ∙ totals.entered a i;
+  left = λ a i. ap (λ (m : Moved). m.left) (same (record { issue = i; account = a })) ∙ totals.left a i;
   found = λ n. subst (HasIndex p n) (sym (found n)) (totals.found n);
   few = totals.few;
   entered_small = totals.entered_small;
@@ -148,8 +146,8 @@ totals_kept moved now indices after p same found totals = record {
 -- those with one more record
 pub totals_more : (moved now : Place → Moved) (indices after : ℕ → Option ℕ) (p : List DepRecord) (e : DepRecord) → AreTotalsOf moved indices p
     → length p < 2 ^ 64 → moved_by e ≤ 10 ^ 18
-    → ((k : Place) → (now k).entered ≡ (moved k).entered + (if place_eq (place_at (order_in e).issue (receiver (order_in e))) k then moved_by e else 0))
-    → ((k : Place) → (now k).left ≡ (moved k).left + (if place_eq (place_at (order_in e).issue (giver (order_in e))) k then moved_by e else 0))
+    → ((k : Place) → (now k).entered ≡ (moved k).entered + (if place_eq (record { issue = (order_in e).issue; account = receiver (order_in e) }) k then moved_by e else 0))
+    → ((k : Place) → (now k).left ≡ (moved k).left + (if place_eq (record { issue = (order_in e).issue; account = giver (order_in e) }) k then moved_by e else 0))
     → ((n : ℕ) → after n ≡ (if (order_in e).number == n then Some (length p) else indices n))
     → AreTotalsOf now after (e ∷ p)
 unfolding moved_in moved_out
@@ -159,10 +157,10 @@ totals_more moved now indices after p e totals few small entered left found =
     record {
       entered = λ a i.
           let here = ap (λ (b : Bool). if b then m else 0) (received a i o) in
-          omega (arith, entered (place_at i a), totals.entered a i, here, sum_by-cons (part_where (enters a) i) e p);
+          omega (arith, entered (record { issue = i; account = a }), totals.entered a i, here, sum_by-cons (part_where (enters a) i) e p);
       left = λ a i.
           let here = ap (λ (b : Bool). if b then m else 0) (given a i o) in
-          omega (arith, left (place_at i a), totals.left a i, here, sum_by-cons (part_where (leaves a) i) e p);
+          omega (arith, left (record { issue = i; account = a }), totals.left a i, here, sum_by-cons (part_where (leaves a) i) e p);
       found = λ n. subst (HasIndex (e ∷ p) n) (sym (found n)) (index_more p e n (indices n) (totals.found n));
       few = omega (arith, few);
       entered_small = λ a i. omega (arith, totals.entered_small a i, small, at_most (enters a o && (o.issue == i)) m, sum_by-cons (part_where (enters a) i) e p);

@@ -21,14 +21,11 @@ rank account = elim account [ Cns ↦ 0 | Member m ↦ m + 1 ]
 abbrev pub place_cmp : Place → Place → Ordering
 place_cmp a b = ordering_then (nat_cmp a.issue b.issue) (nat_cmp (rank a.account) (rank b.account))
 
-abbrev pub place_at : ℕ → Account → Place
-place_at issue account = record { issue = issue; account = account }
-
 -- the places that some opening or order names, each once, ascending
 unfoldable pub places_of : List Opening → List DepRecord → List Place
-places_of openings [] = fold (λ ps o. insert_key place_cmp ps (place_at o.issue (Member o.member))) [] openings
+places_of openings [] = fold (λ ps o. insert_key place_cmp ps (record { issue = o.issue; account = Member o.member })) [] openings
 places_of openings (e ∷ p) =
-    let o = order_in e in insert_key place_cmp (insert_key place_cmp (places_of openings p) (place_at o.issue Cns)) (place_at o.issue (Member o.member))
+    let o = order_in e in fold (λ ps a. insert_key place_cmp ps (record { issue = o.issue; account = a })) (places_of openings p) (Cns ∷ Member o.member ∷ [])
 
 -- the row of a place, where its balance is not 0
 unfoldable pub balance_row : List Opening → List DepRecord → Place → Option BalanceRow
@@ -42,7 +39,7 @@ balance_rows openings p = filter_map (balance_row openings p) (places_of opening
 
 -- a row's place
 abbrev pub row_place : BalanceRow → Place
-row_place row = place_at row.issue row.account
+row_place row = record { issue = row.issue; account = row.account }
 
 -- the rows stand by issue, then account, each place once
 abbrev pub AreAscending : List BalanceRow → Type 0

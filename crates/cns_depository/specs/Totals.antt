@@ -8,7 +8,6 @@ use Rattle.cns_depository.specs.declared.moved.Moved.{Moved}
 use Rattle.cns_depository.specs.declared.place.Place.{Place}
 use Rattle.cns_depository.specs.declared.stock.Stock.{Stock}
 use Rattle.cns_depository.specs.contracts.place.PlacePartialEq.TheImpl as place
-use Rattle.cns_depository.specs.Balances.{place_at}
 use Rattle.cns_depository.specs.Node.{DepNode, IsNode}
 use Rattle.cns_depository.specs.Stock.{moved_in, moved_out, record_of}
 
@@ -29,8 +28,8 @@ HasIndex p n (Some i) = (i < length p) × (slice_get (reverse p) i ≡ record_of
 -- what was moved into each place and out of it, and the index of the record of each number, are those of these records, the newest
 -- first, which moved at most 10^18 shares each
 pub record AreTotalsOf (moved : Place → Moved) (indices : ℕ → Option ℕ) (p : List DepRecord) : Type 0 where
-  pub entered : (a : Account) (issue : ℕ) → (moved (place_at issue a)).entered ≡ moved_in p a issue
-  pub left : (a : Account) (issue : ℕ) → (moved (place_at issue a)).left ≡ moved_out p a issue
+  pub entered : (a : Account) (issue : ℕ) → (moved (record { issue = issue; account = a })).entered ≡ moved_in p a issue
+  pub left : (a : Account) (issue : ℕ) → (moved (record { issue = issue; account = a })).left ≡ moved_out p a issue
   pub found : (n : ℕ) → HasIndex p n (indices n)
   pub few : length p ≤ 2 ^ 64
   pub entered_small : (a : Account) (issue : ℕ) → moved_in p a issue ≤ 10 ^ 18 * length p
