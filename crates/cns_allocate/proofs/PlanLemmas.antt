@@ -1,11 +1,12 @@
 -- What holds of each plan.
 use Rattle.std.proofs.Common.{◌≡◌, ◌≤◌, ◌+◌, ◌-◌, ℕ, List, [], ◌∷◌, ◌++◌, Option, Some, None, Bool, true, false, cond, refl, ap, ◌∙◌, arith, append_assoc, Less}
 use Rattle.std.specs.Prelude.{◌&&◌, ◌==◌, nat_lt, All, AllPairs, IfSome, count_by, sum_by, filter, ℤ, pos, negsuc, ◌-ℤ◌, if◌then◌else◌}
-use Rattle.std.specs.List.{filter_map, cons_option}
+use Rattle.std.specs.List.{filter_map, flat_map, cons_option}
 use Rattle.std.proofs.Math.Bool.{and_comm}
 use Rattle.std.proofs.lemmas.Bool.{and_from, and_parts, cond-false, cond-true, eqb-true, ltb-true}
 use Rattle.std.proofs.lemmas.Int.{ints}
-use Rattle.std.proofs.lemmas.List.Elements.{All-append, All-filter, All-head, All-tail, All-weaker, filter_passes}
+use Rattle.std.proofs.lemmas.List.{append-nil}
+use Rattle.std.proofs.lemmas.List.Elements.{All-append, All-filter, All-head, All-nil, All-tail, All-weaker, filter_passes}
 use Rattle.std.proofs.lemmas.List.Kept.{AllPairs-cons}
 use Rattle.std.proofs.lemmas.List.Sums.{sum_by-append, sum_by-cons}
 use Rattle.cns_netting.specs.History.{credit, credit_part, debit, due, settled_in, sold}
@@ -27,7 +28,7 @@ use Rattle.cns_covers.specs.Covers.{IsUnsettled}
 use Rattle.cns_covers.specs.declared.priorities.Prioritized.{Prioritized}
 use Rattle.cns_covers.proofs.BoundLemmas.{other_place, share_grows}
 use Rattle.cns_covers.proofs.RowLemmas.{All-filter_map, All-rows_of, IfSome-open_row}
-use Rattle.cns_allocate.specs.Group.{is_in, rank}
+use Rattle.cns_allocate.specs.Group.{rank}
 use Rattle.cns_allocate.specs.Plan.{IsPlan, LongsFit, by_group, group_in, plan_of, planned_of, want_of}
 use Rattle.cns_allocate.specs.declared.group.Group.{Group}
 use Rattle.cns_allocate.specs.declared.group.Group.TheVariants.{Priority, WasLong, Other}
@@ -195,32 +196,34 @@ wanting-once issue h book settings were_long member =
 -- ---- by group
 
 -- each element is in one of the groups
-sum_by-groups : (f : Planned → ℕ) (ps : List Planned)
-    → sum_by f (filter (is_in Priority) ps) + (sum_by f (filter (is_in WasLong) ps) + sum_by f (filter (is_in Other) ps)) ≡ sum_by f ps
-sum_by-groups f [] = refl
-sum_by-groups f (p ∷ ps) =
-    by p.group (filter (is_in Priority) ps) (filter (is_in WasLong) ps) (filter (is_in Other) ps) (sum_by-groups f ps)
-  where
-    by : (g : Group) (us bs cs : List Planned) → sum_by f us + (sum_by f bs + sum_by f cs) ≡ sum_by f ps
-        → sum_by f (cond (rank g == 0) (p ∷ us) us) + (sum_by f (cond (rank g == 1) (p ∷ bs) bs) + sum_by f (cond (rank g == 2) (p ∷ cs) cs)) ≡ sum_by f (p ∷ ps)
-    by Priority us bs cs e = omega (arith, sum_by-cons f p us, sum_by-cons f p ps)
-    by WasLong us bs cs e = omega (arith, sum_by-cons f p bs, sum_by-cons f p ps)
-    by Other us bs cs e = omega (arith, sum_by-cons f p cs, sum_by-cons f p ps)
-
 pub sum_by-by_group : (f : Planned → ℕ) (ps : List Planned) → sum_by f (by_group ps) ≡ sum_by f ps
-sum_by-by_group f ps =
-    omega (
-      arith,
-      sum_by-append f (filter (is_in Priority) ps) (filter (is_in WasLong) ps ++ filter (is_in Other) ps),
-      sum_by-append f (filter (is_in WasLong) ps) (filter (is_in Other) ps),
-      sum_by-groups f ps,
-    )
+sum_by-by_group f [] = refl
+sum_by-by_group f (p ∷ ps) = by p.group _ _ _ (sum_by-by_group f ps)
+  where
+    added : (us vs : List Planned) → sum_by f (us ++ p ∷ vs) ≡ f p + sum_by f (us ++ vs)
+    added us vs = omega (arith, sum_by-append f us (p ∷ vs), sum_by-append f us vs, sum_by-cons f p vs)
+
+    by : (g : Group) (us bs cs : List Planned) → sum_by f (us ++ (bs ++ (cs ++ []))) ≡ sum_by f ps
+        → sum_by f (cond (rank g == 0) (p ∷ us) us ++ (cond (rank g == 1) (p ∷ bs) bs ++ (cond (rank g == 2) (p ∷ cs) cs ++ []))) ≡ sum_by f (p ∷ ps)
+    by Priority us bs cs e = omega (arith, e, added [] (us ++ (bs ++ (cs ++ []))), sum_by-cons f p ps)
+    by WasLong us bs cs e = omega (arith, e, added us (bs ++ (cs ++ [])), sum_by-cons f p ps)
+    by Other us bs cs e =
+        omega (
+          arith,
+          e,
+          sum_by-append f us (bs ++ (cs ++ [])),
+          sum_by-append f us (bs ++ p ∷ (cs ++ [])),
+          added bs (cs ++ []),
+          sum_by-cons f p ps,
+        )
 
 -- what holds of each element holds of each in its group
 pub All-by_group : (P : Planned → Type 0) (ps : List Planned) → All P ps → All P (by_group ps)
-All-by_group P ps all =
-    All-append P (filter (is_in Priority) ps) (filter (is_in WasLong) ps ++ filter (is_in Other) ps) (All-filter (is_in Priority) P ps all)
-    (All-append P (filter (is_in WasLong) ps) (filter (is_in Other) ps) (All-filter (is_in WasLong) P ps all) (All-filter (is_in Other) P ps all))
+All-by_group P ps all = in_groups (Priority ∷ WasLong ∷ Other ∷ [])
+  where
+    in_groups : (gs : List Group) → All P (flat_map (λ g. filter (λ (p : Planned). rank p.group == rank g) ps) gs)
+    in_groups [] = All-nil P
+    in_groups (g ∷ gs) = All-append P _ _ (All-filter _ P ps all) (in_groups gs)
 
 -- two members in the order of their groups
 abbrev pub IsNoLater : Planned → Planned → Type 0
@@ -249,29 +252,28 @@ one_group r (p ∷ ps) same =
     let rest = All-tail (λ (q : Planned). rank q.group ≡ r) p ps same in
     AllPairs-cons IsNoLater p ps (All-weaker (λ (q : Planned). rank q.group ≡ r) (IsNoLater p) (λ q e. omega arith) ps rest) (one_group r ps rest)
 
-in_group : (g : Group) (ps : List Planned) → All (λ (p : Planned). rank p.group ≡ rank g) (filter (is_in g) ps)
+in_group : (g : Group) (ps : List Planned) → All (λ (p : Planned). rank p.group ≡ rank g) (filter (λ (p : Planned). rank p.group == rank g) ps)
 in_group g ps =
-    All-weaker (λ (p : Planned). is_in g p ≡ true) (λ (p : Planned). rank p.group ≡ rank g) (λ p e. eqb-true (rank p.group) (rank g) e) (filter (is_in g) ps)
-    (filter_passes (is_in g) ps)
+    All-weaker (λ (p : Planned). (rank p.group == rank g) ≡ true) (λ (p : Planned). rank p.group ≡ rank g) (λ p e. eqb-true (rank p.group) (rank g) e) _
+    (filter_passes (λ (p : Planned). rank p.group == rank g) ps)
 
-from_group : (r : ℕ) (g : Group) (ps : List Planned) → r ≤ rank g → All (λ (p : Planned). r ≤ rank p.group) (filter (is_in g) ps)
-from_group r g ps le =
-    All-weaker (λ (p : Planned). rank p.group ≡ rank g) (λ (p : Planned). r ≤ rank p.group) (λ p e. omega arith) (filter (is_in g) ps) (in_group g ps)
+from_group : (r s : ℕ) (ps : List Planned) → r ≤ s → All (λ (p : Planned). rank p.group ≡ s) ps → All (λ (p : Planned). r ≤ rank p.group) ps
+from_group r s ps le same = All-weaker (λ (p : Planned). rank p.group ≡ s) (λ (p : Planned). r ≤ rank p.group) (λ p e. omega arith) ps same
 
 groups-by_group : (ps : List Planned) → AllPairs IsNoLater (by_group ps)
 groups-by_group ps =
-    let firsts : List Planned = filter (is_in Priority) ps in
-    let seconds : List Planned = filter (is_in WasLong) ps in
-    let others : List Planned = filter (is_in Other) ps in
-    let later = All-append (λ (p : Planned). 0 ≤ rank p.group) seconds others (from_group 0 WasLong ps (omega arith)) (from_group 0 Other ps (omega arith)) in
-    groups-append 0 firsts (seconds ++ others) (in_group Priority ps) later
-    (groups-append 1 seconds others (in_group WasLong ps) (from_group 1 Other ps (omega arith)) (one_group 2 others (in_group Other ps)))
+    let none = λ (r : ℕ). All-nil (λ (p : Planned). r ≤ rank p.group) in
+    let seconds = in_group WasLong ps in
+    let others = in_group Other ps in
+    let last = λ (r : ℕ) (le : r ≤ 2). All-append (λ (p : Planned). r ≤ rank p.group) _ [] (from_group r 2 _ le others) (none r) in
+    groups-append 0 _ _ (in_group Priority ps) (All-append (λ (p : Planned). 0 ≤ rank p.group) _ _ (from_group 0 1 _ (omega arith) seconds) (last 0 (omega arith)))
+    (groups-append 1 _ _ seconds (last 1 (omega arith)) (groups-append 2 _ [] others (none 2) no_pairs))
 
 -- the groups added to a list one after another
-pub groups_added : (ps none firsts more all : List Planned) → none ≡ [] → firsts ≡ none ++ filter (is_in Priority) ps → more ≡ firsts ++ filter (is_in WasLong) ps
-    → all ≡ more ++ filter (is_in Other) ps → all ≡ by_group ps
-groups_added ps none firsts more all is_none is_firsts is_more is_all =
-    rw (is_all, is_more, is_firsts, is_none, append_assoc (filter (is_in Priority) ps) (filter (is_in WasLong) ps) (filter (is_in Other) ps)) refl
+pub groups_added : (of : Group → List Planned) (none firsts more all : List Planned) → none ≡ [] → firsts ≡ none ++ of Priority → more ≡ firsts ++ of WasLong
+    → all ≡ more ++ of Other → all ≡ flat_map of (Priority ∷ WasLong ∷ Other ∷ [])
+groups_added of none firsts more all is_none is_firsts is_more is_all =
+    rw (is_all, is_more, is_firsts, is_none, append-nil (of Other)) (append_assoc (of Priority) (of WasLong) (of Other))
 
 -- each plan is one
 pub IsPlan-plan_of : (issue : ℕ) (h : List NetEntry) (book : Orders) (settings : List Prioritized) (were_long : List ℕ) → LongsFit h

@@ -12,7 +12,7 @@ use Rattle.std.proofs.lemmas.List.Sums.{sum_by-cons}
 use Rattle.cns_movements.specs.Asked.{IsAsked}
 use Rattle.cns_allocate.specs.Group.{rank}
 use Rattle.cns_allocate.specs.Plan.{IsPlan}
-use Rattle.cns_allocate.specs.Served.{is_after_others, turn_by, turn_of, without}
+use Rattle.cns_allocate.specs.Served.{turn_by, turn_of, without}
 use Rattle.cns_allocate.specs.declared.group.Group.{Group}
 use Rattle.cns_allocate.specs.declared.group.Group.TheVariants.{Priority, WasLong, Other}
 use Rattle.cns_allocate.specs.declared.planned.Planned.{Planned}
@@ -276,7 +276,7 @@ without-at member k (p ∷ plan) i j once found is = by (is_planned_as member p)
 
 -- the first of a plan is of no later group than the others
 after-first : (p first : Planned) (plan : List Planned) → AllPairs (λ (p q : Planned). rank p.group ≤ rank q.group) (first ∷ plan)
-    → nat_lt (rank first.group) (rank p.group) ≡ is_after_others (first ∷ plan) p
+    → nat_lt (rank first.group) (rank p.group) ≡ list_any (λ (q : Planned). nat_lt (rank q.group) (rank p.group)) (first ∷ plan)
 after-first p first plan groups = by (nat_lt (rank first.group) (rank p.group)) refl
   where
     by : (b : Bool) → nat_lt (rank first.group) (rank p.group) ≡ b → b ≡ (b || list_any (λ (q : Planned). nat_lt (rank q.group) (rank p.group)) plan)
@@ -288,9 +288,14 @@ after-first p first plan groups = by (nat_lt (rank first.group) (rank p.group)) 
 
 -- so it decides whether one of an earlier group waits
 pub after-head : (p first : Planned) (plan : List Planned) → AllPairs (λ (p q : Planned). rank p.group ≤ rank q.group) plan → slice_get plan 0 ≡ Some first
-    → nat_lt (rank first.group) (rank p.group) ≡ is_after_others plan p
+    → nat_lt (rank first.group) (rank p.group) ≡ list_any (λ (q : Planned). nat_lt (rank q.group) (rank p.group)) plan
 after-head p first [] groups found = cc
 after-head p first (x ∷ plan) groups found = let same : x ≡ first = cc in rw (← same) (after-first p x plan groups)
+
+-- the turn of one that is found
+pub turn_found : (plan : List Planned) (member : ℕ) (p : Planned) (after : Bool) → Some p ≡ find (is_planned_as member) plan
+    → after ≡ list_any (λ (q : Planned). nat_lt (rank q.group) (rank p.group)) plan → turn_of plan member ≡ cond after EarlierGroup (Next p.asked)
+turn_found plan member p after found is = rw (← found, ← is) refl
 
 -- the one that may draw a ticket: it is found by its member, and none of an earlier group waits
 pub record IsTurn (plan : List Planned) (member asked : ℕ) : Type 0 where
@@ -300,7 +305,7 @@ pub record IsTurn (plan : List Planned) (member asked : ℕ) : Type 0 where
   pub shares : planned.asked ≡ asked
   pub first : All (λ (q : Planned). rank planned.group ≤ rank q.group) plan
 
-first_group : (plan : List Planned) (p : Planned) → is_after_others plan p ≡ false → All (λ (q : Planned). rank p.group ≤ rank q.group) plan
+first_group : (plan : List Planned) (p : Planned) → list_any (λ (q : Planned). nat_lt (rank q.group) (rank p.group)) plan ≡ false → All (λ (q : Planned). rank p.group ≤ rank q.group) plan
 first_group plan p none =
     All-weaker (λ (q : Planned). nat_lt (rank q.group) (rank p.group) ≡ false) (λ (q : Planned). rank p.group ≤ rank q.group)
     (λ q e. ltb-false (rank q.group) (rank p.group) e) plan (list_any-false (λ (q : Planned). nat_lt (rank q.group) (rank p.group)) plan none)
@@ -308,7 +313,7 @@ first_group plan p none =
 pub turn-parts : (plan : List Planned) (member asked : ℕ) → turn_of plan member ≡ Next asked → IsTurn plan member asked
 turn-parts plan member asked next = by (find (is_planned_as member) plan) refl next
   where
-    by_group : (p : Planned) (b : Bool) → find (is_planned_as member) plan ≡ Some p → is_after_others plan p ≡ b → cond b EarlierGroup (Next p.asked) ≡ Next asked
+    by_group : (p : Planned) (b : Bool) → find (is_planned_as member) plan ≡ Some p → list_any (λ (q : Planned). nat_lt (rank q.group) (rank p.group)) plan ≡ b → cond b EarlierGroup (Next p.asked) ≡ Next asked
         → IsTurn plan member asked
     by_group p true f e n = cc
     by_group p false f e n = record {
@@ -321,13 +326,13 @@ turn-parts plan member asked next = by (find (is_planned_as member) plan) refl n
 
     by : (o : Option Planned) → find (is_planned_as member) plan ≡ o → turn_by plan o ≡ Next asked → IsTurn plan member asked
     by None f n = cc
-    by (Some p) f n = by_group p (is_after_others plan p) f refl n
+    by (Some p) f n = by_group p _ f refl n
 
 -- and it is its turn
 pub turn-next : (plan : List Planned) (member : ℕ) (p : Planned) → find (is_planned_as member) plan ≡ Some p → All (λ (q : Planned). rank p.group ≤ rank q.group) plan
     → turn_of plan member ≡ Next p.asked
 turn-next plan member p found first =
-    let none : is_after_others plan p ≡ false =
+    let none =
     list_any_none (λ (q : Planned). nat_lt (rank q.group) (rank p.group)) plan
     (All-weaker (λ (q : Planned). rank p.group ≤ rank q.group) (λ (q : Planned). nat_lt (rank q.group) (rank p.group) ≡ false)
     (λ q le. le-ltb (rank q.group) (rank p.group) le) plan first) in

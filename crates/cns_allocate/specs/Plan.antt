@@ -1,7 +1,7 @@
 -- The plan of an issue: who is to receive its shares, how many, and in which order (this project's own rule).
 -- Histories and settings stand newest first.
-use Rattle.std.specs.Prelude.{ℕ, ◌-◌, ◌≤◌, ◌==◌, ◌&&◌, nat_lt, List, ◌++◌, Option, Some, None, All, AllPairs, count_by, filter, nat_eq, if◌then◌else◌}
-use Rattle.std.specs.List.{filter_map, list_any}
+use Rattle.std.specs.Prelude.{ℕ, ◌-◌, ◌≤◌, ◌==◌, ◌&&◌, nat_lt, List, [], ◌∷◌, Option, Some, None, All, AllPairs, count_by, filter, nat_eq, if◌then◌else◌}
+use Rattle.std.specs.List.{filter_map, flat_map, list_any}
 use Rattle.cns_netting.specs.History.{credit, credit_part, debit}
 use Rattle.cns_netting.specs.Rows.{rows_of}
 use Rattle.cns_netting.specs.declared.entry.NetEntry.{NetEntry}
@@ -12,7 +12,7 @@ use Rattle.cns_movements.specs.Book.{Orders}
 use Rattle.cns_movements.specs.declared.order.MoveKind.TheVariants.{Delivery}
 use Rattle.cns_covers.specs.Priorities.{is_on}
 use Rattle.cns_covers.specs.declared.priorities.Prioritized.{Prioritized}
-use Rattle.cns_allocate.specs.Group.{group_of, is_in, rank}
+use Rattle.cns_allocate.specs.Group.{rank}
 use Rattle.cns_allocate.specs.declared.group.Group.{Group}
 use Rattle.cns_allocate.specs.declared.group.Group.TheVariants.{Priority, WasLong, Other}
 use Rattle.cns_allocate.specs.declared.planned.Planned.{Planned}
@@ -24,7 +24,7 @@ want_of book row = credit_part row.position - open_sum book.orders book.replies 
 -- the group of a member in an issue, by the settings of priorities and the members that were long in the issue
 -- directly after the cycle before the latest
 abbrev pub group_in : ℕ → List Prioritized → List ℕ → ℕ → Group
-group_in issue settings were_long member = group_of (is_on settings member issue) (list_any (nat_eq member) were_long)
+group_in issue settings were_long member = if is_on settings member issue then Priority else if list_any (nat_eq member) were_long then WasLong else Other
 
 -- the member of a position as it is planned, where it is of the issue and something is left to receive
 unfoldable pub planned_of : ℕ → Orders → List Prioritized → List ℕ → PositionRow → Option Planned
@@ -34,7 +34,7 @@ planned_of issue book settings were_long row =
 
 -- some planned by group: those of the first group, then of the second, then the others
 abbrev pub by_group : List Planned → List Planned
-by_group planned = filter (is_in Priority) planned ++ (filter (is_in WasLong) planned ++ filter (is_in Other) planned)
+by_group planned = flat_map (λ group. filter (λ (p : Planned). rank p.group == rank group) planned) (Priority ∷ WasLong ∷ Other ∷ [])
 
 -- the plan of an issue, by group, then member
 abbrev pub plan_of : ℕ → List NetEntry → Orders → List Prioritized → List ℕ → List Planned

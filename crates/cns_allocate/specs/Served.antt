@@ -21,13 +21,9 @@ waiting plan tickets = filter (λ (p : Planned). not (has_ticket tickets p.membe
 abbrev pub without : ℕ → List Planned → List Planned
 without member plan = filter (λ (p : Planned). not (p.member == member)) plan
 
--- whether one of the planned is of an earlier group than this one
-abbrev pub is_after_others : List Planned → Planned → Bool
-is_after_others plan planned = list_any (λ (q : Planned). nat_lt (rank q.group) (rank planned.group)) plan
-
 -- by those who wait, and the one of them that is the member
 abbrev pub turn_by : List Planned → Option Planned → Turn
-turn_by plan found = elim found [ None ↦ NotLong | Some planned ↦ if is_after_others plan planned then EarlierGroup else Next planned.asked ]
+turn_by plan found = elim found [ None ↦ NotLong | Some p ↦ if list_any (λ (q : Planned). nat_lt (rank q.group) (rank p.group)) plan then EarlierGroup else Next p.asked ]
 
 -- what a member is answered that asks for a ticket while these wait: it is not one of them; one of an earlier group waits;
 -- or how many shares its ticket has

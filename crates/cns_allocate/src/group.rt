@@ -1,5 +1,4 @@
-ghost use Rattle.std.specs.Prelude.{◌≡◌};
-ghost use Rattle.cns_allocate.specs.Group.{group_of};
+ghost use Rattle.std.specs.Prelude.{◌≡◌, if◌then◌else◌};
 
 /// The group in which a member is served in an issue; those of an earlier group come first. (This
 /// project's own rule.)
@@ -17,7 +16,7 @@ impl Group {
     /// The group of a member, by whether its priority in the issue is on, and whether it was long in
     /// the issue directly after the cycle before the latest.
     pub fn of(on: bool, was_long: bool) -> Group
-        ensures { result ≡ group_of on was_long }
+        ensures { result ≡ (if on then Group.Priority else if was_long then Group.WasLong else Group.Other) }
     {
         if on {
             Group::Priority
