@@ -1,5 +1,5 @@
 -- Tickets that serve the plan of a lot close it: their allocation may follow the records, and a record can hold it.
-use Rattle.std.proofs.Common.{◌≡◌, ℕ, ◌+◌, ◌≤◌, Bool, false, List, [], ◌∷◌, sym, subst, arith, length-append}
+use Rattle.std.proofs.Common.{◌≡◌, ℕ, ◌+◌, ◌≤◌, Bool, false, List, [], ◌∷◌, length, sym, subst, arith, length-append}
 use Rattle.std.specs.Prelude.{◌==◌, All, count_by, sum_by}
 use Rattle.std.proofs.lemmas.List.Elements.{All-cons, All-head, All-nil, All-tail}
 use Rattle.std.proofs.lemmas.List.Sums.{sum_by-cons}
@@ -20,7 +20,7 @@ use Rattle.cns_records.specs.declared.clear_record.ClearRecord.{ClearRecord}
 use Rattle.cns_clearing.specs.Answers.{allocation_of}
 use Rattle.cns_clearing.specs.Books.{Books, IsAllocable, IsLawful, are_spent, books_of, history_of, orders_of}
 use Rattle.cns_clearing.specs.Closing.{AreRecordable, IsRecordable}
-use Rattle.cns_clearing.specs.Lots.{IsAllocation, IsLot, were_long}
+use Rattle.cns_clearing.specs.Lots.{IsAllocation, IsLot, longs_among}
 use Rattle.cns_clearing.specs.declared.lot.Lot.{Lot}
 use Rattle.cns_clearing.proofs.BooksLemmas.{lawful_sound}
 use Rattle.cns_clearing.proofs.DrawnLemmas.{tickets_drawn}
@@ -39,7 +39,7 @@ allocation_lawful c lot tickets sealed is served = record {
 
 -- the allocation that closes a lot may follow, where there are numbers for its deliveries
 pub allocable : (c : List ClearRecord) (lot : Lot) (tickets : List Ticket) (sealed : Bool) → IsLawful c → AreWritable c → IsLot c lot → IsServed lot.plan tickets sealed
-    → are_spent (orders_of c) (deliveries_of lot.issue lot.poured tickets) ≡ false → IsAllocable (books_of c) (allocation_of lot tickets sealed)
+    → are_spent (orders_of c) (length (deliveries_of lot.issue lot.poured tickets)) ≡ false → IsAllocable (books_of c) (allocation_of lot tickets sealed)
 allocable c lot tickets sealed lawful fits is served enough =
     let same = sym (tickets_drawn tickets) in
     let b : Books = books_of c in
@@ -53,7 +53,7 @@ allocable c lot tickets sealed lawful fits is served enough =
           subst (All (λ (t : Ticket). t.asked ≤ want_in b.history b.orders t.member lot.issue)) same
           (served_within lot.plan tickets sealed served (λ m. want_in b.history b.orders m lot.issue) (lot_wants c lot lawful is));
       there = lot_pours c lot lawful is;
-      numbers = subst (λ (ts : List Ticket). are_spent b.orders (deliveries_of lot.issue lot.poured ts) ≡ false) same enough;
+      numbers = subst (λ (ts : List Ticket). are_spent b.orders (length (deliveries_of lot.issue lot.poured ts)) ≡ false) same enough;
     }
 
 -- ---- a record can hold it
@@ -66,7 +66,7 @@ asked_small c lot tickets sealed lawful fits is served =
     let h : List NetEntry = history_of is.before in
     let book : Orders = orders_of is.before in
     let total =
-    plan_of-total lot.issue h book (books_of is.before).priorities (were_long is.before lot.issue) sound.netted (λ m i. settled_most h book sound.bounded m i) in
+    plan_of-total lot.issue h book (books_of is.before).priorities (longs_among lot.issue (books_of is.before).previous) sound.netted (λ m i. settled_most h book sound.bounded m i) in
     let planned : sum_by (λ (p : Planned). p.asked) lot.plan ≤ 1000000000000000000 =
     subst (λ (ps : List Planned). sum_by (λ (p : Planned). p.asked) ps ≤ 1000000000000000000) (sym is.plan) total in
     omega (arith, served_sum lot.plan tickets sealed served, planned)

@@ -38,7 +38,7 @@ settle_within b r o sound done found =
     confirmed_within b.history b.orders r o sound.ordered sound.bounded found taken.first (rw (← same) taken.within) sound.netted
 
 -- numbers that are not spent suffice
-pub numbers_suffice : (book : Orders) (asks : List Ask) → length book.orders ≤ 1000000 → are_spent book asks ≡ false → length book.orders + length asks ≤ 1000000
+pub numbers_suffice : (book : Orders) (asks : List Ask) → length book.orders ≤ 1000000 → are_spent book (length asks) ≡ false → length book.orders + length asks ≤ 1000000
 numbers_suffice book asks few enough = by (length asks == 0) (nat_lt 1000000 (length book.orders + length asks)) refl refl enough
   where
     by : (none over : Bool) → (length asks == 0) ≡ none → nat_lt 1000000 (length book.orders + length asks) ≡ over → (not none && over) ≡ false

@@ -1,5 +1,5 @@
 -- Tickets that are tested one after another.
-use Rattle.std.proofs.Common.{◌≡◌, ◌≤◌, ◌+◌, ℕ, Bool, true, false, List, [], ◌∷◌, refl, sym, subst, ◌∙◌, arith}
+use Rattle.std.proofs.Common.{◌≡◌, ◌≤◌, ◌+◌, ℕ, Bool, true, false, List, [], ◌∷◌, length, refl, sym, subst, ◌∙◌, arith}
 use Rattle.std.specs.Prelude.{◌==◌, not, cond, count_by}
 use Rattle.std.proofs.lemmas.Bool.{and_from, and_parts, eq-eqb, eqb-true}
 use Rattle.std.proofs.lemmas.List.Sums.{sum_by-cons}
@@ -98,12 +98,12 @@ pub allocable_parts : (b : Books) (a : Allocation) (ts : List Ticket) → ts ≡
 allocable_parts b a ts same h =
     subst (MayFollow b a) (sym same) (h.order, chained_all 0 (tickets_of a.drawn) h.chained, apart_all (tickets_of a.drawn) h.once, h.within, h.there)
 
-pub spent_allocable : (b : Books) (a : Allocation) (asks : List Ask) → asks ≡ deliveries_in a → are_spent b.orders asks ≡ true → IsAllocable b a → ⊥
+pub spent_allocable : (b : Books) (a : Allocation) (asks : List Ask) → asks ≡ deliveries_in a → are_spent b.orders (length asks) ≡ true → IsAllocable b a → ⊥
 spent_allocable b a asks same spent h = let no : true ≡ false = sym (rw same at spent) ∙ h.numbers in absurd cc
 
 -- what passes its tests may follow
 pub follows_allocable : (b : Books) (a : Allocation) (ts : List Ticket) (asks : List Ask) → ts ≡ tickets_of a.drawn → asks ≡ deliveries_in a → MayFollow b a ts
-    → are_spent b.orders asks ≡ false → IsAllocable b a
+    → are_spent b.orders (length asks) ≡ false → IsAllocable b a
 follows_allocable b a ts asks same same_asks follows spent =
     let h = subst (MayFollow b a) same follows in
     record {

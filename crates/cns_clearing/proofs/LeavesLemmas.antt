@@ -19,7 +19,7 @@ use Rattle.cns_clearing.specs.Answers.{Closes, LotCloseLeaves, LotPourLeaves, Ma
 use Rattle.cns_records.specs.Refusals.{commit_refusal}
 use Rattle.cns_journal.specs.declared.record_log.CommitFault.{CommitFault}
 use Rattle.cns_journal.specs.declared.record_log.CommitFault.TheVariants as commit
-use Rattle.cns_clearing.specs.Books.{Books, IsAllocable, IsAllowed, IsLawful, are_spent, are_spent_by, books_of, deliveries_in, orders_of, tickets_of}
+use Rattle.cns_clearing.specs.Books.{Books, IsAllocable, IsAllowed, IsLawful, are_spent, books_of, deliveries_in, orders_of, tickets_of}
 use Rattle.cns_clearing.specs.Closing.{AreRecordable}
 use Rattle.cns_clearing.specs.Lots.{AreLots, IsAllocation, avail_in, longs_among, lots_poured, new_lot, plan_in}
 use Rattle.cns_clearing.specs.Node.{AddLeaves, ClearNode}
@@ -118,39 +118,39 @@ close_asks node issue poured tickets sealed a asks are may count is =
 
 -- whether the numbers suffice for the deliveries, of the records
 pub close_spent : (c : List ClearRecord) (b : Books) (lot : Lot) (tickets : List Ticket) (sealed : Bool) (poured count : ℕ) (spent v : Bool) → b ≡ books_of c → poured ≡ lot.poured
-    → ((issue : ℕ) → count ≡ length (deliveries_of issue poured tickets)) → spent ≡ are_spent_by b.orders count → spent ≡ v
-    → are_spent (orders_of c) (deliveries_in (allocation_of lot tickets sealed)) ≡ v
+    → ((issue : ℕ) → count ≡ length (deliveries_of issue poured tickets)) → spent ≡ are_spent b.orders count → spent ≡ v
+    → are_spent (orders_of c) (length (deliveries_in (allocation_of lot tickets sealed))) ≡ v
 close_spent c b lot tickets sealed poured count spent v same is counted read e =
     let asks : deliveries_in (allocation_of lot tickets sealed) ≡ deliveries_of lot.issue poured tickets =
     ap (deliveries_of lot.issue lot.poured) (tickets_drawn tickets) ∙ ap (λ (p : ℕ). deliveries_of lot.issue p tickets) (sym is) in
-    ap (are_spent (orders_of c)) asks ∙ ap (are_spent_by (orders_of c)) (sym (counted lot.issue)) ∙ ap (λ (x : Books). are_spent_by x.orders count) (sym same) ∙ sym read ∙ e
+    ap (are_spent (orders_of c)) (ap length asks ∙ sym (counted lot.issue)) ∙ ap (λ (x : Books). are_spent x.orders count) (sym same) ∙ sym read ∙ e
 
 -- the allocation of a lot that closes
 pub closes_by : (node : ClearNode) (issue : ℕ) (tickets : List Ticket) (sealed : Bool) (lot : Lot) (a : Allocation) → Closes node issue tickets sealed lot
-    → a ≡ allocation_of lot tickets sealed → MayClose node issue tickets sealed a × (are_spent (orders_of node.log.records) (deliveries_in a) ≡ false)
+    → a ≡ allocation_of lot tickets sealed → MayClose node issue tickets sealed a × (are_spent (orders_of node.log.records) (length (deliveries_in a)) ≡ false)
 closes_by node issue tickets sealed lot a closes is =
-    subst (λ (x : Allocation). MayClose node issue tickets sealed x × (are_spent (orders_of node.log.records) (deliveries_in x) ≡ false)) (sym is) (closes.may, closes.numbers)
+    subst (λ (x : Allocation). MayClose node issue tickets sealed x × (are_spent (orders_of node.log.records) (length (deliveries_in x)) ≡ false)) (sym is) (closes.may, closes.numbers)
 
 -- there are numbers for its deliveries
 pub close_numbers : (b : Books) (c : List ClearRecord) (l asks : List Ask) (a : Allocation) → b ≡ books_of c → l ≡ asks → asks ≡ deliveries_in a
-    → are_spent (orders_of c) (deliveries_in a) ≡ false → are_spent b.orders l ≡ false
-close_numbers b c l asks a same list is enough = ap (λ (x : Books). are_spent x.orders l) same ∙ ap (are_spent (orders_of c)) (list ∙ is) ∙ enough
+    → are_spent (orders_of c) (length (deliveries_in a)) ≡ false → are_spent b.orders (length l) ≡ false
+close_numbers b c l asks a same list is enough = ap (λ (x : Books). are_spent x.orders (length l)) same ∙ ap (λ (asks : List Ask). are_spent (orders_of c) (length asks)) (list ∙ is) ∙ enough
 
 -- and where there are numbers for them the allocation may be recorded
 pub close_allowed : (node : ClearNode) (issue : ℕ) (tickets : List Ticket) (sealed : Bool) (a : Allocation) → IsLawful node.log.records → AreWritable node.log.records
-    → AreLots node.log.records node.lots → MayClose node issue tickets sealed a → are_spent (orders_of node.log.records) (deliveries_in a) ≡ false
+    → AreLots node.log.records node.lots → MayClose node issue tickets sealed a → are_spent (orders_of node.log.records) (length (deliveries_in a)) ≡ false
     → IsAllowed node.log.records (Allocate a)
 close_allowed node issue tickets sealed a lawful fits are may enough =
     let lot = may.lot in
     let its = (lot_found node.log.records node.lots issue lot are may.found).0 in
     let mine : deliveries_in a ≡ deliveries_of lot.issue lot.poured tickets =
     ap deliveries_in may.closes ∙ ap (λ (ts : List Ticket). deliveries_of lot.issue lot.poured ts) (tickets_drawn tickets) in
-    let numbers = subst (λ (m : List Ask). are_spent (orders_of node.log.records) m ≡ false) mine enough in
+    let numbers = subst (λ (m : List Ask). are_spent (orders_of node.log.records) (length m) ≡ false) mine enough in
     subst (λ (x : Allocation). IsAllocable (books_of node.log.records) x) (sym may.closes) (allocable node.log.records lot tickets sealed lawful fits its may.served numbers)
 
 -- what a refused commit leaves of a close
 pub close_refused : (old new : ClearNode) (issue : ℕ) (tickets : List Ticket) (sealed : Bool) (a : Allocation) (fault : CommitFault) → old.log.down ≡ false
-    → MayClose old issue tickets sealed a → are_spent (orders_of old.log.records) (deliveries_in a) ≡ false → IsAllowed old.log.records (Allocate a)
+    → MayClose old issue tickets sealed a → are_spent (orders_of old.log.records) (length (deliveries_in a)) ≡ false → IsAllowed old.log.records (Allocate a)
     → AddLeaves (Allocate a) (Err fault) old new → LotCloseLeaves issue tickets sealed (Err (commit_refusal fault)) old new
 close_refused old new issue tickets sealed a commit.OutOfMemory up may enough allowed left = (up, (a, may, enough), left)
 close_refused old new issue tickets sealed a commit.Device up may enough allowed left = (a, may, allowed, left)

@@ -1,13 +1,13 @@
 -- The open lots are as the records have them: as records are added, a lot is opened, and a lot gets more shares.
 use Rattle.std.proofs.Common.{◌≡◌, ℕ, ◌+◌, ◌≤◌, Bool, true, false, cond, not, List, [], ◌∷◌, ◌++◌, length, map, Some, None, refl, sym, ap, ◌∙◌, subst, arith, append_assoc}
-use Rattle.std.specs.Prelude.{◌==◌, All, count_by}
+use Rattle.std.specs.Prelude.{◌==◌, All, count_by, filter}
 use Rattle.std.proofs.lemmas.Bool.{cond-false, cond-true, eqb-true}
 use Rattle.std.proofs.lemmas.List.Elements.{All-append, All-cons, All-head, All-map, All-nil, All-tail, All-weaker}
 use Rattle.std.proofs.lemmas.List.Sums.{sum_by-append, sum_by-cons}
 use Rattle.cns_allocate.proofs.TurnLemmas.{count_by-filter, find-All, find-none, find-passes}
 use Rattle.cns_records.specs.declared.clear_record.ClearRecord.{ClearRecord}
 use Rattle.cns_records.specs.declared.clear_record.ClearRecord.TheVariants.{Accept, Exempt, Priority, Cycle, Allocate, Confirm}
-use Rattle.cns_clearing.specs.Lots.{AreLots, DoesNotDisturb, IsLot, IsQuiet, avail_in, lots_after, lots_poured, new_lot, poured_into, without_lot}
+use Rattle.cns_clearing.specs.Lots.{AreLots, DoesNotDisturb, IsLot, IsQuiet, avail_in, lots_after, lots_poured, new_lot}
 use Rattle.cns_clearing.specs.OpenLots.{refilled}
 use Rattle.cns_clearing.specs.Pools.{lot_of}
 use Rattle.cns_clearing.specs.declared.lot.Lot.{Lot}
@@ -44,13 +44,14 @@ lots_kept c r lots are quiet = record {
 }
 
 -- those that are left are of another issue
-lots_left : (P Q : Lot → Type 0) (issue : ℕ) → ((lot : Lot) → (lot.issue == issue) ≡ false → P lot → Q lot) → (lots : List Lot) → All P lots → All Q (without_lot issue lots)
+lots_left : (P Q : Lot → Type 0) (issue : ℕ) → ((lot : Lot) → (lot.issue == issue) ≡ false → P lot → Q lot) → (lots : List Lot) → All P lots
+    → All Q (filter (λ (lot : Lot). not (lot.issue == issue)) lots)
 lots_left P Q issue each [] all = All-nil Q
-lots_left P Q issue each (lot ∷ lots) all = by (lot.issue == issue) refl (lots_left P Q issue each lots (All-tail P lot lots all))
+lots_left P Q issue each (lot ∷ lots) all = by (lot.issue == issue) _ refl (lots_left P Q issue each lots (All-tail P lot lots all))
   where
-    by : (b : Bool) → (lot.issue == issue) ≡ b → All Q (without_lot issue lots) → All Q (cond (not b) (lot ∷ without_lot issue lots) (without_lot issue lots))
-    by true e rest = rest
-    by false e rest = All-cons Q lot (without_lot issue lots) (each lot e (All-head P lot lots all)) rest
+    by : (b : Bool) (left : List Lot) → (lot.issue == issue) ≡ b → All Q left → All Q (cond (not b) (lot ∷ left) left)
+    by true left e rest = rest
+    by false left e rest = All-cons Q lot left (each lot e (All-head P lot lots all)) rest
 
 -- the open lots once a record was added
 pub lots_more : (c : List ClearRecord) (r : ClearRecord) (lots : List Lot) → AreLots c lots → DoesNotDisturb r lots → AreLots (r ∷ c) (lots_after r lots)
@@ -124,7 +125,7 @@ lot_refilled c lot is =
       plan = is.plan;
     }
 
-lot_poured : (c : List ClearRecord) (issue : ℕ) (lot : Lot) → IsLot c lot → IsLot c (poured_into c issue lot)
+lot_poured : (c : List ClearRecord) (issue : ℕ) (lot : Lot) → IsLot c lot → IsLot c (refilled issue (length c) (avail_in c issue) lot)
 lot_poured c issue lot is = by (lot.issue == issue) refl
   where
     by : (b : Bool) → (lot.issue == issue) ≡ b → IsLot c (cond b (record lot { upto = length c; poured = avail_in c issue }) lot)
@@ -156,8 +157,8 @@ count_refilled issue upto poured other (lot ∷ lots) =
 pub lots_refilled : (c : List ClearRecord) (lots : List Lot) (issue : ℕ) → AreLots c lots → AreLots c (lots_poured c issue lots)
 lots_refilled c lots issue are = record {
   each =
-      All-map (IsLot c) (poured_into c issue) lots
-      (All-weaker (IsLot c) (λ (lot : Lot). IsLot c (poured_into c issue lot)) (λ lot is. lot_poured c issue lot is) lots are.each);
+      All-map (IsLot c) (refilled issue (length c) (avail_in c issue)) lots
+      (All-weaker (IsLot c) (λ (lot : Lot). IsLot c (refilled issue (length c) (avail_in c issue) lot)) (λ lot is. lot_poured c issue lot is) lots are.each);
   once = λ other. omega (arith, count_refilled issue (length c) (avail_in c issue) other lots, are.once other);
 }
 

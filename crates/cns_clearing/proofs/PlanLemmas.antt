@@ -14,7 +14,7 @@ use Rattle.cns_covers.specs.Bounds.{want_in}
 use Rattle.cns_records.specs.Clear.{AreWritable}
 use Rattle.cns_records.specs.declared.clear_record.ClearRecord.{ClearRecord}
 use Rattle.cns_clearing.specs.Books.{IsLawful, books_of, history_of, orders_of}
-use Rattle.cns_clearing.specs.Lots.{AreQuiet, IsLot, avail_in, longs_among, plan_in, were_long}
+use Rattle.cns_clearing.specs.Lots.{AreQuiet, IsLot, avail_in, longs_among, plan_in}
 use Rattle.cns_clearing.specs.declared.lot.Lot.{Lot}
 use Rattle.cns_clearing.proofs.BooksLemmas.{lawful_before, lawful_sound, writable_before}
 use Rattle.cns_clearing.proofs.PoolLemmas.{avail_since}
@@ -64,11 +64,11 @@ longs_in_part issue (row ∷ rows) = by (row.issue == issue) refl (longs_in_part
 pub plan_lawful : (c : List ClearRecord) (issue : ℕ) → IsLawful c → AreWritable c → IsPlan (plan_in c issue)
 plan_lawful c issue lawful fits =
     let sound = lawful_sound c lawful fits in
-    IsPlan-plan_of issue (history_of c) (orders_of c) (books_of c).priorities (were_long c issue) (bounded_longs (history_of c) (orders_of c) sound.netted sound.bounded)
+    IsPlan-plan_of issue (history_of c) (orders_of c) (books_of c).priorities (longs_among issue (books_of c).previous) (bounded_longs (history_of c) (orders_of c) sound.netted sound.bounded)
 
 -- what is planned for a member is no more than it wants
 pub plan_wants : (c : List ClearRecord) (issue : ℕ) → All (λ (p : Planned). p.asked ≤ want_in (history_of c) (orders_of c) p.member issue) (plan_in c issue)
-plan_wants c issue = plan_of-wants issue (history_of c) (orders_of c) (books_of c).priorities (were_long c issue)
+plan_wants c issue = plan_of-wants issue (history_of c) (orders_of c) (books_of c).priorities (longs_among issue (books_of c).previous)
 
 -- ---- the plan of a lot
 

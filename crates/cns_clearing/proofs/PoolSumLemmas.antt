@@ -116,7 +116,7 @@ asked_ordered book asks before most =
       length-numbered next asks,
     )
 
-pub sums_ordered : (old new : ℕ → PoolSums) (book : Orders) (asks : List Ask) → AreSumsOf old book → are_spent book asks ≡ false
+pub sums_ordered : (old new : ℕ → PoolSums) (book : Orders) (asks : List Ask) → AreSumsOf old book → are_spent book (length asks) ≡ false
     → ((i : ℕ) → (new i).covered ≡ (old i).covered) → ((i : ℕ) → (new i).delivered ≡ (old i).delivered) → ((i : ℕ) → (new i).out ≡ (old i).out + asked_of_pool i asks)
     → sum_by (λ (a : Ask). a.asked) asks ≤ 10 ^ 18 * length asks → AreSumsOf new (with_asks book asks)
 sums_ordered old new book asks sums enough covered delivered out most = record {

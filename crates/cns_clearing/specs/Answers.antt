@@ -72,9 +72,9 @@ CycleLeaves id (Err refusal.Down) old new = (old.log.down ≡ true) × (new ≡ 
 CycleLeaves id (Err refusal.CycleOrder) old new = (old.log.down ≡ false) × (is_later (latest_of old.log.records) id ≡ false) × (new ≡ old)
 CycleLeaves id (Err refusal.LotsOpen) old new = (old.log.down ≡ false) × (is_later (latest_of old.log.records) id ≡ true) × (old.lots ≢ []) × (new ≡ old)
 CycleLeaves id (Err refusal.NumbersSpent) old new =
-    (old.log.down ≡ false) × (is_later (latest_of old.log.records) id ≡ true) × (old.lots ≡ []) × (are_spent (orders_of old.log.records) (covers_in old.log.records id.day) ≡ true) × (new ≡ old)
+    (old.log.down ≡ false) × (is_later (latest_of old.log.records) id ≡ true) × (old.lots ≡ []) × (are_spent (orders_of old.log.records) (length (covers_in old.log.records id.day)) ≡ true) × (new ≡ old)
 CycleLeaves id (Err refusal.OutOfMemory) old new =
-    (old.log.down ≡ false) × (is_later (latest_of old.log.records) id ≡ true) × (old.lots ≡ []) × (are_spent (orders_of old.log.records) (covers_in old.log.records id.day) ≡ false) × (new ≡ old)
+    (old.log.down ≡ false) × (is_later (latest_of old.log.records) id ≡ true) × (old.lots ≡ []) × (are_spent (orders_of old.log.records) (length (covers_in old.log.records id.day)) ≡ false) × (new ≡ old)
 CycleLeaves id (Err refusal.Device) old new = IsAllowed old.log.records (entry.Cycle id) × (old.lots ≡ []) × Failed (entry.Cycle id) old new
 CycleLeaves id (Err _) old new = ⊥
 
@@ -103,14 +103,11 @@ LotPourLeaves issue (Err refusal.Down) old new = (old.log.down ≡ true) × (new
 LotPourLeaves issue (Err refusal.NoLot) old new = (old.log.down ≡ false) × (lot_of old.lots issue ≡ None) × (new ≡ old)
 LotPourLeaves issue (Err _) old new = ⊥
 
--- the tickets of a pool as those of a record
-abbrev pub drawn_of : List Ticket → List Drawn
-drawn_of tickets = map (λ (t : Ticket). record { member = t.member; start = t.start; asked = t.asked }) tickets
-
 -- the allocation that closes a lot with these tickets
 abbrev pub allocation_of : Lot → List Ticket → Bool → Allocation
 allocation_of lot tickets sealed =
-    record { issue = lot.issue; opened = lot.opened; upto = lot.upto; poured = lot.poured; sealed = sealed; drawn = drawn_of tickets }
+    let drawn : List Drawn = map (λ (t : Ticket). record { member = t.member; start = t.start; asked = t.asked }) tickets in
+    record { issue = lot.issue; opened = lot.opened; upto = lot.upto; poured = lot.poured; sealed = sealed; drawn = drawn }
 
 -- a lot may close with these tickets: they serve its plan, and the allocation is lawful at its place
 pub record MayClose (node : ClearNode) (issue : ℕ) (tickets : List Ticket) (sealed : Bool) (a : Allocation) : Type 0 where
@@ -123,14 +120,14 @@ pub record MayClose (node : ClearNode) (issue : ℕ) (tickets : List Ticket) (se
 -- a lot closes with these tickets, and there are numbers for its deliveries
 pub record Closes (node : ClearNode) (issue : ℕ) (tickets : List Ticket) (sealed : Bool) (lot : Lot) : Type 0 where
   pub may : MayClose node issue tickets sealed (allocation_of lot tickets sealed)
-  pub numbers : are_spent (orders_of node.log.records) (deliveries_in (allocation_of lot tickets sealed)) ≡ false
+  pub numbers : are_spent (orders_of node.log.records) (length (deliveries_in (allocation_of lot tickets sealed))) ≡ false
 
 -- what applies to the close of the lot of an issue where it is refused so before it takes memory
 abbrev pub CloseRefused : ℕ → List Ticket → Bool → Refusal → ClearNode → Type 0
 CloseRefused issue tickets sealed refusal.NoLot node = lot_of node.lots issue ≡ None
 CloseRefused issue tickets sealed refusal.BadTickets node = (lot : Lot) × (lot_of node.lots issue ≡ Some lot) × (IsServed lot.plan tickets sealed → ⊥)
 CloseRefused issue tickets sealed refusal.NumbersSpent node =
-    (a : Allocation) × MayClose node issue tickets sealed a × (are_spent (orders_of node.log.records) (deliveries_in a) ≡ true)
+    (a : Allocation) × MayClose node issue tickets sealed a × (are_spent (orders_of node.log.records) (length (deliveries_in a)) ≡ true)
 CloseRefused issue tickets sealed _ node = ⊥
 
 -- how many shares a close granted, which its orders ask for in all, and these orders, under the next numbers
@@ -148,9 +145,9 @@ LotCloseLeaves issue tickets sealed (Err refusal.NoLot) old new = (old.log.down 
 LotCloseLeaves issue tickets sealed (Err refusal.BadTickets) old new =
     (old.log.down ≡ false) × ((lot : Lot) × (lot_of old.lots issue ≡ Some lot) × (IsServed lot.plan tickets sealed → ⊥)) × (new ≡ old)
 LotCloseLeaves issue tickets sealed (Err refusal.NumbersSpent) old new =
-    (old.log.down ≡ false) × ((a : Allocation) × MayClose old issue tickets sealed a × (are_spent (orders_of old.log.records) (deliveries_in a) ≡ true)) × (new ≡ old)
+    (old.log.down ≡ false) × ((a : Allocation) × MayClose old issue tickets sealed a × (are_spent (orders_of old.log.records) (length (deliveries_in a)) ≡ true)) × (new ≡ old)
 LotCloseLeaves issue tickets sealed (Err refusal.OutOfMemory) old new =
-    (old.log.down ≡ false) × ((a : Allocation) × MayClose old issue tickets sealed a × (are_spent (orders_of old.log.records) (deliveries_in a) ≡ false)) × (new ≡ old)
+    (old.log.down ≡ false) × ((a : Allocation) × MayClose old issue tickets sealed a × (are_spent (orders_of old.log.records) (length (deliveries_in a)) ≡ false)) × (new ≡ old)
 LotCloseLeaves issue tickets sealed (Err refusal.Device) old new =
     (a : Allocation) × MayClose old issue tickets sealed a × IsAllowed old.log.records (entry.Allocate a) × Failed (entry.Allocate a) old new
 LotCloseLeaves issue tickets sealed (Err _) old new = ⊥

@@ -96,12 +96,8 @@ abbrev pub is_later : Option CycleId → CycleId → Bool
 is_later last id = elim last [ None ↦ true | Some other ↦ is_after id other ]
 
 -- whether so many orders are more than the numbers that are left; no orders never are
-abbrev pub are_spent_by : Orders → ℕ → Bool
-are_spent_by book count = not (count == 0) && nat_lt 1000000 (length book.orders + count)
-
--- the same of these orders
-abbrev pub are_spent : Orders → List Ask → Bool
-are_spent book asks = are_spent_by book (length asks)
+abbrev pub are_spent : Orders → ℕ → Bool
+are_spent book count = not (count == 0) && nat_lt 1000000 (length book.orders + count)
 
 -- an allocation may follow: its lot was opened not after its last pour; its tickets tile, each is of another member and asks for
 -- no more than that is long of, less its open deliveries; the shares poured are there, and there are numbers for its deliveries
@@ -111,7 +107,7 @@ pub record IsAllocable (b : Books) (a : Allocation) : Type 0 where
   pub once : (member : ℕ) → count_by (λ (t : Ticket). t.member == member) (tickets_of a.drawn) ≤ 1
   pub within : All (λ (t : Ticket). t.asked ≤ want_in b.history b.orders t.member a.issue) (tickets_of a.drawn)
   pub there : a.poured ≤ avail_of b.orders a.issue
-  pub numbers : are_spent b.orders (deliveries_in a) ≡ false
+  pub numbers : are_spent b.orders (length (deliveries_in a)) ≡ false
 
 -- a record may follow those of the books: a trade is new; a cycle is later than the latest one, and there are numbers for its
 -- covers; a confirmation is the first one of an order, and not above what that asked for
@@ -119,7 +115,7 @@ abbrev pub Allows : Books → ClearRecord → Type 0
 Allows b (Accept t) = verdict (accepted b.history) t ≡ verdicts.New
 Allows b (Exempt m i s) = Unit {0}
 Allows b (Priority m i is_on) = Unit {0}
-Allows b (Cycle id) = (is_later b.latest id ≡ true) × (are_spent b.orders (covers_on b id.day) ≡ false)
+Allows b (Cycle id) = (is_later b.latest id ≡ true) × (are_spent b.orders (length (covers_on b id.day)) ≡ false)
 Allows b (Allocate a) = IsAllocable b a
 Allows b (Confirm r) = confirm_answer b.orders r ≡ answers.Done
 

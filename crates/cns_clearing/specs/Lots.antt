@@ -17,13 +17,9 @@ use Rattle.cns_clearing.specs.declared.lot.Lot.{Lot}
 abbrev pub longs_among : ℕ → List PositionRow → List ℕ
 longs_among issue rows = filter_map (λ row. if (row.issue == issue) && not (credit_part row.position == 0) then Some row.member else None) rows
 
--- the members that were long in an issue directly after the cycle before the latest
-abbrev pub were_long : List ClearRecord → ℕ → List ℕ
-were_long c issue = longs_among issue (books_of c).previous
-
--- the plan of an issue
+-- the plan of an issue, by the members that were long in it directly after the cycle before the latest
 abbrev pub plan_in : List ClearRecord → ℕ → List Planned
-plan_in c issue = plan_of issue (books_of c).history (books_of c).orders (books_of c).priorities (were_long c issue)
+plan_in c issue = plan_of issue (books_of c).history (books_of c).orders (books_of c).priorities (longs_among issue (books_of c).previous)
 
 -- the shares of an issue that covers brought, less those that deliveries took or still may take
 abbrev pub avail_in : List ClearRecord → ℕ → ℕ
@@ -80,19 +76,12 @@ abbrev pub new_lot : List ClearRecord → ℕ → Lot
 new_lot c issue = record { issue = issue; opened = length c; upto = length c; poured = avail_in c issue; plan = plan_in c issue }
 
 -- the lots once that of an issue has got all shares that are there
-abbrev pub poured_into : List ClearRecord → ℕ → Lot → Lot
-poured_into c issue lot = if lot.issue == issue then record lot { upto = length c; poured = avail_in c issue } else lot
-
 abbrev pub lots_poured : List ClearRecord → ℕ → List Lot → List Lot
-lots_poured c issue lots = map (poured_into c issue) lots
-
--- the lots without that of an issue
-abbrev pub without_lot : ℕ → List Lot → List Lot
-without_lot issue lots = filter (λ (lot : Lot). not (lot.issue == issue)) lots
+lots_poured c issue lots = map (λ (lot : Lot). if lot.issue == issue then record lot { upto = length c; poured = avail_in c issue } else lot) lots
 
 -- the lots once a record was added: an allocation closes the lot of its issue
 abbrev pub lots_after : ClearRecord → List Lot → List Lot
-lots_after r lots = elim r [ Allocate a ↦ without_lot a.issue lots | _ ↦ lots ]
+lots_after r lots = elim r [ Allocate a ↦ filter (λ (lot : Lot). not (lot.issue == a.issue)) lots | _ ↦ lots ]
 
 -- a record may be added while these lots are open: no cycle runs while one is
 abbrev pub DoesNotDisturb : ClearRecord → List Lot → Type 0

@@ -527,7 +527,8 @@ impl<K: Keeper> Clearing<K> {
     // else for want of memory.
     fn refusal_without_memory(&mut self, day: Day) -> Refusal
         ensures refusal { let c = self.old.log.records in
-            result ≡ (if are_spent (orders_of c) (covers_in c day) then Refusal.NumbersSpent else Refusal.OutOfMemory) }
+            let count = length (covers_in c day) in
+            result ≡ (if are_spent (orders_of c) count then Refusal.NumbersSpent else Refusal.OutOfMemory) }
         ensures same { self.new ≡ self.old }
     {
         let count = self.books.cover_count(day);
@@ -633,7 +634,7 @@ impl<K: Keeper> Clearing<K> {
 
 // The orders of these asks, under the next numbers of the books.
 fn numbered_orders(alloc: Global, books: &Books, asks: &[Ask]) -> Result<Orders, AllocError>
-    requires { are_spent books.now.books.orders asks.now ≡ false }
+    requires { are_spent books.now.books.orders (length asks.now) ≡ false }
     ensures { let next = length books.now.books.orders.orders + 1 in
         IfOk result (λ orders. orders ≡ numbered next asks.now) }
 {

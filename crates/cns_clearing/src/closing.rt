@@ -1,6 +1,8 @@
-ghost use Rattle.std.specs.Prelude.{◌≡◌, ◌≤◌, IfOk};
+ghost use Rattle.std.specs.Prelude.{◌≡◌, ◌≤◌, IfOk, map};
 ghost use Rattle.cns_pool.specs.Pool.{asked_sum};
-ghost use Rattle.cns_clearing.specs.Answers.{allocation_of as allocation_in, drawn_of as drawn_in};
+ghost use Rattle.cns_pool.specs.declared.ticket.Ticket.{Ticket};
+ghost use Rattle.cns_records.specs.declared.drawn.Drawn.{Drawn};
+ghost use Rattle.cns_clearing.specs.Answers.{allocation_of as allocation_in};
 ghost use Rattle.cns_clearing.specs.Closing.{AreRecordable, IsRecordable};
 
 use crate::lot::Lot;
@@ -34,7 +36,8 @@ pub(crate) fn allocation_of(
 // The tickets as those of a record.
 fn drawn_list(alloc: Global, tickets: &[Ticket]) -> Result<DrawnList, AllocError>
     requires { AreRecordable tickets.now }
-    ensures { IfOk result (λ drawn. drawn ≡ drawn_in tickets.now) }
+    ensures { let drawn_in : Ticket → Drawn = λ t. record { member = t.member; start = t.start; asked = t.asked } in
+        IfOk result (λ drawn. drawn ≡ map drawn_in tickets.now) }
 {
     let mut list = Vec::new(alloc);
     for ticket in tickets {

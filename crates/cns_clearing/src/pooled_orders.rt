@@ -1,7 +1,7 @@
 ghost use Rattle.std.specs.Prelude.{◌≡◌, ◌+◌, ◌^◌, ◌≤◌, false, [], length, IfOk, OnOk};
 ghost use Rattle.cns_movements.specs.Book.{IsOrderBook, with_asks, with_reply};
 ghost use Rattle.cns_movements.specs.Confirm.{confirm_answer};
-ghost use Rattle.cns_clearing.specs.Books.{are_spent as are_numbers_spent, are_spent_by};
+ghost use Rattle.cns_clearing.specs.Books.{are_spent as are_numbers_spent};
 ghost use Rattle.cns_clearing.specs.Pools.{avail_of, covered_of, delivered_of, issues_of, out_of};
 
 use crate::pool_sums::{PoolSums, ask_all, issues_in, settle, sums_of};
@@ -91,7 +91,7 @@ impl PooledOrders {
     /// Issues orders for which there are numbers and room.
     pub(crate) fn issue(&mut self, asks: &[Ask])
         requires room { length asks.now ≤ self.old.order_room }
-        requires numbers { are_numbers_spent self.old.book asks.now ≡ false }
+        requires numbers { are_numbers_spent self.old.book (length asks.now) ≡ false }
         ensures { self.new.book ≡ with_asks self.old.book asks.now }
     {
         if asks.is_empty() {
@@ -116,7 +116,7 @@ impl PooledOrders {
 
     /// Whether so many orders are more than the numbers that are left.
     pub(crate) fn are_spent(&self, count: usize) -> bool
-        ensures { result ≡ are_spent_by self.now.book count }
+        ensures { result ≡ are_numbers_spent self.now.book count }
     {
         count != 0 && count > MAX_ORDERS - self.orders.len()
     }
@@ -167,7 +167,7 @@ impl PooledOrders {
 fn append(orders: &mut OrderBook, asks: &[Ask])
     requires some { 1 ≤ length asks.now }
     requires room { length asks.now ≤ orders.old.order_room }
-    requires numbers { are_numbers_spent orders.old.book asks.now ≡ false }
+    requires numbers { are_numbers_spent orders.old.book (length asks.now) ≡ false }
     ensures { orders.new.book ≡ with_asks orders.old.book asks.now }
 {
     let Ok(_) = orders.issue(asks) else {
