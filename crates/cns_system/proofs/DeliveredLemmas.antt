@@ -24,7 +24,7 @@ use Rattle.cns_clearing.proofs.BooksLemmas.{lawful_bounded}
 use Rattle.cns_clearing.proofs.TotalLemmas.{taken_covered}
 use Rattle.cns_depository.specs.declared.account.Account.{Account}
 use Rattle.cns_depository.specs.declared.account.Account.TheVariants.{Cns}
-use Rattle.cns_depository.specs.Account.{giver, giver_by, leaves}
+use Rattle.cns_depository.specs.Account.{giver, leaves}
 use Rattle.cns_depository.specs.Stock.{IsLawfulDepot, balance_of, moved_by, moved_in, moved_out, part_where, movement, order_in, record_of}
 use Rattle.cns_system.specs.Accord.{IsKnown}
 use Rattle.cns_system.specs.Agreement.{IsExecuted}
@@ -205,7 +205,7 @@ pub delivery_in_full : (openings : List Opening) (c : List ClearRecord) (p : Lis
     → All (IsKnown (orders_of c).orders) p → All (IsExecuted p) (orders_of c).replies → order_of (orders_of c).orders o.number ≡ Some o
     → record_of p o.number ≡ None → o.kind ≡ Delivery → moved_by (movement openings p o) ≡ o.asked
 delivery_in_full openings c p o lawful stock_lawful known executed found fresh delivers =
-    let gives : giver o ≡ Cns = ap (λ (k : MoveKind). giver_by k o.member) delivers in
+    let gives : giver o ≡ Cns = ap (λ (k : MoveKind). giver (record o { kind = k })) delivers in
     let there = delivery_there openings c p o lawful stock_lawful known executed found fresh delivers in
     let enough : o.asked ≤ balance_of openings p (giver o) o.issue = subst (λ (a : Account). o.asked ≤ balance_of openings p a o.issue) (sym gives) there in
     omega (arith, enough)

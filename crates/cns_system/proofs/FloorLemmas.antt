@@ -7,7 +7,8 @@ use Rattle.std.proofs.lemmas.List.{set-get_or}
 use Rattle.std.proofs.lemmas.Option.{get_or_from_slice_get, same_Some, slice_get_within}
 use Rattle.cns_allocate.proofs.TurnLemmas.{find-passes}
 use Rattle.cns_clearing.specs.Answers.{LotPourLeaves}
-use Rattle.cns_clearing.specs.Lots.{avail_in, lots_poured, poured_into}
+use Rattle.cns_clearing.specs.Lots.{avail_in, lots_poured}
+use Rattle.cns_clearing.specs.OpenLots.{refilled}
 use Rattle.cns_clearing.specs.Node.{ClearNode}
 use Rattle.cns_clearing.specs.Pools.{lent_of, lot_of}
 use Rattle.cns_clearing.specs.declared.lot.Lot.{Lot}
@@ -192,7 +193,7 @@ plan_kept node.Depot stands result old new busy h are = subst (λ (n : NumberedN
 -- the lot of an issue has all shares that are there once it is poured into
 lent_poured : (c : List ClearRecord) (issue : ℕ) (lots : List Lot) (lot : Lot) → lot_of lots issue ≡ Some lot → lent_of (lots_poured c issue lots) issue ≡ avail_in c issue
 lent_poured c issue lots lot found =
-    ap lent_by (found_poured c issue issue lots ∙ ap (option_map (poured_into c issue)) found)
+    ap lent_by (found_poured c issue issue lots ∙ ap (option_map (refilled issue (length c) (avail_in c issue))) found)
     ∙ ap (λ (b : Bool). (if b then record lot { upto = length c; poured = avail_in c issue } else lot).poured) (eq-eqb lot.issue issue (found_of lots issue lot found))
 
 -- what is poured into the lot of a number is poured into its cell

@@ -1,6 +1,6 @@
 -- Each event comes to what happens by a decision that fits it.
 use Rattle.std.specs.Prelude.{not}
-use Rattle.std.proofs.Common.{◌≡◌, ◌≢◌, ℕ, true, false, List, [], ◌∷◌, map, Option, Some, None, Result, Ok, Err, refl, sym, ap, ◌∙◌, subst}
+use Rattle.std.proofs.Common.{◌≡◌, ◌≢◌, ℕ, true, false, List, [], ◌∷◌, map, Option, Some, None, Result, Ok, Err, refl, sym, ap, ◌∙◌, subst, length}
 use Rattle.cns_ids.specs.Steps.{◌>>◌, need}
 use Rattle.cns_ids.specs.declared.cycle.CycleId.{CycleId}
 use Rattle.cns_trades.specs.declared.trade.Trade.{Trade}
@@ -117,7 +117,7 @@ unfolding happens judged
 cycle_beside_lots d id w up later some = rw (up, later, some_there w.open_lots some) refl
 
 cycle_spent : (d : Decision) (id : CycleId) (w : Shown) → w.clear.down ≡ false → is_later (latest_of w.clear.records) id ≡ true → w.open_lots ≡ []
-    → are_spent (orders_of w.clear.records) (covers_in w.clear.records id.day) ≡ true → happens d (event.Cycle id) w ≡ refuse refusal.NumbersSpent w
+    → are_spent (orders_of w.clear.records) (length (covers_in w.clear.records id.day)) ≡ true → happens d (event.Cycle id) w ≡ refuse refusal.NumbersSpent w
 unfolding happens judged
 cycle_spent d id w up later none spent = rw (up, later, none, spent) refl
 
@@ -126,7 +126,7 @@ abbrev cycled : Shown → CycleId → List Ask → Outcome
 cycled w id asks = outcomes.Cycled (record { due = becoming_due (history_of w.clear.records) id.day; orders = next_orders w asks })
 
 cycle_numbered : (d : Decision) (id : CycleId) (w : Shown) → w.clear.down ≡ false → is_later (latest_of w.clear.records) id ≡ true → w.open_lots ≡ []
-    → are_spent (orders_of w.clear.records) (covers_in w.clear.records id.day) ≡ false
+    → are_spent (orders_of w.clear.records) (length (covers_in w.clear.records id.day)) ≡ false
     → happens d (event.Cycle id) w ≡ settled w (clear_commits d (entry.Cycle id) (cycled w id (covers_in w.clear.records id.day)) w)
 unfolding happens judged
 cycle_numbered d id w up later none room = rw (up, later, none, room) refl

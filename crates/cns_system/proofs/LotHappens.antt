@@ -284,7 +284,7 @@ abbrev commits_close : Decision → ℕ → Shown → LotState → Allocation �
 commits_close d n w lot a = commits d (closed w lot a, with_lot n (with_end lot) (clear_added (entry.Allocate a) w)) (clear_failed (entry.Allocate a) w)
 
 abbrev allocates : Decision → ℕ → Shown → LotState → Allocation → Judged
-allocates d n w lot a = need (not (are_spent (orders_of w.clear.records) (deliveries_in a))) refusal.NumbersSpent >> commits_close d n w lot a
+allocates d n w lot a = need (not (are_spent (orders_of w.clear.records) (length (deliveries_in a)))) refusal.NumbersSpent >> commits_close d n w lot a
 
 -- a lot that may close, as the node's open lot of its issue makes it an allocation
 close_allocates : (d : Decision) (n : ℕ) (w : Shown) (lot : LotState) (twin : Lot) (a : Allocation) → at_number w.lots n ≡ Some lot → lot.ended ≡ false → w.clear.down ≡ false
@@ -294,13 +294,13 @@ close_allocates d n w lot twin a found going up may has is =
     found_at n w lot _ (at_open n w lot found going) ∙ passes (not w.clear.down) refusal.Down _ (ap not up) ∙ passes (lot.sealed || (length lot.turns == 0)) refusal.Unserved _ (met lot may)
     ∙ rw has refl ∙ ap (allocates d n w lot) (sym is)
 
-close_spent : (d : Decision) (n : ℕ) (a : Allocation) (w : Shown) (lot : LotState) → are_spent (orders_of w.clear.records) (deliveries_in a) ≡ true
+close_spent : (d : Decision) (n : ℕ) (a : Allocation) (w : Shown) (lot : LotState) → are_spent (orders_of w.clear.records) (length (deliveries_in a)) ≡ true
     → allocates d n w lot a ≡ Err refusal.NumbersSpent
 close_spent d n a w lot spent = rw spent refl
 
-close_numbered : (d : Decision) (n : ℕ) (a : Allocation) (w : Shown) (lot : LotState) → are_spent (orders_of w.clear.records) (deliveries_in a) ≡ false
+close_numbered : (d : Decision) (n : ℕ) (a : Allocation) (w : Shown) (lot : LotState) → are_spent (orders_of w.clear.records) (length (deliveries_in a)) ≡ false
     → allocates d n w lot a ≡ commits_close d n w lot a
-close_numbered d n a w lot room = passes (not (are_spent (orders_of w.clear.records) (deliveries_in a))) refusal.NumbersSpent _ (ap not room)
+close_numbered d n a w lot room = passes (not (are_spent (orders_of w.clear.records) (length (deliveries_in a)))) refusal.NumbersSpent _ (ap not room)
 
 -- what the node answers is what the close comes to
 closed_is : (w : Shown) (lot : LotState) (a : Allocation) (done : Closed) → IsClosed w.clear.records lot.tickets a done → outcomes.Closed done ≡ closed w lot a
@@ -318,7 +318,7 @@ module _ (d : Decision) (n : ℕ) (lot : LotState) (old new : World) (at : IsAtC
   closes a up may = ap (settled (shown_of old)) (close_allocates d n (shown_of old) lot may.lot a found going up met may.found may.closes)
 
   closes_numbered : (a : Allocation) → old.clear.clear.log.down ≡ false → MayClose old.clear.clear lot.issue lot.tickets lot.sealed a
-      → are_spent (orders_of old.clear.clear.log.records) (deliveries_in a) ≡ false
+      → are_spent (orders_of old.clear.clear.log.records) (length (deliveries_in a)) ≡ false
       → happens d (event.LotClose n) (shown_of old) ≡ settled (shown_of old) (commits_close d n (shown_of old) lot a)
   closes_numbered a up may room = closes a up may ∙ ap (settled (shown_of old)) (close_numbered d n a (shown_of old) lot room)
 

@@ -1,6 +1,6 @@
 -- What the calls of a node with its lots by number leave.
-use Rattle.std.proofs.Common.{◌≡◌, ◌≤◌, ℕ, List, [], ◌∷◌, ◌++◌, length, Option, Some, None, Result, Ok, Err, Bool, true, false, ap, sym, subst, refl, arith, ◌∙◌, inl, inr}
-use Rattle.std.specs.Prelude.{◌==◌, ◌⊎◌, IsSomeAnd, option_map, unwrap_or, if◌then◌else◌, slice_set, ◌-◌}
+use Rattle.std.proofs.Common.{◌≡◌, ◌≤◌, ℕ, List, [], ◌∷◌, ◌++◌, length, Option, Some, None, Result, Ok, Err, Bool, true, false, not, ap, sym, subst, refl, arith, ◌∙◌, inl, inr}
+use Rattle.std.specs.Prelude.{◌==◌, ◌⊎◌, filter, IsSomeAnd, option_map, unwrap_or, if◌then◌else◌, slice_set, ◌-◌}
 use Rattle.std.proofs.lemmas.Bool.{eqb-true, false_from_ne_true}
 use Rattle.std.proofs.lemmas.Option.{same_Some}
 use Rattle.cns_netting.specs.Book.{IsBook}
@@ -16,7 +16,8 @@ use Rattle.cns_allocate.proofs.TotalLemmas.{plan_of-total}
 use Rattle.cns_records.specs.declared.clear_record.ClearRecord.{ClearRecord}
 use Rattle.cns_clearing.specs.Answers.{LotCloseLeaves, LotOpenLeaves, LotPourLeaves}
 use Rattle.cns_clearing.specs.Books.{IsLawful, books_of, history_of, orders_of}
-use Rattle.cns_clearing.specs.Lots.{avail_in, lots_poured, plan_in, poured_into, were_long}
+use Rattle.cns_clearing.specs.Lots.{avail_in, lots_poured, plan_in, longs_among}
+use Rattle.cns_clearing.specs.OpenLots.{refilled}
 use Rattle.cns_clearing.specs.Lots as node
 use Rattle.cns_clearing.specs.Node.{ClearNode}
 use Rattle.cns_clearing.specs.Pools.{free_of, lent_of, lot_of}
@@ -84,14 +85,14 @@ pub small_plan : (c : List ClearRecord) (issue : ℕ) (h : List NetEntry) (plan 
 small_plan c issue h plan lawful is fits is_plan =
     let bounded = (lawful_bounded c lawful).bounded in
     subst (λ (ps : List Planned). planned_sum ps ≤ 1000000000000000000) (sym is_plan)
-    (plan_of-total issue (history_of c) (orders_of c) (books_of c).priorities (were_long c issue) (subst IsBook is fits)
+    (plan_of-total issue (history_of c) (orders_of c) (books_of c).priorities (longs_among issue (books_of c).previous) (subst IsBook is fits)
     (λ m i. settled_most (history_of c) (orders_of c) bounded m i))
 
 -- and is one
 pub lawful_plan : (c : List ClearRecord) (issue : ℕ) (h : List NetEntry) (plan : List Planned) → IsLawful c → h ≡ history_of c → IsBook h → plan ≡ plan_in c issue → IsPlan plan
 lawful_plan c issue h plan lawful is fits is_plan =
     let longs = bounded_longs (history_of c) (orders_of c) (subst IsBook is fits) (lawful_bounded c lawful).bounded in
-    subst IsPlan (sym is_plan) (IsPlan-plan_of issue (history_of c) (orders_of c) (books_of c).priorities (were_long c issue) longs)
+    subst IsPlan (sym is_plan) (IsPlan-plan_of issue (history_of c) (orders_of c) (books_of c).priorities (longs_among issue (books_of c).previous) longs)
 
 -- where no lot is open, all shares that are there are free
 pub all_free : (c : List ClearRecord) (open_lots : List Lot) (issue : ℕ) → lot_of open_lots issue ≡ None → free_of (orders_of c) open_lots issue ≡ avail_in c issue
@@ -138,14 +139,14 @@ pour_never old new lots n issue refusal.NoLot are has up h =
     no_twin old.lots lots n issue at.lot are at.found at.going at.holds h.1
 pour_never old new lots n issue _ are has up h = absurd h
 
-poured_other : (c : List ClearRecord) (issue : ℕ) (l : Lot) → (l.issue ≡ issue → ⊥) → poured_into c issue l ≡ l
+poured_other : (c : List ClearRecord) (issue : ℕ) (l : Lot) → (l.issue ≡ issue → ⊥) → refilled issue (length c) (avail_in c issue) l ≡ l
 poured_other c issue l differ =
     ap (λ b. if b then record l { upto = length c; poured = avail_in c issue } else l) (false_from_ne_true (l.issue == issue) (λ e. differ (eqb-true l.issue issue e)))
 
 pub others_poured : (c : List ClearRecord) (issue other : ℕ) (lots : List Lot) → (other ≡ issue → ⊥) → lot_of (lots_poured c issue lots) other ≡ lot_of lots other
 others_poured c issue other lots differ = found_poured c issue other lots ∙ by (lot_of lots other) refl
   where
-    by : (o : Option Lot) → lot_of lots other ≡ o → option_map (poured_into c issue) o ≡ o
+    by : (o : Option Lot) → lot_of lots other ≡ o → option_map (refilled issue (length c) (avail_in c issue)) o ≡ o
     by None e = refl
     by (Some l) e = ap Some (poured_other c issue l (λ is. differ (sym (found_of lots other l e) ∙ is)))
 
@@ -157,8 +158,8 @@ pour_tied old new lots issue shares are h =
       each = λ m k at up.
           let tied = are.each m k at up in
           record {
-            twin = poured_into c issue tied.twin;
-            found = found_poured c issue k.issue old.lots ∙ ap (option_map (poured_into c issue)) tied.found;
+            twin = refilled issue (length c) (avail_in c issue) tied.twin;
+            found = found_poured c issue k.issue old.lots ∙ ap (option_map (refilled issue (length c) (avail_in c issue))) tied.found;
             is = subst (λ (ps : List Planned). IsOfPlan ps k) (sym (poured_keeps (λ (l : Lot). l.plan) c issue tied.twin refl)) tied.is;
           };
       once = are.once;
@@ -187,9 +188,10 @@ close_tied old new lots after n issue tickets sealed done l r are has is h ends 
     let issue_is : issue ≡ at.lot.issue = is ∙ ap (λ (k : LotState). k.issue) at.holds in
     let after_is = change_is with_end n r lots after at.lot at.found at.going ends in
     let closes : h.0.issue ≡ at.lot.issue = ap (λ a. a.issue) h.1.closes ∙ found_of old.lots issue h.1.lot h.1.found ∙ issue_is in
+    let left : List Lot = filter (λ (k : Lot). not (k.issue == h.0.issue)) old.lots in
     subst (λ (ls : List Lot). AreTied ls after) (sym h.4.2)
-    (subst (AreTied (node.without_lot h.0.issue old.lots)) (sym after_is)
-    (tied_changed old.lots (node.without_lot h.0.issue old.lots) lots n at.lot (with_end at.lot) are at.found at.going refl
+    (subst (AreTied left) (sym after_is)
+    (tied_changed old.lots left lots n at.lot (with_end at.lot) are at.found at.going refl
     (λ up. absurd (let no : true ≡ false = up in cc))
     (λ other differ. found_without h.0.issue other old.lots (λ e. differ (e ∙ closes)))))
 

@@ -1,13 +1,14 @@
 -- The lots by number beside those of the node, as either change.
 use Rattle.std.proofs.Common.{◌≡◌, ◌≤◌, ◌-◌, ◌+◌, ℕ, zero, suc, List, [], ◌∷◌, ◌++◌, length, map, Option, Some, None, Bool, true, false, not, cond, ap, sym, subst, refl, arith, ◌∙◌, inl, inr}
-use Rattle.std.specs.Prelude.{◌==◌, ◌⊎◌, find, slice_get, slice_set, option_map, if◌then◌else◌}
+use Rattle.std.specs.Prelude.{◌==◌, ◌⊎◌, filter, find, slice_get, slice_set, option_map, if◌then◌else◌}
 use Rattle.std.specs.Option.{option_or}
 use Rattle.std.proofs.lemmas.Bool.{cases_eq, eq-eqb, eqb-false, eqb-true, false_from_ne_true}
 use Rattle.std.proofs.lemmas.List.{append_assoc}
 use Rattle.std.proofs.lemmas.List.Folds.{find-append}
 use Rattle.std.proofs.lemmas.Option.{same_Some, slice_get-map}
 use Rattle.cns_allocate.proofs.TurnLemmas.{find-All, find-passes}
-use Rattle.cns_clearing.specs.Lots.{AreLots, IsLot, avail_in, lots_poured, plan_in, poured_into, without_lot}
+use Rattle.cns_clearing.specs.Lots.{AreLots, IsLot, avail_in, lots_poured, plan_in}
+use Rattle.cns_clearing.specs.OpenLots.{refilled}
 use Rattle.cns_clearing.specs.Pools.{lot_of}
 use Rattle.cns_clearing.specs.declared.lot.Lot.{Lot}
 use Rattle.cns_records.specs.declared.clear_record.ClearRecord.{ClearRecord}
@@ -34,29 +35,29 @@ found_mapped p f same (l ∷ lots) =
 
 -- a pour changes of a lot the shares and the place of the last pour alone
 pub poured_keeps : {X : Type 0} (f : Lot → X) (c : List ClearRecord) (issue : ℕ) (l : Lot) → f (record l { upto = length c; poured = avail_in c issue }) ≡ f l
-    → f (poured_into c issue l) ≡ f l
+    → f (refilled issue (length c) (avail_in c issue) l) ≡ f l
 poured_keeps f c issue l same = by (l.issue == issue)
   where
     by : (b : Bool) → f (if b then record l { upto = length c; poured = avail_in c issue } else l) ≡ f l
     by true = same
     by false = refl
 
-pub found_poured : (c : List ClearRecord) (issue other : ℕ) (lots : List Lot) → lot_of (lots_poured c issue lots) other ≡ option_map (poured_into c issue) (lot_of lots other)
+pub found_poured : (c : List ClearRecord) (issue other : ℕ) (lots : List Lot) → lot_of (lots_poured c issue lots) other ≡ option_map (refilled issue (length c) (avail_in c issue)) (lot_of lots other)
 found_poured c issue other lots =
-    found_mapped (λ (l : Lot). l.issue == other) (poured_into c issue) (λ l. poured_keeps (λ (k : Lot). k.issue == other) c issue l refl) lots
+    found_mapped (λ (l : Lot). l.issue == other) (refilled issue (length c) (avail_in c issue)) (λ l. poured_keeps (λ (k : Lot). k.issue == other) c issue l refl) lots
 
 -- the lots without that of an issue have those of the others
-pub found_without : (issue other : ℕ) (lots : List Lot) → (other ≡ issue → ⊥) → lot_of (without_lot issue lots) other ≡ lot_of lots other
+pub found_without : (issue other : ℕ) (lots : List Lot) → (other ≡ issue → ⊥) → lot_of (filter (λ (l : Lot). not (l.issue == issue)) lots) other ≡ lot_of lots other
 found_without issue other [] differ = refl
 found_without issue other (l ∷ lots) differ =
-    by (l.issue == other) refl (l.issue == issue) refl (found_without issue other lots differ)
+    by (l.issue == other) refl (l.issue == issue) refl _ (found_without issue other lots differ)
   where
-    by : (b : Bool) → (l.issue == other) ≡ b → (d : Bool) → (l.issue == issue) ≡ d → lot_of (without_lot issue lots) other ≡ lot_of lots other
-        → lot_of (cond (not d) (l ∷ without_lot issue lots) (without_lot issue lots)) other ≡ cond b (Some l) (lot_of lots other)
-    by true e true f rest = absurd (differ (sym (eqb-true l.issue other e) ∙ eqb-true l.issue issue f))
-    by true e false f rest = ap (λ b. cond b (Some l) (lot_of (without_lot issue lots) other)) e
-    by false e true f rest = rest
-    by false e false f rest = ap (λ b. cond b (Some l) (lot_of (without_lot issue lots) other)) e ∙ rest
+    by : (b : Bool) → (l.issue == other) ≡ b → (d : Bool) → (l.issue == issue) ≡ d → (left : List Lot) → lot_of left other ≡ lot_of lots other
+        → lot_of (cond (not d) (l ∷ left) left) other ≡ cond b (Some l) (lot_of lots other)
+    by true e true f left rest = absurd (differ (sym (eqb-true l.issue other e) ∙ eqb-true l.issue issue f))
+    by true e false f left rest = ap (λ b. cond b (Some l) (lot_of left other)) e
+    by false e true f left rest = rest
+    by false e false f left rest = ap (λ b. cond b (Some l) (lot_of left other)) e ∙ rest
 
 pub found_more : (open_lots : List Lot) (new lot : Lot) (issue : ℕ) → lot_of open_lots issue ≡ Some lot → lot_of (open_lots ++ new ∷ []) issue ≡ Some lot
 found_more open_lots new lot issue found =

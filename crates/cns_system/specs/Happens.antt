@@ -105,7 +105,7 @@ judged d (event.Cycle id) w = do
   need (is_later (book w).latest id) refusal.CycleOrder
   need (length w.open_lots == 0) refusal.LotsOpen
   let asks = covers_on (book w) id.day
-  need (not (are_spent (book w).orders asks)) refusal.NumbersSpent
+  need (not (are_spent (book w).orders (length asks))) refusal.NumbersSpent
   clear_commits d (entry.Cycle id) (outcomes.Cycled (record { due = becoming_due (book w).history id.day; orders = next_orders w asks })) w
 judged d (event.LotOpen issue) w = do
   clear_up w
@@ -132,7 +132,7 @@ judged d (event.LotClose number) w = do
   need (lot.sealed || (length lot.turns == 0)) refusal.Unserved
   twin ← ok_or (lot_of w.open_lots lot.issue) refusal.NoLot
   let a = allocation_of twin lot.tickets lot.sealed
-  need (not (are_spent (book w).orders (deliveries_in a))) refusal.NumbersSpent
+  need (not (are_spent (book w).orders (length (deliveries_in a)))) refusal.NumbersSpent
   let told = outcomes.Closed (record { granted = min a.poured (asked_sum lot.tickets); orders = next_orders w (deliveries_in a) })
   commits d (told, with_lot number (with_end lot) (clear_added (entry.Allocate a) w)) (clear_failed (entry.Allocate a) w)
 judged d (event.Send number) w = do
