@@ -1,10 +1,10 @@
 -- A word that stands alone, in a table of commands that have words behind theirs.
 use Rattle.std.proofs.Common.{◌≡◌, ℕ, List, [], ◌∷◌, Option, Some, None, Bool, true, false, refl}
-use Rattle.std.specs.Prelude.{codes, option_and_then, if◌then◌else◌}
+use Rattle.std.specs.Prelude.{codes, drop, option_and_then, if◌then◌else◌}
 use Prim.Native.String.{String}
 use Rattle.cns_trades.specs.Fields.{same_text}
 use Rattle.cns_input.specs.Words.{word_in}
-use Rattle.cns_input.specs.Script.{by_table, longer}
+use Rattle.cns_input.specs.Script.{by_table, commands}
 use Rattle.cns_input.specs.declared.command.Command.{Command}
 
 -- each row of a table reads nothing of no words
@@ -21,7 +21,7 @@ none_alone (row ∷ rows) word reads = by (same_text word (codes row.0)) (none_a
     by true rest = reads.0
     by false rest = rest
 
-pub longer_alone : (word : List ℕ) → by_table longer (word ∷ []) ≡ None
-longer_alone word =
-    none_alone longer word
+pub others_alone : (word : List ℕ) → by_table (drop 2 commands) (word ∷ []) ≡ None
+others_alone word =
+    none_alone (drop 2 commands) word
     (refl, (refl, (refl, (refl, (refl, (refl, (refl, (refl, (refl, (refl, (refl, (refl, (refl, (refl, (refl, (refl, (refl, tt)))))))))))))))))

@@ -5,7 +5,6 @@ use Prim.Native.String.{String}
 use Rattle.cns_ids.specs.Cusip.{read_cusip}
 use Rattle.cns_ids.specs.Number.{number_in}
 use Rattle.cns_ids.specs.ReadDay.{read_day}
-use Rattle.cns_ids.specs.declared.cycle.CycleKind.{CycleKind}
 use Rattle.cns_ids.specs.declared.cycle.CycleKind.TheVariants.{Night, Day}
 use Rattle.cns_trades.specs.Fields.{same_text}
 use Rattle.cns_system.specs.declared.event.Event.{Event}
@@ -33,9 +32,6 @@ issue_in text = result_ok (read_cusip text)
 
 abbrev pub node_in : List ℕ → Option NodeName
 node_in = word_in (("CLEAR", node.Clear) ∷ ("DEPOT", node.Depot) ∷ [])
-
-abbrev pub kind_in : List ℕ → Option CycleKind
-kind_in = word_in (("NIGHT", Night) ∷ ("DAY", Day) ∷ [])
 
 -- all rows, or a number of them
 abbrev pub take_in : List ℕ → Option Command
@@ -70,23 +66,21 @@ events =
     ∷ ("RESERVE", two place_in member_in event.Reserve)
     ∷ ("SEAL", one place_in event.Seal)
     ∷ ("CLOSE", one place_in event.LotClose)
-    ∷ ("CYCLE", two kind_in (λ text. result_ok (read_day text)) (λ kind day. event.Cycle (record { day = day; kind = kind })))
+    ∷ ("CYCLE", two (word_in (("NIGHT", Night) ∷ ("DAY", Day) ∷ [])) (λ text. result_ok (read_day text)) (λ kind day. event.Cycle (record { day = day; kind = kind })))
     ∷ ("EXEMPT", three member_in issue_in (number 0 (10 ^ 18)) event.Exempt)
     ∷ ("PRIORITY", three member_in issue_in (word_in (("ON", true) ∷ ("OFF", false) ∷ [])) event.Priority)
     ∷ []
 
--- those that have words behind theirs
-abbrev pub longer : List (String × (List (List ℕ) → Option Command))
-longer =
-    ("TAKE", one take_in (λ take. take))
+-- all: the first two stand alone, and the others have words behind theirs
+abbrev pub commands : List (String × (List (List ℕ) → Option Command))
+commands =
+    ("PUMP", none command.Pump) ∷ ("REPORT", none command.Report)
+    ∷ ("TAKE", one take_in (λ take. take))
     ∷ ("LOOK", one place_in command.Look)
     ∷ ("ALLOCATE", one issue_in command.Allocate)
     ∷ ("BESIDE", two issue_in (number 0 1000) command.Beside)
     ∷ ("FAIL", two node_in (word_in (("KEEP", true) ∷ ("DROP", false) ∷ [])) command.Fail)
     ∷ map (λ row. (row.0, λ words. option_map command.Single (row.1 words))) events
-
-abbrev pub commands : List (String × (List (List ℕ) → Option Command))
-commands = ("PUMP", none command.Pump) ∷ ("REPORT", none command.Report) ∷ longer
 
 -- what words are by a table: the first one says how those behind it are read
 abbrev pub by_table : {R : Type 0} → List (String × (List (List ℕ) → Option R)) → List (List ℕ) → Option R

@@ -1,8 +1,8 @@
-ghost use Rattle.std.specs.Prelude.{◌≡◌, ◌==◌, ◌<◌, ◌∷◌, [], true, false, length, IfSome, MatchOption, Some, None, if◌then◌else◌};
+ghost use Rattle.std.specs.Prelude.{◌≡◌, ◌==◌, ◌<◌, ◌∷◌, [], true, false, drop, length, IfSome, MatchOption, Some, None, if◌then◌else◌};
 ghost use Rattle.std.specs.List.{position_from};
 ghost use Rattle.cns_trades.specs.Fields.{same_text};
 ghost use Rattle.cns_input.specs.Words.{words_after, words_of};
-ghost use Rattle.cns_input.specs.Script.{by_table, command_of as command_of_line, commands, events, longer, none as none_of, issue_in, member_in, node_in, place_in, take_in};
+ghost use Rattle.cns_input.specs.Script.{by_table, command_of as command_of_line, commands, events, none as none_of, issue_in, member_in, node_in, place_in, take_in};
 
 use cns_ids::{Cusip, CycleId, CycleKind, Day, MemberNo, Shares, read_number};
 use cns_system::{Event, NodeName};
@@ -218,7 +218,7 @@ fn read_event(word: &[u8], rest: Option<&[u8]>) -> Option<Event>
 
 // The command that a word with others behind it is.
 fn read_longer(word: &[u8], rest: Option<&[u8]>) -> Option<Command>
-    ensures { result ≡ by_table longer (word.now ∷ words_after rest.entry) }
+    ensures { result ≡ by_table (drop 2 commands) (word.now ∷ words_after rest.entry) }
 {
     if is_word(word, b"TAKE") {
         read_take(one(rest)?)
@@ -247,7 +247,7 @@ fn read_longer(word: &[u8], rest: Option<&[u8]>) -> Option<Command>
 
 // The same, with no look at the table for a word that stands alone.
 fn read_with_others(word: &[u8], rest: Option<&[u8]>) -> Option<Command>
-    ensures { result ≡ by_table longer (word.now ∷ words_after rest.entry) }
+    ensures { result ≡ by_table (drop 2 commands) (word.now ∷ words_after rest.entry) }
 {
     match rest {
         Some(_) => read_longer(word, rest),
