@@ -23,14 +23,18 @@ use Rattle.cns_records.specs.declared.clear_record.ClearRecord.{ClearRecord}
 use Rattle.cns_records.specs.declared.clear_record.ClearRecord.TheVariants.{Accept, Exempt, Priority, Cycle, Allocate, Confirm}
 use Rattle.cns_clearing.specs.Books.{Books, Allows, IsLawful, books_of, deliveries_in, tickets_of, with_record}
 use Rattle.cns_clearing.specs.Lots.{AreQuiet, IsQuiet, avail_in}
-use Rattle.cns_clearing.specs.Pools.{asked_of_pool, avail_of, covered_of, delivered_of, kind_part, out_of, taken_of, taken_part}
+use Rattle.cns_clearing.specs.Pools.{asked_of_pool, avail_of, covered_of, delivered_of, kind_part, out_of}
 use Rattle.cns_clearing.proofs.BooksLemmas.{lawful_bounded}
 
 -- ---- as they are
 
--- what deliveries take is what they ask for while they are not confirmed, and what they moved from then on
+-- what a delivery takes of the pool: what it moved, and what it asks for while it is not confirmed
+abbrev pub taken_part : List Reply → Order → ℕ
+taken_part replies o = unwrap_or (moved_of replies o.number) o.asked
+
+-- so deliveries take what they moved, and what those ask for that are not confirmed
 taken_parts : (rs : List Reply) (issue : ℕ) (orders : List Order)
-    → sum_by (kind_part Delivery issue (taken_part rs)) orders ≡ sum_by (kind_part Delivery issue (open_part rs)) orders + sum_by (kind_part Delivery issue (moved_part rs)) orders
+    → sum_by (kind_part Delivery issue (taken_part rs)) orders ≡ sum_by (kind_part Delivery issue (moved_part rs)) orders + sum_by (kind_part Delivery issue (open_part rs)) orders
 taken_parts rs issue [] = refl
 taken_parts rs issue (o ∷ orders) =
     omega (
@@ -42,13 +46,13 @@ taken_parts rs issue (o ∷ orders) =
       taken_parts rs issue orders,
     )
   where
-    by : (b : Bool) (m : Option ℕ) → (if b then unwrap_or m o.asked else 0) ≡ (if b then (if is_some m then 0 else o.asked) else 0) + (if b then unwrap_or m 0 else 0)
+    by : (b : Bool) (m : Option ℕ) → (if b then unwrap_or m o.asked else 0) ≡ (if b then unwrap_or m 0 else 0) + (if b then (if is_some m then 0 else o.asked) else 0)
     by true None = omega arith
     by true (Some moved) = omega arith
     by false m = omega arith
 
-pub taken_whole : (book : Orders) (issue : ℕ) → taken_of book issue ≡ out_of book issue + delivered_of book issue
-unfolding taken_of out_of delivered_of
+pub taken_whole : (book : Orders) (issue : ℕ) → sum_by (kind_part Delivery issue (taken_part book.replies)) book.orders ≡ delivered_of book issue + out_of book issue
+unfolding delivered_of out_of
 taken_whole book issue = taken_parts book.replies issue book.orders
 
 -- ---- with more orders
@@ -80,12 +84,18 @@ pub covered_ordered : (book : Orders) (asks : List Ask) (issue : ℕ) → IsOrde
 unfolding covered_of
 covered_ordered book asks issue lawful = moved_with_asks (λ (o : Order). is_cover o.kind && (o.issue == issue)) book asks lawful
 
-pub taken_ordered : (book : Orders) (asks : List Ask) (issue : ℕ) → IsOrderBook book → taken_of (with_asks book asks) issue ≡ taken_of book issue + asked_of_pool issue asks
-unfolding taken_of
+pub taken_ordered : (book : Orders) (asks : List Ask) (issue : ℕ) → IsOrderBook book
+    → delivered_of (with_asks book asks) issue + out_of (with_asks book asks) issue ≡ delivered_of book issue + out_of book issue + asked_of_pool issue asks
 taken_ordered book asks issue lawful =
     let next : ℕ = length book.orders + 1 in
     let new = new_taken next asks book.replies issue (λ j le. moved_of_above book.orders book.replies j lawful.numbered lawful.known (omega arith)) in
-    omega (arith, sum_by-append (kind_part Delivery issue (taken_part book.replies)) book.orders (numbered next asks), new)
+    omega (
+      arith,
+      sum_by-append (kind_part Delivery issue (taken_part book.replies)) book.orders (numbered next asks),
+      new,
+      taken_whole book issue,
+      taken_whole (with_asks book asks) issue,
+    )
 
 -- covers deliver nothing
 pub covers_deliver_nothing : (asks : List Ask) (issue : ℕ) → All (λ (a : Ask). a.kind ≡ Cover) asks → asked_of_pool issue asks ≡ 0
@@ -158,11 +168,13 @@ covered_confirmed book r issue lawful taken =
     sum_le_found (kind_part Cover issue (moved_part book.replies)) (kind_part Cover issue (moved_part (r ∷ book.replies))) book.orders 1 lawful.numbered
     (λ o found. confirm_covers_no_less book r issue taken o)
 
-pub taken_confirmed : (book : Orders) (r : Reply) (issue : ℕ) → IsOrderBook book → IsTaken book r → taken_of (with_reply book r) issue ≤ taken_of book issue
-unfolding taken_of
+pub taken_confirmed : (book : Orders) (r : Reply) (issue : ℕ) → IsOrderBook book → IsTaken book r
+    → delivered_of (with_reply book r) issue + out_of (with_reply book r) issue ≤ delivered_of book issue + out_of book issue
 taken_confirmed book r issue lawful taken =
+    let less =
     sum_le_found (kind_part Delivery issue (taken_part (r ∷ book.replies))) (kind_part Delivery issue (taken_part book.replies)) book.orders 1 lawful.numbered
-    (λ o found. confirm_takes_no_more book r issue taken o found)
+    (λ o found. confirm_takes_no_more book r issue taken o found) in
+    omega (arith, less, taken_whole book issue, taken_whole (with_reply book r) issue)
 
 -- ---- with more records
 

@@ -14,7 +14,6 @@ use Rattle.cns_clearing.specs.Pools.{covered_of, delivered_of, free_of, lent_of,
 use Rattle.cns_clearing.specs.declared.lot.Lot.{Lot}
 use Rattle.cns_clearing.proofs.LotLemmas.{lot_found}
 use Rattle.cns_clearing.proofs.PlanLemmas.{lot_pours}
-use Rattle.cns_clearing.proofs.PoolLemmas.{taken_whole}
 use Rattle.cns_clearing.proofs.TotalLemmas.{avail_most, taken_covered}
 
 -- a lot has no more than is there
@@ -43,7 +42,7 @@ free_most c lots issue free lawful fits are is = omega (arith, is, lent_most c l
 pub pool_whole : (c : List ClearRecord) (lots : List Lot) (issue : ℕ) → IsLawful c → AreLots c lots
     → free_of (orders_of c) lots issue + lent_of lots issue + out_of (orders_of c) issue + delivered_of (orders_of c) issue ≡ covered_of (orders_of c) issue
 pool_whole c lots issue lawful are =
-    omega (arith, lent_most c lots issue lawful are, taken_covered c issue lawful, taken_whole (orders_of c) issue)
+    omega (arith, lent_most c lots issue lawful are, taken_covered c issue lawful)
 
 -- what a pour adds is what was free
 pub pour_adds : (node : ClearNode) (issue shares : ℕ) (lot : Lot) → IsLawful node.log.records → AreWritable node.log.records → AreLots node.log.records node.lots → lot_of node.lots issue ≡ Some lot

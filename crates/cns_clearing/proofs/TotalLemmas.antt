@@ -1,5 +1,5 @@
 -- What orders and tickets come to over all members.
-use Rattle.std.proofs.Common.{◌≡◌, ◌≤◌, ℕ, List, [], ◌∷◌, Bool, true, false, refl, sym, subst, arith}
+use Rattle.std.proofs.Common.{◌≡◌, ◌≤◌, ℕ, ◌+◌, List, [], ◌∷◌, Bool, true, false, refl, sym, subst, arith}
 use Rattle.std.specs.Prelude.{◌==◌}
 use Rattle.std.proofs.lemmas.Bool.{eqb-true}
 use Rattle.cns_netting.specs.History.{due}
@@ -18,7 +18,7 @@ use Rattle.cns_records.specs.declared.clear_record.ClearRecord.TheVariants.{Acce
 use Rattle.cns_movements.specs.Order.{moved_part}
 use Rattle.cns_clearing.specs.Books.{Books, Allows, IsAllocable, IsLawful, books_of, covers_on, deliveries_in, orders_of, tickets_of, with_record}
 use Rattle.cns_clearing.specs.Lots.{avail_in}
-use Rattle.cns_clearing.specs.Pools.{asked_of_pool, avail_of, covered_of, kind_part, taken_of}
+use Rattle.cns_clearing.specs.Pools.{asked_of_pool, avail_of, covered_of, delivered_of, kind_part, out_of}
 use Rattle.cns_clearing.proofs.BalanceLemmas.{member_part}
 use Rattle.cns_clearing.proofs.BooksLemmas.{lawful_bounded, lawful_sound}
 use Rattle.cns_clearing.proofs.PoolLemmas.{allocation_issue, covered_confirmed, covered_ordered, covers_deliver_nothing, delivered_most, others_deliver_nothing, taken_confirmed, taken_ordered}
@@ -60,8 +60,8 @@ allocation_takes b a issue allocable = by (issue == a.issue) refl
     by false e = omega (arith, others_deliver_nothing (deliveries_in a) issue a.issue e (allocation_issue b a allocable))
 
 -- with one more record deliveries still take no more than covers brought
-taken_more : (r : ClearRecord) (b : Books) (issue : ℕ) → IsOrderBook b.orders → Allows b r → taken_of b.orders issue ≤ covered_of b.orders issue
-    → taken_of (with_record r b).orders issue ≤ covered_of (with_record r b).orders issue
+taken_more : (r : ClearRecord) (b : Books) (issue : ℕ) → IsOrderBook b.orders → Allows b r → delivered_of b.orders issue + out_of b.orders issue ≤ covered_of b.orders issue
+    → delivered_of (with_record r b).orders issue + out_of (with_record r b).orders issue ≤ covered_of (with_record r b).orders issue
 taken_more (Accept t) b issue ordered allowed before = before
 taken_more (Exempt m i s) b issue ordered allowed before = before
 taken_more (Priority m i is_on) b issue ordered allowed before = before
@@ -77,7 +77,7 @@ taken_more (Confirm r) b issue ordered allowed before =
     omega (arith, before, covered_confirmed b.orders r issue ordered taken, taken_confirmed b.orders r issue ordered taken)
 
 -- deliveries never take more shares of an issue than covers brought
-pub taken_covered : (c : List ClearRecord) (issue : ℕ) → IsLawful c → taken_of (orders_of c) issue ≤ covered_of (orders_of c) issue
-unfolding books_of covered_of taken_of
+pub taken_covered : (c : List ClearRecord) (issue : ℕ) → IsLawful c → delivered_of (orders_of c) issue + out_of (orders_of c) issue ≤ covered_of (orders_of c) issue
+unfolding books_of covered_of delivered_of out_of
 taken_covered [] issue lawful = omega arith
 taken_covered (r ∷ c) issue lawful = taken_more r (books_of c) issue (lawful_bounded c lawful.1).ordered lawful.0 (taken_covered c issue lawful.1)

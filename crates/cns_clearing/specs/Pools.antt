@@ -4,13 +4,12 @@ use Rattle.std.specs.Prelude.{ℕ, ◌+◌, ◌-◌, ◌&&◌, ◌==◌, List, [
 use Rattle.std.specs.List.{filter_map}
 use Rattle.std.specs.Ordering.{nat_cmp}
 use Rattle.std.specs.BTreeSet.{insert_key}
-use Rattle.cns_movements.specs.Order.{is_delivery, moved_of, moved_part, open_part, same_kind}
+use Rattle.cns_movements.specs.Order.{is_delivery, moved_part, open_part, same_kind}
 use Rattle.cns_movements.specs.Book.{Orders}
 use Rattle.cns_movements.specs.declared.order.Ask.{Ask}
 use Rattle.cns_movements.specs.declared.order.MoveKind.{MoveKind}
 use Rattle.cns_movements.specs.declared.order.MoveKind.TheVariants.{Cover, Delivery}
 use Rattle.cns_movements.specs.declared.order.Order.{Order}
-use Rattle.cns_movements.specs.declared.order.Reply.{Reply}
 use Rattle.cns_clearing.specs.declared.lot.Lot.{Lot}
 use Rattle.cns_clearing.specs.declared.pools.PoolRow.{PoolRow}
 
@@ -18,17 +17,9 @@ use Rattle.cns_clearing.specs.declared.pools.PoolRow.{PoolRow}
 abbrev pub kind_part : MoveKind → ℕ → (Order → ℕ) → Order → ℕ
 kind_part kind issue amount o = if same_kind kind o.kind && (o.issue == issue) then amount o else 0
 
--- what a delivery takes of the pool: what it moved, and what it asks for while it is not confirmed
-abbrev pub taken_part : List Reply → Order → ℕ
-taken_part replies o = unwrap_or (moved_of replies o.number) o.asked
-
 -- the shares that confirmed covers brought in an issue
 unfoldable pub covered_of : Orders → ℕ → ℕ
 covered_of book issue = sum_by (kind_part Cover issue (moved_part book.replies)) book.orders
-
--- the shares that deliveries took, or still may take
-unfoldable pub taken_of : Orders → ℕ → ℕ
-taken_of book issue = sum_by (kind_part Delivery issue (taken_part book.replies)) book.orders
 
 -- the shares that unconfirmed deliveries ask for
 unfoldable pub out_of : Orders → ℕ → ℕ
@@ -45,7 +36,7 @@ asked_of_pool issue (a ∷ asks) = (if is_delivery a.kind && (a.issue == issue) 
 
 -- the shares that covers brought, less those that deliveries took or still may take
 abbrev pub avail_of : Orders → ℕ → ℕ
-avail_of book issue = covered_of book issue - taken_of book issue
+avail_of book issue = covered_of book issue - (delivered_of book issue + out_of book issue)
 
 -- the open lot of an issue, where there is one
 abbrev pub lot_of : List Lot → ℕ → Option Lot
