@@ -29,7 +29,7 @@ use Rattle.cns_covers.specs.declared.priorities.Prioritized.{Prioritized}
 use Rattle.cns_covers.proofs.BoundLemmas.{other_place, share_grows}
 use Rattle.cns_covers.proofs.RowLemmas.{All-filter_map, All-rows_of, IfSome-open_row}
 use Rattle.cns_allocate.specs.Group.{rank}
-use Rattle.cns_allocate.specs.Plan.{IsPlan, LongsFit, by_group, group_in, plan_of, planned_of, want_of}
+use Rattle.cns_allocate.specs.Plan.{IsPlan, LongsFit, by_group, plan_of, planned_of, want_of}
 use Rattle.cns_allocate.specs.declared.group.Group.{Group}
 use Rattle.cns_allocate.specs.declared.group.Group.TheVariants.{Priority, WasLong, Other}
 use Rattle.cns_allocate.specs.declared.planned.Planned.{Planned}
@@ -110,8 +110,7 @@ unfolding planned_of want_of
 planned_of-asked issue book settings were_long row fit =
     let open_shares : ℕ = open_sum book.orders book.replies Delivery row.member row.issue in
     let want : ℕ = credit_part row.position - open_shares in
-    IfSome-if (λ (p : Planned). IsAsked p.asked) ((row.issue == issue) && nat_lt 0 want)
-    (record { member = row.member; asked = want; group = group_in issue settings were_long row.member })
+    IfSome-if (λ (p : Planned). IsAsked p.asked) ((row.issue == issue) && nat_lt 0 want) _
     (λ e. let some = ltb-true 0 want (and_parts (row.issue == issue) (nat_lt 0 want) e).1 in record { from = omega arith; to = omega arith })
 
 -- ---- each member at most once
@@ -177,8 +176,7 @@ planned_of-place : (issue : ℕ) (book : Orders) (settings : List Prioritized) (
 unfolding planned_of
 planned_of-place issue book settings were_long member row =
     let want : ℕ = want_of book row in
-    IfSome-if (λ (p : Planned). is_planned_as member p ≡ true → is_row_of issue member row ≡ true) ((row.issue == issue) && nat_lt 0 want)
-    (record { member = row.member; asked = want; group = group_in issue settings were_long row.member })
+    IfSome-if (λ (p : Planned). is_planned_as member p ≡ true → is_row_of issue member row ≡ true) ((row.issue == issue) && nat_lt 0 want) _
     (λ e same. and_from (row.issue == issue) (row.member == member) (and_parts (row.issue == issue) (nat_lt 0 want) e).0 same)
 
 -- no member wants shares twice

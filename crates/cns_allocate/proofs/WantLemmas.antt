@@ -13,7 +13,7 @@ use Rattle.cns_movements.specs.declared.order.MoveKind.TheVariants.{Delivery}
 use Rattle.cns_covers.specs.Bounds.{want_in}
 use Rattle.cns_covers.specs.declared.priorities.Prioritized.{Prioritized}
 use Rattle.cns_covers.proofs.RowLemmas.{All-filter_map, All-rows_of}
-use Rattle.cns_allocate.specs.Plan.{group_in, plan_of, planned_of, want_of}
+use Rattle.cns_allocate.specs.Plan.{plan_of, planned_of, want_of}
 use Rattle.cns_allocate.specs.declared.planned.Planned.{Planned}
 use Rattle.cns_allocate.proofs.PlanLemmas.{All-by_group, IfSome-if, credit_part-difference, wanting}
 
@@ -26,8 +26,7 @@ planned_of-wants : (issue : ℕ) (h : List NetEntry) (book : Orders) (settings :
 unfolding planned_of want_of
 planned_of-wants issue h book settings were_long row most =
     let want : ℕ = credit_part row.position - open_sum book.orders book.replies Delivery row.member row.issue in
-    IfSome-if (λ (p : Planned). p.asked ≤ want_in h book p.member issue) ((row.issue == issue) && nat_lt 0 want)
-    (record { member = row.member; asked = want; group = group_in issue settings were_long row.member })
+    IfSome-if (λ (p : Planned). p.asked ≤ want_in h book p.member issue) ((row.issue == issue) && nat_lt 0 want) _
     (λ e.
     let same : row.issue ≡ issue = eqb-true row.issue issue (and_parts (row.issue == issue) (nat_lt 0 want) e).0 in
     let here : want ≤ want_in h book row.member row.issue = omega (arith, most) in

@@ -21,16 +21,12 @@ use Rattle.cns_allocate.specs.declared.planned.Planned.{Planned}
 unfoldable pub want_of : Orders → PositionRow → ℕ
 want_of book row = credit_part row.position - open_sum book.orders book.replies Delivery row.member row.issue
 
--- the group of a member in an issue, by the settings of priorities and the members that were long in the issue
--- directly after the cycle before the latest
-abbrev pub group_in : ℕ → List Prioritized → List ℕ → ℕ → Group
-group_in issue settings were_long member = if is_on settings member issue then Priority else if list_any (nat_eq member) were_long then WasLong else Other
-
--- the member of a position as it is planned, where it is of the issue and something is left to receive
+-- the member of a position as it is planned, where it is of the issue and something is left to receive: its group goes by the
+-- settings of priorities and the members that were long in the issue directly after the cycle before the latest
 unfoldable pub planned_of : ℕ → Orders → List Prioritized → List ℕ → PositionRow → Option Planned
 planned_of issue book settings were_long row =
-    if (row.issue == issue) && nat_lt 0 (want_of book row)
-    then Some (record { member = row.member; asked = want_of book row; group = group_in issue settings were_long row.member }) else None
+    let group : Group = if is_on settings row.member issue then Priority else if list_any (nat_eq row.member) were_long then WasLong else Other in
+    if (row.issue == issue) && nat_lt 0 (want_of book row) then Some (record { member = row.member; asked = want_of book row; group = group }) else None
 
 -- some planned by group: those of the first group, then of the second, then the others
 abbrev pub by_group : List Planned → List Planned
