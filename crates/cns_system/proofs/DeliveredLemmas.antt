@@ -19,7 +19,8 @@ use Rattle.cns_records.specs.declared.clear_record.ClearRecord.{ClearRecord}
 use Rattle.cns_records.specs.declared.dep_record.DepRecord.{DepRecord}
 use Rattle.cns_records.specs.declared.dep_record.DepRecord.TheVariants.{Exec}
 use Rattle.cns_clearing.specs.Books.{IsLawful, orders_of}
-use Rattle.cns_clearing.specs.Pools.{covered_of, kind_part, taken_of, taken_part}
+use Rattle.cns_clearing.specs.Pools.{covered_of, delivered_of, kind_part, out_of}
+use Rattle.cns_clearing.proofs.PoolLemmas.{taken_part, taken_whole}
 use Rattle.cns_clearing.proofs.BooksLemmas.{lawful_bounded}
 use Rattle.cns_clearing.proofs.TotalLemmas.{taken_covered}
 use Rattle.cns_depository.specs.declared.account.Account.{Account}
@@ -160,16 +161,16 @@ module _ (book : Orders) (p : List DepRecord) (issue : ℕ) (numbered : IsNumber
       (λ o found. part_le (test o) (moved_part book.replies o) (executed_part p o) (confirmed_executed o)) in
       omega (arith, all, less)
 
-  -- executed deliveries took at most what those of the book take
-  deliveries_executed : moved_out p Cns issue ≤ taken_of book issue
-  unfolding taken_of moved_out
+  -- executed deliveries took at most what those of the book moved, or still ask for
+  deliveries_executed : moved_out p Cns issue ≤ delivered_of book issue + out_of book issue
+  unfolding moved_out
   deliveries_executed =
       let test : Order → Bool = λ o. is_delivery o.kind && (o.issue == issue) in
       let all = executed_sum test book.orders p numbered known once in
       let less =
       sum_le_found (executed_where test p) (kind_part Delivery issue (taken_part book.replies)) book.orders 1 numbered
       (λ o found. part_le (test o) (executed_part p o) (taken_part book.replies o) (executed_taken o found)) in
-      omega (arith, all, less)
+      omega (arith, all, less, taken_whole book issue)
 
 -- ---- a new delivery
 
