@@ -14,9 +14,7 @@ abbrev pub read_fault_text : ReadFault → List ℕ
 read_fault_text = elim [ number.BadNumber ↦ codes "BadNumber" | number.OutOfRange ↦ codes "OutOfRange" ]
 
 abbrev pub cusip_fault_text : CusipFault → List ℕ
-cusip_fault_text cusip.Length = codes "Length"
-cusip_fault_text (cusip.BadChar place) = codes "BadChar " ++ decimal place
-cusip_fault_text (cusip.CheckDigit want) = codes "CheckDigit " ++ decimal want
+cusip_fault_text = elim [ cusip.Length ↦ codes "Length" | cusip.BadChar place ↦ codes "BadChar " ++ decimal place | cusip.CheckDigit want ↦ codes "CheckDigit " ++ decimal want ]
 
 abbrev pub row_fault_text : RowFault → List ℕ
 row_fault_text fault.Fields = codes "Fields"
@@ -30,6 +28,4 @@ row_fault_text (fault.Account e) = codes "Account " ++ read_fault_text e
 row_fault_text (fault.Shares e) = codes "Shares " ++ read_fault_text e
 
 abbrev pub opening_fault_text : OpeningFault → List ℕ
-opening_fault_text opening.Double = codes "Double"
-opening_fault_text opening.IssueSum = codes "IssueSum"
-opening_fault_text opening.OutOfMemory = codes "OutOfMemory"
+opening_fault_text = elim [ opening.Double ↦ codes "Double" | opening.IssueSum ↦ codes "IssueSum" | opening.OutOfMemory ↦ codes "OutOfMemory" ]

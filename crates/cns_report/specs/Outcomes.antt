@@ -22,17 +22,13 @@ yes_or_no answer = if answer then codes "yes" else codes "no"
 abbrev pub moved_text : Reply → List ℕ
 moved_text r = decimal r.number ++ codes " moved " ++ decimal r.moved
 
--- the line of an event and what it came to, before those of the orders that it made; nothing where the event never comes to that. Each
--- line ends with LF. The two looks at a lot share one: the first tells its first part.
+-- the line of an event and what it came to, before those of the orders that it made. Each line ends with LF. The two looks at a lot share
+-- one: the first tells its first part. (Of an outcome that the event never comes to, the line has no meaning, or there is none.)
 unfoldable pub event_line : Event → Outcome → List ℕ
 -- trade ID accepted
-event_line (event.Trade t) outcome.Accepted = codes "trade " ++ t.id ++ codes " accepted\n"
--- exempt ok
-event_line (event.Exempt member issue shares) outcome.Done = codes "exempt ok\n"
--- priority ok
-event_line (event.Priority member issue on) outcome.Done = codes "priority ok\n"
--- seal ok
-event_line (event.Seal lot) outcome.Done = codes "seal ok\n"
+event_line e outcome.Accepted = word_of e ++ codes " accepted\n"
+-- exempt ok, priority ok or seal ok
+event_line e outcome.Done = word_of e ++ codes " ok\n"
 -- cycle DATE KIND due N
 event_line (event.Cycle id) (outcome.Cycled done) =
     codes "cycle " ++ day_text id.day ++ 32 ∷ kind_text id.kind ++ codes " due " ++ decimal done.due ++ codes "\n"
@@ -73,9 +69,7 @@ ordered_line o =
 
 -- the orders that a cycle or a close made
 abbrev pub orders_of : Outcome → List Order
-orders_of (outcome.Cycled done) = done.orders
-orders_of (outcome.Closed done) = done.orders
-orders_of _ = []
+orders_of = elim [ outcome.Cycled done ↦ done.orders | outcome.Closed done ↦ done.orders | _ ↦ [] ]
 
 abbrev pub outcome_line : Event → Outcome → List ℕ
 outcome_line e o = event_line e o ++ flat_map ordered_line (orders_of o)

@@ -8,7 +8,7 @@ use Rattle.cns_system.specs.declared.event.NodeName.{NodeName}
 use Rattle.cns_system.specs.declared.event.NodeName.TheVariants as node
 use Rattle.cns_trades.specs.declared.list.Verdict.TheVariants as verdict
 
--- the word that a refusal of an event begins with; that of a trade has the trade's name behind it
+-- the word that the line of a refused, accepted or done event begins with; that of a trade has the trade's name behind it
 abbrev pub word_of : Event → List ℕ
 word_of (event.Trade t) = codes "trade " ++ t.id
 word_of (event.Exempt member issue shares) = codes "exempt"

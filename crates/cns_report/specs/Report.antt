@@ -16,8 +16,7 @@ use Rattle.cns_report.specs.Right.{right_20}
 
 -- REPORT cycle none, or: REPORT cycle DATE KIND
 unfoldable pub report_head : Option CycleId → List ℕ
-report_head None = codes "REPORT cycle none\n"
-report_head (Some cycle) = codes "REPORT cycle " ++ day_text cycle.day ++ 32 ∷ kind_text cycle.kind ++ codes "\n"
+report_head = elim [ None ↦ codes "REPORT cycle none\n" | Some cycle ↦ codes "REPORT cycle " ++ day_text cycle.day ++ 32 ∷ kind_text cycle.kind ++ codes "\n" ]
 
 -- POS CUSIP MEMBER and the position, right in 20 places
 unfoldable pub position_line : PositionRow → List ℕ

@@ -45,7 +45,8 @@ impl Put for RefusedLine<'_> {
     }
 }
 
-// The word that a refusal of an event begins with; that of a trade has the trade's name behind it.
+// The word that the line of a refused, accepted or done event begins with; that of a trade has the trade's
+// name behind it.
 #[derive(Clone, Copy)]
 struct Word<'a>(&'a Event);
 
@@ -75,8 +76,8 @@ impl Put for Word<'_> {
 /// The line of an event and what it came to, before those of the orders that it made.
 ///
 /// The two looks at a lot share a line: `look poured Q asked Q sealed yes`, or `.. no`. That at what was
-/// poured tells `look poured Q` with no end of line, and that at what is asked the rest. An outcome that the
-/// event never has tells nothing.
+/// poured tells `look poured Q` with no end of line, and that at what is asked the rest. What is told of an
+/// outcome that the event never has means nothing.
 #[derive(Clone, Copy, Debug)]
 pub struct EventLine<'a> {
     pub event: &'a Event,
@@ -89,16 +90,8 @@ impl Put for EventLine<'_> {
     #[tactic(auto, unfolding(crate::specs::Outcomes::event_line))]
     fn put(&self, draft: &mut Draft) -> Result<(), AllocError> {
         match self.outcome {
-            Outcome::Accepted => match self.event {
-                Event::Trade(trade) => ("trade ", trade.id, " accepted\n").put(draft),
-                _ => Ok(()),
-            },
-            Outcome::Done => match self.event {
-                Event::Exempt { .. } => draft.add(b"exempt ok\n"),
-                Event::Priority { .. } => draft.add(b"priority ok\n"),
-                Event::Seal { .. } => draft.add(b"seal ok\n"),
-                _ => Ok(()),
-            },
+            Outcome::Accepted => (Word(self.event), " accepted\n").put(draft),
+            Outcome::Done => (Word(self.event), " ok\n").put(draft),
             Outcome::Cycled(done) => match self.event {
                 Event::Cycle(id) => {
                     (("cycle ", id.day, SPACE, id.kind), " due ", done.due, LF).put(draft)
