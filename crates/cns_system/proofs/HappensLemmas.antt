@@ -1,6 +1,6 @@
 -- Each event comes to what happens by a decision that fits it.
 use Rattle.std.specs.Prelude.{not}
-use Rattle.std.proofs.Common.{◌≡◌, ◌≢◌, ℕ, true, false, List, [], ◌∷◌, map, Option, Some, None, Result, Ok, Err, refl, sym, ap, ◌∙◌, subst, length}
+use Rattle.std.proofs.Common.{◌≡◌, ◌≢◌, ℕ, true, false, List, [], map, Option, Some, None, Result, Ok, Err, refl, sym, ap, ◌∙◌, subst, length}
 use Rattle.cns_ids.specs.Steps.{◌>>◌, need}
 use Rattle.cns_ids.specs.declared.cycle.CycleId.{CycleId}
 use Rattle.cns_trades.specs.declared.trade.Trade.{Trade}
@@ -23,7 +23,6 @@ use Rattle.cns_clearing.specs.Answers.{covers_in, verdict_in, CycleLeaves, IsCyc
 use Rattle.cns_clearing.specs.Books.{are_spent, history_of, is_later, latest_of, orders_of}
 use Rattle.cns_netting.specs.History.{becoming_due}
 use Rattle.cns_clearing.specs.declared.answer.Cycled.{Cycled}
-use Rattle.cns_clearing.specs.declared.lot.Lot.{Lot}
 use Rattle.cns_depository.specs.Node.{RestartLeaves as DepotRestartLeaves}
 use Rattle.cns_system.specs.Happens.{Decision, Goes, Judged, clear_commits, happens, judged, next_orders, settled}
 use Rattle.cns_system.specs.Lot.{with_end, with_seal}

@@ -1,6 +1,6 @@
 -- The lots in the order of their numbers, which are counted from 1, and what each call answers and leaves (this project's own
 -- rules). A refusal leaves all as it was.
-use Rattle.std.specs.Prelude.{◌≡◌, ℕ, ◌-◌, Bool, true, false, List, [], ◌∷◌, Some, None, Result, Ok, Err, IsSomeAnd, slice_set}
+use Rattle.std.specs.Prelude.{◌≡◌, ℕ, ◌-◌, true, false, List, Some, None, Result, Ok, Err, IsSomeAnd, slice_set}
 use Rattle.cns_wire.specs.Packet.{at_number}
 use Rattle.cns_pool.specs.declared.ticket.Ticket.{Ticket}
 use Rattle.cns_allocate.specs.declared.planned.Planned.{Planned}

@@ -1,5 +1,5 @@
 -- Both nodes and the link as events change them: all that contracts see of them but what they tell of the keepers' devices.
-use Rattle.std.specs.Prelude.{ℕ, Bool, true, false, List, [], ◌∷◌, ◌++◌, map, Option, Some, None, slice_set, ◌-◌}
+use Rattle.std.specs.Prelude.{ℕ, Bool, true, List, [], ◌∷◌, ◌++◌, map, Option, Some, slice_set, ◌-◌}
 use Rattle.cns_journal.specs.RecordLog.{LogState}
 use Rattle.cns_trades.specs.declared.opening.Opening.{Opening}
 use Rattle.cns_movements.specs.declared.order.Order.{Order}
@@ -8,7 +8,7 @@ use Rattle.cns_records.specs.declared.clear_record.ClearRecord.{ClearRecord}
 use Rattle.cns_records.specs.declared.dep_record.DepRecord.{DepRecord}
 use Rattle.cns_clearing.specs.Lots.{lots_after, lots_poured}
 use Rattle.cns_clearing.specs.declared.lot.Lot.{Lot}
-use Rattle.cns_system.specs.Lot.{LotState, with_end}
+use Rattle.cns_system.specs.Lot.{LotState}
 use Rattle.cns_system.specs.Lot.{new_lot as numbered_lot}
 use Rattle.cns_system.specs.World.{World, order_spelt, reply_spelt}
 
