@@ -58,10 +58,6 @@ served number (p ∷ plan) = do
 abbrev pub served_if_open : Option Opened → Act (Unit {0})
 served_if_open = elim [ None ↦ done | Some lot ↦ served lot.number lot.plan ]
 
--- a lot is opened and served
-abbrev pub allocated : ℕ → Act (Unit {0})
-allocated issue = opened issue >>= served_if_open
-
 -- whether this is the number of the lot that waits to be served
 abbrev pub is_busy : Option Beside → ℕ → Bool
 is_busy beside number = elim (option_and_then (λ (b : Beside). b.lot) beside) [ None ↦ false | Some lot ↦ lot.number == number ]

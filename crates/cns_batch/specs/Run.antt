@@ -7,27 +7,26 @@ use Rattle.cns_movements.specs.Order.{unconfirmed_of}
 use Rattle.cns_system.specs.Happens.{book}
 use Rattle.cns_system.specs.declared.numbered.Opened.{Opened}
 use Rattle.cns_batch.specs.Acts.{Act, ◌>>=◌, ◌>>◌, done, each, tells}
-use Rattle.cns_batch.specs.Commands.{allocated, event_run, failed, looked, opened, pumped, report_text, row_taken, served_if_open}
+use Rattle.cns_batch.specs.Commands.{event_run, failed, looked, opened, pumped, report_text, row_taken, served_if_open}
 use Rattle.cns_input.specs.Script.{command_of}
 use Rattle.cns_input.specs.Sections.{line_text}
 use Rattle.cns_input.specs.declared.command.Command.{Command}
 use Rattle.cns_input.specs.declared.command.Command.TheVariants as command
 use Rattle.cns_batch.specs.declared.runner.Beside.{Beside}
 
--- a command, in the line of this number. TAKE takes so many rows, or fewer where fewer are left; PUMP takes the orders that are
--- unconfirmed at its start, by number; and a line that begins another lot beside lines is bad
+-- a command, in the line of this number. TAKE takes so many rows, or fewer where fewer are left; ALLOCATE opens a lot and serves it; PUMP
+-- takes the orders that are unconfirmed at its start, by number; and a line that begins another lot beside lines is bad (`line_run` takes
+-- those that begin one, and those that hold no command)
 abbrev pub command_run : ℕ → Command → Act (Unit {0})
-command_run n command.Skip = done
 command_run n command.TakeAll = λ c. each row_taken c.rows c
 command_run n (command.Take rows) = λ c. each row_taken (take rows c.rows) c
 command_run n (command.Single e) = event_run e
 command_run n (command.Look lot) = looked lot
-command_run n (command.Allocate issue) = allocated issue
-command_run n (command.Beside issue lines) = tells (line_bytes (line.BadCommand n))
+command_run n (command.Allocate issue) = opened issue >>= served_if_open
 command_run n (command.Fail name stands) = failed name stands
 command_run n command.Pump = λ c. let b = (book c.scene.shown).orders in each pumped (unconfirmed_of b.orders b.replies) c
 command_run n command.Report = λ c. tells (report_text c.scene.shown) c
-command_run n command.Bad = tells (line_bytes (line.BadCommand n))
+command_run n _ = tells (line_bytes (line.BadCommand n))
 
 -- the lot waits for so many lines, and is served where none are left
 unfoldable pub waited : ℕ → Option Opened → Act (Unit {0})

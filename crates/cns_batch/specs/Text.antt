@@ -1,6 +1,7 @@
 -- The output text of a whole input, and what a fault says of it.
 use Rattle.std.specs.Prelude.{◌≡◌, ◌⊎◌, ⊤, ℕ, Bool, ◌<◌, ◌≤◌, true, false, List, [], ◌++◌, length, take, Option, None, Result, Ok, Err, if◌then◌else◌}
 use Rattle.std.specs.Io.KnownBytes.{Appends}
+use Rattle.std.specs.List.{enumerate_from, fold}
 use Rattle.std.specs.Option.{ok_or}
 use Rattle.cns_ids.specs.Steps.{◌>>=◌}
 use Rattle.cns_trades.specs.Openings.{opening_rows}
@@ -20,7 +21,7 @@ use Rattle.cns_system.specs.Start.{IsNotOpened, IsStarted}
 use Rattle.cns_system.specs.declared.fault.StartFault.{StartFault}
 use Rattle.cns_system.specs.declared.fault.StartFault.TheVariants as start
 use Rattle.cns_system.specs.World.{World}
-use Rattle.cns_batch.specs.Opened.{told_openings}
+use Rattle.cns_batch.specs.Opened.{told_opening}
 use Rattle.cns_batch.specs.Run.{lines_run}
 use Rattle.cns_input.specs.Sections.{raw_lines, sections}
 use Rattle.cns_input.specs.declared.fault.BatchFault.{BatchFault}
@@ -33,17 +34,14 @@ pub record Input : Type 0 where
   pub rows : List Row
   pub script : List ℕ
 
--- what the sections of an input hold, which are openings, trades and the script; or their fault
-abbrev pub input_in : List ℕ → List ℕ → List ℕ → Result Input BatchFault
-input_in openings trades script = do
-  opened ← ok_or (opening_rows openings) fault.Csv
-  rows ← ok_or (trade_rows trades) fault.Csv
-  let (held, told) = told_openings 1 [] opened
-  Ok (record { openings = held; told = told; rows = rows; script = script })
-
 -- what the bytes of an input hold, or their fault
 abbrev pub input_of : List ℕ → Result Input BatchFault
-input_of bytes = ok_or (sections bytes) fault.Sections >>= λ (openings, trades, script). input_in openings trades script
+input_of bytes = do
+  (openings, trades, script) ← ok_or (sections bytes) fault.Sections
+  opened ← ok_or (opening_rows openings) fault.Csv
+  rows ← ok_or (trade_rows trades) fault.Csv
+  let (held, told) = fold told_opening ([], []) (enumerate_from 1 opened)
+  Ok (record { openings = held; told = told; rows = rows; script = script })
 
 -- the output text of an input, from a scene on, by what comes between
 abbrev pub text_from : List Chance → Scene → Input → List ℕ

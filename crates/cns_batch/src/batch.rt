@@ -1,10 +1,10 @@
-ghost use Rattle.std.specs.Prelude.{◌≡◌, ◌+◌, ◌<◌, ◌≤◌, ◌⊎◌, [], Ok, MatchResult, IfOk, IfSome, OnOk, IfErr, List, ℕ, drop, length};
+ghost use Rattle.std.specs.Prelude.{◌≡◌, ◌+◌, ◌<◌, ◌≤◌, ◌⊎◌, [], Ok, Some, MatchResult, IfOk, IfSome, OnOk, IfErr, List, ℕ, drop, length};
 ghost use Rattle.std.specs.Io.KnownBytes.{Appends, IsAtEnd};
 ghost use Rattle.cns_batch.specs.Ending.{batch_result};
 ghost use Rattle.cns_batch.specs.Run.{lines_run};
 ghost use Rattle.cns_batch.specs.Runs.{Runs};
-ghost use Rattle.cns_input.specs.Sections.{raw_lines};
-ghost use Rattle.cns_batch.specs.Text.{BatchLeaves, KeptLeaves, RunsInput, Tells, WritesNothing, fault_of_rows, fault_of_start, input_in, input_of};
+ghost use Rattle.cns_input.specs.Sections.{raw_lines, sections};
+ghost use Rattle.cns_batch.specs.Text.{BatchLeaves, KeptLeaves, RunsInput, Tells, WritesNothing, fault_of_rows, fault_of_start, input_of};
 
 use crate::fault::Told;
 use crate::opening::take_openings;
@@ -68,12 +68,12 @@ pub(crate) fn start_fault(fault: StartFault) -> BatchFault
     }
 }
 
-// What the rows of an input hold.
+// What the rows of an input hold, whatever its script is.
 fn read_rows(alloc: Global, openings: &[u8], trades: &[u8]) -> Result<Rows, BatchFault>
     ensures { MatchResult result
-        (λ rows. (script : List ℕ) → input_in openings.now trades.now script
-        ≡ Ok (record { openings = rows.openings; told = rows.told; rows = rows.trades; script = script }))
-        (λ e. (script : List ℕ) → Tells e (input_in openings.now trades.now script)) }
+        (λ rows. (bytes script : List ℕ) → sections bytes ≡ Some (openings.now, trades.now, script)
+        → input_of bytes ≡ Ok (record { openings = rows.openings; told = rows.told; rows = rows.trades; script = script }))
+        (λ e. (bytes script : List ℕ) → sections bytes ≡ Some (openings.now, trades.now, script) → Tells e (input_of bytes)) }
 {
     let rows = match read_openings(alloc, openings) {
         Ok(rows) => rows,

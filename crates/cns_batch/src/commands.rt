@@ -5,7 +5,7 @@ ghost use Rattle.cns_records.specs.declared.refusal.Refusal.TheVariants as refus
 ghost use Rattle.cns_system.specs.Readers.{unconfirmed};
 ghost use Rattle.cns_system.specs.declared.event.Event.TheVariants as event;
 ghost use Rattle.cns_batch.specs.Acts.{done, each, single};
-ghost use Rattle.cns_batch.specs.Commands.{allocated, delivered, event_run, failed, is_busy as is_busy_of, looked, names_busy as names_busy_of, opened, pumped, row_taken, served, served_if_open};
+ghost use Rattle.cns_batch.specs.Commands.{delivered, event_run, failed, is_busy as is_busy_of, looked, names_busy as names_busy_of, opened, pumped, row_taken, served, served_if_open};
 ghost use Rattle.cns_batch.specs.Runs.{Runs};
 
 use crate::fault::Told;
@@ -176,14 +176,6 @@ impl<C: Keeper, D: Keeper> Runner<C, D> {
             Some(lot) => self.serve(&lot, writer),
             None => Ok(()),
         }
-    }
-
-    /// Opens a lot of an issue and serves it.
-    pub(crate) fn allocate<W: Write>(&mut self, issue: Cusip, writer: &mut W) -> Told
-        ensures { Runs (allocated issue) result (record { run = self.old; sent = W.contents writer.old }) (record { run = self.new; sent = W.contents writer.new }) }
-    {
-        let lot = self.open_lot(issue, writer)?;
-        self.serve_if_open(lot, writer)
     }
 
     /// Lets the event of a command happen. A ticket or a close of the lot that waits is refused.

@@ -61,21 +61,24 @@ impl<C: Keeper, D: Keeper> Runner<C, D> {
         self.wait_for(lines, lot, writer)
     }
 
-    // Runs a command, in the line of this number.
+    // Runs a command, in the line of this number. A line that holds none, or that begins a lot beside the next
+    // lines, is `run_line`'s, and would be bad here.
     fn run_command<W: Write>(&mut self, number: u64, command: &Command, writer: &mut W) -> Told
         ensures { Runs (command_run number command.now) result (record { run = self.old; sent = W.contents writer.old }) (record { run = self.new; sent = W.contents writer.new }) }
     {
         match *command {
-            Command::Skip => Ok(()),
             Command::TakeAll => self.take_all(writer),
             Command::Take(rows) => self.take(rows, writer),
             Command::Single(event) => self.run_event(event, writer),
             Command::Look(lot) => self.look(lot, writer),
-            Command::Allocate(issue) => self.allocate(issue, writer),
+            Command::Allocate(issue) => {
+                let lot = self.open_lot(issue, writer)?;
+                self.serve_if_open(lot, writer)
+            }
             Command::Fail { node, stands } => self.fail(node, stands, writer),
             Command::Pump => self.pump(writer),
             Command::Report => self.report(writer),
-            Command::Beside { .. } | Command::Bad => {
+            Command::Skip | Command::Beside { .. } | Command::Bad => {
                 self.tell(Line::BadCommand { line: number }, writer)
             }
         }

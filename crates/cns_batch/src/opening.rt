@@ -1,5 +1,6 @@
-ghost use Rattle.std.specs.Prelude.{◌≡◌, ◌++◌, ℕ, [], length, IfOk, OnOk};
-ghost use Rattle.cns_batch.specs.Opened.{told_opening, told_openings};
+ghost use Rattle.std.specs.Prelude.{◌≡◌, [], IfOk, OnOk};
+ghost use Rattle.std.specs.List.{enumerate_from, fold};
+ghost use Rattle.cns_batch.specs.Opened.{told_opening};
 
 use cns_depository::{OpeningFault, Openings};
 use cns_report::{Line, Text, write_line};
@@ -13,8 +14,7 @@ fn take_opening(
     row: &OpeningRow,
     out: &mut Text,
 ) -> Result<(), AllocError>
-    ensures after { OnOk result (openings.new ≡ (told_opening number openings.old row.now).0) }
-    ensures text { OnOk result (out.new ≡ out.old ++ (told_opening number openings.old row.now).1) }
+    ensures { OnOk result ((openings.new, out.new) ≡ told_opening (openings.old, out.old) (number, row.now)) }
 {
     match row {
         OpeningRow::Fault { row, fault } => {
@@ -30,14 +30,12 @@ fn take_opening(
 }
 
 /// The openings of rows, one row after another; those that are faulty or refused are told.
-#[tactic(auto, unfolding(crate::specs::Opened::told_openings))]
 pub(crate) fn take_openings(
     alloc: Global,
     rows: &[OpeningRow],
     out: &mut Text,
 ) -> Result<Openings, AllocError>
-    ensures held { IfOk result (λ openings. openings ≡ (told_openings 1 [] rows.now).0) }
-    ensures text { OnOk result (out.new ≡ out.old ++ (told_openings 1 [] rows.now).1) }
+    ensures { IfOk result (λ openings. (openings, out.new) ≡ fold told_opening ([], out.old) (enumerate_from 1 rows.now)) }
 {
     let mut openings = Openings::new(alloc);
     let mut number = 1;
