@@ -5,7 +5,6 @@ use Prim.Native.String.{String}
 use Rattle.cns_trades.specs.Fields.{same_text}
 use Rattle.cns_input.specs.Words.{word_in}
 use Rattle.cns_input.specs.Script.{by_table, commands}
-use Rattle.cns_input.specs.declared.command.Command.{Command}
 
 -- each row of a table reads nothing of no words
 abbrev ReadNone : {R : Type 0} → List (String × (List (List ℕ) → Option R)) → Type 0
