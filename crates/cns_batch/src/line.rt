@@ -1,3 +1,4 @@
+ghost use Rattle.std.specs.Prelude.{ℕ};
 ghost use Rattle.cns_batch.specs.Run.{command_run, ended, line_counted, line_run, waited};
 ghost use Rattle.cns_batch.specs.Runs.{Runs};
 
@@ -61,6 +62,15 @@ impl<C: Keeper, D: Keeper> Runner<C, D> {
         self.wait_for(lines, lot, writer)
     }
 
+    // Opens a lot of an issue and serves it, whatever the number of its line is.
+    fn allocate<W: Write>(&mut self, issue: Cusip, writer: &mut W) -> Told
+        ensures { (number : ℕ) → Runs (command_run number (Command.Allocate issue)) result
+            (record { run = self.old; sent = W.contents writer.old }) (record { run = self.new; sent = W.contents writer.new }) }
+    {
+        let lot = self.open_lot(issue, writer)?;
+        self.serve_if_open(lot, writer)
+    }
+
     // Runs a command, in the line of this number. A line that holds none, or that begins a lot beside the next
     // lines, is `run_line`'s, and would be bad here.
     fn run_command<W: Write>(&mut self, number: u64, command: &Command, writer: &mut W) -> Told
@@ -71,10 +81,7 @@ impl<C: Keeper, D: Keeper> Runner<C, D> {
             Command::Take(rows) => self.take(rows, writer),
             Command::Single(event) => self.run_event(event, writer),
             Command::Look(lot) => self.look(lot, writer),
-            Command::Allocate(issue) => {
-                let lot = self.open_lot(issue, writer)?;
-                self.serve_if_open(lot, writer)
-            }
+            Command::Allocate(issue) => self.allocate(issue, writer),
             Command::Fail { node, stands } => self.fail(node, stands, writer),
             Command::Pump => self.pump(writer),
             Command::Report => self.report(writer),
