@@ -107,13 +107,20 @@ fn refusals_are_told(rt: HostRuntime) {
     }
 }
 
+// What such a line says means nothing; it is still what the definition has, by the event's word or none.
 #[test]
 fn an_outcome_that_the_event_never_has(rt: HostRuntime) {
     let (records, kept) = (1, true);
     let up = Outcome::Restarted { records, kept };
     let (send, restart) = (Event::Send { number: 1 }, Event::Restart(NodeName::Clear));
-    see_told(&rt, rt.alloc(), &send, &Outcome::Accepted, "");
-    see_told(&rt, rt.alloc(), &send, &Outcome::Done, "");
+    see_told(
+        &rt,
+        rt.alloc(),
+        &send,
+        &Outcome::Accepted,
+        "send accepted\n",
+    );
+    see_told(&rt, rt.alloc(), &send, &Outcome::Done, "send ok\n");
     see_told(&rt, rt.alloc(), &send, &up, "");
     see_told(&rt, rt.alloc(), &restart, &Outcome::Sent { packet: 1 }, "");
 }
