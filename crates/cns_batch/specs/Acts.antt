@@ -1,7 +1,8 @@
 -- What a script has come to, and acts on it: each leaves a course, tells a text, and gives a value.
 use Rattle.std.specs.Prelude.{ℕ, List, [], ◌∷◌, ◌++◌, drop, get_or, Option}
 use Rattle.cns_trades.specs.declared.row.Row.{Row}
-use Rattle.cns_system.specs.Scene.{Chance, AsForeseen, Scene, comes_to}
+use Rattle.cns_system.specs.Happens.{Goes}
+use Rattle.cns_system.specs.Scene.{Chance, Decides, Scene, comes_to}
 use Rattle.cns_system.specs.declared.event.Event.{Event}
 use Rattle.cns_system.specs.declared.outcome.Outcome.{Outcome}
 use Rattle.cns_report.specs.Outcomes.{outcome_line}
@@ -55,7 +56,7 @@ each act (x ∷ xs) = act x >> each act xs
 -- an event happens, by the first of what comes between, and by nothing where nothing is left of that; its outcome is told
 unfoldable pub happened : Event → Act Outcome
 happened e c =
-    let (outcome, scene) = comes_to (get_or c.chances 0 AsForeseen) e c.scene in
+    let (outcome, scene) = comes_to (get_or c.chances 0 (Decides Goes)) e c.scene in
     record { course = record c { scene = scene; chances = drop 1 c.chances }; text = outcome_line e outcome; value = outcome }
 
 -- an event, whatever it comes to

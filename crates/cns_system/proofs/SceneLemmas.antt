@@ -42,7 +42,7 @@ use Rattle.cns_system.specs.Lots.{LotLeaves, ReserveLeaves}
 use Rattle.cns_system.specs.Numbered.{NumberedNode, CloseLeaves, OpenLeaves, PourLeaves}
 use Rattle.cns_system.specs.Outcomes.{asked_outcome, close_outcome, cycle_outcome, done_outcome, open_outcome, order_outcome, pour_outcome, poured_outcome, reply_outcome, reserve_outcome, restart_outcome, trade_outcome}
 use Rattle.cns_system.specs.Readers.{PlanStep}
-use Rattle.cns_system.specs.Scene.{AsForeseen, Chance, Comes, ComesBack, Decides, Forgets, Plans, Scene, Sight, after_commit, after_restart, comes_to, commit_decision, decision_at, given_back, is_foreseen, known_after, known_of, node_of, restart_decision, scene_of, sight_of, with_known}
+use Rattle.cns_system.specs.Scene.{Chance, Comes, ComesBack, Decides, Forgets, Plans, Scene, Sight, after_commit, after_restart, comes_to, commit_decision, decision_at, given_back, is_foreseen, known_after, known_of, node_of, restart_decision, scene_of, sight_of, with_known}
 use Rattle.cns_system.specs.Shown.{Shown, shown_of}
 use Rattle.cns_system.specs.Step.{AtClear, ByLots, ByNode, ClearRestarts, DepotRestartStep, IsNotSent, Looks, OrderInStep, OrderTaken, ReplyInStep, SendStep, Step}
 use Rattle.cns_system.specs.World.{World, order_in_packet, reply_in_packet}
@@ -85,12 +85,12 @@ record Commits (e : Event) (outcome : Outcome) (w : Shown) (old new : Sight) : T
   leaves : new ≡ record old { foresight = after_commit outcome old.foresight }
 
 -- the decision where all is as foreseen
-goes_on : (next : Forecast) → MaySucceed next → commit_decision next AsForeseen ≡ Goes
+goes_on : (next : Forecast) → MaySucceed next → commit_decision next (Decides Goes) ≡ Goes
 goes_on Unforeseen may = refl
 goes_on Succeeds may = refl
 goes_on (Fails stands) may = absurd may
 
-has_room : (next : Forecast) → commit_decision next AsForeseen ≢ NoMemory
+has_room : (next : Forecast) → commit_decision next (Decides Goes) ≢ NoMemory
 has_room Unforeseen = λ e. absurd (cc e)
 has_room Succeeds = λ e. absurd (cc e)
 has_room (Fails stands) = λ e. absurd (cc e)
@@ -113,7 +113,7 @@ known_after_failure old new failed = by old.next failed
 goes : {R : Type 0} (e : Event) (outcome : Outcome) (w : Shown) (r : R) (old new : LogState R) → ((d : Decision) → d ≡ Goes → Fits d e outcome w)
     → ((f : Foresight) → after_commit outcome f ≡ f) → LogCommits r (Ok tt) old new → Commits e outcome w (sight_of old) (sight_of new)
 goes e outcome w r old new fits stays (is, may) = record {
-  chance = AsForeseen;
+  chance = Decides Goes;
   fits = fits _ (goes_on old.foresight.next may);
   leaves = rw (is, stays old.foresight) refl;
 }
@@ -133,7 +133,7 @@ fails e w r old new (is, risen, failed) =
 same : (e : Event) (outcome : Outcome) (w : Shown) (old new : Sight) → ((d : Decision) → d ≢ NoMemory → Fits d e outcome w)
     → ((f : Foresight) → after_commit outcome f ≡ f) → new ≡ old → Commits e outcome w old new
 same e outcome w old new fits stays is = record {
-  chance = AsForeseen;
+  chance = Decides Goes;
   fits = fits _ (has_room old.foresight.next);
   leaves = rw (is, stays old.foresight) refl;
 }
@@ -419,7 +419,7 @@ decides reads (FindsBad place) s tried records room unknown = rw unknown refl
 -- the chance at a restart of a keeper of which something is known, by whether the undecided record comes back
 abbrev chance_of : Bool → Chance
 chance_of true = ComesBack
-chance_of false = AsForeseen
+chance_of false = Decides Goes
 
 came_back : (kept : Bool) (stands : Option Bool) → ((known : Bool) → stands ≡ Some known → kept ≡ known) → unwrap_or stands kept ≡ kept
 came_back kept (Some known) as_known = sym (as_known known refl)

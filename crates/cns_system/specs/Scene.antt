@@ -45,11 +45,11 @@ abbrev pub with_known : NodeName → Foresight → Scene → Scene
 with_known node.Clear f s = record s { clear = record s.clear { foresight = f } }
 with_known node.Depot f s = record s { depot = record s.depot { foresight = f } }
 
--- what comes between at an event: nothing; at a restart, an undecided record comes back of which that was not known; at a restart,
--- there is no memory, and this is known of the undecided record from then on; or the surroundings decide: of a commit of which
--- something is known, only that there is no memory, and of the restart of an honest keeper of which something is known, nothing
+-- what comes between at an event: at a restart, an undecided record comes back of which that was not known; at a restart, there is no
+-- memory, and this is known of the undecided record from then on; or the surroundings decide (`Goes` where nothing comes between): of a
+-- commit of which something is known, only that there is no memory, and of the restart of an honest keeper of which something is
+-- known, nothing
 pub data Chance : Type 0 where
-  AsForeseen : Chance
   ComesBack : Chance
   Forgets : Option Bool → Chance
   Decides : Decision → Chance
