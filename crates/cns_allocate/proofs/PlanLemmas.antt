@@ -28,7 +28,7 @@ use Rattle.cns_covers.specs.Covers.{IsUnsettled}
 use Rattle.cns_covers.specs.declared.priorities.Prioritized.{Prioritized}
 use Rattle.cns_covers.proofs.BoundLemmas.{other_place, share_grows}
 use Rattle.cns_covers.proofs.RowLemmas.{All-filter_map, All-rows_of, IfSome-open_row}
-use Rattle.cns_allocate.specs.Group.{rank}
+use Rattle.cns_allocate.specs.Group.{is_in, rank}
 use Rattle.cns_allocate.specs.Plan.{IsPlan, LongsFit, by_group, plan_of, planned_of, want_of}
 use Rattle.cns_allocate.specs.declared.group.Group.{Group}
 use Rattle.cns_allocate.specs.declared.group.Group.TheVariants.{Priority, WasLong, Other}
@@ -219,7 +219,7 @@ sum_by-by_group f (p ∷ ps) = by p.group _ _ _ (sum_by-by_group f ps)
 pub All-by_group : (P : Planned → Type 0) (ps : List Planned) → All P ps → All P (by_group ps)
 All-by_group P ps all = in_groups (Priority ∷ WasLong ∷ Other ∷ [])
   where
-    in_groups : (gs : List Group) → All P (flat_map (λ g. filter (λ (p : Planned). rank p.group == rank g) ps) gs)
+    in_groups : (gs : List Group) → All P (flat_map (λ g. filter (is_in g) ps) gs)
     in_groups [] = All-nil P
     in_groups (g ∷ gs) = All-append P _ _ (All-filter _ P ps all) (in_groups gs)
 
@@ -250,10 +250,10 @@ one_group r (p ∷ ps) same =
     let rest = All-tail (λ (q : Planned). rank q.group ≡ r) p ps same in
     AllPairs-cons IsNoLater p ps (All-weaker (λ (q : Planned). rank q.group ≡ r) (IsNoLater p) (λ q e. omega arith) ps rest) (one_group r ps rest)
 
-in_group : (g : Group) (ps : List Planned) → All (λ (p : Planned). rank p.group ≡ rank g) (filter (λ (p : Planned). rank p.group == rank g) ps)
+in_group : (g : Group) (ps : List Planned) → All (λ (p : Planned). rank p.group ≡ rank g) (filter (is_in g) ps)
 in_group g ps =
-    All-weaker (λ (p : Planned). (rank p.group == rank g) ≡ true) (λ (p : Planned). rank p.group ≡ rank g) (λ p e. eqb-true (rank p.group) (rank g) e) _
-    (filter_passes (λ (p : Planned). rank p.group == rank g) ps)
+    All-weaker (λ (p : Planned). is_in g p ≡ true) (λ (p : Planned). rank p.group ≡ rank g) (λ p e. eqb-true (rank p.group) (rank g) e) _
+    (filter_passes (is_in g) ps)
 
 from_group : (r s : ℕ) (ps : List Planned) → r ≤ s → All (λ (p : Planned). rank p.group ≡ s) ps → All (λ (p : Planned). r ≤ rank p.group) ps
 from_group r s ps le same = All-weaker (λ (p : Planned). rank p.group ≡ s) (λ (p : Planned). r ≤ rank p.group) (λ p e. omega arith) ps same

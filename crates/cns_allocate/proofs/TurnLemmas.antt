@@ -12,11 +12,11 @@ use Rattle.std.proofs.lemmas.List.Sums.{sum_by-cons}
 use Rattle.cns_movements.specs.Asked.{IsAsked}
 use Rattle.cns_allocate.specs.Group.{rank}
 use Rattle.cns_allocate.specs.Plan.{IsPlan}
-use Rattle.cns_allocate.specs.Served.{turn_by, turn_of, without}
+use Rattle.cns_allocate.specs.Served.{is_after_others, turn_of, without}
 use Rattle.cns_allocate.specs.declared.group.Group.{Group}
 use Rattle.cns_allocate.specs.declared.group.Group.TheVariants.{Priority, WasLong, Other}
 use Rattle.cns_allocate.specs.declared.planned.Planned.{Planned}
-use Rattle.cns_allocate.specs.declared.turns.Turn.TheVariants.{EarlierGroup, Next}
+use Rattle.cns_allocate.specs.declared.turns.Turn.TheVariants.{EarlierGroup, Next, NotLong}
 use Rattle.cns_allocate.proofs.PlanLemmas.{is_planned_as}
 
 -- ---- lists
@@ -276,10 +276,10 @@ without-at member k (p ∷ plan) i j once found is = by (is_planned_as member p)
 
 -- the first of a plan is of no later group than the others
 after-first : (p first : Planned) (plan : List Planned) → AllPairs (λ (p q : Planned). rank p.group ≤ rank q.group) (first ∷ plan)
-    → nat_lt (rank first.group) (rank p.group) ≡ list_any (λ (q : Planned). nat_lt (rank q.group) (rank p.group)) (first ∷ plan)
+    → nat_lt (rank first.group) (rank p.group) ≡ is_after_others (first ∷ plan) p
 after-first p first plan groups = by (nat_lt (rank first.group) (rank p.group)) refl
   where
-    by : (b : Bool) → nat_lt (rank first.group) (rank p.group) ≡ b → b ≡ (b || list_any (λ (q : Planned). nat_lt (rank q.group) (rank p.group)) plan)
+    by : (b : Bool) → nat_lt (rank first.group) (rank p.group) ≡ b → b ≡ (b || is_after_others plan p)
     by true e = refl
     by false e =
         sym (list_any_none (λ (q : Planned). nat_lt (rank q.group) (rank p.group)) plan
@@ -288,14 +288,14 @@ after-first p first plan groups = by (nat_lt (rank first.group) (rank p.group)) 
 
 -- so it decides whether one of an earlier group waits
 pub after-head : (p first : Planned) (plan : List Planned) → AllPairs (λ (p q : Planned). rank p.group ≤ rank q.group) plan → slice_get plan 0 ≡ Some first
-    → nat_lt (rank first.group) (rank p.group) ≡ list_any (λ (q : Planned). nat_lt (rank q.group) (rank p.group)) plan
+    → nat_lt (rank first.group) (rank p.group) ≡ is_after_others plan p
 after-head p first [] groups found = cc
 after-head p first (x ∷ plan) groups found = let same : x ≡ first = cc in rw (← same) (after-first p x plan groups)
 
 -- the turn of one that is found
 pub turn_found : (plan : List Planned) (member : ℕ) (p : Planned) (after : Bool) → Some p ≡ find (is_planned_as member) plan
-    → after ≡ list_any (λ (q : Planned). nat_lt (rank q.group) (rank p.group)) plan → turn_of plan member ≡ cond after EarlierGroup (Next p.asked)
-turn_found plan member p after found is = rw (← found, ← is) refl
+    → after ≡ is_after_others plan p → turn_of plan member ≡ cond after EarlierGroup (Next p.asked)
+turn_found plan member p after found is = rw (← found, ← is, turn_of) refl
 
 -- the one that may draw a ticket: it is found by its member, and none of an earlier group waits
 pub record IsTurn (plan : List Planned) (member asked : ℕ) : Type 0 where
@@ -305,15 +305,15 @@ pub record IsTurn (plan : List Planned) (member asked : ℕ) : Type 0 where
   pub shares : planned.asked ≡ asked
   pub first : All (λ (q : Planned). rank planned.group ≤ rank q.group) plan
 
-first_group : (plan : List Planned) (p : Planned) → list_any (λ (q : Planned). nat_lt (rank q.group) (rank p.group)) plan ≡ false → All (λ (q : Planned). rank p.group ≤ rank q.group) plan
+first_group : (plan : List Planned) (p : Planned) → is_after_others plan p ≡ false → All (λ (q : Planned). rank p.group ≤ rank q.group) plan
 first_group plan p none =
     All-weaker (λ (q : Planned). nat_lt (rank q.group) (rank p.group) ≡ false) (λ (q : Planned). rank p.group ≤ rank q.group)
     (λ q e. ltb-false (rank q.group) (rank p.group) e) plan (list_any-false (λ (q : Planned). nat_lt (rank q.group) (rank p.group)) plan none)
 
 pub turn-parts : (plan : List Planned) (member asked : ℕ) → turn_of plan member ≡ Next asked → IsTurn plan member asked
-turn-parts plan member asked next = by (find (is_planned_as member) plan) refl next
+turn-parts plan member asked next = by _ refl next
   where
-    by_group : (p : Planned) (b : Bool) → find (is_planned_as member) plan ≡ Some p → list_any (λ (q : Planned). nat_lt (rank q.group) (rank p.group)) plan ≡ b → cond b EarlierGroup (Next p.asked) ≡ Next asked
+    by_group : (p : Planned) (b : Bool) → find (is_planned_as member) plan ≡ Some p → is_after_others plan p ≡ b → cond b EarlierGroup (Next p.asked) ≡ Next asked
         → IsTurn plan member asked
     by_group p true f e n = cc
     by_group p false f e n = record {
@@ -324,9 +324,9 @@ turn-parts plan member asked next = by (find (is_planned_as member) plan) refl n
       first = first_group plan p e;
     }
 
-    by : (o : Option Planned) → find (is_planned_as member) plan ≡ o → turn_by plan o ≡ Next asked → IsTurn plan member asked
-    by None f n = cc
-    by (Some p) f n = by_group p _ f refl n
+    by : (o : Option Planned) → find (is_planned_as member) plan ≡ o → turn_of plan member ≡ Next asked → IsTurn plan member asked
+    by None f n = let no : NotLong ≡ Next asked = rw (f, turn_of) at n in cc
+    by (Some p) f n = by_group p _ f refl (rw (f, turn_of) at n)
 
 -- and it is its turn
 pub turn-next : (plan : List Planned) (member : ℕ) (p : Planned) → find (is_planned_as member) plan ≡ Some p → All (λ (q : Planned). rank p.group ≤ rank q.group) plan
@@ -336,7 +336,7 @@ turn-next plan member p found first =
     list_any_none (λ (q : Planned). nat_lt (rank q.group) (rank p.group)) plan
     (All-weaker (λ (q : Planned). rank p.group ≤ rank q.group) (λ (q : Planned). nat_lt (rank q.group) (rank p.group) ≡ false)
     (λ q le. le-ltb (rank q.group) (rank p.group) le) plan first) in
-    rw (found, none) refl
+    rw (found, none, turn_of) refl
 
 -- the first of an order of a plan is found by its member
 pub find-first : (p : Planned) (ps plan : List Planned) → IsPermutation (p ∷ ps) plan → ((member : ℕ) → count_by (is_planned_as member) plan ≤ 1)

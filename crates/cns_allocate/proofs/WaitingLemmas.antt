@@ -1,7 +1,6 @@
 -- Those of a plan who wait, by a table of their places.
 use Rattle.std.proofs.Common.{◌≡◌, ◌≤◌, ◌<◌, ◌+◌, ◌-◌, ℕ, zero, suc, take, drop, get_or, slice_set, replicate, List, [], ◌∷◌, ◌++◌, length, Bool, true, false, not, Some, None, cond, ap, refl, sym, subst, arith, inl, inr, ◌⊎◌, ◌∙◌}
 use Rattle.std.specs.Prelude.{◌==◌, ◌&&◌, nat_lt, slice_get, All, count_by, filter, find}
-use Rattle.std.specs.List.{list_any}
 use Rattle.std.proofs.lemmas.Bool.{cases_lt, cond-false, cond-true, eq-eqb, eqb-true, ne_eqb}
 use Rattle.std.proofs.lemmas.List.{drop_all, drop_more, get_or_default, get_or-set_other, get_or-set_same, length-take-le, take_all, take_more}
 use Rattle.std.proofs.lemmas.List.Elements.{All-append, All-cons, All-get_or, All-head, All-nil, All-tail, All-weaker}
@@ -9,7 +8,7 @@ use Rattle.std.proofs.lemmas.List.Kept.{AllPairs-filter}
 use Rattle.std.proofs.lemmas.List.Sums.{sum_by-cons, sum_by-take-le}
 use Rattle.cns_allocate.specs.Group.{rank}
 use Rattle.cns_allocate.specs.Plan.{IsPlan}
-use Rattle.cns_allocate.specs.Served.{without}
+use Rattle.cns_allocate.specs.Served.{is_after_others, without}
 use Rattle.cns_allocate.specs.Waiting.{ArePlaces, AreWaiting, IsPlaceOf, is_placed, placed}
 use Rattle.cns_allocate.specs.declared.planned.Planned.{Planned}
 use Rattle.cns_allocate.proofs.NumberLemmas.{pigeonhole}
@@ -138,7 +137,7 @@ waits_some (p ∷ plan) places first are none = by (cases_lt first (length (p �
 
 -- the first one decides whether one of an earlier group waits
 pub waits_after : (plan : List Planned) (places : List ℕ) (first : ℕ) (p q : Planned) → AreWaiting plan places first → first < length plan → q ≡ get_or plan first q
-    → nat_lt (rank q.group) (rank p.group) ≡ list_any (λ (q : Planned). nat_lt (rank q.group) (rank p.group)) (placed places plan)
+    → nat_lt (rank q.group) (rank p.group) ≡ is_after_others (placed places plan) p
 waits_after plan places first p q are below is =
     let list : placed places plan ≡ q ∷ placed places (drop (first + 1) plan) =
     sym are.left ∙ placed_first plan places first q below (are.waits q below) ∙ ap (λ (x : Planned). x ∷ placed places (drop (first + 1) plan)) (sym is) in

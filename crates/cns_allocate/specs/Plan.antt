@@ -12,8 +12,7 @@ use Rattle.cns_movements.specs.Book.{Orders}
 use Rattle.cns_movements.specs.declared.order.MoveKind.TheVariants.{Delivery}
 use Rattle.cns_covers.specs.Priorities.{is_on}
 use Rattle.cns_covers.specs.declared.priorities.Prioritized.{Prioritized}
-use Rattle.cns_allocate.specs.Group.{rank}
-use Rattle.cns_allocate.specs.declared.group.Group.{Group}
+use Rattle.cns_allocate.specs.Group.{group_of, is_in, rank}
 use Rattle.cns_allocate.specs.declared.group.Group.TheVariants.{Priority, WasLong, Other}
 use Rattle.cns_allocate.specs.declared.planned.Planned.{Planned}
 
@@ -25,12 +24,12 @@ want_of book row = credit_part row.position - open_sum book.orders book.replies 
 -- settings of priorities and the members that were long in the issue directly after the cycle before the latest
 unfoldable pub planned_of : ℕ → Orders → List Prioritized → List ℕ → PositionRow → Option Planned
 planned_of issue book settings were_long row =
-    let group : Group = if is_on settings row.member issue then Priority else if list_any (nat_eq row.member) were_long then WasLong else Other in
+    let group = group_of (is_on settings row.member issue) (list_any (nat_eq row.member) were_long) in
     if (row.issue == issue) && nat_lt 0 (want_of book row) then Some (record { member = row.member; asked = want_of book row; group = group }) else None
 
 -- some planned by group: those of the first group, then of the second, then the others
 abbrev pub by_group : List Planned → List Planned
-by_group planned = flat_map (λ group. filter (λ (p : Planned). rank p.group == rank group) planned) (Priority ∷ WasLong ∷ Other ∷ [])
+by_group planned = flat_map (λ group. filter (is_in group) planned) (Priority ∷ WasLong ∷ Other ∷ [])
 
 -- the plan of an issue, by group, then member
 abbrev pub plan_of : ℕ → List NetEntry → Orders → List Prioritized → List ℕ → List Planned

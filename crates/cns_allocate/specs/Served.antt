@@ -1,5 +1,5 @@
 -- Who may draw a ticket next, and which tickets a lot may close with (this project's own rules).
-use Rattle.std.specs.Prelude.{◌≡◌, ℕ, ◌≤◌, ◌==◌, Bool, false, not, nat_lt, List, [], ◌∷◌, length, Option, Some, None, AllPairs, IsPermutation, filter, find, if◌then◌else◌}
+use Rattle.std.specs.Prelude.{◌≡◌, ℕ, ◌≤◌, ◌==◌, Bool, false, not, nat_lt, List, [], ◌∷◌, length, Some, None, AllPairs, IsPermutation, filter, find, if◌then◌else◌}
 use Rattle.std.specs.List.{list_any}
 use Rattle.cns_pool.specs.declared.ticket.Ticket.{Ticket}
 use Rattle.cns_pool.specs.Tiles.{AreChained}
@@ -21,14 +21,14 @@ waiting plan tickets = filter (λ (p : Planned). not (has_ticket tickets p.membe
 abbrev pub without : ℕ → List Planned → List Planned
 without member plan = filter (λ (p : Planned). not (p.member == member)) plan
 
--- by those who wait, and the one of them that is the member
-abbrev pub turn_by : List Planned → Option Planned → Turn
-turn_by plan found = elim found [ None ↦ NotLong | Some p ↦ if list_any (λ (q : Planned). nat_lt (rank q.group) (rank p.group)) plan then EarlierGroup else Next p.asked ]
+-- whether one of the planned is of an earlier group than this one
+abbrev pub is_after_others : List Planned → Planned → Bool
+is_after_others plan planned = list_any (λ (p : Planned). nat_lt (rank p.group) (rank planned.group)) plan
 
 -- what a member is answered that asks for a ticket while these wait: it is not one of them; one of an earlier group waits;
 -- or how many shares its ticket has
 abbrev pub turn_of : List Planned → ℕ → Turn
-turn_of plan member = turn_by plan (find (λ (p : Planned). p.member == member) plan)
+turn_of plan member = elim (find (λ (p : Planned). p.member == member) plan) [ None ↦ NotLong | Some p ↦ if is_after_others plan p then EarlierGroup else Next p.asked ]
 
 -- the first of some planned drew these tickets: the same members and shares, in the same order
 abbrev pub AreDrawnBy : List Ticket → List Planned → Type 0

@@ -1,4 +1,5 @@
-ghost use Rattle.std.specs.Prelude.{◌≡◌, if◌then◌else◌};
+ghost use Rattle.std.specs.Prelude.{◌≡◌};
+ghost use Rattle.cns_allocate.specs.Group.{group_of};
 
 /// The group in which a member is served in an issue; those of an earlier group come first. (This
 /// project's own rule.)
@@ -16,7 +17,7 @@ impl Group {
     /// The group of a member, by whether its priority in the issue is on, and whether it was long in
     /// the issue directly after the cycle before the latest.
     pub fn of(on: bool, was_long: bool) -> Group
-        ensures { result ≡ (if on then Group.Priority else if was_long then Group.WasLong else Group.Other) }
+        ensures { result ≡ group_of on was_long }
     {
         if on {
             Group::Priority

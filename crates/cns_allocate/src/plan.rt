@@ -2,7 +2,7 @@ ghost use Rattle.std.specs.Prelude.{◌≡◌, ◌↔◌, ◌^◌, ◌<◌, ◌�
 ghost use Rattle.std.specs.List.{filter_map, position_from};
 ghost use Rattle.cns_netting.specs.declared.position.PositionRow.{PositionRow};
 ghost use Rattle.cns_netting.specs.History.{credit_part};
-ghost use Rattle.cns_allocate.specs.Group.{rank};
+ghost use Rattle.cns_allocate.specs.Group.{is_in};
 ghost use Rattle.cns_allocate.specs.Plan.{IsPlan, LongsFit, plan_of, planned_of};
 ghost use Rattle.cns_allocate.specs.Served.{without};
 ghost use Rattle.cns_allocate.specs.declared.planned.Planned.{Planned};
@@ -147,8 +147,7 @@ fn planned_rows(
 
 // Adds the members of a group, in their order.
 fn add_group(list: &mut Vec<Planned>, planned: &[Planned], group: Group) -> Result<(), AllocError>
-    ensures { let of_group = filter (λ (p : Planned). rank p.group == rank group) planned.now in
-        OnOk result (list.new.items ≡ list.old.items ++ of_group) }
+    ensures { OnOk result (list.new.items ≡ list.old.items ++ filter (is_in group) planned.now) }
 {
     list.extend(planned.iter().filter(|one| one.is_in(group)).copied())
 }

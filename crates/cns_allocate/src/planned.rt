@@ -1,6 +1,6 @@
 ghost use Rattle.std.specs.Prelude.{◌≡◌, ◌^◌, ◌≤◌, ◌==◌};
 ghost use Rattle.cns_netting.specs.History.{credit_part};
-ghost use Rattle.cns_allocate.specs.Group.{rank};
+ghost use Rattle.cns_allocate.specs.Group.{is_in};
 ghost use Rattle.cns_allocate.specs.Plan.{planned_of, want_of};
 
 use crate::group::Group;
@@ -52,7 +52,7 @@ impl Planned {
 
     // Whether it is of a group.
     pub(crate) fn is_in(&self, group: Group) -> bool
-        ensures { result ≡ (rank self.now.group == rank group) }
+        ensures { result ≡ is_in group self.now }
     {
         self.group == group
     }

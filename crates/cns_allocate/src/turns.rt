@@ -1,8 +1,7 @@
 ghost use Rattle.std.specs.Prelude.{◌≡◌, ◌↔◌, ◌==◌, [], find, IfOk, IsTrue, nat_lt};
-ghost use Rattle.std.specs.List.{list_any};
 ghost use Rattle.cns_allocate.specs.Group.{rank};
 ghost use Rattle.cns_allocate.specs.Plan.{IsPlan};
-ghost use Rattle.cns_allocate.specs.Served.{turn_of, without};
+ghost use Rattle.cns_allocate.specs.Served.{is_after_others, turn_of, without};
 ghost use Rattle.cns_allocate.specs.declared.planned.Planned.{Planned};
 
 use crate::plan::Plan;
@@ -98,8 +97,7 @@ impl Turns {
 
     // Whether a member of an earlier group waits: then the first one is of such a group.
     fn is_after_others(&self, planned: &Planned) -> bool
-        ensures { result
-            ≡ list_any (λ (q : Planned). nat_lt (rank q.group) (rank planned.now.group)) self.now }
+        ensures { result ≡ is_after_others self.now planned.now }
     {
         match self.waiting.as_slice().first() {
             Some(first) => is_before(first, planned),

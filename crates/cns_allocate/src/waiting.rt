@@ -1,8 +1,7 @@
 ghost use Rattle.std.specs.Prelude.{◌≡◌, ◌↔◌, ◌<◌, ◌≤◌, ◌==◌, [], drop, find, length, nat_lt, replicate, slice_index, slice_index_or, slice_set, true, IsTrue};
-ghost use Rattle.std.specs.List.{list_any};
 ghost use Rattle.cns_allocate.specs.Group.{rank};
 ghost use Rattle.cns_allocate.specs.Plan.{IsPlan};
-ghost use Rattle.cns_allocate.specs.Served.{turn_of, without};
+ghost use Rattle.cns_allocate.specs.Served.{is_after_others, turn_of, without};
 ghost use Rattle.cns_allocate.specs.Waiting.{ArePlaces, is_placed, placed};
 ghost use Rattle.cns_allocate.specs.declared.planned.Planned.{Planned};
 
@@ -93,8 +92,7 @@ impl<'a> Waiting<'a> {
 
     // Whether a member of an earlier group waits: then the first one is of such a group.
     fn is_after_others(&self, planned: &Planned) -> bool
-        ensures { result
-            ≡ list_any (λ (q : Planned). nat_lt (rank q.group) (rank planned.now.group)) self.now }
+        ensures { result ≡ is_after_others self.now planned.now }
     {
         match self.plan.get(self.first) {
             Some(first) => is_before(first, planned),

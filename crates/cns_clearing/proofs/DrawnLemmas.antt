@@ -10,34 +10,31 @@ use Rattle.cns_pool.specs.declared.ticket.Ticket.{Ticket}
 use Rattle.cns_allocate.proofs.NumberLemmas.{pigeonhole}
 use Rattle.cns_records.specs.Drawn.{IsDrawn}
 use Rattle.cns_records.specs.declared.drawn.Drawn.{Drawn}
+use Rattle.cns_clearing.specs.Answers.{drawn_of}
 use Rattle.cns_clearing.specs.Books.{tickets_of}
 use Rattle.cns_clearing.specs.Closing.{AreApart}
 
--- a ticket of a pool as that of a record
-abbrev pub drawn_in_record : Ticket → Drawn
-drawn_in_record t = record { member = t.member; start = t.start; asked = t.asked }
-
 -- the tickets of a record are those that were drawn
-pub tickets_drawn : (tickets : List Ticket) → tickets_of (map drawn_in_record tickets) ≡ tickets
+pub tickets_drawn : (tickets : List Ticket) → tickets_of (map drawn_of tickets) ≡ tickets
 tickets_drawn [] = refl
 tickets_drawn (t ∷ tickets) = ap (λ ts. t ∷ ts) (tickets_drawn tickets)
 
 -- a member has as many of both
-drawn_times : (member : ℕ) (ts : List Ticket) → count_by (λ (d : Drawn). d.member == member) (map drawn_in_record ts) ≡ count_by (λ (t : Ticket). t.member == member) ts
+drawn_times : (member : ℕ) (ts : List Ticket) → count_by (λ (d : Drawn). d.member == member) (map drawn_of ts) ≡ count_by (λ (t : Ticket). t.member == member) ts
 drawn_times member [] = refl
 drawn_times member (t ∷ ts) =
     let rest = drawn_times member ts in
     omega (
       arith,
       rest,
-      sum_by-cons (λ (d : Drawn). cond (d.member == member) 1 0) (drawn_in_record t) (map drawn_in_record ts),
+      sum_by-cons (λ (d : Drawn). cond (d.member == member) 1 0) (drawn_of t) (map drawn_of ts),
       sum_by-cons (λ (u : Ticket). cond (u.member == member) 1 0) t ts,
     )
 
 -- tickets of different members are not too many
-pub drawn_few : (ts : List Ticket) (ds : List Drawn) (i : ℕ) → length ts ≤ i → ds ≡ map drawn_in_record (take i ts) → All IsDrawn ds → AreApart ts → length ds ≤ 9999
+pub drawn_few : (ts : List Ticket) (ds : List Drawn) (i : ℕ) → length ts ≤ i → ds ≡ map drawn_of (take i ts) → All IsDrawn ds → AreApart ts → length ds ≤ 9999
 drawn_few ts ds i all same ranges apart =
-    let whole : ds ≡ map drawn_in_record ts = same ∙ ap (map drawn_in_record) (take_all i ts all) in
+    let whole : ds ≡ map drawn_of ts = same ∙ ap (map drawn_of) (take_all i ts all) in
     let once : (member : ℕ) → count_by (λ (d : Drawn). d.member == member) ds ≤ 1 =
     λ member. subst (λ (l : List Drawn). count_by (λ (d : Drawn). d.member == member) l ≤ 1) (sym whole) (let most = apart member in omega (arith, most, drawn_times member ts)) in
     pigeonhole (λ (d : Drawn). d.member) 9999 ds (All-weaker IsDrawn (λ (d : Drawn). (1 ≤ d.member) × (d.member ≤ 9999)) (λ d is. (is.member.from, is.member.to)) ds ranges) once

@@ -21,9 +21,8 @@ use Rattle.cns_journal.specs.declared.record_log.CommitFault.{CommitFault}
 use Rattle.cns_journal.specs.declared.record_log.CommitFault.TheVariants as commit
 use Rattle.cns_clearing.specs.Books.{Books, IsAllocable, IsAllowed, IsLawful, are_spent, books_of, deliveries_in, orders_of, tickets_of}
 use Rattle.cns_clearing.specs.Closing.{AreRecordable}
-use Rattle.cns_clearing.specs.Lots.{AreLots, IsAllocation, avail_in, longs_among, lots_poured, new_lot, plan_in}
+use Rattle.cns_clearing.specs.Lots.{AreLots, IsAllocation, avail_in, longs_among, lots_poured, new_lot, plan_in, refilled}
 use Rattle.cns_clearing.specs.Node.{AddLeaves, ClearNode}
-use Rattle.cns_clearing.specs.OpenLots.{refilled}
 use Rattle.cns_clearing.specs.Pools.{lot_of}
 use Rattle.cns_clearing.specs.declared.lot.Lot.{Lot}
 use Rattle.cns_clearing.proofs.LotLemmas.{lot_found, lots_opened, lots_refilled}

@@ -1,14 +1,13 @@
 -- The open lots are as the records have them: as records are added, a lot is opened, and a lot gets more shares.
 use Rattle.std.proofs.Common.{◌≡◌, ℕ, ◌+◌, ◌≤◌, Bool, true, false, cond, not, List, [], ◌∷◌, ◌++◌, length, map, Some, None, refl, sym, ap, ◌∙◌, subst, arith, append_assoc}
-use Rattle.std.specs.Prelude.{◌==◌, All, count_by, filter}
+use Rattle.std.specs.Prelude.{◌==◌, All, count_by}
 use Rattle.std.proofs.lemmas.Bool.{cond-false, cond-true, eqb-true}
 use Rattle.std.proofs.lemmas.List.Elements.{All-append, All-cons, All-head, All-map, All-nil, All-tail, All-weaker}
 use Rattle.std.proofs.lemmas.List.Sums.{sum_by-append, sum_by-cons}
 use Rattle.cns_allocate.proofs.TurnLemmas.{count_by-filter, find-All, find-none, find-passes}
 use Rattle.cns_records.specs.declared.clear_record.ClearRecord.{ClearRecord}
 use Rattle.cns_records.specs.declared.clear_record.ClearRecord.TheVariants.{Accept, Exempt, Priority, Cycle, Allocate, Confirm}
-use Rattle.cns_clearing.specs.Lots.{AreLots, DoesNotDisturb, IsLot, IsQuiet, avail_in, lots_after, lots_poured, new_lot}
-use Rattle.cns_clearing.specs.OpenLots.{refilled}
+use Rattle.cns_clearing.specs.Lots.{AreLots, DoesNotDisturb, IsLot, IsQuiet, avail_in, lots_after, lots_poured, new_lot, refilled, without_lot}
 use Rattle.cns_clearing.specs.Pools.{lot_of}
 use Rattle.cns_clearing.specs.declared.lot.Lot.{Lot}
 
@@ -45,7 +44,7 @@ lots_kept c r lots are quiet = record {
 
 -- those that are left are of another issue
 lots_left : (P Q : Lot → Type 0) (issue : ℕ) → ((lot : Lot) → (lot.issue == issue) ≡ false → P lot → Q lot) → (lots : List Lot) → All P lots
-    → All Q (filter (λ (lot : Lot). not (lot.issue == issue)) lots)
+    → All Q (without_lot issue lots)
 lots_left P Q issue each [] all = All-nil Q
 lots_left P Q issue each (lot ∷ lots) all = by (lot.issue == issue) _ refl (lots_left P Q issue each lots (All-tail P lot lots all))
   where

@@ -1,13 +1,14 @@
 -- The place of each issue's lot, as lots are opened, refilled and closed.
 use Rattle.std.proofs.Common.{◌≡◌, ℕ, suc, ◌≤◌, Bool, true, false, cond, not, List, [], ◌∷◌, ◌++◌, length, map, slice_set, get_or, Some, None, nat_eq, refl, sym, ap, ◌∙◌, subst, arith}
-use Rattle.std.specs.Prelude.{IsTrue, ◌↔◌, Option, ◌==◌, MatchOption, count_by, filter, find, option_map}
+use Rattle.std.specs.Prelude.{IsTrue, ◌↔◌, Option, ◌==◌, MatchOption, count_by, find, option_map}
 use Rattle.std.specs.HashMap.{HashMap, get, hash_map_len}
 use Rattle.std.specs.List.{filter_map, position}
 use Rattle.std.specs.Map.{lookup}
 use Rattle.std.proofs.lemmas.Bool.{cond-false, cond-true, eq-eqb, eqb-true}
 use Rattle.std.proofs.lemmas.List.Sums.{sum_by-cons}
 use Rattle.cns_allocate.proofs.TurnLemmas.{count_by-filter, find-passes}
-use Rattle.cns_clearing.specs.OpenLots.{ArePlaces, AreSlots, filled, is_slot_of, refilled}
+use Rattle.cns_clearing.specs.Lots.{refilled, without_lot}
+use Rattle.cns_clearing.specs.OpenLots.{ArePlaces, AreSlots, filled, is_slot_of}
 use Rattle.cns_clearing.specs.Pools.{lot_of}
 use Rattle.cns_clearing.specs.declared.lot.Lot.{Lot}
 use Rattle.cns_clearing.proofs.ListLemmas.{map_once, place, place_found, place_map, place_none, place_push, place_push_other, position_is}
@@ -47,7 +48,7 @@ filled_issues (Some lot ∷ slots) = ap (λ issues. lot.issue ∷ issues) (fille
 abbrev emptied : ℕ → Option Lot → Option Lot
 emptied issue slot = cond (is_slot_of issue slot) None slot
 
-filled_emptied : (issue : ℕ) (slots : List (Option Lot)) → filled (map (emptied issue) slots) ≡ filter (λ (lot : Lot). not (lot.issue == issue)) (filled slots)
+filled_emptied : (issue : ℕ) (slots : List (Option Lot)) → filled (map (emptied issue) slots) ≡ without_lot issue (filled slots)
 filled_emptied issue [] = refl
 filled_emptied issue (None ∷ slots) = filled_emptied issue slots
 filled_emptied issue (Some lot ∷ slots) = by (lot.issue == issue) _ (filled_emptied issue slots)
@@ -250,7 +251,7 @@ places_refilled slots slots' issue upto poured places are is =
 -- ---- a lot that is closed
 
 pub closed_none : (slots : List (Option Lot)) (issue : ℕ) (places : ℕ → Option ℕ) → ArePlaces slots places → None ≡ places issue
-    → filled slots ≡ filter (λ (lot : Lot). not (lot.issue == issue)) (filled slots)
+    → filled slots ≡ without_lot issue (filled slots)
 closed_none slots issue places are is =
     let same : map (emptied issue) slots ≡ slots =
     at_none _ _ _ (place_is slots issue places are ∙ sym is) (map_once (is_slot_of issue) (emptied issue) (λ slot e. cond-false _ _ _ e) slots (slot_once slots issue places are)) in
@@ -264,7 +265,7 @@ emptied_at slots issue k places are is =
     ∙ at_place _ _ _ k (place_is slots issue places are ∙ sym is) (map_once (is_slot_of issue) (emptied issue) (λ slot e. cond-false _ _ _ e) slots (slot_once slots issue places are)) None
 
 pub closed_at : (slots slots' : List (Option Lot)) (issue k : ℕ) (places : ℕ → Option ℕ) → ArePlaces slots places → Some k ≡ places issue → slots' ≡ slice_set slots k None
-    → filled slots' ≡ filter (λ (lot : Lot). not (lot.issue == issue)) (filled slots)
+    → filled slots' ≡ without_lot issue (filled slots)
 closed_at slots slots' issue k places are is set = ap filled (set ∙ emptied_at slots issue k places are is) ∙ filled_emptied issue slots
 
 pub places_closed : (slots slots' : List (Option Lot)) (issue k : ℕ) (old new : ℕ → Option ℕ) → ArePlaces slots old → Some k ≡ old issue → ((i : ℕ) → new i ≡ cond (issue == i) None (old i))

@@ -103,11 +103,13 @@ LotPourLeaves issue (Err refusal.Down) old new = (old.log.down ≡ true) × (new
 LotPourLeaves issue (Err refusal.NoLot) old new = (old.log.down ≡ false) × (lot_of old.lots issue ≡ None) × (new ≡ old)
 LotPourLeaves issue (Err _) old new = ⊥
 
+-- a ticket of a pool as that of a record
+abbrev pub drawn_of : Ticket → Drawn
+drawn_of t = record { member = t.member; start = t.start; asked = t.asked }
+
 -- the allocation that closes a lot with these tickets
 abbrev pub allocation_of : Lot → List Ticket → Bool → Allocation
-allocation_of lot tickets sealed =
-    let drawn : List Drawn = map (λ (t : Ticket). record { member = t.member; start = t.start; asked = t.asked }) tickets in
-    record { issue = lot.issue; opened = lot.opened; upto = lot.upto; poured = lot.poured; sealed = sealed; drawn = drawn }
+allocation_of lot tickets sealed = record { issue = lot.issue; opened = lot.opened; upto = lot.upto; poured = lot.poured; sealed = sealed; drawn = map drawn_of tickets }
 
 -- a lot may close with these tickets: they serve its plan, and the allocation is lawful at its place
 pub record MayClose (node : ClearNode) (issue : ℕ) (tickets : List Ticket) (sealed : Bool) (a : Allocation) : Type 0 where

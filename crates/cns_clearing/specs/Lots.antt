@@ -75,13 +75,21 @@ ClosesLot c (Confirm r) = Unit {0}
 abbrev pub new_lot : List ClearRecord → ℕ → Lot
 new_lot c issue = record { issue = issue; opened = length c; upto = length c; poured = avail_in c issue; plan = plan_in c issue }
 
+-- a lot once that of an issue has these shares after so many records
+abbrev pub refilled : ℕ → ℕ → ℕ → Lot → Lot
+refilled issue upto poured lot = if lot.issue == issue then record lot { upto = upto; poured = poured } else lot
+
 -- the lots once that of an issue has got all shares that are there
 abbrev pub lots_poured : List ClearRecord → ℕ → List Lot → List Lot
-lots_poured c issue lots = map (λ (lot : Lot). if lot.issue == issue then record lot { upto = length c; poured = avail_in c issue } else lot) lots
+lots_poured c issue lots = map (refilled issue (length c) (avail_in c issue)) lots
+
+-- the lots without that of an issue
+abbrev pub without_lot : ℕ → List Lot → List Lot
+without_lot issue lots = filter (λ (lot : Lot). not (lot.issue == issue)) lots
 
 -- the lots once a record was added: an allocation closes the lot of its issue
 abbrev pub lots_after : ClearRecord → List Lot → List Lot
-lots_after r lots = elim r [ Allocate a ↦ filter (λ (lot : Lot). not (lot.issue == a.issue)) lots | _ ↦ lots ]
+lots_after r lots = elim r [ Allocate a ↦ without_lot a.issue lots | _ ↦ lots ]
 
 -- a record may be added while these lots are open: no cycle runs while one is
 abbrev pub DoesNotDisturb : ClearRecord → List Lot → Type 0

@@ -1,5 +1,5 @@
 -- The slots of the open lots, and the place of each issue's lot among them.
-use Rattle.std.specs.Prelude.{◌≡◌, ℕ, ◌≤◌, ◌==◌, Bool, false, List, [], ◌∷◌, count_by, Option, Some, None, if◌then◌else◌}
+use Rattle.std.specs.Prelude.{◌≡◌, ℕ, ◌≤◌, ◌==◌, Bool, false, List, [], ◌∷◌, count_by, Option, Some, None}
 use Rattle.std.specs.List.{position}
 use Rattle.cns_clearing.specs.declared.lot.Lot.{Lot}
 
@@ -28,7 +28,3 @@ pub record ArePlaces (slots : List (Option Lot)) (places : ℕ → Option ℕ) :
 pub record AreSlots (slots : List (Option Lot)) (places : ℕ → Option ℕ) : Type 0 where
   pub placed : ArePlaces slots places
   pub cleared : filled slots ≡ [] → slots ≡ []
-
--- a lot once that of an issue has these shares after so many records
-abbrev pub refilled : ℕ → ℕ → ℕ → Lot → Lot
-refilled issue upto poured lot = if lot.issue == issue then record lot { upto = upto; poured = poured } else lot

@@ -2,8 +2,7 @@ ghost use Rattle.std.specs.Prelude.{◌≡◌, ℕ, ◌<◌, ◌==◌, ◌++◌,
 ghost use Rattle.std.specs.HashMap.{get, spare};
 ghost use Rattle.std.specs.List.{filter_map};
 ghost use Rattle.cns_clearing.specs.Pools.{lot_of};
-ghost use Rattle.cns_clearing.specs.Lots.{lots_after};
-ghost use Rattle.cns_clearing.specs.OpenLots.{refilled};
+ghost use Rattle.cns_clearing.specs.Lots.{lots_after, refilled, without_lot};
 ghost use Rattle.cns_clearing.specs.declared.lot.Lot.{Lot};
 
 use cns_allocate::Plan;
@@ -137,7 +136,7 @@ impl Lots {
 
     // Closes the lot of an issue. Costs look-ups; that of the last lot drops the empty slots as well.
     fn close(&mut self, issue: Cusip)
-        ensures { self.new.lots ≡ filter (λ (lot : Lot). not (lot.issue == issue)) self.old.lots }
+        ensures { self.new.lots ≡ without_lot issue self.old.lots }
     {
         if let Some(place) = take_out(&mut self.places, issue) {
             self.slots[place] = None;

@@ -7,8 +7,7 @@ use Rattle.std.proofs.lemmas.List.{set-get_or}
 use Rattle.std.proofs.lemmas.Option.{get_or_from_slice_get, same_Some, slice_get_within}
 use Rattle.cns_allocate.proofs.TurnLemmas.{find-passes}
 use Rattle.cns_clearing.specs.Answers.{LotPourLeaves}
-use Rattle.cns_clearing.specs.Lots.{avail_in, lots_poured}
-use Rattle.cns_clearing.specs.OpenLots.{refilled}
+use Rattle.cns_clearing.specs.Lots.{avail_in, lots_poured, refilled}
 use Rattle.cns_clearing.specs.Node.{ClearNode}
 use Rattle.cns_clearing.specs.Pools.{lent_of, lot_of}
 use Rattle.cns_clearing.specs.declared.lot.Lot.{Lot}

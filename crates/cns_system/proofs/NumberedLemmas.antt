@@ -1,6 +1,6 @@
 -- What the calls of a node with its lots by number leave.
-use Rattle.std.proofs.Common.{◌≡◌, ◌≤◌, ℕ, List, [], ◌∷◌, ◌++◌, length, Option, Some, None, Result, Ok, Err, Bool, true, false, not, ap, sym, subst, refl, arith, ◌∙◌, inl, inr}
-use Rattle.std.specs.Prelude.{◌==◌, ◌⊎◌, filter, IsSomeAnd, option_map, unwrap_or, if◌then◌else◌, slice_set, ◌-◌}
+use Rattle.std.proofs.Common.{◌≡◌, ◌≤◌, ℕ, List, [], ◌∷◌, ◌++◌, length, Option, Some, None, Result, Ok, Err, Bool, true, false, ap, sym, subst, refl, arith, ◌∙◌, inl, inr}
+use Rattle.std.specs.Prelude.{◌==◌, ◌⊎◌, IsSomeAnd, option_map, unwrap_or, if◌then◌else◌, slice_set, ◌-◌}
 use Rattle.std.proofs.lemmas.Bool.{eqb-true, false_from_ne_true}
 use Rattle.std.proofs.lemmas.Option.{same_Some}
 use Rattle.cns_netting.specs.Book.{IsBook}
@@ -16,8 +16,7 @@ use Rattle.cns_allocate.proofs.TotalLemmas.{plan_of-total}
 use Rattle.cns_records.specs.declared.clear_record.ClearRecord.{ClearRecord}
 use Rattle.cns_clearing.specs.Answers.{LotCloseLeaves, LotOpenLeaves, LotPourLeaves}
 use Rattle.cns_clearing.specs.Books.{IsLawful, books_of, history_of, orders_of}
-use Rattle.cns_clearing.specs.Lots.{avail_in, lots_poured, plan_in, longs_among}
-use Rattle.cns_clearing.specs.OpenLots.{refilled}
+use Rattle.cns_clearing.specs.Lots.{avail_in, longs_among, lots_poured, plan_in, refilled, without_lot}
 use Rattle.cns_clearing.specs.Lots as node
 use Rattle.cns_clearing.specs.Node.{ClearNode}
 use Rattle.cns_clearing.specs.Pools.{free_of, lent_of, lot_of}
@@ -188,7 +187,7 @@ close_tied old new lots after n issue tickets sealed done l r are has is h ends 
     let issue_is : issue ≡ at.lot.issue = is ∙ ap (λ (k : LotState). k.issue) at.holds in
     let after_is = change_is with_end n r lots after at.lot at.found at.going ends in
     let closes : h.0.issue ≡ at.lot.issue = ap (λ a. a.issue) h.1.closes ∙ found_of old.lots issue h.1.lot h.1.found ∙ issue_is in
-    let left : List Lot = filter (λ (k : Lot). not (k.issue == h.0.issue)) old.lots in
+    let left : List Lot = without_lot h.0.issue old.lots in
     subst (λ (ls : List Lot). AreTied ls after) (sym h.4.2)
     (subst (AreTied left) (sym after_is)
     (tied_changed old.lots left lots n at.lot (with_end at.lot) are at.found at.going refl

@@ -1,14 +1,13 @@
 -- The lots by number beside those of the node, as either change.
 use Rattle.std.proofs.Common.{◌≡◌, ◌≤◌, ◌-◌, ◌+◌, ℕ, zero, suc, List, [], ◌∷◌, ◌++◌, length, map, Option, Some, None, Bool, true, false, not, cond, ap, sym, subst, refl, arith, ◌∙◌, inl, inr}
-use Rattle.std.specs.Prelude.{◌==◌, ◌⊎◌, filter, find, slice_get, slice_set, option_map, if◌then◌else◌}
+use Rattle.std.specs.Prelude.{◌==◌, ◌⊎◌, find, slice_get, slice_set, option_map, if◌then◌else◌}
 use Rattle.std.specs.Option.{option_or}
 use Rattle.std.proofs.lemmas.Bool.{cases_eq, eq-eqb, eqb-false, eqb-true, false_from_ne_true}
 use Rattle.std.proofs.lemmas.List.{append_assoc}
 use Rattle.std.proofs.lemmas.List.Folds.{find-append}
 use Rattle.std.proofs.lemmas.Option.{same_Some, slice_get-map}
 use Rattle.cns_allocate.proofs.TurnLemmas.{find-All, find-passes}
-use Rattle.cns_clearing.specs.Lots.{AreLots, IsLot, avail_in, lots_poured, plan_in}
-use Rattle.cns_clearing.specs.OpenLots.{refilled}
+use Rattle.cns_clearing.specs.Lots.{AreLots, IsLot, avail_in, lots_poured, plan_in, refilled, without_lot}
 use Rattle.cns_clearing.specs.Pools.{lot_of}
 use Rattle.cns_clearing.specs.declared.lot.Lot.{Lot}
 use Rattle.cns_records.specs.declared.clear_record.ClearRecord.{ClearRecord}
@@ -47,7 +46,7 @@ found_poured c issue other lots =
     found_mapped (λ (l : Lot). l.issue == other) (refilled issue (length c) (avail_in c issue)) (λ l. poured_keeps (λ (k : Lot). k.issue == other) c issue l refl) lots
 
 -- the lots without that of an issue have those of the others
-pub found_without : (issue other : ℕ) (lots : List Lot) → (other ≡ issue → ⊥) → lot_of (filter (λ (l : Lot). not (l.issue == issue)) lots) other ≡ lot_of lots other
+pub found_without : (issue other : ℕ) (lots : List Lot) → (other ≡ issue → ⊥) → lot_of (without_lot issue lots) other ≡ lot_of lots other
 found_without issue other [] differ = refl
 found_without issue other (l ∷ lots) differ =
     by (l.issue == other) refl (l.issue == issue) refl _ (found_without issue other lots differ)

@@ -1,11 +1,9 @@
 use Rattle.std.proofs.Common.{rules}
-use Rattle.std.specs.Prelude.{◌==◌}
 use borrow.Author.Tests.{tests}
 use Rattle.std.proofs.lemmas.Iterator.{YieldsList-from_slice}
 use Rattle.std.proofs.lemmas.Iterator.Adapters.{items_from_extend}
 use Rattle.std.proofs.lemmas.Iterator.Consumers.{YieldsList-at, YieldsList-from_copied, YieldsList-from_filter}
-use Rattle.cns_allocate.specs.Group.{rank}
-use Rattle.cns_allocate.specs.declared.planned.Planned.{Planned}
+use Rattle.cns_allocate.specs.Group.{is_in}
 use Rattle.cns_allocate.proofs.plan.add_group.Goals as goal
 
 pub returns : goal.returns
@@ -14,5 +12,5 @@ returns c =
     items_from_extend c.extend.result c.extend.ensures.ran
     (YieldsList-from_copied
     (YieldsList-at c.copied.ensures.source
-    (YieldsList-from_filter _ (λ (p : Planned). rank p.group == rank c.args.group) (YieldsList-from_slice c.args.planned.now cc) c.filter.ensures.closure (λ x r q k. search (rules, tests))))) in
+    (YieldsList-from_filter _ (is_in c.args.group) (YieldsList-from_slice c.args.planned.now cc) c.filter.ensures.closure (λ x r q k. search (rules, tests))))) in
     search rules

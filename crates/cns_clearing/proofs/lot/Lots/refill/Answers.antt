@@ -1,5 +1,6 @@
 use Rattle.std.proofs.Common.{◌∙◌, ap}
-use Rattle.cns_clearing.specs.OpenLots.{filled, refilled}
+use Rattle.cns_clearing.specs.Lots.{refilled}
+use Rattle.cns_clearing.specs.OpenLots.{filled}
 use Rattle.cns_clearing.proofs.OpenLotLemmas.{filled_map, places_refilled, refilled_at, refilled_none, slots_refilled}
 use Rattle.cns_clearing.proofs.lot.Lots.refill.Goals as goal
 
