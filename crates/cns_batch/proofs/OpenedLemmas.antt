@@ -3,9 +3,9 @@ use Rattle.std.proofs.Common.{◌≡◌, ℕ, List, [], ◌∷◌, true, false, 
 use Rattle.std.proofs.lemmas.List.{length-reverse}
 use Rattle.std.proofs.lemmas.List.Elements.{All-nil}
 use Rattle.std.proofs.lemmas.Option.{none-some}
-use Rattle.cns_journal.specs.Keeper.{IsReopened, Succeeds}
+use Rattle.cns_journal.specs.Keeper.{IsReopened, Succeeds, KeeperState}
 use Rattle.cns_journal.specs.RecordLog.{IsOpened, LogState}
-use Rattle.cns_journal.specs.Replay.{IsBadPlace, KeeperState, Reread}
+use Rattle.cns_journal.specs.Replay.{IsBadPlace, Reread}
 use Rattle.cns_journal.specs.declared.record_log.ReplayFault.TheVariants as replay
 use Rattle.cns_records.specs.Clear.{spelling, HasPayload}
 use Rattle.cns_records.specs.Dep.{dep_spelling, HasDepPayload}

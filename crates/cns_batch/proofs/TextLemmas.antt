@@ -5,7 +5,7 @@ use Rattle.std.proofs.lemmas.List.{append-nil}
 use Rattle.std.proofs.lemmas.Option.{IfSome_then}
 use Rattle.std.specs.Io.KnownBytes.{Appends}
 use Rattle.cns_ids.specs.Steps.{◌>>=◌}
-use Rattle.cns_journal.specs.Replay.{KeeperState}
+use Rattle.cns_journal.specs.Keeper.{KeeperState}
 use Rattle.cns_system.specs.Scene.{Chance, Scene, scene_of}
 use Rattle.cns_system.specs.Start.{IsNotOpened, IsStarted}
 use Rattle.cns_system.specs.World.{World}

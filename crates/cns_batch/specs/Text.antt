@@ -10,8 +10,7 @@ use Rattle.cns_trades.specs.declared.fault.CsvFault.{CsvFault}
 use Rattle.cns_trades.specs.declared.fault.CsvFault.TheVariants as rows
 use Rattle.cns_trades.specs.declared.opening.Opening.{Opening}
 use Rattle.cns_trades.specs.declared.row.Row.{Row}
-use Rattle.cns_journal.specs.Keeper.{Succeeds}
-use Rattle.cns_journal.specs.Replay.{KeeperState}
+use Rattle.cns_journal.specs.Keeper.{Succeeds, KeeperState}
 use Rattle.cns_system.specs.Scene.{Chance, Scene, Sight, scene_of}
 use Rattle.cns_records.specs.declared.clear_record.ClearRecord.{ClearRecord}
 use Rattle.cns_records.specs.declared.dep_record.DepRecord.{DepRecord}

@@ -166,11 +166,7 @@ fn run_input<C: Keeper + Drop, D: Keeper + Drop, W: Write>(
     writer: &mut W,
 ) -> Kept<C, D>
     ensures { RunsInput result.result
-        (record { openings = rows.openings; told = rows.told; rows = rows.trades; script = script.now })
-        (record { honest = C.honest clear; run = C.run clear; journal = C.journal clear; foresight = C.foresight clear })
-        (record { honest = D.honest depot; run = D.run depot; journal = D.journal depot; foresight = D.foresight depot })
-        (record { honest = C.honest result.clear; run = C.run result.clear; journal = C.journal result.clear; foresight = C.foresight result.clear })
-        (record { honest = D.honest result.depot; run = D.run result.depot; journal = D.journal result.depot; foresight = D.foresight result.depot })
+        (record { openings = rows.openings; told = rows.told; rows = rows.trades; script = script.now }) (C.state clear) (D.state depot) (C.state result.clear) (D.state result.depot)
         (W.contents writer.old) (W.contents writer.new) }
 {
     let Rows {
@@ -213,11 +209,7 @@ pub fn run_batch_kept<R: Read, W: Write, L: Ledger, C: Keeper + Drop, D: Keeper 
     clear: C,
     depot: D,
 ) -> Kept<C, D>
-    ensures leaves { IfSome (R.remaining reader.old) (λ bytes. KeptLeaves result.result bytes
-        (record { honest = C.honest clear; run = C.run clear; journal = C.journal clear; foresight = C.foresight clear })
-        (record { honest = D.honest depot; run = D.run depot; journal = D.journal depot; foresight = D.foresight depot })
-        (record { honest = C.honest result.clear; run = C.run result.clear; journal = C.journal result.clear; foresight = C.foresight result.clear })
-        (record { honest = D.honest result.depot; run = D.run result.depot; journal = D.journal result.depot; foresight = D.foresight result.depot })
+    ensures leaves { IfSome (R.remaining reader.old) (λ bytes. KeptLeaves result.result bytes (C.state clear) (D.state depot) (C.state result.clear) (D.state result.depot)
         (W.contents writer.old) (W.contents writer.new)) }
     ensures none { IfErr result.result (λ e. WritesNothing e → W.contents writer.new ≡ W.contents writer.old) }
     ensures end { OnOk result.result (IsAtEnd (R.remaining reader.new)) }

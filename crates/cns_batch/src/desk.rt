@@ -325,12 +325,8 @@ pub fn run_desk<
     depot: D,
     gate: &G,
 ) -> Result<(), BatchFault>
-    ensures says { IfSome (I.remaining reader.old) (λ bytes. SaysOf result bytes
-        (record { honest = C.honest clear; run = C.run clear; journal = C.journal clear; foresight = C.foresight clear })
-        (record { honest = D.honest depot; run = D.run depot; journal = D.journal depot; foresight = D.foresight depot })) }
-    ensures plain { workers ≡ 0 → IfSome (I.remaining reader.old) (λ bytes. LeavesSomeKeepers result bytes
-        (record { honest = C.honest clear; run = C.run clear; journal = C.journal clear; foresight = C.foresight clear })
-        (record { honest = D.honest depot; run = D.run depot; journal = D.journal depot; foresight = D.foresight depot })
+    ensures says { IfSome (I.remaining reader.old) (λ bytes. SaysOf result bytes (C.state clear) (D.state depot)) }
+    ensures plain { workers ≡ 0 → IfSome (I.remaining reader.old) (λ bytes. LeavesSomeKeepers result bytes (C.state clear) (D.state depot)
         (W.contents writer.old) (W.contents writer.new)) }
     ensures none { IfErr result (λ e. WritesNothing e → W.contents writer.new ≡ W.contents writer.old) }
     ensures end { OnOk result (IsAtEnd (I.remaining reader.new)) }

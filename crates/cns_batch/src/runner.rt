@@ -3,7 +3,7 @@ ghost use Rattle.cns_report.specs.Lines.{line_text};
 ghost use Rattle.cns_report.specs.Outcomes.{outcome_line};
 ghost use Rattle.cns_records.specs.Clear.{spelling};
 ghost use Rattle.cns_records.specs.Dep.{dep_spelling};
-ghost use Rattle.cns_system.specs.Start.{IsGivenUp};
+ghost use Rattle.cns_journal.specs.RecordLog.{IsGivenUp};
 ghost use Rattle.cns_batch.specs.Acts.{done, happened, single, tells};
 ghost use Rattle.cns_batch.specs.Commands.{report_text};
 ghost use Rattle.cns_batch.specs.Runs.{IsNextRow, IsPlanned, Runs};
@@ -54,10 +54,8 @@ impl<C: Keeper, D: Keeper> Model for Runner<C, D> {
 impl<C: Keeper + Drop, D: Keeper + Drop> Runner<C, D> {
     /// Gives both keepers up, the clearing node's first.
     pub(crate) fn into_keepers(self) -> (C, D)
-        ensures clear { IsGivenUp spelling self.world.clear.clear.log
-            (record { honest = C.honest result.0; run = C.run result.0; journal = C.journal result.0; foresight = C.foresight result.0 }) }
-        ensures depot { IsGivenUp dep_spelling self.world.depot.log
-            (record { honest = D.honest result.1; run = D.run result.1; journal = D.journal result.1; foresight = D.foresight result.1 }) }
+        ensures clear { IsGivenUp spelling self.world.clear.clear.log (C.state result.0) }
+        ensures depot { IsGivenUp dep_spelling self.world.depot.log (D.state result.1) }
     {
         self.system.into_keepers()
     }

@@ -15,7 +15,7 @@ use Rattle.cns_records.specs.Clear.{spelling, HasPayload, IsWritable, AreWritabl
 use Rattle.cns_records.specs.declared.clear_record.ClearRecord.{ClearRecord}
 use Rattle.cns_records.specs.declared.clear_record.ClearRecord.TheVariants.{Accept, Exempt, Priority, Cycle, Allocate, Confirm}
 use Rattle.cns_journal.proofs.LogLemmas.{committed_lawful, opened_lawful, planned_lawful, restarted_lawful}
-use Rattle.cns_journal.specs.Replay.{KeeperState}
+use Rattle.cns_journal.specs.Keeper.{KeeperState}
 use Rattle.cns_journal.specs.RecordLog.{IsLawfulLog, LogCommits, LogRestarts, LogState}
 use Rattle.cns_journal.specs.declared.keeper.NotPlanned.{NotPlanned}
 use Rattle.cns_journal.specs.declared.record_log.CommitFault.{CommitFault}

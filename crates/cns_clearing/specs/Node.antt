@@ -1,6 +1,7 @@
 -- What contracts see of a clearing node (this project's own rules).
 use Rattle.std.specs.Prelude.{◌≡◌, ℕ, Bool, false, List, [], Result, Ok, Err}
-use Rattle.cns_journal.specs.Replay.{KeeperState, Reread}
+use Rattle.cns_journal.specs.Keeper.{KeeperState}
+use Rattle.cns_journal.specs.Replay.{Reread}
 use Rattle.cns_journal.specs.RecordLog.{IsLawfulLog, LogCommits, LogPlanned, LogRestarts, LogState}
 use Rattle.cns_journal.specs.RecordLog as log
 use Rattle.cns_journal.specs.declared.keeper.NotPlanned.{NotPlanned}

@@ -12,7 +12,7 @@ ghost use Rattle.cns_clearing.specs.Pools.{covered_of as covered_in, delivered_o
 ghost use Rattle.cns_clearing.specs.Answers.{covers_in, CloseRefused, Closes, CycleLeaves, LotCloseLeaves, LotOpenLeaves, LotPourLeaves, OrderGives, ReplyLeaves, SettingLeaves, TradeLeaves};
 ghost use Rattle.cns_clearing.specs.Node.{AddLeaves, IsOpened, IsUnread, NodePlanned, RestartLeaves};
 ghost use Rattle.cns_clearing.specs.declared.lot.Lot.{Lot};
-ghost use Rattle.cns_journal.specs.RecordLog.{Keeps};
+ghost use Rattle.cns_journal.specs.RecordLog.{IsGivenUp};
 
 use crate::answer::{Closed, Cycled, Orders, Taken};
 use crate::books::Books;
@@ -66,11 +66,8 @@ impl<K: Keeper> Clearing<K> {
     /// Costs each record that the journal gives what the call that made it cost, and an allocation one
     /// pass over its tickets, with look-ups for each.
     pub fn open(alloc: Global, keeper: K) -> Result<Clearing<K>, Refused<K>>
-        ensures ok { IfOk result (IsOpened
-            (record { honest = K.honest keeper; run = K.run keeper; journal = K.journal keeper; foresight = K.foresight keeper })) }
-        ensures err { IfErr result (λ refused. IsUnread refused.fault
-            (record { honest = K.honest keeper; run = K.run keeper; journal = K.journal keeper; foresight = K.foresight keeper })
-            (record { honest = K.honest refused.keeper; run = K.run refused.keeper; journal = K.journal refused.keeper; foresight = K.foresight refused.keeper })) }
+        ensures ok { IfOk result (IsOpened (K.state keeper)) }
+        ensures err { IfErr result (λ refused. IsUnread refused.fault (K.state keeper) (K.state refused.keeper)) }
     {
         let mut books = Books::new(alloc);
         match RecordLog::open(alloc, keeper, &alloc, &mut books) {
@@ -344,16 +341,10 @@ impl<K: Keeper> Clearing<K> {
         self.log.plan(stands)
     }
 
-    /// Gives the keeper up.
+    /// Gives the keeper up. An honest one has the records just as the node has them, where that is up; where
+    /// it is down, a reopening gives these and at most the one whose commit failed.
     pub fn into_keeper(self) -> K
-        ensures honest { K.honest result ≡ self.log.honest }
-
-        // An honest one has the records just as the node has them, where that is up; where it is down, a
-        // reopening gives these and at most the one whose commit failed.
-        ensures keeps { self.log.honest ≡ true → Keeps spelling self.log (K.journal result) }
-        ensures run { self.log.down ≡ false → (K.run result).down ≡ false }
-        ensures failures { (K.run result).failures ≡ self.log.failures }
-        ensures foresight { K.foresight result ≡ self.log.foresight }
+        ensures { IsGivenUp spelling self.log (K.state result) }
     {
         self.log.into_keeper()
     }

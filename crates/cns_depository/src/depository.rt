@@ -4,7 +4,7 @@ ghost use Rattle.cns_depository.specs.Stock.{IsExecutable, IsLawfulDepot, order_
 ghost use Rattle.cns_depository.specs.Balances.{balance_rows as balance_rows_of, AreComplete, AreAscending};
 ghost use Rattle.cns_depository.specs.Answers.{OrderLeaves, IsKnownAnswer};
 ghost use Rattle.cns_depository.specs.Node.{Commits, IsOpened, IsUnread, NodePlanned, RestartLeaves};
-ghost use Rattle.cns_journal.specs.RecordLog.{Keeps};
+ghost use Rattle.cns_journal.specs.RecordLog.{IsGivenUp};
 ghost use Rattle.cns_records.specs.Dep.{dep_spelling};
 
 use crate::account::Account;
@@ -60,11 +60,8 @@ impl<K: Keeper> Depository<K> {
     /// before it, beginning from the openings. Costs a few look-ups for each payload. (This project's
     /// own rule.)
     pub fn open(alloc: Global, keeper: K, openings: Openings) -> Result<Depository<K>, Refused<K>>
-        ensures ok { IfOk result (IsOpened openings
-            (record { honest = K.honest keeper; run = K.run keeper; journal = K.journal keeper; foresight = K.foresight keeper })) }
-        ensures err { IfErr result (λ refused. IsUnread openings refused.fault
-            (record { honest = K.honest keeper; run = K.run keeper; journal = K.journal keeper; foresight = K.foresight keeper })
-            (record { honest = K.honest refused.keeper; run = K.run refused.keeper; journal = K.journal refused.keeper; foresight = K.foresight refused.keeper })) }
+        ensures ok { IfOk result (IsOpened openings (K.state keeper)) }
+        ensures err { IfErr result (λ refused. IsUnread openings refused.fault (K.state keeper) (K.state refused.keeper)) }
     {
         let mut stock = Stock::new(alloc);
         match RecordLog::open(alloc, keeper, &openings, &mut stock) {
@@ -188,16 +185,10 @@ impl<K: Keeper> Depository<K> {
         self.log.plan(stands)
     }
 
-    /// Gives the keeper up.
+    /// Gives the keeper up. An honest one has the records just as the node has them, where that is up; where
+    /// it is down, a reopening gives these and at most the one whose commit failed.
     pub fn into_keeper(self) -> K
-        ensures honest { K.honest result ≡ self.log.honest }
-
-        // An honest one has the records just as the depository has them, where that is up; where it is
-        // down, a reopening gives these and at most the one whose commit failed.
-        ensures keeps { self.log.honest ≡ true → Keeps dep_spelling self.log (K.journal result) }
-        ensures run { self.log.down ≡ false → (K.run result).down ≡ false }
-        ensures failures { (K.run result).failures ≡ self.log.failures }
-        ensures foresight { K.foresight result ≡ self.log.foresight }
+        ensures { IsGivenUp dep_spelling self.log (K.state result) }
     {
         self.log.into_keeper()
     }

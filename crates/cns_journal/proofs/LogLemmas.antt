@@ -3,11 +3,11 @@ use Rattle.std.proofs.Common.{◌≡◌, ℕ, ◌+◌, ◌<◌, Bool, true, fals
 use Rattle.std.proofs.Common.{take, drop, get_or, append_assoc, length-append}
 use Rattle.std.proofs.lemmas.List.{map-append, take_more, take-append-drop, reverse-append, length-reverse, length-map, reverse-reverse}
 use Rattle.std.proofs.lemmas.Option.{none-some}
-use Rattle.cns_journal.specs.Keeper.{Running, Journal, Foresight, IsReopened, PlanLeaves, ReopenKeeps, StandsAsForeseen}
+use Rattle.cns_journal.specs.Keeper.{Running, Journal, Foresight, IsReopened, PlanLeaves, ReopenKeeps, StandsAsForeseen, KeeperState}
 use Rattle.cns_journal.specs.declared.keeper.NotPlanned.{NotPlanned}
 use Rattle.std.specs.Prelude.{◌==◌}
-use Rattle.cns_journal.specs.RecordLog.{GivesBack, FitsTried, IsLawfulLog, IsLog, IsOpened, Keeps, LogCommits, LogPlanned, LogState, LogRestarts, MayStand, Restarts}
-use Rattle.cns_journal.specs.Replay.{KeeperState, Reread, AreAllowed, AreFit, AreReplayed, IsBadPlace, IsAdmitted, AdmitLeaves, ReplayGives}
+use Rattle.cns_journal.specs.RecordLog.{GivesBack, FitsTried, IsLawfulLog, IsLog, IsOpened, IsGivenUp, LogCommits, LogPlanned, LogState, LogRestarts, MayStand, Restarts}
+use Rattle.cns_journal.specs.Replay.{Reread, AreAllowed, AreFit, AreReplayed, IsBadPlace, IsAdmitted, AdmitLeaves, ReplayGives}
 use Rattle.cns_journal.specs.declared.record_log.CommitFault.{CommitFault}
 use Rattle.cns_journal.specs.declared.record_log.CommitFault.TheVariants as commit
 use Rattle.cns_journal.specs.declared.record_log.ReplayFault.{ReplayFault}
@@ -167,7 +167,7 @@ module _ {R : Type 0} (spelling : R → List ℕ) (allows : List R → R → Typ
 
     -- what a refused restart leaves
     restart_refused : (items : List R) (tried : Option R) (down : Bool) (old new : KeeperState) (fault : ReplayFault)
-        → IsLog spelling fits items tried down old.run old.honest old.journal old.foresight
+        → IsLog spelling fits items tried down old
         → AreAllowed allows (reverse items) → MayStand allows (reverse items) tried
         → Reread spelling allows fits (Err fault) old new
         → LogRestarts spelling allows fits (Err fault) (state_of items tried down old) (state_of items tried true new)
@@ -190,7 +190,7 @@ module _ {R : Type 0} (spelling : R → List ℕ) (allows : List R → R → Typ
         ]
 
     pub restart_refused_at : (items : List R) (tried : Option R) (down : Bool) (old new : KeeperState) (fault : ReplayFault) (before : LogState R)
-        → IsLog spelling fits items tried down old.run old.honest old.journal old.foresight
+        → IsLog spelling fits items tried down old
         → IsLawfulLog allows before → Reread spelling allows fits (Err fault) old new → state_of items tried down old ≡ before
         → LogRestarts spelling allows fits (Err fault) before (state_of items tried true new)
     restart_refused_at items tried down old new fault before n lawful r seen =
@@ -238,7 +238,7 @@ module _ {R : Type 0} (spelling : R → List ℕ) (allows : List R → R → Typ
 
     -- what a restart leaves that succeeds
     restart_accepted : (items items' : List R) (tried : Option R) (down : Bool) (old new : KeeperState) (a b n : ℕ)
-        → IsLog spelling fits items tried down old.run old.honest old.journal old.foresight
+        → IsLog spelling fits items tried down old
         → Reread spelling allows fits (Ok items') old new → a ≡ length items' → b ≡ length items → n ≡ length items'
         → LogRestarts spelling allows fits (Ok (record { records = n; kept = a == b + 1 })) (state_of items tried down old) (state_of items' None false new)
     restart_accepted items items' tried down old new a b n log r a_is b_is n_is =
@@ -257,7 +257,7 @@ module _ {R : Type 0} (spelling : R → List ℕ) (allows : List R → R → Typ
         )
 
     pub restart_accepted_at : (items items' : List R) (tried : Option R) (down : Bool) (old new : KeeperState) (a b n : ℕ) (before : LogState R)
-        → IsLog spelling fits items tried down old.run old.honest old.journal old.foresight
+        → IsLog spelling fits items tried down old
         → Reread spelling allows fits (Ok items') old new → a ≡ length items' → b ≡ length items → n ≡ length items' → state_of items tried down old ≡ before
         → LogRestarts spelling allows fits (Ok (record { records = n; kept = a == b + 1 })) before (state_of items' None false new)
     restart_accepted_at items items' tried down old new a b n before log r a_is b_is n_is seen =
@@ -266,9 +266,9 @@ module _ {R : Type 0} (spelling : R → List ℕ) (allows : List R → R → Typ
 
   -- a refused reopening leaves the log down
   log_down : (items : List R) (tried : Option R) (down : Bool) (old new : KeeperState)
-      → IsLog spelling fits items tried down old.run old.honest old.journal old.foresight
+      → IsLog spelling fits items tried down old
       → new.honest ≡ old.honest → (old.honest ≡ true → new.journal ≡ old.journal) → new.foresight ≡ old.foresight
-      → IsLog spelling fits items tried true new.run new.honest new.journal new.foresight
+      → IsLog spelling fits items tried true new
   log_down items tried down old new n is same foresees =
       record {
         all_fit = n.all_fit;
@@ -283,9 +283,9 @@ module _ {R : Type 0} (spelling : R → List ℕ) (allows : List R → R → Typ
 
   -- so does one whose payloads could not be taken; what it gave is kept from then on
   log_lost : (items : List R) (tried : Option R) (down : Bool) (old new : KeeperState) (got : List (List ℕ))
-      → IsLog spelling fits items tried down old.run old.honest old.journal old.foresight
+      → IsLog spelling fits items tried down old
       → new.honest ≡ old.honest → (old.honest ≡ true → ReopenKeeps (Ok got) old.journal new.journal) → new.foresight ≡ record old.foresight { stands = None }
-      → IsLog spelling fits items tried true new.run new.honest new.journal new.foresight
+      → IsLog spelling fits items tried true new
   log_lost items tried down old new got n is gave lost =
       record {
         all_fit = n.all_fit;
@@ -302,9 +302,9 @@ module _ {R : Type 0} (spelling : R → List ℕ) (allows : List R → R → Typ
 
   -- a plan changes nothing but what is known of the next commit
   pub log_planned : (items : List R) (tried : Option R) (down : Bool) (old new : KeeperState) (stands : Bool) (result : Result (Unit {0}) NotPlanned)
-      → IsLog spelling fits items tried down old.run old.honest old.journal old.foresight
+      → IsLog spelling fits items tried down old
       → new.honest ≡ old.honest → new.run ≡ old.run → (old.honest ≡ true → new.journal ≡ old.journal) → PlanLeaves stands result old.foresight new.foresight
-      → IsLog spelling fits items tried down new.run new.honest new.journal new.foresight
+      → IsLog spelling fits items tried down new
   log_planned items tried down old new stands result n is ran same planned =
       record {
         all_fit = n.all_fit;
@@ -317,27 +317,34 @@ module _ {R : Type 0} (spelling : R → List ℕ) (allows : List R → R → Typ
             (was.0, was.1, same (sym is ∙ h) ∙ was.2);
       }
 
-  -- what the keeper of a log has
-  pub log_keeps : (items : List R) (tried : Option R) (down : Bool) (keeper : KeeperState) (log : LogState R)
-      → IsLog spelling fits items tried down keeper.run keeper.honest keeper.journal keeper.foresight
+  -- what the keeper of a log has once it is given up
+  pub log_given_up : (items : List R) (tried : Option R) (down : Bool) (keeper : KeeperState) (log : LogState R)
+      → IsLog spelling fits items tried down keeper
       → record { records = reverse items; tried = tried; down = down; failures = keeper.run.failures; honest = keeper.honest; foresight = keeper.foresight } ≡ log
-      → log.honest ≡ true → Keeps spelling log keeper.journal
-  log_keeps items tried down keeper log n seen honest =
+      → IsGivenUp spelling log keeper
+  log_given_up items tried down keeper log n seen =
       let back : reverse log.records ≡ items = ap (λ (l : LogState R). reverse l.records) (sym seen) ∙ reverse-reverse items in
-      let h : keeper.honest ≡ true = ap (λ (l : LogState R). l.honest) seen ∙ honest in
+      let honest : keeper.honest ≡ log.honest = ap (λ (l : LogState R). l.honest) seen in
       let same : log.tried ≡ tried = ap (λ (l : LogState R). l.tried) (sym seen) in
+      let is_down : down ≡ log.down = ap (λ (l : LogState R). l.down) seen in
       record {
-        up = λ now.
-            n.journal_up (ap (λ (l : LogState R). l.down) seen ∙ now) h
-            ∙ ap (λ (l : List R). record { kept = map spelling l; undecided = None }) (sym back);
-        any = λ given gives.
-            subst (λ (t : Option R). GivesBack spelling (reverse log.records) t given) (sym same)
-            (subst (λ (l : List R). GivesBack spelling l tried given) (sym back) (n.journal_down h given gives));
+        honest = honest;
+        keeps = λ h. record {
+          up = λ now.
+              n.journal_up (is_down ∙ now) (honest ∙ h)
+              ∙ ap (λ (l : List R). record { kept = map spelling l; undecided = None }) (sym back);
+          any = λ given gives.
+              subst (λ (t : Option R). GivesBack spelling (reverse log.records) t given) (sym same)
+              (subst (λ (l : List R). GivesBack spelling l tried given) (sym back) (n.journal_down (honest ∙ h) given gives));
+        };
+        run = λ now. (n.up (is_down ∙ now)).1;
+        failures = ap (λ (l : LogState R). l.failures) seen;
+        foresight = ap (λ (l : LogState R). l.foresight) seen;
       }
 
   pub log_unread : (items : List R) (tried : Option R) (down : Bool) (old new : KeeperState) (fault : ReplayFault)
-      → IsLog spelling fits items tried down old.run old.honest old.journal old.foresight
-      → Reread spelling allows fits (Err fault) old new → IsLog spelling fits items tried true new.run new.honest new.journal new.foresight
+      → IsLog spelling fits items tried down old
+      → Reread spelling allows fits (Err fault) old new → IsLog spelling fits items tried true new
   log_unread items tried down old new Device n r = log_down items tried down old new n r.honest r.keeps r.foreseen.1
   log_unread items tried down old new (BadJournal place) n r = log_lost items tried down old new r.0 n r.1.honest r.1.keeps r.1.foreseen
   log_unread items tried down old new OutOfMemory n r =

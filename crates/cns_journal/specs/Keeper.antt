@@ -28,6 +28,13 @@ pub record Foresight : Type 0 where
   pub next : Forecast
   pub stands : Option Bool
 
+-- what contracts see of a keeper: whether a reopening gives what was acknowledged, and all of the above
+pub record KeeperState : Type 0 where
+  pub honest : Bool
+  pub run : Running
+  pub journal : Journal
+  pub foresight : Foresight
+
 -- a commit may succeed, and a reopening may fail at the device
 abbrev pub MaySucceed : Forecast → Type 0
 MaySucceed Unforeseen = Unit {0}

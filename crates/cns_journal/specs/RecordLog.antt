@@ -1,7 +1,7 @@
 -- What contracts see of a log of records: a node's records over its keeper's journal (this project's own rules).
 use Rattle.std.specs.Prelude.{◌≡◌, ◌==◌, ◌⊎◌, ℕ, ◌+◌, Bool, true, false, List, [], ◌∷◌, ◌++◌, map, reverse, length, Option, Some, None, Result, Ok, Err}
-use Rattle.cns_journal.specs.Keeper.{Running, Journal, Foresight, Unforeseen, MaySucceed, HasFailed, HasRisen, IsReopened, PlanLeaves, StandsAsForeseen}
-use Rattle.cns_journal.specs.Replay.{AreAllowed, AreFit, IsBadPlace, KeeperState}
+use Rattle.cns_journal.specs.Keeper.{Running, Journal, Foresight, Unforeseen, MaySucceed, HasFailed, HasRisen, IsReopened, PlanLeaves, StandsAsForeseen, KeeperState}
+use Rattle.cns_journal.specs.Replay.{AreAllowed, AreFit, IsBadPlace}
 use Rattle.cns_journal.specs.declared.keeper.NotPlanned.{NotPlanned}
 use Rattle.cns_journal.specs.declared.record_log.Restarted.{Restarted}
 use Rattle.cns_journal.specs.declared.record_log.ReplayFault.{ReplayFault}
@@ -34,14 +34,14 @@ FitsTried fits (Some r) = fits r
 
 -- what is so of a log's parts, its records with the oldest first: an honest keeper has just their payloads while the log is up,
 -- and gives back no others while it is down
-pub record IsLog {R : Type 0} (spelling : R → List ℕ) (fits : R → Type 0) (items : List R) (tried : Option R) (down : Bool) (run : Running) (honest : Bool) (journal : Journal) (foresight : Foresight) : Type 0 where
+pub record IsLog {R : Type 0} (spelling : R → List ℕ) (fits : R → Type 0) (items : List R) (tried : Option R) (down : Bool) (keeper : KeeperState) : Type 0 where
   pub all_fit : AreFit fits items
   pub tried_fits : FitsTried fits tried
-  pub up : down ≡ false → (tried ≡ None) × (run.down ≡ false)
-  pub journal_up : down ≡ false → honest ≡ true → journal ≡ record { kept = map spelling items; undecided = None }
-  pub journal_down : honest ≡ true → (given : List (List ℕ)) → IsReopened journal given → GivesBack spelling items tried given
-  pub foreseen : honest ≡ true → (stands : Bool) → foresight.stands ≡ Some stands
-      → (r : R) × (tried ≡ Some r) × (journal ≡ record { kept = map spelling items; undecided = Some (spelling r) })
+  pub up : down ≡ false → (tried ≡ None) × (keeper.run.down ≡ false)
+  pub journal_up : down ≡ false → keeper.honest ≡ true → keeper.journal ≡ record { kept = map spelling items; undecided = None }
+  pub journal_down : keeper.honest ≡ true → (given : List (List ℕ)) → IsReopened keeper.journal given → GivesBack spelling items tried given
+  pub foreseen : keeper.honest ≡ true → (stands : Bool) → keeper.foresight.stands ≡ Some stands
+      → (r : R) × (tried ≡ Some r) × (keeper.journal ≡ record { kept = map spelling items; undecided = Some (spelling r) })
 
 -- what the commit of a record leaves, by its answer
 abbrev pub LogCommits : {R : Type 0} → R → Result (Unit {0}) CommitFault → LogState R → LogState R → Type 0
@@ -106,3 +106,12 @@ LogPlanned stands result old new = PlanLeaves stands result old.foresight new.fo
 pub record Keeps {R : Type 0} (spelling : R → List ℕ) (log : LogState R) (journal : Journal) : Type 0 where
   pub up : log.down ≡ false → journal ≡ record { kept = map spelling (reverse log.records); undecided = None }
   pub any : (given : List (List ℕ)) → IsReopened journal given → GivesBack spelling (reverse log.records) log.tried given
+
+-- a keeper that a log gave up: an honest one has the log's records, and where that is down at most the one besides whose commit
+-- failed
+pub record IsGivenUp {R : Type 0} (spelling : R → List ℕ) (log : LogState R) (keeper : KeeperState) : Type 0 where
+  pub honest : keeper.honest ≡ log.honest
+  pub keeps : log.honest ≡ true → Keeps spelling log keeper.journal
+  pub run : log.down ≡ false → keeper.run.down ≡ false
+  pub failures : keeper.run.failures ≡ log.failures
+  pub foresight : keeper.foresight ≡ log.foresight

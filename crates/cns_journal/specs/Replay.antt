@@ -1,6 +1,6 @@
 -- What reading a journal's payloads again gives, over any kind of record (this project's own rules).
 use Rattle.std.specs.Prelude.{◌≡◌, ◌⊎◌, ℕ, ◌+◌, Bool, true, false, List, [], ◌∷◌, ◌++◌, map, reverse, length, Result, Ok, Err, Vec, vec_items}
-use Rattle.cns_journal.specs.Keeper.{Running, Journal, Foresight, ReopenLeaves, ReopenKeeps, ReopenForeseen, StandsAsForeseen}
+use Rattle.cns_journal.specs.Keeper.{Running, Journal, Foresight, ReopenLeaves, ReopenKeeps, ReopenForeseen, StandsAsForeseen, KeeperState}
 use Rattle.cns_journal.specs.declared.keeper.KeepFault.{KeepFault}
 use Rattle.cns_journal.specs.declared.keeper.KeepFault.TheVariants as keep
 use Rattle.cns_journal.specs.declared.record_log.ReplayFault.{ReplayFault}
@@ -65,13 +65,6 @@ ReplayGives spelling allows fits given (Ok items) = AreReplayed allows fits item
 ReplayGives spelling allows fits given (Err (BadJournal place)) = IsBadPlace spelling allows fits given place
 ReplayGives spelling allows fits given (Err OutOfMemory) = Unit {0}
 ReplayGives spelling allows fits given (Err Device) = ⊥
-
--- what contracts see of a keeper before and after a call
-pub record KeeperState : Type 0 where
-  pub honest : Bool
-  pub run : Running
-  pub journal : Journal
-  pub foresight : Foresight
 
 -- a reopening of a keeper gave these payloads, or was refused
 pub record Reopened (given : Result (List (List ℕ)) KeepFault) (old new : KeeperState) : Type 0 where

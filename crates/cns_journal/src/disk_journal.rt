@@ -90,13 +90,7 @@ impl<D: Disk> DiskJournal<D> {
 }
 
 impl<D: Disk> Keeper for DiskJournal<D> {
-    ghost run = { λ j. j.run };
-
-    ghost journal = { λ j. j.journal };
-
-    ghost honest = { λ j. D.honest j.disk };
-
-    ghost foresight = { λ _. nothing_known };
+    ghost state = { λ j. record { honest = D.honest j.disk; run = j.run; journal = j.journal; foresight = nothing_known } };
 
     /// Nothing has been written where it answers `Memory` or `Down`. A crash at any moment of the call
     /// leaves the acknowledged records, with the new one or without; once it has answered `Ok`, with it.

@@ -1,7 +1,7 @@
 //! What every keeper of a journal promises.
 
-ghost use Rattle.std.specs.Prelude.{◌≡◌, ◌≤◌, Bool, true, false, None, length};
-ghost use Rattle.cns_journal.specs.Keeper.{Running, Journal, Foresight, CommitLeaves, CommitKeeps, CommitForeseen, ReopenLeaves, ReopenKeeps, ReopenForeseen, StandsAsForeseen, PlanLeaves, given_by};
+ghost use Rattle.std.specs.Prelude.{◌≡◌, ◌≤◌, true, false, None, length};
+ghost use Rattle.cns_journal.specs.Keeper.{KeeperState, CommitLeaves, CommitKeeps, CommitForeseen, ReopenLeaves, ReopenKeeps, ReopenForeseen, StandsAsForeseen, PlanLeaves, given_by};
 
 use crate::disk::DiskFault;
 use std::alloc::{AllocError, AllocFailed};
@@ -72,18 +72,11 @@ pub struct NotPlanned;
 /// honest, and each call leaves it as honest as it was; the rest holds always. (This project's own
 /// rules.)
 pub trait Keeper {
-    /// Whether the keeper is down, how often its device has failed, and how many records it counts.
-    ghost run: { Self → Running };
-
-    /// The acknowledged records, and the one whose commit failed.
-    ghost journal: { Self → Journal };
-
-    /// Whether a reopening gives what was acknowledged.
-    ghost honest: { Self → Bool };
-
-    /// What is known beforehand of the next commit, and of the undecided record at the reopening. Of a
-    /// real device that is nothing.
-    ghost foresight: { Self → Foresight };
+    /// Whether a reopening gives what was acknowledged; whether the keeper is down, how often its device
+    /// has failed, and how many records it counts; the acknowledged records, and the one whose commit
+    /// failed; and what is known beforehand of the next commit, and of the undecided record at the
+    /// reopening, which of a real device is nothing.
+    ghost state: { Self → KeeperState };
 
     /// Adds a record, and answers `Ok` once it is acknowledged.
     ///
@@ -91,11 +84,11 @@ pub trait Keeper {
     /// `Device` the record is undecided, and the keeper is down.
     fn commit(&mut self, payload: &[u8]) -> Result<(), KeepFault>
         requires { length payload.now ≤ MAX_PAYLOAD }
-        ensures honest { honest self.new ≡ honest self.old }
-        ensures leaves { CommitLeaves result (run self.old) (run self.new) }
-        ensures keeps { honest self.old ≡ true
-            → CommitKeeps payload.now result (journal self.old) (journal self.new) }
-        ensures foreseen { CommitForeseen result (foresight self.old) (foresight self.new) };
+        ensures honest { (state self.new).honest ≡ (state self.old).honest }
+        ensures leaves { CommitLeaves result (state self.old).run (state self.new).run }
+        ensures keeps { (state self.old).honest ≡ true
+            → CommitKeeps payload.now result (state self.old).journal (state self.new).journal }
+        ensures foreseen { CommitForeseen result (state self.old).foresight (state self.new).foresight };
 
     /// Reads the journal again, and gives its records: those that were acknowledged, then at most the
     /// undecided one. They are acknowledged from then on, and the keeper is up.
@@ -103,23 +96,23 @@ pub trait Keeper {
     /// Answers `Memory`, and then nothing has changed, or `Device`, and then the keeper is down. Either
     /// leaves the acknowledged records and the undecided one.
     fn reopen(&mut self) -> Result<Vec<Vec<u8>>, KeepFault>
-        ensures honest { honest self.new ≡ honest self.old }
-        ensures leaves { ReopenLeaves (given_by result) (run self.old) (run self.new) }
-        ensures keeps { honest self.old ≡ true
-            → ReopenKeeps (given_by result) (journal self.old) (journal self.new) }
-        ensures foreseen { ReopenForeseen (given_by result) (foresight self.old) (foresight self.new) }
-        ensures stands { honest self.old ≡ true
-            → StandsAsForeseen (foresight self.old).stands (given_by result) (journal self.old) };
+        ensures honest { (state self.new).honest ≡ (state self.old).honest }
+        ensures leaves { ReopenLeaves (given_by result) (state self.old).run (state self.new).run }
+        ensures keeps { (state self.old).honest ≡ true
+            → ReopenKeeps (given_by result) (state self.old).journal (state self.new).journal }
+        ensures foreseen { ReopenForeseen (given_by result) (state self.old).foresight (state self.new).foresight }
+        ensures stands { (state self.old).honest ≡ true
+            → StandsAsForeseen (state self.old).foresight.stands (given_by result) (state self.old).journal };
 
     /// Whether the keeper is down. While it is up, no record is undecided.
     fn is_down(&self) -> bool
-        ensures value { result ≡ (run self.now).down }
-        ensures decided { honest self.now ≡ true → result ≡ false
-            → (journal self.now).undecided ≡ None };
+        ensures value { result ≡ (state self.now).run.down }
+        ensures decided { (state self.now).honest ≡ true → result ≡ false
+            → (state self.now).journal.undecided ≡ None };
 
     /// The records that the last reopening gave, none before the first, and those acknowledged since.
     fn count(&self) -> u64
-        ensures value { result ≡ (run self.now).count }
+        ensures value { result ≡ (state self.now).run.count }
         ensures limit { result ≤ MAX_RECORDS };
 
     /// Makes the next commit fail at the device. Its record stands at the reopening, or does not.
@@ -127,8 +120,8 @@ pub trait Keeper {
     /// Answers `NotPlanned` exactly where nothing is known beforehand of the keeper. Whatever it
     /// answers, nothing but what is known of the next commit has changed.
     fn plan(&mut self, stands: bool) -> Result<(), NotPlanned>
-        ensures honest { honest self.new ≡ honest self.old }
-        ensures leaves { run self.new ≡ run self.old }
-        ensures keeps { honest self.old ≡ true → journal self.new ≡ journal self.old }
-        ensures foreseen { PlanLeaves stands result (foresight self.old) (foresight self.new) };
+        ensures honest { (state self.new).honest ≡ (state self.old).honest }
+        ensures leaves { (state self.new).run ≡ (state self.old).run }
+        ensures keeps { (state self.old).honest ≡ true → (state self.new).journal ≡ (state self.old).journal }
+        ensures foreseen { PlanLeaves stands result (state self.old).foresight (state self.new).foresight };
 }

@@ -81,13 +81,7 @@ impl ListKeeper {
 }
 
 impl Keeper for ListKeeper {
-    ghost run = { running_of };
-
-    ghost journal = { journal_of };
-
-    ghost honest = { λ _. true };
-
-    ghost foresight = { foresight_of };
+    ghost state = { λ k. record { honest = true; run = running_of k; journal = journal_of k; foresight = foresight_of k } };
 
     /// Fails where a failure is planned, which ends the plan; with `Down` or `Memory` the plan stays.
     fn commit(&mut self, payload: &[u8]) -> Result<(), KeepFault>

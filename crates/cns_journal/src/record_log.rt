@@ -2,7 +2,7 @@
 
 ghost use Rattle.std.specs.Prelude.{◌≡◌, ◌≤◌, ℕ, List, [], ◌∷◌, true, false, Err, IfErr, IfOk, OnOk, length, map, option_map, reverse, slice_get, vec_items};
 ghost use Rattle.cns_journal.specs.Replay.{AdmitLeaves, Admits, ReplayGives, Reread, records_by};
-ghost use Rattle.cns_journal.specs.RecordLog.{HaveOwnPayloads, IsLawfulLog, IsOpened, Keeps, LogCommits, LogPlanned, LogRestarts};
+ghost use Rattle.cns_journal.specs.RecordLog.{HaveOwnPayloads, IsLawfulLog, IsGivenUp, IsOpened, LogCommits, LogPlanned, LogRestarts};
 
 use crate::keeper::{KeepFault, Keeper, MAX_PAYLOAD, NotPlanned};
 use std::alloc::{AllocError, Global};
@@ -159,9 +159,7 @@ fn reread<K: Keeper, L: Ledger>(
 ) -> Result<Vec<L::Record>, ReplayFault>
     requires payloads { HaveOwnPayloads L.Record.spelling L.Record.fits }
     requires comes { L.comes_to ledger.old [] }
-    ensures reread { Reread L.Record.spelling (L.allows context.now) L.Record.fits (records_by result)
-        (record { honest = K.honest keeper.old; run = K.run keeper.old; journal = K.journal keeper.old; foresight = K.foresight keeper.old })
-        (record { honest = K.honest keeper.new; run = K.run keeper.new; journal = K.journal keeper.new; foresight = K.foresight keeper.new }) }
+    ensures reread { Reread L.Record.spelling (L.allows context.now) L.Record.fits (records_by result) (K.state keeper.old) (K.state keeper.new) }
     ensures comes { IfOk result (λ records. L.comes_to ledger.new (reverse records.items)) }
 {
     let payloads = match keeper.reopen() {
@@ -213,13 +211,12 @@ impl<K: Keeper, R: Record> Model for RecordLog<K, R> {
       records = reverse l.records.items;
       tried = l.tried;
       down = l.down;
-      failures = (K.run l.keeper).failures;
-      honest = K.honest l.keeper;
-      foresight = K.foresight l.keeper;
+      failures = (K.state l.keeper).run.failures;
+      honest = (K.state l.keeper).honest;
+      foresight = (K.state l.keeper).foresight;
     } };
 
-    ghost invariant = { λ l. IsLog R.spelling R.fits l.records.items l.tried l.down
-        (K.run l.keeper) (K.honest l.keeper) (K.journal l.keeper) (K.foresight l.keeper) };
+    ghost invariant = { λ l. IsLog R.spelling R.fits l.records.items l.tried l.down (K.state l.keeper) };
 }
 
 /// A refused opening: why, and the keeper as its reopening left it.
@@ -245,11 +242,8 @@ impl<K: Keeper, R: Record> RecordLog<K, R> {
     ) -> Result<RecordLog<K, R>, Refused<K>>
         requires payloads { HaveOwnPayloads R.spelling R.fits }
         requires comes { L.comes_to ledger.old [] }
-        ensures ok { IfOk result (IsOpened R.spelling (L.allows context.now)
-            (record { honest = K.honest keeper; run = K.run keeper; journal = K.journal keeper; foresight = K.foresight keeper })) }
-        ensures err { IfErr result (λ refused. Reread R.spelling (L.allows context.now) R.fits (Err refused.fault)
-            (record { honest = K.honest keeper; run = K.run keeper; journal = K.journal keeper; foresight = K.foresight keeper })
-            (record { honest = K.honest refused.keeper; run = K.run refused.keeper; journal = K.journal refused.keeper; foresight = K.foresight refused.keeper })) }
+        ensures ok { IfOk result (IsOpened R.spelling (L.allows context.now) (K.state keeper)) }
+        ensures err { IfErr result (λ refused. Reread R.spelling (L.allows context.now) R.fits (Err refused.fault) (K.state keeper) (K.state refused.keeper)) }
         ensures comes { IfOk result (λ log. L.comes_to ledger.new log.records) }
     {
         let records = match reread(alloc, &mut keeper, context, ledger) {
@@ -296,13 +290,10 @@ impl<K: Keeper, R: Record> RecordLog<K, R> {
         self.keeper.plan(stands)
     }
 
-    /// Gives the keeper up.
+    /// Gives the keeper up. An honest one has the records just as the log has them, where that is up; where
+    /// it is down, a reopening gives these and at most the one whose commit failed.
     pub fn into_keeper(self) -> K
-        ensures honest { K.honest result ≡ self.honest }
-        ensures keeps { self.honest ≡ true → Keeps R.spelling self (K.journal result) }
-        ensures run { self.down ≡ false → (K.run result).down ≡ false }
-        ensures failures { (K.run result).failures ≡ self.failures }
-        ensures foresight { K.foresight result ≡ self.foresight }
+        ensures { IsGivenUp R.spelling self (K.state result) }
     {
         self.keeper
     }

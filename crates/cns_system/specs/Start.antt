@@ -1,8 +1,8 @@
 -- What the opening of both nodes gives (this project's own rule).
 use Rattle.std.specs.Prelude.{◌≡◌, ℕ, true, false, List, []}
 use Rattle.cns_trades.specs.declared.opening.Opening.{Opening}
-use Rattle.cns_journal.specs.RecordLog.{Keeps, LogState}
-use Rattle.cns_journal.specs.Replay.{KeeperState}
+use Rattle.cns_journal.specs.RecordLog.{IsGivenUp}
+use Rattle.cns_journal.specs.Keeper.{KeeperState}
 use Rattle.cns_records.specs.Clear.{spelling}
 use Rattle.cns_records.specs.Dep.{dep_spelling}
 use Rattle.cns_clearing.specs.Node.{ClearNode, IsOpened, IsUnread}
@@ -20,15 +20,6 @@ pub record IsStarted (openings : List Opening) (clear depot : KeeperState) (w : 
   pub lots : w.clear.lots ≡ []
   pub orders : w.orders ≡ []
   pub replies : w.replies ≡ []
-
--- a keeper that a node gave up: an honest one has the node's records, and where that is down at most the one besides whose commit
--- failed
-pub record IsGivenUp {R : Type 0} (spelling : R → List ℕ) (log : LogState R) (keeper : KeeperState) : Type 0 where
-  pub honest : keeper.honest ≡ log.honest
-  pub keeps : log.honest ≡ true → Keeps spelling log keeper.journal
-  pub run : log.down ≡ false → keeper.run.down ≡ false
-  pub failures : keeper.run.failures ≡ log.failures
-  pub foresight : keeper.foresight ≡ log.foresight
 
 -- a node that was opened and gave its keeper up again
 abbrev pub IsClearReturned : KeeperState → KeeperState → ClearNode → Type 0

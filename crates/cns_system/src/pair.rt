@@ -10,7 +10,8 @@ ghost use Rattle.cns_system.specs.Lots.{ArePlanned};
 ghost use Rattle.cns_system.specs.Numbered.{AreTied};
 ghost use Rattle.cns_system.specs.Readers.{PlanStep, counts_of, unconfirmed};
 ghost use Rattle.cns_system.specs.Step.{order_at, AtClear, ByLots, ByNode, ClearRestarts, DepotRestartStep, Looks, OrderInStep, OrderRefused, OrderTaken, ReplyInStep, SendStep, Step};
-ghost use Rattle.cns_system.specs.Start.{IsGivenUp, IsNotOpened, IsStarted};
+ghost use Rattle.cns_journal.specs.RecordLog.{IsGivenUp};
+ghost use Rattle.cns_system.specs.Start.{IsNotOpened, IsStarted};
 ghost use Rattle.cns_system.specs.World.{order_in_packet, reply_in_packet};
 
 use crate::agreement::agree;
@@ -59,14 +60,8 @@ impl<C: Keeper + Drop, D: Keeper + Drop> Pair<C, D> {
         depot: D,
         openings: Openings,
     ) -> Result<Pair<C, D>, Unopened<C, D>>
-        ensures ok { IfOk result (IsStarted openings
-            (record { honest = C.honest clear; run = C.run clear; journal = C.journal clear; foresight = C.foresight clear })
-            (record { honest = D.honest depot; run = D.run depot; journal = D.journal depot; foresight = D.foresight depot })) }
-        ensures err { IfErr result (λ refused. IsNotOpened openings refused.fault
-            (record { honest = C.honest clear; run = C.run clear; journal = C.journal clear; foresight = C.foresight clear })
-            (record { honest = D.honest depot; run = D.run depot; journal = D.journal depot; foresight = D.foresight depot })
-            (record { honest = C.honest refused.clear; run = C.run refused.clear; journal = C.journal refused.clear; foresight = C.foresight refused.clear })
-            (record { honest = D.honest refused.depot; run = D.run refused.depot; journal = D.journal refused.depot; foresight = D.foresight refused.depot })) }
+        ensures ok { IfOk result (IsStarted openings (C.state clear) (D.state depot)) }
+        ensures err { IfErr result (λ refused. IsNotOpened openings refused.fault (C.state clear) (D.state depot) (C.state refused.clear) (D.state refused.depot)) }
     {
         // The openings are dropped by name at an exit: the check takes a call of `drop` as one step, and
         // walks through each field of a value that leaves its scope.
@@ -108,10 +103,8 @@ impl<C: Keeper + Drop, D: Keeper + Drop> Pair<C, D> {
 
     /// Gives both keepers up.
     pub(crate) fn into_keepers(self) -> (C, D)
-        ensures clear { IsGivenUp spelling self.clear.clear.log
-            (record { honest = C.honest result.0; run = C.run result.0; journal = C.journal result.0; foresight = C.foresight result.0 }) }
-        ensures depot { IsGivenUp dep_spelling self.depot.log
-            (record { honest = D.honest result.1; run = D.run result.1; journal = D.journal result.1; foresight = D.foresight result.1 }) }
+        ensures clear { IsGivenUp spelling self.clear.clear.log (C.state result.0) }
+        ensures depot { IsGivenUp dep_spelling self.depot.log (D.state result.1) }
     {
         let Pair {
             clear,
@@ -127,16 +120,14 @@ impl<C: Keeper + Drop, D: Keeper + Drop> Pair<C, D> {
 // Gives the keeper of a clearing node up. A call that ends in one of these two is checked in few steps,
 // however many fields a node has.
 fn clear_keeper<C: Keeper>(node: Clearing<C>) -> C
-    ensures { IsGivenUp spelling node.log
-        (record { honest = C.honest result; run = C.run result; journal = C.journal result; foresight = C.foresight result }) }
+    ensures { IsGivenUp spelling node.log (C.state result) }
 {
     node.into_keeper()
 }
 
 // Gives the keeper of a depository up.
 fn depot_keeper<D: Keeper>(node: Depository<D>) -> D
-    ensures { IsGivenUp dep_spelling node.log
-        (record { honest = D.honest result; run = D.run result; journal = D.journal result; foresight = D.foresight result }) }
+    ensures { IsGivenUp dep_spelling node.log (D.state result) }
 {
     node.into_keeper()
 }

@@ -8,7 +8,8 @@ ghost use Rattle.cns_system.specs.Numbered.{AreTied};
 ghost use Rattle.cns_system.specs.Run.{IsDecided, Run};
 ghost use Rattle.cns_system.specs.Readers.{PlanStep, counts_of, unconfirmed};
 ghost use Rattle.cns_system.specs.Scene.{Comes, Plans, scene_of};
-ghost use Rattle.cns_system.specs.Start.{IsGivenUp, IsNotOpened, IsStarted};
+ghost use Rattle.cns_journal.specs.RecordLog.{IsGivenUp};
+ghost use Rattle.cns_system.specs.Start.{IsNotOpened, IsStarted};
 ghost use Rattle.cns_system.specs.Step.{Step};
 
 use crate::event::{Event, NodeName};
@@ -78,14 +79,8 @@ impl<C: Keeper + Drop, D: Keeper + Drop> System<C, D> {
         depot: D,
         openings: Openings,
     ) -> Result<System<C, D>, Unopened<C, D>>
-        ensures ok { IfOk result (IsStarted openings
-            (record { honest = C.honest clear; run = C.run clear; journal = C.journal clear; foresight = C.foresight clear })
-            (record { honest = D.honest depot; run = D.run depot; journal = D.journal depot; foresight = D.foresight depot })) }
-        ensures err { IfErr result (λ refused. IsNotOpened openings refused.fault
-            (record { honest = C.honest clear; run = C.run clear; journal = C.journal clear; foresight = C.foresight clear })
-            (record { honest = D.honest depot; run = D.run depot; journal = D.journal depot; foresight = D.foresight depot })
-            (record { honest = C.honest refused.clear; run = C.run refused.clear; journal = C.journal refused.clear; foresight = C.foresight refused.clear })
-            (record { honest = D.honest refused.depot; run = D.run refused.depot; journal = D.journal refused.depot; foresight = D.foresight refused.depot })) }
+        ensures ok { IfOk result (IsStarted openings (C.state clear) (D.state depot)) }
+        ensures err { IfErr result (λ refused. IsNotOpened openings refused.fault (C.state clear) (D.state depot) (C.state refused.clear) (D.state refused.depot)) }
         ensures accord { IfOk result IsInAccord }
 
         // The headline.
@@ -98,10 +93,8 @@ impl<C: Keeper + Drop, D: Keeper + Drop> System<C, D> {
 
     /// Gives both keepers up, the clearing node's first. The lots and the packets are gone.
     pub fn into_keepers(self) -> (C, D)
-        ensures clear { IsGivenUp spelling self.clear.clear.log
-            (record { honest = C.honest result.0; run = C.run result.0; journal = C.journal result.0; foresight = C.foresight result.0 }) }
-        ensures depot { IsGivenUp dep_spelling self.depot.log
-            (record { honest = D.honest result.1; run = D.run result.1; journal = D.journal result.1; foresight = D.foresight result.1 }) }
+        ensures clear { IsGivenUp spelling self.clear.clear.log (C.state result.0) }
+        ensures depot { IsGivenUp dep_spelling self.depot.log (D.state result.1) }
     {
         self.pair.into_keepers()
     }

@@ -1,17 +1,12 @@
 use Rattle.std.proofs.Common.{subst, sym}
-use Rattle.cns_journal.specs.Replay.{KeeperState}
+use Rattle.cns_journal.specs.Keeper.{KeeperState}
 use Rattle.cns_clearing.specs.Node.{ClearNode, IsOpened}
 use Rattle.cns_system.specs.Agreement.{Agree}
 use Rattle.cns_system.proofs.pair.Pair.open.Goals as goal
 
 pub returns-clause-ok : goal.returns-clause-ok
 returns-clause-ok g c =
-    let clear : KeeperState = record {
-      honest = g.C.Keeper.honest c.args.clear;
-      run = g.C.Keeper.run c.args.clear;
-      journal = g.C.Keeper.journal c.args.clear;
-      foresight = g.C.Keeper.foresight c.args.clear;
-    } in
+    let clear : KeeperState = g.C.Keeper.state c.args.clear in
     let agree : Agree c.in-Ok.node.log.records c.in-Ok-open.node.log.records = c.agree.ensures.0 c.if-not-agree.false in
     record {
       clear_opens = subst (IsOpened clear) (sym c.new.ensures.clear) c.in-Ok.ensures.ok;
