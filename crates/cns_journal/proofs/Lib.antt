@@ -1,5 +1,6 @@
 pub mod AppendLemmas
 pub mod CloseLemmas
+pub mod CrashLemmas
 pub mod DiskJournalLemmas
 pub mod FillLemmas
 pub mod KeeperLemmas

@@ -1,7 +1,8 @@
 -- What contracts see of a journal on a disk, and what it keeps (this project's own rules).
-use Rattle.std.specs.Prelude.{◌≡◌, ℕ, ◌≤◌, Bool, true, false, List, [], ◌∷◌, ◌++◌, take, Option, None}
+use Rattle.std.specs.Prelude.{◌≡◌, ◌⊎◌, ℕ, ◌≤◌, Bool, true, false, List, [], ◌∷◌, ◌++◌, take, Option, None, Any}
+use Rattle.cns_journal.specs.Disk.{EachImage, LeavesOnly}
 use Rattle.cns_journal.specs.Keeper.{Running, Journal, Foresight, Unforeseen, IsReopened}
-use Rattle.cns_journal.specs.Layout.{IsSettled, journal_of, size_of}
+use Rattle.cns_journal.specs.Layout.{HasWithOrWithout, IsSettled, journal_of, size_of}
 use Rattle.cns_journal.specs.declared.disk_journal.Stage.{Stage}
 use Rattle.cns_journal.specs.declared.disk_journal.Stage.TheVariants.{Unread, Up, Down}
 
@@ -50,3 +51,36 @@ pub record IsJournal (honest : Bool) (file : List ℕ) (images : List ℕ → Ty
   pub decided : down_at stage ≡ false → undecided ≡ None
   pub stands : honest ≡ true → Stands stage file images
   pub found : honest ≡ true → IsReopened (record { kept = kept_of stage file; undecided = undecided }) (journal_of file)
+
+-- a crash now leaves a file that stands for the acknowledged records, and then at most the undecided one
+abbrev pub IsDurable : {D : Type 0} → (D → List ℕ → Type 0) → DiskState D → Type 0
+IsDurable images j = EachImage (images j.disk) (λ image. IsReopened j.journal (journal_of image))
+
+-- a call of a journal: a commit of a payload, or a reopening
+pub data Call : Type 0 where
+  Commit : List ℕ → Call
+  Reopen : Call
+
+-- what a crash during a call may leave, by what the journal has before it: the acknowledged records, and then at most the undecided one,
+-- or the one that is committed
+abbrev pub MayLeave : Call → Journal → List ℕ → Type 0
+MayLeave (Commit payload) journal file = IsReopened journal (journal_of file) ⊎ HasWithOrWithout journal.kept payload file
+MayLeave Reopen journal file = IsReopened journal (journal_of file)
+
+module _ {D : Type 0} (images : D → List ℕ → Type 0) (moment : D → ℕ) (left_since : D → ℕ → List ℕ → Type 0) where
+  -- what a call of a journal that is durable leaves of its disk: at any moment of it no more than that, and a durable journal after it
+  pub record IsCall (call : Call) (old new : DiskState D) : Type 0 where
+    pub any_moment : IsDurable images old → LeavesOnly moment left_since old.disk new.disk (MayLeave call old.journal)
+    pub stays : IsDurable images old → IsDurable images new
+
+  -- calls one after another, each with what the journal has before it
+  abbrev pub AreCalls : List (Call × Journal) → DiskState D → DiskState D → Type 0
+  AreCalls [] old new = new ≡ old
+  AreCalls (c ∷ calls) old new = (c.1 ≡ old.journal) × ((next : DiskState D) × IsCall c.0 old next × AreCalls calls next new)
+
+-- a crash at any moment of any calls leaves what one of these calls may leave, or what the journal had before them
+abbrev pub AnyCalls : {D : Type 0} → (D → Bool) → (D → List ℕ → Type 0) → (D → ℕ) → (D → ℕ → List ℕ → Type 0) → Type 0
+AnyCalls {D} honest images moment left_since =
+    (calls : List (Call × Journal)) (old new : DiskState D) → honest old.disk ≡ true → IsDurable images old → AreCalls images moment left_since calls old new
+    → (image : List ℕ) → left_since new.disk (moment old.disk) image
+    → IsReopened old.journal (journal_of image) ⊎ Any (λ (c : Call × Journal). MayLeave c.0 c.1 image) calls

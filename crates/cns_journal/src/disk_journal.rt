@@ -2,10 +2,10 @@
 
 ghost use Rattle.std.specs.Prelude.{◌≡◌, ◌⊎◌, ◌≤◌, true, false, None, ℕ, List, length, map, vec_items, IfOk, OnOk, IsErr, IsErrOf};
 ghost use Rattle.cns_journal.specs.declared.keeper.KeepFault.TheVariants.{Memory, Down};
-ghost use Rattle.cns_journal.specs.Disk.{EachImage, LeavesOnly};
+ghost use Rattle.cns_journal.specs.Disk.{EachImage, LeavesOnly, Only};
 ghost use Rattle.cns_journal.specs.Keeper.{CommitKeeps, CommitLeaves, IsReopened, ReopenForeseen, ReopenKeeps, ReopenLeaves, given_by};
 ghost use Rattle.cns_journal.specs.Layout.{HasWithOrWithout, journal_of};
-ghost use Rattle.cns_journal.specs.DiskJournal.{fallen, nothing_known};
+ghost use Rattle.cns_journal.specs.DiskJournal.{AnyCalls, Commit, IsCall, IsDurable, Reopen, fallen, nothing_known};
 
 use crate::disk::Disk;
 use crate::keeper::{KeepFault, Keeper, MAX_PAYLOAD, NotPlanned};
@@ -63,13 +63,15 @@ impl<D: Disk> Model for DiskJournal<D> {
 }
 
 impl<D: Disk> DiskJournal<D> {
-    /// A journal on this disk, which no call is made of yet: it keeps what the file reads as.
+    /// A journal on this disk, which no call is made of yet: it keeps what the file reads as. Where all of
+    /// the file is on the disk, so does what a crash leaves.
     pub fn new(alloc: Global, disk: D) -> DiskJournal<D>
-        ensures { result ≡ record {
+        ensures value { result ≡ record {
           disk = disk;
           run = record { down = true; failures = D.failures disk; count = 0 };
           journal = record { kept = journal_of (D.seen disk); undecided = None };
         } }
+        ensures durable { Only (D.seen disk) (D.images disk) → IsDurable D.images result }
     {
         DiskJournal {
             disk,
@@ -80,21 +82,8 @@ impl<D: Disk> DiskJournal<D> {
         }
     }
 
-    /// Gives the disk back.
-    pub fn into_disk(self) -> D
-        ensures disk { result ≡ self.disk }
-        ensures keeps { D.honest self.disk ≡ true → IsReopened self.journal (journal_of (D.seen self.disk)) }
-    {
-        self.disk
-    }
-}
-
-impl<D: Disk> Keeper for DiskJournal<D> {
-    ghost state = { λ j. record { honest = D.honest j.disk; run = j.run; journal = j.journal; foresight = nothing_known } };
-
-    /// Nothing has been written where it answers `Memory` or `Down`. A crash at any moment of the call
-    /// leaves the acknowledged records, with the new one or without; once it has answered `Ok`, with it.
-    fn commit(&mut self, payload: &[u8]) -> Result<(), KeepFault>
+    // Adds a record behind the others.
+    fn add(&mut self, payload: &[u8]) -> Result<(), KeepFault>
         requires { length payload.now ≤ MAX_PAYLOAD }
         ensures honest { D.honest self.new.disk ≡ D.honest self.old.disk }
         ensures leaves { CommitLeaves result self.old.run self.new.run }
@@ -124,10 +113,8 @@ impl<D: Disk> Keeper for DiskJournal<D> {
         }
     }
 
-    /// Gives what the file reads as. Where each image stands for the acknowledged records, with the
-    /// undecided one or without, a crash at any moment of the call leaves one that does; once it has
-    /// answered `Ok`, each stands for what was given.
-    fn reopen(&mut self) -> Result<Vec<Vec<u8>>, KeepFault>
+    // Reads the file again, and gives its records.
+    fn read_again(&mut self) -> Result<Vec<Vec<u8>>, KeepFault>
         ensures honest { D.honest self.new.disk ≡ D.honest self.old.disk }
         ensures leaves { ReopenLeaves (given_by result) self.old.run self.new.run }
         ensures keeps { D.honest self.old.disk ≡ true → ReopenKeeps (given_by result) self.old.journal self.new.journal }
@@ -135,7 +122,7 @@ impl<D: Disk> Keeper for DiskJournal<D> {
         ensures value { D.honest self.old.disk ≡ true
             → IfOk result (λ records. map vec_items (vec_items records) ≡ journal_of (D.seen self.old.disk)) }
         ensures any_moment { D.honest self.old.disk ≡ true
-            → EachImage (D.images self.old.disk) (λ image. IsReopened self.old.journal (journal_of image))
+            → IsDurable D.images self.old
             → LeavesOnly D.moment D.left_since self.old.disk self.new.disk (λ image. IsReopened self.old.journal (journal_of image)) }
         ensures durable { D.honest self.old.disk ≡ true
             → IfOk result (λ records. EachImage (D.images self.new.disk) (λ image. journal_of image ≡ map vec_items (vec_items records))) }
@@ -153,6 +140,54 @@ impl<D: Disk> Keeper for DiskJournal<D> {
             }
             Err(fault) => Err(fault),
         }
+    }
+
+    /// Gives the disk back.
+    pub fn into_disk(self) -> D
+        ensures disk { result ≡ self.disk }
+        ensures keeps { D.honest self.disk ≡ true → IsReopened self.journal (journal_of (D.seen self.disk)) }
+    {
+        self.disk
+    }
+}
+
+impl<D: Disk> Keeper for DiskJournal<D> {
+    ghost state = { λ j. record { honest = D.honest j.disk; run = j.run; journal = j.journal; foresight = nothing_known } };
+
+    /// Nothing has been written where it answers `Memory` or `Down`. A crash at any moment of the call
+    /// leaves the acknowledged records, with the new one or without; once it has answered `Ok`, with it.
+    fn commit(&mut self, payload: &[u8]) -> Result<(), KeepFault>
+        requires { length payload.now ≤ MAX_PAYLOAD }
+        ensures honest { D.honest self.new.disk ≡ D.honest self.old.disk }
+        ensures leaves { CommitLeaves result self.old.run self.new.run }
+        ensures keeps { D.honest self.old.disk ≡ true → CommitKeeps payload.now result self.old.journal self.new.journal }
+        ensures any_moment { D.honest self.old.disk ≡ true → self.old.run.down ≡ false
+            → LeavesOnly D.moment D.left_since self.old.disk self.new.disk (HasWithOrWithout self.old.journal.kept payload.now) }
+        ensures durable { D.honest self.old.disk ≡ true
+            → OnOk result (EachImage (D.images self.new.disk) (λ image. journal_of image ≡ self.new.journal.kept)) }
+        ensures unchanged { (IsErrOf result Memory ⊎ IsErrOf result Down) → self.new ≡ self.old }
+
+        // So it is whatever calls came before: what a crash may leave stands for what is kept.
+        ensures call { D.honest self.old.disk ≡ true
+            → IsCall D.images D.moment D.left_since (Commit payload.now) self.old self.new }
+    {
+        self.add(payload)
+    }
+
+    /// Gives what the file reads as. Where what a crash may leave stands for what is kept, a crash at any
+    /// moment of the call leaves a file that does; once it has answered `Ok`, each stands for what was given.
+    fn reopen(&mut self) -> Result<Vec<Vec<u8>>, KeepFault>
+        ensures honest { D.honest self.new.disk ≡ D.honest self.old.disk }
+        ensures leaves { ReopenLeaves (given_by result) self.old.run self.new.run }
+        ensures keeps { D.honest self.old.disk ≡ true → ReopenKeeps (given_by result) self.old.journal self.new.journal }
+        ensures foreseen { ReopenForeseen (given_by result) nothing_known nothing_known }
+        ensures value { D.honest self.old.disk ≡ true
+            → IfOk result (λ records. map vec_items (vec_items records) ≡ journal_of (D.seen self.old.disk)) }
+        ensures call { D.honest self.old.disk ≡ true → IsCall D.images D.moment D.left_since Reopen self.old self.new }
+        ensures durable { D.honest self.old.disk ≡ true
+            → IfOk result (λ records. EachImage (D.images self.new.disk) (λ image. journal_of image ≡ map vec_items (vec_items records))) }
+    {
+        self.read_again()
     }
 
     /// While the journal is up, each image of the disk stands for the acknowledged records.
@@ -176,4 +211,12 @@ impl<D: Disk> Keeper for DiskJournal<D> {
     {
         Err(NotPlanned)
     }
+}
+
+/// Whatever calls a journal gets, and whenever a crash comes, the file that it leaves stands for what was
+/// acknowledged before the call under way, and then for at most the record of that call or the undecided
+/// one, where the disk is honest and what a crash left before the first call did so.
+pub fn outlasts_crashes<D: Disk>()
+    ensures { AnyCalls D.honest D.images D.moment D.left_since }
+{
 }

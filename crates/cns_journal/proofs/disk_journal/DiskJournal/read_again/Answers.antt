@@ -1,6 +1,6 @@
 use Rattle.std.proofs.Common.{rules, ◌≡◌, ◌∙◌, refl, sym, ap, arith, length}
 use Rattle.cns_journal.proofs.DiskJournalLemmas.{fallen_holds, fallen_keeps, reopen_keeps, up_holds}
-use Rattle.cns_journal.proofs.disk_journal.DiskJournalKeeper.reopen.Goals as goal
+use Rattle.cns_journal.proofs.disk_journal.DiskJournal.read_again.Goals as goal
 
 pub invariant_of-self : goal.invariant_of-self
 invariant_of-self g c =

@@ -1,7 +1,7 @@
 use Rattle.std.proofs.Common.{◌∙◌, sym, ap, arith}
 use Rattle.cns_journal.specs.DiskJournal.{down_at, end_at}
 use Rattle.cns_journal.proofs.DiskJournalLemmas.{commit_keeps, settled_images, up_holds}
-use Rattle.cns_journal.proofs.disk_journal.DiskJournalKeeper.commit.Goals as goal
+use Rattle.cns_journal.proofs.disk_journal.DiskJournal.add.Goals as goal
 
 pub invariant_of-self : goal.invariant_of-self
 invariant_of-self g c =
