@@ -10,4 +10,5 @@ pub mod MemCallLemmas
 pub mod MemDiskLemmas
 pub mod Moments
 pub mod PayloadLemmas
+pub mod PowerLemmas
 pub mod ReadLemmas

@@ -50,6 +50,21 @@ content_of (Cuts len ∷ steps) = take len (content_of steps)
 content_of (Syncs ∷ steps) = content_of steps
 content_of (Starts file ∷ steps) = file
 
+-- a write begins within this file, or at its end
+abbrev pub BeginsWithin : Step → List ℕ → Type 0
+BeginsWithin (Writes at bytes) file = at ≤ length file
+BeginsWithin _ file = Unit {0}
+
+-- each write began so in the file as it was then
+abbrev pub AreWithin : List Step → Type 0
+AreWithin [] = Unit {0}
+AreWithin (step ∷ steps) = BeginsWithin step (content_of steps) × AreWithin steps
+
+-- what a disk in memory keeps is its file as its calls made it, none of which wrote from behind its end on
+pub record IsDisk (file : List ℕ) (steps : List Step) : Type 0 where
+  pub file_is : file ≡ content_of steps
+  pub within : AreWithin steps
+
 -- what a crash may leave of a call and of the images before it: a write may be torn or missing, and a cut missing
 abbrev pub Leaves : Step → (List ℕ → Type 0) → List ℕ → Type 0
 Leaves Nothing images image = images image

@@ -4,7 +4,7 @@ ghost use Rattle.std.specs.Prelude.{◌≡◌, ◌⊎◌, ◌≤◌, ◌+◌, tr
 ghost use Rattle.cns_journal.specs.Disk.{CountsFailure, EachImage, Follows, Only, Shortened, Torn, overwritten};
 ghost use Rattle.cns_journal.specs.Keeper.{HasRisen};
 ghost use Rattle.cns_journal.specs.MemCall.{IsTurn, step_of, steps_of};
-ghost use Rattle.cns_journal.specs.MemDisk.{Calls, ComesBack, Cuts, Goes, IsFilled, IsIdle, Nothing, Starts, Syncs, Writes, after_call, content_of, images_of, is_unsynced, no_plan};
+ghost use Rattle.cns_journal.specs.MemDisk.{BeginsWithin, Calls, ComesBack, Cuts, Goes, IsFilled, IsIdle, Nothing, Starts, Syncs, Writes, after_call, content_of, images_of, is_unsynced, no_plan};
 
 use crate::disk::{Disk, DiskFault, MAX_FILE_LEN};
 use std::alloc::{AllocError, Global};
@@ -74,9 +74,9 @@ pub struct MemDisk {
 }
 
 impl Model for MemDisk {
-    ghost use Rattle.std.specs.Prelude.{◌≡◌, vec_items, reverse};
+    ghost use Rattle.std.specs.Prelude.{vec_items, reverse};
     ghost use Rattle.cns_journal.specs.MemCall.{idled, steps_of};
-    ghost use Rattle.cns_journal.specs.MemDisk.{MemState, content_of};
+    ghost use Rattle.cns_journal.specs.MemDisk.{IsDisk, MemState};
 
     ghost Value = { MemState };
 
@@ -86,7 +86,7 @@ impl Model for MemDisk {
       plan = record { call = d.plan.call; stops = d.plan.stops };
     } };
 
-    ghost invariant = { λ d. vec_items d.content ≡ content_of (idled d.idle (steps_of (reverse (vec_items d.calls)))) };
+    ghost invariant = { λ d. IsDisk (vec_items d.content) (idled d.idle (steps_of (reverse (vec_items d.calls)))) };
 }
 
 // The file with these bytes written over it.
@@ -172,6 +172,9 @@ impl MemDisk {
     pub fn power(&mut self, fill: Option<u8>) -> Result<(), AllocError>
         ensures ok { OnOk result (self.new ≡ record self.old { steps = Starts (content_of self.new.steps) ∷ self.old.steps; plan = no_plan }) }
         ensures filled { OnOk result (ComesBack fill self.old.steps (content_of self.new.steps)) }
+
+        // So the file is one that the crash may have left.
+        ensures image { OnOk result (images_of self.old.steps (content_of self.new.steps)) }
         ensures err { OnErr result (self.new ≡ self.old) }
     {
         let content = self.file_after(fill)?;
@@ -190,7 +193,8 @@ impl MemDisk {
 
     // The file once the power is back.
     fn file_after(&self, fill: Option<u8>) -> Result<Vec<u8>, AllocError>
-        ensures { IfOk result (λ file. ComesBack fill self.now.steps (vec_items file)) }
+        ensures filled { IfOk result (λ file. ComesBack fill self.now.steps (vec_items file)) }
+        ensures image { IfOk result (λ file. images_of self.now.steps (vec_items file)) }
     {
         let mut file = self.content.as_slice().to_vec(self.alloc)?;
         let Some(byte) = fill else {
@@ -257,6 +261,7 @@ impl MemDisk {
         fails: bool,
     ) -> Result<(), DiskFault>
         requires content { vec_items content ≡ content_of (step_of kind (vec_items bytes) ∷ self.old.steps) }
+        requires within { BeginsWithin (step_of kind (vec_items bytes)) (content_of self.old.steps) }
         ensures ok { OnOk result ((fails ≡ false) × (self.new ≡ record self.old { steps = step_of kind (vec_items bytes) ∷ self.old.steps })) }
         ensures err { OnErr result (IsIdle self.old.steps self.new.steps ⊎ ((fails ≡ true) × (self.new.steps ≡ step_of kind (vec_items bytes) ∷ self.old.steps))) }
         ensures failures { CountsFailure result self.old.failures self.new.failures }
