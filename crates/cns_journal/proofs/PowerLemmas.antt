@@ -82,8 +82,8 @@ torn_filled places byte file bytes at old new within o n =
           get_or-drop (at + length bytes) new i 0
           ∙ n.each (at + length bytes + i) (omega (arith, inside, size))
           ∙ pick (nat_le at (at + length bytes + i) && nat_lt (at + length bytes + i) (at + length bytes)) (places (at + length bytes + i)) byte
-              (get_or (overwritten file at bytes) (at + length bytes + i) 0) (get_or file (at + length bytes + i) 0)
-              (outside_after at (length bytes) (at + length bytes + i) (omega arith)) (over_after file bytes at within (at + length bytes + i) (omega arith))
+          (get_or (overwritten file at bytes) (at + length bytes + i) 0) (get_or file (at + length bytes + i) 0)
+          (outside_after at (length bytes) (at + length bytes + i) (omega arith)) (over_after file bytes at within (at + length bytes + i) (omega arith))
           ∙ sym (o.each (at + length bytes + i) inside)
           ∙ sym (get_or-drop (at + length bytes) old i 0));
       no_shorter = omega (arith, size, old_size, new_size, within);
@@ -95,12 +95,12 @@ cut_filled : (places : ℕ → Bool) (byte : ℕ) (file : List ℕ) (len : ℕ) 
 cut_filled places byte file len old new o n =
     let size = length-take len file in
     ext_get_or 0 new (take len old) (omega (arith, n.same_length, size, length-take len old, o.same_length)) (λ i less.
-        let below : i < len = omega (arith, less, n.same_length, size) in
-        let inside : i < length file = omega (arith, less, n.same_length, size) in
-        n.each i (omega (arith, less, n.same_length))
-        ∙ ap (λ x. if places i then byte else x) (get_or-take len file i 0 below)
-        ∙ sym (o.each i inside)
-        ∙ sym (get_or-take len old i 0 below))
+    let below : i < len = omega (arith, less, n.same_length, size) in
+    let inside : i < length file = omega (arith, less, n.same_length, size) in
+    n.each i (omega (arith, less, n.same_length))
+    ∙ ap (λ x. if places i then byte else x) (get_or-take len file i 0 below)
+    ∙ sym (o.each i inside)
+    ∙ sym (get_or-take len old i 0 below))
 
 pub filled_image : (byte : ℕ) (steps : List Step) (file : List ℕ) → AreWithin steps → IsFilled (is_unsynced steps) byte (content_of steps) file → images_of steps file
 filled_image byte [] file within f = none_filled byte [] file f

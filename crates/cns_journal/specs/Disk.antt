@@ -1,5 +1,5 @@
 -- What the calls of a disk do to its file, and what a crash may leave of it (this project's own rules).
-use Rattle.std.specs.Prelude.{◌≡◌, ◌⊎◌, ℕ, ◌+◌, ◌≤◌, max, List, ◌++◌, length, take, drop, Result, Ok, Err}
+use Rattle.std.specs.Prelude.{◌≡◌, ◌⊎◌, ℕ, ◌+◌, ◌≤◌, max, List, ◌++◌, length, take, drop, Result, Ok, Err, IsErr}
 use Rattle.cns_journal.specs.Keeper.{HasRisen}
 
 -- the file with these bytes at this place, over what was there
@@ -34,6 +34,12 @@ Only file images = (image : List ℕ) → images image → image ≡ file
 abbrev pub CountsFailure : {T E : Type 0} → Result T E → ℕ → ℕ → Type 0
 CountsFailure (Ok _) old new = new ≡ old
 CountsFailure (Err _) old new = HasRisen old new
+
+-- a call fails and does nothing: the file is the same, and a crash leaves nothing that it could not have left before
+pub record DoesNothing {D T E : Type 0} (seen : D → List ℕ) (images : D → List ℕ → Type 0) (result : Result T E) (old new : D) : Type 0 where
+  pub fails : IsErr result
+  pub same : seen new ≡ seen old
+  pub fewer : EachImage (images new) (images old)
 
 -- time goes on: a crash since a moment may have left what it may have left before, or what it may leave now
 pub record Elapses (before now : ℕ) (past since : ℕ → List ℕ → Type 0) (images : List ℕ → Type 0) : Type 0 where

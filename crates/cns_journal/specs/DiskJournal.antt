@@ -67,16 +67,16 @@ abbrev pub MayLeave : Call → Journal → List ℕ → Type 0
 MayLeave (Commit payload) journal file = IsReopened journal (journal_of file) ⊎ HasWithOrWithout journal.kept payload file
 MayLeave Reopen journal file = IsReopened journal (journal_of file)
 
-module _ {D : Type 0} (images : D → List ℕ → Type 0) (moment : D → ℕ) (left_since : D → ℕ → List ℕ → Type 0) where
-  -- what a call of a journal that is durable leaves of its disk: at any moment of it no more than that, and a durable journal after it
-  pub record IsCall (call : Call) (old new : DiskState D) : Type 0 where
-    pub any_moment : IsDurable images old → LeavesOnly moment left_since old.disk new.disk (MayLeave call old.journal)
-    pub stays : IsDurable images old → IsDurable images new
+-- what a call of a journal leaves of its disk: at any moment of it no more than that, and a durable journal after it, where it was durable
+pub record IsCall {D : Type 0} (images : D → List ℕ → Type 0) (moment : D → ℕ) (left_since : D → ℕ → List ℕ → Type 0) (call : Call) (old new : DiskState D) : Type 0 where
+  pub any_moment : IsDurable images old → LeavesOnly moment left_since old.disk new.disk (MayLeave call old.journal)
+  pub stays : IsDurable images old → IsDurable images new
 
-  -- calls one after another, each with what the journal has before it
-  abbrev pub AreCalls : List (Call × Journal) → DiskState D → DiskState D → Type 0
-  AreCalls [] old new = new ≡ old
-  AreCalls (c ∷ calls) old new = (c.1 ≡ old.journal) × ((next : DiskState D) × IsCall c.0 old next × AreCalls calls next new)
+-- calls one after another, each with what the journal has before it
+abbrev pub AreCalls : {D : Type 0} → (D → List ℕ → Type 0) → (D → ℕ) → (D → ℕ → List ℕ → Type 0) → List (Call × Journal) → DiskState D → DiskState D → Type 0
+AreCalls images moment left_since [] old new = new ≡ old
+AreCalls {D} images moment left_since (c ∷ calls) old new =
+    (c.1 ≡ old.journal) × ((next : DiskState D) × IsCall images moment left_since c.0 old next × AreCalls images moment left_since calls next new)
 
 -- a crash at any moment of any calls leaves what one of these calls may leave, or what the journal had before them
 abbrev pub AnyCalls : {D : Type 0} → (D → Bool) → (D → List ℕ → Type 0) → (D → ℕ) → (D → ℕ → List ℕ → Type 0) → Type 0

@@ -1,7 +1,7 @@
 //! A disk: what a read of its file gives, and what a crash may leave of it.
 
-ghost use Rattle.std.specs.Prelude.{◌≡◌, ℕ, ◌+◌, ◌≤◌, Bool, true, List, length, take, drop, OnOk, IfOk};
-ghost use Rattle.cns_journal.specs.Disk.{CountsFailure, EachImage, Elapses, Follows, Only, Shortened, Torn, overwritten};
+ghost use Rattle.std.specs.Prelude.{◌≡◌, ℕ, ◌+◌, ◌<◌, ◌≤◌, Bool, true, List, length, take, drop, OnOk, IfOk, IsErr};
+ghost use Rattle.cns_journal.specs.Disk.{CountsFailure, DoesNothing, EachImage, Elapses, Follows, Only, Shortened, Torn, overwritten};
 
 use thiserror::Error;
 
@@ -18,9 +18,10 @@ pub struct DiskFault;
 ///
 /// A crash at any moment leaves one of the file's images. Until a write is synced, the bytes that it
 /// wrote and those past the old end may be any; a cut leaves the old length or the new one; what was
-/// synced stays. What is said of bytes, images and moments holds where the disk is honest, and each
-/// call leaves it as honest as it was. A call fails only where the count of the disk's failures rises;
-/// at the largest count it stays there. (This project's own rules.)
+/// synced stays. A call that reaches past the end of the file, a write that would begin there among them,
+/// fails and does nothing. What is said of bytes, images and moments holds where the disk is honest, and
+/// each call leaves it as honest as it was. A call fails only where the count of the disk's failures
+/// rises; at the largest count it stays there. (This project's own rules.)
 pub trait Disk {
     /// Whether what is said of bytes, images and moments holds.
     ghost honest: { Self → Bool };
@@ -56,6 +57,7 @@ pub trait Disk {
         ensures honest { honest self.new ≡ honest self.old }
         ensures value { honest self.old ≡ true → at + length into.old ≤ length (seen self.old)
             → OnOk result (into.new ≡ take (length into.old) (drop at (seen self.old))) }
+        ensures outside { honest self.old ≡ true → length (seen self.old) < at + length into.old → IsErr result }
         ensures seen { honest self.old ≡ true → seen self.new ≡ seen self.old }
         ensures crash { honest self.old ≡ true → EachImage (images self.new) (images self.old) }
         ensures time { honest self.old ≡ true → Elapses (moment self.old) (moment self.new) (left_since self.old) (left_since self.new) (images self.new) }
@@ -66,6 +68,7 @@ pub trait Disk {
         ensures honest { honest self.new ≡ honest self.old }
         ensures written { honest self.old ≡ true → at ≤ length (seen self.old)
             → OnOk result (seen self.new ≡ overwritten (seen self.old) at bytes.now) }
+        ensures outside { honest self.old ≡ true → length (seen self.old) < at → DoesNothing seen images result self.old self.new }
         ensures limit { OnOk result (at + length bytes.now ≤ MAX_FILE_LEN) }
         ensures crash { honest self.old ≡ true → at ≤ length (seen self.old)
             → Follows (Torn at (length bytes.now)) (images self.old) (images self.new) }
@@ -77,6 +80,7 @@ pub trait Disk {
         ensures honest { honest self.new ≡ honest self.old }
         ensures cut { honest self.old ≡ true → len ≤ length (seen self.old)
             → OnOk result (seen self.new ≡ take len (seen self.old)) }
+        ensures outside { honest self.old ≡ true → length (seen self.old) < len → DoesNothing seen images result self.old self.new }
         ensures crash { honest self.old ≡ true → len ≤ length (seen self.old)
             → Follows (Shortened len) (images self.old) (images self.new) }
         ensures time { honest self.old ≡ true → Elapses (moment self.old) (moment self.new) (left_since self.old) (left_since self.new) (images self.new) }

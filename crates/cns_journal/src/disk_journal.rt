@@ -218,5 +218,4 @@ impl<D: Disk> Keeper for DiskJournal<D> {
 /// one, where the disk is honest and what a crash left before the first call did so.
 pub fn outlasts_crashes<D: Disk>()
     ensures { AnyCalls D.honest D.images D.moment D.left_since }
-{
-}
+{}

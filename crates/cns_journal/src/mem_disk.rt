@@ -1,7 +1,7 @@
 //! A disk in memory, for tests.
 
-ghost use Rattle.std.specs.Prelude.{◌≡◌, ◌⊎◌, ◌≤◌, ◌+◌, true, false, ◌&&◌, nat_le, nat_lt, [], ◌∷◌, ◌++◌, length, take, drop, vec_items, Some, None, IfOk, OnOk, OnErr, reverse};
-ghost use Rattle.cns_journal.specs.Disk.{CountsFailure, EachImage, Follows, Only, Shortened, Torn, overwritten};
+ghost use Rattle.std.specs.Prelude.{◌≡◌, ◌⊎◌, ◌<◌, ◌≤◌, ◌+◌, true, false, ◌&&◌, nat_le, nat_lt, [], ◌∷◌, ◌++◌, length, take, drop, vec_items, Some, None, IfOk, IsErr, OnOk, OnErr, reverse};
+ghost use Rattle.cns_journal.specs.Disk.{CountsFailure, DoesNothing, EachImage, Follows, Only, Shortened, Torn, overwritten};
 ghost use Rattle.cns_journal.specs.Keeper.{HasRisen};
 ghost use Rattle.cns_journal.specs.MemCall.{IsTurn, step_of, steps_of};
 ghost use Rattle.cns_journal.specs.MemDisk.{BeginsWithin, Calls, ComesBack, Cuts, Goes, IsFilled, IsIdle, Nothing, Starts, Syncs, Writes, after_call, content_of, images_of, is_unsynced, no_plan};
@@ -329,6 +329,7 @@ impl Disk for MemDisk {
     fn read(&mut self, at: u64, into: &mut [u8]) -> Result<(), DiskFault>
         ensures value { at + length into.old ≤ length (content_of self.old.steps)
             → OnOk result (into.new ≡ take (length into.old) (drop at (content_of self.old.steps))) }
+        ensures outside { length (content_of self.old.steps) < at + length into.old → IsErr result }
         ensures calls { Calls Nothing result self.old self.new }
         ensures seen { content_of self.new.steps ≡ content_of self.old.steps }
         ensures crash { EachImage (images_of self.new.steps) (images_of self.old.steps) }
@@ -352,6 +353,8 @@ impl Disk for MemDisk {
     fn write_at(&mut self, at: u64, bytes: &[u8]) -> Result<(), DiskFault>
         ensures written { at ≤ length (content_of self.old.steps)
             → OnOk result (content_of self.new.steps ≡ overwritten (content_of self.old.steps) at bytes.now) }
+        ensures outside { length (content_of self.old.steps) < at
+            → DoesNothing (λ d. content_of d.steps) (λ d. images_of d.steps) result self.old self.new }
         ensures limit { OnOk result (at + length bytes.now ≤ MAX_FILE_LEN) }
         ensures calls { Calls (Writes at bytes.now) result self.old self.new }
         ensures crash { at ≤ length (content_of self.old.steps)
@@ -379,6 +382,8 @@ impl Disk for MemDisk {
     fn cut(&mut self, len: u64) -> Result<(), DiskFault>
         ensures cut { len ≤ length (content_of self.old.steps)
             → OnOk result (content_of self.new.steps ≡ take len (content_of self.old.steps)) }
+        ensures outside { length (content_of self.old.steps) < len
+            → DoesNothing (λ d. content_of d.steps) (λ d. images_of d.steps) result self.old self.new }
         ensures calls { Calls (Cuts len) result self.old self.new }
         ensures crash { len ≤ length (content_of self.old.steps)
             → Follows (Shortened len) (images_of self.old.steps) (images_of self.new.steps) }
