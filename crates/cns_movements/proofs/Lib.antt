@@ -1,5 +1,6 @@
 pub mod BytesLemmas
 pub mod OrderLemmas
+pub mod SameOrderLemmas
 pub mod ReplyLemmas
 pub mod AskLemmas
 pub mod BookLemmas
