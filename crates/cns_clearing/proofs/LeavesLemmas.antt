@@ -1,10 +1,10 @@
 -- What the calls of lots leave.
-use Rattle.std.proofs.Common.{◌≡◌, ◌≤◌, ◌+◌, ◌-◌, ℕ, Bool, false, List, [], ◌∷◌, ◌++◌, length, map, Some, None, Ok, Err, refl, sym, ap, ◌∙◌, subst}
+use Rattle.std.proofs.Common.{◌≡◌, ◌≤◌, ◌-◌, ℕ, Bool, false, List, [], ◌∷◌, ◌++◌, length, map, Some, None, Ok, Err, refl, sym, ap, ◌∙◌, subst}
 use Rattle.std.specs.Prelude.{IfOk, Result}
 use Rattle.std.specs.declared.alloc.AllocError.{AllocError}
 use Rattle.cns_pool.specs.Pool.{asked_sum}
 use Rattle.cns_pool.specs.declared.ticket.Ticket.{Ticket}
-use Rattle.cns_movements.specs.Order.{numbered}
+use Rattle.cns_movements.specs.Book.{next_orders}
 use Rattle.cns_movements.specs.declared.order.Ask.{Ask}
 use Rattle.cns_movements.specs.declared.order.Order.{Order}
 use Rattle.cns_allocate.specs.Deliveries.{deliveries_of}
@@ -154,8 +154,8 @@ pub close_refused : (old new : ClearNode) (issue : ℕ) (tickets : List Ticket) 
 close_refused old new issue tickets sealed a commit.OutOfMemory up may enough allowed left = (up, (a, may, enough), left)
 close_refused old new issue tickets sealed a commit.Device up may enough allowed left = (a, may, allowed, left)
 
--- the orders under the next numbers, of the records
+-- the next orders, of the records
 pub orders_are : (b : Books) (c : List ClearRecord) (l : List Ask) (a : Allocation) (orders : List Order) → b ≡ books_of c → l ≡ deliveries_in a
-    → orders ≡ numbered (length b.orders.orders + 1) l → orders ≡ numbered (length (orders_of c).orders + 1) (deliveries_in a)
+    → orders ≡ next_orders b.orders l → orders ≡ next_orders (orders_of c) (deliveries_in a)
 orders_are b c l a orders same list is =
-    is ∙ ap (λ (x : Books). numbered (length x.orders.orders + 1) l) same ∙ ap (numbered (length (orders_of c).orders + 1)) list
+    is ∙ ap (λ (x : Books). next_orders x.orders l) same ∙ ap (next_orders (orders_of c)) list

@@ -16,6 +16,5 @@ pub mod DrawnLemmas
 pub mod PlanLemmas
 pub mod AllocationLemmas
 pub mod PouredLemmas
-pub mod NumberedLemmas
 pub mod LeavesLemmas
 pub mod BalanceLemmas

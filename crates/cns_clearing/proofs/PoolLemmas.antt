@@ -6,7 +6,7 @@ use Rattle.std.proofs.lemmas.List.Elements.{All-head, All-tail, All-weaker}
 use Rattle.std.proofs.lemmas.List.Sums.{sum_by-append, sum_by-cons}
 use Rattle.std.proofs.lemmas.Option.{same_Some}
 use Rattle.cns_movements.specs.Book.{IsOrderBook, Orders, with_asks, with_reply}
-use Rattle.cns_movements.specs.Order.{is_cover, is_delivery, moved_of, moved_part, numbered, open_part, order_of}
+use Rattle.cns_movements.specs.Order.{is_cover, is_delivery, moved_of, moved_part, numbered, open_part, order_from, order_of}
 use Rattle.cns_movements.specs.declared.order.Ask.{Ask}
 use Rattle.cns_movements.specs.declared.order.MoveKind.TheVariants.{Cover, Delivery}
 use Rattle.cns_movements.specs.declared.order.Order.{Order}
@@ -67,7 +67,7 @@ new_taken : (n : ℕ) (asks : List Ask) (rs : List Reply) (issue : ℕ) → ((j 
 unfolding asked_of_pool
 new_taken n [] rs issue none = refl
 new_taken n (a ∷ asks) rs issue none =
-    let o : Order = record { number = n; kind = a.kind; member = a.member; issue = a.issue; asked = a.asked } in
+    let o : Order = order_from n a in
     let rest = new_taken (suc n) asks rs issue (λ j le. none j (omega arith)) in
     let here : kind_part Delivery issue (taken_part rs) o ≡ (if is_delivery_of issue a then a.asked else 0) = rw (none n (omega arith)) refl in
     omega (arith, sum_by-cons (kind_part Delivery issue (taken_part rs)) o (numbered (suc n) asks), rest, here)

@@ -5,11 +5,12 @@ use Rattle.std.proofs.lemmas.Bool.{eq-eqb}
 use Rattle.std.proofs.lemmas.List.Sums.{sum_by-append, sum_by-cons}
 use Rattle.cns_movements.specs.declared.order.MoveKind.TheVariants.{Delivery}
 use Rattle.cns_movements.specs.Book.{IsOrderBook, Orders, with_asks, with_reply}
-use Rattle.cns_movements.specs.Order.{is_cover, is_delivery, moved_part, numbered, open_part, order_of}
+use Rattle.cns_movements.specs.Order.{is_cover, is_delivery, moved_part, numbered, open_part, order_from, order_of}
 use Rattle.cns_movements.specs.declared.order.Ask.{Ask}
 use Rattle.cns_movements.specs.declared.order.Order.{Order}
 use Rattle.cns_movements.specs.declared.order.Reply.{Reply}
 use Rattle.cns_movements.proofs.ConfirmLemmas.{IsTaken}
+use Rattle.cns_movements.proofs.OpenLemmas.{numbered_asked}
 use Rattle.cns_movements.proofs.OrderLemmas.{length-numbered, sum_le_found}
 use Rattle.cns_movements.proofs.ReplyLemmas.{moved_of_above, moved_with_reply, open_new, open_with_reply, parts_le_asked}
 use Rattle.cns_clearing.specs.Pools.{asked_of_pool, covered_of, delivered_of, kind_part, out_of}
@@ -45,20 +46,13 @@ sums_kept old new book now are same is = subst (AreSumsOf new) (sym is) (record 
 
 -- ---- with more orders
 
--- new orders ask for what their asks do
-numbered_asked : (n : ℕ) (asks : List Ask) → sum_by (λ (o : Order). o.asked) (numbered n asks) ≡ sum_by (λ (a : Ask). a.asked) asks
-numbered_asked n [] = refl
-numbered_asked n (a ∷ asks) =
-    let o : Order = record { number = n; kind = a.kind; member = a.member; issue = a.issue; asked = a.asked } in
-    omega (arith, sum_by-cons (λ (x : Order). x.asked) o (numbered (suc n) asks), sum_by-cons (λ (x : Ask). x.asked) a asks, numbered_asked (suc n) asks)
-
--- of which the deliveries ask of the pool
+-- of new orders the deliveries ask of the pool
 numbered_out : (n : ℕ) (asks : List Ask) (issue : ℕ)
     → sum_by (λ (o : Order). if is_delivery o.kind && (o.issue == issue) then o.asked else 0) (numbered n asks) ≡ asked_of_pool issue asks
 unfolding asked_of_pool
 numbered_out n [] issue = refl
 numbered_out n (a ∷ asks) issue =
-    let o : Order = record { number = n; kind = a.kind; member = a.member; issue = a.issue; asked = a.asked } in
+    let o : Order = order_from n a in
     omega (arith, sum_by-cons (λ (x : Order). if is_delivery x.kind && (x.issue == issue) then x.asked else 0) o (numbered (suc n) asks), numbered_out (suc n) asks issue)
 
 -- an ask at the head of others

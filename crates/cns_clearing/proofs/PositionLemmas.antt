@@ -1,13 +1,13 @@
 -- Due trades, and positions now and after the latest two cycles, are those of the books.
-use Rattle.std.proofs.Common.{◌≡◌, ◌+◌, ℕ, List, [], ◌∷◌, ◌++◌, length, Option, Some, None, refl, sym, ap, ◌∙◌, subst, arith}
+use Rattle.std.proofs.Common.{◌≡◌, ℕ, List, [], ◌∷◌, Option, Some, None, refl, sym, ap, ◌∙◌, subst, arith}
 use Rattle.std.specs.Prelude.{◌&&◌, ◌==◌, ◌||◌, nat_le, ℤ, pos, neg_ℤ, ◌+ℤ◌, ◌-ℤ◌, ◌≤ℤ◌}
 use Rattle.std.specs.List.{list_any}
-use Rattle.cns_movements.specs.Book.{IsOrderBook}
+use Rattle.cns_movements.specs.Book.{IsOrderBook, with_asks}
 use Rattle.cns_trades.specs.declared.trade.Trade.{Trade}
 use Rattle.cns_netting.specs.History.{bought, due, due_since, is_reached, latest, position_of, settled_in, settled_out, sold}
 use Rattle.cns_netting.specs.declared.entry.NetEntry.{NetEntry}
 use Rattle.cns_netting.proofs.TradeLemmas.{is_reached-latest}
-use Rattle.cns_movements.specs.Order.{is_of, moved_sum, numbered, open_sum}
+use Rattle.cns_movements.specs.Order.{is_of, moved_sum, open_sum}
 use Rattle.cns_movements.specs.declared.order.Ask.{Ask}
 use Rattle.cns_movements.specs.declared.order.MoveKind.{MoveKind}
 use Rattle.cns_movements.specs.declared.order.MoveKind.TheVariants.{Cover, Delivery}
@@ -69,7 +69,7 @@ moved_confirmed b r m i ordered taken moved =
     }
 
 moved_ordered : (b : Books) (asks : List Ask) (kind : MoveKind) (m i : ℕ) → IsOrderBook b.orders
-    → moved_sum (b.orders.orders ++ numbered (length b.orders.orders + 1) asks) b.orders.replies kind m i ≡ moved_sum b.orders.orders b.orders.replies kind m i
+    → moved_sum (with_asks b.orders asks).orders b.orders.replies kind m i ≡ moved_sum b.orders.orders b.orders.replies kind m i
 unfolding moved_sum
 moved_ordered b asks kind m i ordered = moved_with_asks (is_of kind m i) b.orders asks ordered
 

@@ -7,8 +7,9 @@ use Rattle.cns_trades.specs.declared.list.Verdict.{Verdict}
 use Rattle.cns_trades.specs.declared.list.Verdict.TheVariants as verdicts
 use Rattle.cns_trades.specs.declared.trade.Trade.{Trade}
 use Rattle.cns_netting.specs.History.{accepted, becoming_due}
+use Rattle.cns_movements.specs.Book.{next_orders}
 use Rattle.cns_movements.specs.Confirm.{confirm_answer}
-use Rattle.cns_movements.specs.Order.{numbered, order_of}
+use Rattle.cns_movements.specs.Order.{order_of}
 use Rattle.cns_movements.specs.declared.book.Confirm.{Confirm}
 use Rattle.cns_movements.specs.declared.book.Confirm.TheVariants as answers
 use Rattle.cns_movements.specs.declared.order.Ask.{Ask}
@@ -59,10 +60,10 @@ SettingLeaves r (Err _) old new = ⊥
 abbrev pub covers_in : List ClearRecord → ℕ → List Ask
 covers_in c day = covers_on (books_of c) day
 
--- how many trades a cycle made due, and the orders of its covers, under the next numbers
+-- how many trades a cycle made due, and the orders of its covers, the next ones
 pub record IsCycled (c : List ClearRecord) (day : ℕ) (done : Cycled) : Type 0 where
   pub due : done.due ≡ becoming_due (history_of c) day
-  pub orders : done.orders ≡ numbered (length (orders_of c).orders + 1) (covers_in c day)
+  pub orders : done.orders ≡ next_orders (orders_of c) (covers_in c day)
 
 -- what a cycle leaves, by its answer
 abbrev pub CycleLeaves : CycleId → Result Cycled Refusal → ClearNode → ClearNode → Type 0
@@ -132,11 +133,11 @@ CloseRefused issue tickets sealed refusal.NumbersSpent node =
     (a : Allocation) × MayClose node issue tickets sealed a × (are_spent (orders_of node.log.records) (length (deliveries_in a)) ≡ true)
 CloseRefused issue tickets sealed _ node = ⊥
 
--- how many shares a close granted, which its orders ask for in all, and these orders, under the next numbers
+-- how many shares a close granted, which its orders ask for in all, and these orders, the next ones
 pub record IsClosed (c : List ClearRecord) (tickets : List Ticket) (a : Allocation) (done : Closed) : Type 0 where
   pub granted : done.granted ≡ min a.poured (asked_sum tickets)
   pub sum : sum_by (λ (x : Ask). x.asked) (deliveries_in a) ≡ done.granted
-  pub orders : done.orders ≡ numbered (length (orders_of c).orders + 1) (deliveries_in a)
+  pub orders : done.orders ≡ next_orders (orders_of c) (deliveries_in a)
 
 -- what the close of a lot leaves, by its answer
 abbrev pub LotCloseLeaves : ℕ → List Ticket → Bool → Result Closed Refusal → ClearNode → ClearNode → Type 0

@@ -1,7 +1,7 @@
 ghost use Rattle.std.specs.Prelude.{◌≡◌, ◌≢◌, ◌↔◌, ℕ, ◌≤◌, ◌^◌, ◌+◌, ◌++◌, ◌∷◌, IsTrue, true, false, [], length, map, option_map, IfOk, IfErr, None, OnErr, OnOk, if◌then◌else◌};
 ghost use Rattle.cns_records.specs.declared.clear_record.ClearRecord.TheVariants.{Exempt, Priority};
 ghost use Rattle.cns_records.specs.Clear.{AreWritable, spelling};
-ghost use Rattle.cns_movements.specs.Order.{numbered};
+ghost use Rattle.cns_movements.specs.Book.{next_orders};
 ghost use Rattle.cns_netting.specs.Book.{IsBook};
 ghost use Rattle.cns_netting.specs.History.{due, longs_of, shorts_of};
 ghost use Rattle.cns_clearing.specs.Books.{AreEffects, AreSound, IsAllowed, IsLawful, are_spent, asks_of, books_of, history_of, latest_of, orders_of, rows_after};
@@ -626,8 +626,7 @@ impl<K: Keeper> Clearing<K> {
 // The orders of these asks, under the next numbers of the books.
 fn numbered_orders(alloc: Global, books: &Books, asks: &[Ask]) -> Result<Orders, AllocError>
     requires { are_spent books.now.books.orders (length asks.now) ≡ false }
-    ensures { let next = length books.now.books.orders.orders + 1 in
-        IfOk result (λ orders. orders ≡ numbered next asks.now) }
+    ensures { IfOk result (λ orders. orders ≡ next_orders books.now.books.orders asks.now) }
 {
     let issued = books.orders().len();
     let mut list = Vec::with_capacity(alloc, asks.len())?;
@@ -635,13 +634,7 @@ fn numbered_orders(alloc: Global, books: &Books, asks: &[Ask]) -> Result<Orders,
         let Some(number) = MoveNo::new((issued + list.len()) as u64 + 1) else {
             unreachable!()
         };
-        list.push(Order {
-            number,
-            kind: ask.kind,
-            member: ask.member,
-            issue: ask.issue,
-            asked: ask.asked,
-        })?;
+        list.push(Order::from_ask(number, ask))?;
     }
     Ok(Orders::of(list))
 }

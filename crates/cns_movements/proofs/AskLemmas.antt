@@ -6,7 +6,7 @@ use Rattle.std.proofs.lemmas.List.Elements.{All-head, All-tail}
 use Rattle.std.proofs.lemmas.List.Sums.{sum_by-cons}
 use Rattle.cns_movements.specs.Book.{IsOrderBook, Orders, with_asks}
 use Rattle.cns_movements.specs.OpenShares.{asked_by}
-use Rattle.cns_movements.specs.Order.{is_of, numbered, open_sum, same_kind}
+use Rattle.cns_movements.specs.Order.{is_of, numbered, open_sum, order_from, same_kind}
 use Rattle.cns_movements.specs.declared.order.Ask.{Ask}
 use Rattle.cns_movements.specs.declared.order.MoveKind.{MoveKind}
 use Rattle.cns_movements.specs.declared.order.MoveKind.TheVariants.{Cover, Delivery}
@@ -19,7 +19,7 @@ pub asked_by-numbered : (kind : MoveKind) (m i n : ℕ) (asks : List Ask)
 unfolding asked_by
 asked_by-numbered kind m i n [] = refl
 asked_by-numbered kind m i n (a ∷ asks) =
-    let o : Order = record { number = n; kind = a.kind; member = a.member; issue = a.issue; asked = a.asked } in
+    let o : Order = order_from n a in
     omega (arith, sum_by-cons (λ (o : Order). if is_of kind m i o then o.asked else 0) o (numbered (suc n) asks), asked_by-numbered kind m i (suc n) asks)
 
 -- a book with more asks has open what it had open before and all that they ask for

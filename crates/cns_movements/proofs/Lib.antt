@@ -1,5 +1,7 @@
 pub mod BytesLemmas
 pub mod OrderLemmas
+pub mod SameOrderLemmas
+pub mod FieldLemmas
 pub mod ReplyLemmas
 pub mod AskLemmas
 pub mod BookLemmas

@@ -8,7 +8,7 @@ use Rattle.cns_ids.specs.declared.holding.Holding.{Holding}
 use Rattle.cns_ids.proofs.HoldingLemmas.{Puts, put-adds, put-takes}
 use Rattle.cns_movements.specs.Book.{IsOrderBook, Orders, with_asks, with_reply}
 use Rattle.cns_movements.specs.OpenShares.{AreOpenIn, asked_by, open_at, shares_of}
-use Rattle.cns_movements.specs.Order.{is_of, moved_of, numbered, open_part, open_sum, order_of, same_kind}
+use Rattle.cns_movements.specs.Order.{is_of, moved_of, numbered, open_part, open_sum, order_from, order_of, same_kind}
 use Rattle.cns_movements.specs.declared.open_shares.OpenShares.{OpenShares}
 use Rattle.cns_movements.specs.declared.order.Ask.{Ask}
 use Rattle.cns_movements.specs.declared.order.MoveKind.{MoveKind}
@@ -18,6 +18,7 @@ use Rattle.cns_movements.specs.declared.order.Reply.{Reply}
 use Rattle.cns_movements.proofs.AskLemmas.{open_sum_asked}
 use Rattle.cns_movements.proofs.OrderLemmas.{length-numbered, sum_le_found}
 use Rattle.cns_movements.proofs.ReplyLemmas.{open_sum-with_reply, parts_le_asked}
+use Rattle.cns_movements.proofs.SameOrderLemmas.{same_kind-refl}
 
 -- ---- look-ups
 
@@ -94,7 +95,7 @@ open_kept old new book are same = record { sums = λ k m i. same k m i ∙ are.s
 pub numbered_asked : (n : ℕ) (asks : List Ask) → sum_by (λ (o : Order). o.asked) (numbered n asks) ≡ sum_by (λ (a : Ask). a.asked) asks
 numbered_asked n [] = refl
 numbered_asked n (a ∷ asks) =
-    let o : Order = record { number = n; kind = a.kind; member = a.member; issue = a.issue; asked = a.asked } in
+    let o : Order = order_from n a in
     omega (arith, sum_by-cons (λ (x : Order). x.asked) o (numbered (suc n) asks), sum_by-cons (λ (x : Ask). x.asked) a asks, numbered_asked (suc n) asks)
 
 pub open_ordered : (old new : MoveKind → ℕ → ℕ → ℕ) (book : Orders) (asks : List Ask) → IsOrderBook book → AreOpenIn old book
@@ -131,10 +132,6 @@ open_most shares book lawful are k m i =
     let each : (o : Order) → order_of book.orders o.number ≡ Some o → (if is_of k m i o then open_part book.replies o else 0) ≤ o.asked =
     λ o found. omega (arith, counted_le (is_of k m i o) (open_part book.replies o), parts_le_asked book.orders book.replies o lawful.known found) in
     omega (arith, are.sums k m i, are.most, sum_le_found (λ (o : Order). if is_of k m i o then open_part book.replies o else 0) (λ (o : Order). o.asked) book.orders 1 lawful.numbered each)
-
-same_kind-refl : (k : MoveKind) → same_kind k k ≡ true
-same_kind-refl Cover = refl
-same_kind-refl Delivery = refl
 
 -- an unconfirmed order is counted among them
 pub open_has : (shares : MoveKind → ℕ → ℕ → ℕ) (book : Orders) (r : Reply) (o : Order) → IsOrderBook book → AreOpenIn shares book

@@ -7,7 +7,7 @@ use Rattle.std.proofs.lemmas.List.{take_more}
 use Rattle.std.proofs.lemmas.List.Sums.{sum_by-cons}
 use Rattle.cns_movements.specs.declared.order.Order.{Order}
 use Rattle.cns_movements.specs.declared.order.Ask.{Ask}
-use Rattle.cns_movements.specs.Order.{order_of, numbered, IsNumbered}
+use Rattle.cns_movements.specs.Order.{order_from, order_of, numbered, IsNumbered}
 
 -- the first order is found under its number
 pub order_of_same : (x : Order) (xs : List Order) (n : ℕ) → x.number ≡ n → order_of (x ∷ xs) n ≡ Some x
@@ -90,21 +90,25 @@ length-numbered n (a ∷ asks) = ap suc (length-numbered (suc n) asks)
 pub numbered-append : (n : ℕ) (xs ys : List Ask) → numbered n (xs ++ ys) ≡ numbered n xs ++ numbered (n + length xs) ys
 numbered-append n [] ys = let e : n ≡ n + 0 = omega arith in ap (λ (k : ℕ). numbered k ys) e
 numbered-append n (x ∷ xs) ys =
-    let o : Order = record { number = n; kind = x.kind; member = x.member; issue = x.issue; asked = x.asked } in
+    let o : Order = order_from n x in
     let e : suc n + length xs ≡ n + suc (length xs) = omega arith in
     ap (λ (l : List Order). o ∷ l) (numbered-append (suc n) xs ys ∙ ap (λ (k : ℕ). numbered (suc n) xs ++ numbered k ys) e)
 
--- one more ask, as a loop that appends orders takes them
-pub numbered_push : (os : List Order) (asks : List Ask) (i : ℕ) (x : Ask) (n : ℕ) → i < length asks → x ≡ get_or asks i x → n ≡ length os + i + 1
-    → (os ++ numbered (length os + 1) (take i asks)) ++ (record { number = n; kind = x.kind; member = x.member; issue = x.issue; asked = x.asked } ∷ [])
-    ≡ os ++ numbered (length os + 1) (take (i + 1) asks)
-numbered_push os asks i x n within is e =
-    let k : ℕ = length os + 1 in
+-- one more ask, as a loop that numbers asks takes them
+pub numbered_more : (asks : List Ask) (k i n : ℕ) (x : Ask) → i < length asks → x ≡ get_or asks i x → n ≡ k + i
+    → numbered k (take i asks) ++ (order_from n x ∷ []) ≡ numbered k (take (i + 1) asks)
+numbered_more asks k i n x within is e =
     let number : k + length (take i asks) ≡ n = omega (arith, length-take i asks) in
     let next : take (i + 1) asks ≡ take i asks ++ x ∷ [] = take_more asks i x within ∙ ap (λ (y : Ask). take i asks ++ y ∷ []) (sym is) in
-    let more : numbered k (take (i + 1) asks) ≡ numbered k (take i asks) ++ numbered n (x ∷ []) =
-    ap (numbered k) next ∙ numbered-append k (take i asks) (x ∷ []) ∙ ap (λ (j : ℕ). numbered k (take i asks) ++ numbered j (x ∷ [])) number in
-    append_assoc os (numbered k (take i asks)) (numbered n (x ∷ [])) ∙ ap (λ (l : List Order). os ++ l) (sym more)
+    sym (ap (numbered k) next ∙ numbered-append k (take i asks) (x ∷ []) ∙ ap (λ (j : ℕ). numbered k (take i asks) ++ numbered j (x ∷ [])) number)
+
+-- the same behind orders that stand already
+pub numbered_push : (os : List Order) (asks : List Ask) (i : ℕ) (x : Ask) (n : ℕ) → i < length asks → x ≡ get_or asks i x → n ≡ length os + i + 1
+    → (os ++ numbered (length os + 1) (take i asks)) ++ (order_from n x ∷ [])
+    ≡ os ++ numbered (length os + 1) (take (i + 1) asks)
+numbered_push os asks i x n within is e =
+    append_assoc os (numbered (length os + 1) (take i asks)) (order_from n x ∷ [])
+    ∙ ap (λ (l : List Order). os ++ l) (numbered_more asks (length os + 1) i n x within is (omega arith))
 
 -- two sums over numbered orders are equal where the terms of the numbers from k on are
 pub sum_same_from : (f g : Order → ℕ) (os : List Order) (k : ℕ) → IsNumbered k os → ((o : Order) → k ≤ o.number → f o ≡ g o) → sum_by f os ≡ sum_by g os

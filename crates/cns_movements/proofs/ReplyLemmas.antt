@@ -8,7 +8,7 @@ use Rattle.cns_movements.specs.declared.order.MoveKind.{MoveKind}
 use Rattle.cns_movements.specs.declared.order.Order.{Order}
 use Rattle.cns_movements.specs.declared.order.Ask.{Ask}
 use Rattle.cns_movements.specs.declared.order.Reply.{Reply}
-use Rattle.cns_movements.specs.Order.{order_of, moved_of, is_of, open_part, moved_part, open_sum, moved_sum, numbered, IsNumbered, AreKnown}
+use Rattle.cns_movements.specs.Order.{order_from, order_of, moved_of, is_of, open_part, moved_part, open_sum, moved_sum, numbered, IsNumbered, AreKnown}
 use Rattle.cns_movements.proofs.OrderLemmas.{order_of-append, order_of_above, order_of_number, sum_but_one, sum_same_from, IsNumbered-numbered}
 
 -- the newest confirmation decides under its own number
@@ -137,7 +137,7 @@ pub moved_new : (counted : Order → Bool) (n : ℕ) (asks : List Ask) (rs : Lis
     → sum_by (λ (o : Order). if counted o then moved_part rs o else 0) (numbered n asks) ≡ 0
 moved_new counted n [] rs none = refl
 moved_new counted n (a ∷ asks) rs none =
-    let o : Order = record { number = n; kind = a.kind; member = a.member; issue = a.issue; asked = a.asked } in
+    let o : Order = order_from n a in
     let rest = moved_new counted (suc n) asks rs (λ j le. none j (omega arith)) in
     let part : moved_part rs o ≡ 0 = rw (none n (omega arith)) refl in
     let here = nothing_either (counted o) (moved_part rs o) part in

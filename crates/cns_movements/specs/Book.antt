@@ -16,9 +16,13 @@ pub record OrderRoom : Type 0 where
   pub order_room : ℕ
   pub reply_room : ℕ
 
+-- the next orders of a book: these asks under the numbers after those of its orders
+abbrev pub next_orders : Orders → List Ask → List Order
+next_orders book asks = numbered (length book.orders + 1) asks
+
 -- the book with these asks as its next orders
 abbrev pub with_asks : Orders → List Ask → Orders
-with_asks book asks = record book { orders = book.orders ++ numbered (length book.orders + 1) asks }
+with_asks book asks = record book { orders = book.orders ++ next_orders book asks }
 
 -- the book with one more confirmation
 abbrev pub with_reply : Orders → Reply → Orders

@@ -6,3 +6,4 @@ pub mod OpenShares
 pub mod Confirm
 pub mod IssueFault
 pub mod Ranges
+pub mod Fields

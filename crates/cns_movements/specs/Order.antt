@@ -58,10 +58,22 @@ moved_sum orders replies kind member issue = sum_by (λ o. if is_of kind member 
 abbrev pub unconfirmed_of : List Order → List Reply → List ℕ
 unconfirmed_of orders replies = filter_map (λ o. if is_some (moved_of replies o.number) then None else Some o.number) orders
 
+-- the order that has this number and asks for what the ask does
+abbrev pub order_from : ℕ → Ask → Order
+order_from n a = record { number = n; kind = a.kind; member = a.member; issue = a.issue; asked = a.asked }
+
+-- when two orders are the same order: all that one says the other says too
+abbrev pub IsSameOrder : Order → Order → Type 0
+IsSameOrder a b = a ≡ b
+
+-- the test of that: field by field
+abbrev pub same_order : Order → Order → Bool
+same_order a b = (a.number == b.number) && (same_kind a.kind b.kind && ((a.member == b.member) && ((a.issue == b.issue) && (a.asked == b.asked))))
+
 -- the asks as orders with the numbers n, n + 1, and so on
 abbrev pub numbered : ℕ → List Ask → List Order
 numbered n [] = []
-numbered n (a ∷ asks) = record { number = n; kind = a.kind; member = a.member; issue = a.issue; asked = a.asked } ∷ numbered (suc n) asks
+numbered n (a ∷ asks) = order_from n a ∷ numbered (suc n) asks
 
 -- the orders have the numbers n, n + 1, and so on
 abbrev pub IsNumbered : ℕ → List Order → Type 0

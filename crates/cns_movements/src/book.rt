@@ -344,13 +344,7 @@ fn append(orders: &mut Vec<Order>, moved: &mut Vec<Option<Shares>>, asks: &[Ask]
 {
     for ask in asks {
         let number = MoveNo::of_place(orders.len());
-        orders.push_reserved(Order {
-            number,
-            kind: ask.kind,
-            member: ask.member,
-            issue: ask.issue,
-            asked: ask.asked,
-        });
+        orders.push_reserved(Order::from_ask(number, ask));
         moved.push_reserved(None);
     }
 }

@@ -7,11 +7,13 @@
 
 mod asked;
 mod book;
+mod fields;
 mod number;
 mod open_shares;
 mod order;
 
 pub use asked::Asked;
 pub use book::{Confirm, IssueFault, OrderBook};
+pub use fields::{ORDER_FIELDS_SIZE, REPLY_FIELDS_SIZE};
 pub use number::MoveNo;
 pub use order::{Ask, MoveKind, Order, Reply};

@@ -1,5 +1,5 @@
-ghost use Rattle.std.specs.Prelude.{◌≡◌, Some};
-ghost use Rattle.cns_movements.specs.Order.{kind_text};
+ghost use Rattle.std.specs.Prelude.{◌≡◌, ◌↔◌, IsTrue, Some};
+ghost use Rattle.cns_movements.specs.Order.{kind_text, order_from, same_order, IsSameOrder};
 
 use crate::asked::Asked;
 use crate::number::MoveNo;
@@ -52,6 +52,30 @@ pub struct Order {
     pub member: MemberNo,
     pub issue: Cusip,
     pub asked: Asked,
+}
+
+impl Order {
+    /// The order that has this number and asks for what the ask does.
+    pub fn from_ask(number: MoveNo, ask: &Ask) -> Order
+        ensures { result ≡ order_from number ask.now }
+    {
+        Order {
+            number,
+            kind: ask.kind,
+            member: ask.member,
+            issue: ask.issue,
+            asked: ask.asked,
+        }
+    }
+
+    /// Whether both are the same order: all that one says the other says too. (This project's own
+    /// rule.)
+    pub fn is_same(&self, other: &Order) -> bool
+        ensures test { result ≡ same_order self.now other.now }
+        ensures same { IsTrue result ↔ IsSameOrder self.now other.now }
+    {
+        self == other
+    }
 }
 
 /// The depository's reply to an order: the shares that it moved, possibly none.

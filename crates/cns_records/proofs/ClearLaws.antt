@@ -17,13 +17,14 @@ use Rattle.cns_records.specs.declared.clear_record.ClearRecord.TheVariants.{Acce
 use Rattle.cns_journal.specs.declared.record_log.RecordFault.{RecordFault}
 use Rattle.cns_journal.specs.declared.record_log.RecordFault.TheVariants as fault
 use Rattle.cns_records.specs.declared.allocation.Allocation.{Allocation}
-use Rattle.cns_records.specs.Fields.{bad, ◌&◌, whole_at, id_bytes, day_bytes, flag_bytes, cycle_kind_bytes, member_at, issue_at, shares_at, flag_at, day_at, cycle_kind_at, move_no_at}
+use Rattle.cns_records.specs.Fields.{bad, ◌&◌, whole_at, id_bytes, day_bytes, flag_bytes, cycle_kind_bytes, member_at, issue_at, shares_at, flag_at, day_at, cycle_kind_at, reply_at}
 use Rattle.cns_records.specs.Clear.{spelling, IsTradeInRange, IsAllocationInRange, HasRanges, IsWritable, HasPayload, trade_at, entry_at, lot_at, allocation_of, allocate_of, read_clear_of, ReadsAs}
 use Rattle.cns_records.specs.Clear as clear
 use Rattle.cns_records.specs.Drawn.{drawn_bytes, drawn_of, AnswersIfRoom}
+use Rattle.cns_movements.specs.Fields.{reply_bytes}
 use Rattle.cns_movements.proofs.BytesLemmas.{IsBytes}
 use Rattle.cns_records.proofs.FieldLemmas.{bind_ok, ok_value, chosen, done, ok_is, IsField, step, chain, both_field, made_field, tested_field, told_field, number_field, wide64}
-use Rattle.cns_records.proofs.FieldLaws.{id_field, day_field, member_field, issue_field, quantity_field, shares_field, flag_field, cycle_kind_field, move_no_field}
+use Rattle.cns_records.proofs.FieldLaws.{id_field, day_field, member_field, issue_field, quantity_field, shares_field, flag_field, cycle_kind_field, reply_field}
 use Rattle.cns_records.proofs.RecordLemmas.{Spells, IsKind, IsOfKind, of_kind, no_kind, or_kind, whole_takes, whole_again, payload_takes}
 use Rattle.cns_records.proofs.DrawnLaws.{drawn_takes, drawn_again, tickets_length}
 
@@ -78,9 +79,9 @@ cycle_kind : IsKind spelling HasPayload 4 (day_at & cycle_kind_at) (λ id. Cycle
 unfolding spelling
 cycle_kind = let fields = both_field day_field cycle_kind_field in record { fields = told_field fields (λ x f. (f.0, tt)) (λ x p. (p.0, tt)); spelled = λ x. refl }
 
-confirm_kind : IsKind spelling HasPayload 6 (move_no_at & shares_at) (λ r. Confirm (record { number = r.0; moved = r.1 }))
+confirm_kind : IsKind spelling HasPayload 6 reply_at (λ r. Confirm r)
 unfolding spelling
-confirm_kind = let fields = both_field move_no_field shares_field in record { fields = told_field fields (λ x f. ((f.0, f.1), tt)) (λ x p. (p.0.0, p.0.1)); spelled = λ x. refl }
+confirm_kind = record { fields = told_field reply_field (λ r f. (f, tt)) (λ r p. p.0); spelled = λ r. refl }
 
 entry_kind : (kind : ℕ) → IsOfKind spelling HasPayload kind (entry_at kind)
 unfolding entry_at
@@ -147,7 +148,7 @@ read-spelling (Cycle id) fits u = whole_again cycle_kind (id.day, id.kind) (fits
 read-spelling (Allocate a) fits writable =
     let lot = lot_field.again (a.issue, (a.opened, (a.upto, (a.poured, a.sealed)))) (drawn_bytes a.drawn) ((fits.issue, (fits.opened, (fits.upto, (fits.poured, tt)))), writable.0) in
     ap read_clear_of (allocation_spelled a) ∙ rw (lot, drawn_again a.drawn fits.drawn writable.1) refl
-read-spelling (Confirm r) fits u = whole_again confirm_kind (r.number, r.moved) (fits, u)
+read-spelling (Confirm r) fits u = whole_again confirm_kind r (fits, u)
 
 -- what read answers
 pub is_spelled : (bytes : List ℕ) (r : Result ClearRecord RecordFault) → IsBytes bytes → ReadsAs bytes r → IfOk r (λ v. (spelling v ≡ bytes) × IsWritable v)
@@ -157,7 +158,7 @@ is_spelled bytes (Err f) fits e = tt
 
 -- how long a payload can be
 pub spelling_short : (r : ClearRecord) → HasRanges r → length (spelling r) ≤ 1048576
-unfolding spelling
+unfolding spelling reply_bytes
 spelling_short (Accept t) fits =
     let rest : List ℕ = day_bytes t.settle ++ (to_be_bytes w16 t.buyer ++ (to_be_bytes w16 t.seller ++ (cusip_text t.issue ++ to_be_bytes w64 t.quantity))) in
     let id : length t.id ≤ 16 = id_short t.id fits.id in

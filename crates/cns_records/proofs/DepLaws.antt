@@ -2,31 +2,27 @@
 -- With them: no two records are spelled alike.
 use Rattle.std.proofs.Common.{◌≡◌, ℕ, ◌≤◌, List, ◌++◌, length, Result, Ok, Err, refl, sym, ap, subst, ◌∙◌, inl, inr, lit≤}
 use Rattle.std.specs.Prelude.{IfOk, ◌==◌, nat_le}
-use Rattle.std.specs.Int.{w16, w64, to_be_bytes}
+use Rattle.std.specs.Int.{w64, to_be_bytes}
 use Rattle.std.proofs.lemmas.Bool.{eqb-true, leb-true, le-leb}
 use Rattle.std.proofs.lemmas.List.{append_assoc}
-use Rattle.cns_ids.specs.Cusip.{cusip_text}
-use Rattle.cns_movements.specs.Ranges.{IsOrderInRange}
+use Rattle.cns_movements.specs.Fields.{order_bytes}
 use Rattle.cns_movements.specs.declared.order.MoveKind.{MoveKind}
 use Rattle.cns_movements.specs.declared.order.MoveKind.TheVariants.{Cover, Delivery}
 use Rattle.cns_movements.specs.declared.order.Order.{Order}
 use Rattle.cns_records.specs.declared.bad_record.BadRecord.{BadRecord}
 use Rattle.cns_records.specs.declared.dep_record.DepRecord.{DepRecord}
 use Rattle.cns_records.specs.declared.dep_record.DepRecord.TheVariants.{Exec}
-use Rattle.cns_records.specs.Fields.{bad, ◌&◌, tested_at, shares_at, move_kind_bytes}
-use Rattle.cns_records.specs.Dep.{dep_spelling, HasDepRanges, IsDepWritable, HasDepPayload, order_at, exec_of, dep_of_kind, read_dep_of}
+use Rattle.cns_records.specs.Fields.{bad, ◌&◌, tested_at, order_at, shares_at, move_kind_bytes}
+use Rattle.cns_records.specs.Dep.{dep_spelling, HasDepRanges, IsDepWritable, HasDepPayload, exec_of, dep_of_kind, read_dep_of}
 use Rattle.cns_movements.proofs.BytesLemmas.{IsBytes}
-use Rattle.cns_records.proofs.FieldLemmas.{chosen, done, ok_is, both_field, made_field, spelled_field, tested_field}
-use Rattle.cns_records.proofs.FieldLaws.{move_kind_field, move_no_field, member_field, issue_field, asked_field, shares_field}
+use Rattle.cns_records.proofs.FieldLemmas.{chosen, done, ok_is, both_field, spelled_field, tested_field}
+use Rattle.cns_records.proofs.FieldLaws.{order_field, shares_field}
 use Rattle.cns_records.proofs.RecordLemmas.{after_kind, Spells, IsKind, of_kind, whole_takes, whole_again, payload_takes}
 
 exec_kind : IsKind dep_spelling HasDepPayload 7 (tested_at (order_at & shares_at) (λ x. nat_le x.1 x.0.asked)) (λ x. Exec x.0 x.1)
 unfolding dep_spelling
 exec_kind =
-    let fields = both_field move_kind_field (both_field move_no_field (both_field member_field (both_field issue_field asked_field))) in
-    let order = made_field fields (λ o. record { kind = o.0; number = o.1.0; member = o.1.1.0; issue = o.1.1.1.0; asked = o.1.1.1.1 }) (λ (o : Order). (o.kind, (o.number, (o.member, (o.issue, o.asked))))) IsOrderInRange
-    (λ o f. (refl, record { number = f.1.0; member = f.1.1.0; issue = f.1.1.1.0; asked = f.1.1.1.1 })) (λ o is. (refl, (tt, (is.number, (is.member, (is.issue, is.asked)))))) in
-    let executed = both_field order shares_field in
+    let executed = both_field order_field shares_field in
     let spelled = spelled_field executed (λ x. after_kind (dep_spelling (Exec x.0 x.1))) (λ x. simp append_assoc) in
     record {
       fields = tested_field spelled _ _ (λ x f le. ((f.0, f.1), leb-true _ _ le)) (λ x p. ((p.0.0, p.0.1), le-leb _ _ p.1));
@@ -52,7 +48,8 @@ is_spelled bytes (Ok v) fits e = let t = payload_takes dep_spelling HasDepPayloa
 is_spelled bytes (Err f) fits e = tt
 
 -- how long a payload is
-short_from_kind : (kind : MoveKind) (o : Order) (moved : ℕ) → length (move_kind_bytes kind ++ (to_be_bytes w64 o.number ++ (to_be_bytes w16 o.member ++ (cusip_text o.issue ++ (to_be_bytes w64 o.asked ++ to_be_bytes w64 moved))))) ≡ 36
+short_from_kind : (kind : MoveKind) (o : Order) (moved : ℕ) → length (move_kind_bytes kind ++ (order_bytes o ++ to_be_bytes w64 moved)) ≡ 36
+unfolding order_bytes
 short_from_kind Cover o moved = refl
 short_from_kind Delivery o moved = refl
 

@@ -5,11 +5,12 @@ use Rattle.cns_ids.specs.Cusip.{IsCusip, cusip_text}
 use Rattle.cns_ids.specs.Day.{IsDayNumber}
 use Rattle.cns_ids.specs.Member.{IsMember}
 use Rattle.cns_ids.specs.Shares.{IsShares, IsQuantity}
-use Rattle.cns_movements.specs.Number.{IsMoveNo}
+use Rattle.cns_movements.specs.Fields.{reply_bytes}
+use Rattle.cns_movements.specs.Ranges.{IsReplyInRange}
 use Rattle.cns_trades.specs.TradeId.{IsId}
 use Rattle.cns_trades.specs.declared.trade.Trade.{Trade}
 use Rattle.cns_ids.specs.Steps.{◌>>=◌}
-use Rattle.cns_records.specs.Fields.{bad, Reader, ◌&◌, made, tested_at, whole_at, payload_as, number_at, id_bytes, id_at, day_bytes, day_at, member_at, issue_at, quantity_at, shares_at, flag_bytes, flag_at, cycle_kind_bytes, cycle_kind_at, move_no_at}
+use Rattle.cns_records.specs.Fields.{bad, Reader, ◌&◌, made, tested_at, whole_at, payload_as, number_at, id_bytes, id_at, day_bytes, day_at, member_at, issue_at, quantity_at, shares_at, flag_bytes, flag_at, cycle_kind_bytes, cycle_kind_at, reply_at}
 use Rattle.cns_records.specs.Drawn.{AreDrawn, IsByStart, drawn_bytes, drawn_of}
 use Rattle.cns_records.specs.declared.allocation.Allocation.{Allocation}
 use Rattle.cns_records.specs.declared.bad_record.BadRecord.{BadRecord}
@@ -28,7 +29,7 @@ spelling (Priority member issue on) = 1 ∷ 3 ∷ (to_be_bytes w16 member ++ (cu
 spelling (Cycle id) = 1 ∷ 4 ∷ (day_bytes id.day ++ cycle_kind_bytes id.kind)
 spelling (Allocate a) =
     1 ∷ 5 ∷ (cusip_text a.issue ++ (to_be_bytes w64 a.opened ++ (to_be_bytes w64 a.upto ++ (to_be_bytes w64 a.poured ++ (flag_bytes a.sealed ++ drawn_bytes a.drawn)))))
-spelling (Confirm r) = 1 ∷ 6 ∷ (to_be_bytes w64 r.number ++ to_be_bytes w64 r.moved)
+spelling (Confirm r) = 1 ∷ 6 ∷ reply_bytes r
 
 -- what the types of a trade's fields promise
 pub record IsTradeInRange (t : Trade) : Type 0 where
@@ -54,7 +55,7 @@ HasRanges (Exempt member issue shares) = IsMember member × IsCusip issue × IsS
 HasRanges (Priority member issue on) = IsMember member × IsCusip issue
 HasRanges (Cycle id) = IsDayNumber id.day
 HasRanges (Allocate a) = IsAllocationInRange a
-HasRanges (Confirm r) = IsMoveNo r.number × IsShares r.moved
+HasRanges (Confirm r) = IsReplyInRange r
 
 -- the records that are read again: of a trade, buyer and seller differ; an allocation's lot was opened not after its
 -- last pour, and its tickets stand by start
@@ -90,7 +91,7 @@ entry_at kind bytes =
     else if kind == 2 then made (member_at & issue_at & shares_at) (λ x. Exempt x.0 x.1.0 x.1.1) bytes
     else if kind == 3 then made (member_at & issue_at & flag_at) (λ x. Priority x.0 x.1.0 x.1.1) bytes
     else if kind == 4 then made (day_at & cycle_kind_at) (λ id. Cycle (record { day = id.0; kind = id.1 })) bytes
-    else if kind == 6 then made (move_no_at & shares_at) (λ r. Confirm (record { number = r.0; moved = r.1 })) bytes
+    else if kind == 6 then made reply_at (λ r. Confirm r) bytes
     else bad
 
 -- what an allocation has before its tickets; its lot is opened not after its last pour

@@ -1,19 +1,17 @@
 -- The records of the depository and the payload of each (this project's own format).
 use Rattle.std.specs.Prelude.{ℕ, ◌≤◌, nat_le, ◌==◌, List, ◌∷◌, ◌++◌, Result, if◌then◌else◌}
-use Rattle.std.specs.Int.{w16, w64, to_be_bytes}
-use Rattle.cns_ids.specs.Cusip.{cusip_text}
+use Rattle.std.specs.Int.{w64, to_be_bytes}
 use Rattle.cns_ids.specs.Shares.{IsShares}
+use Rattle.cns_movements.specs.Fields.{order_bytes}
 use Rattle.cns_movements.specs.Ranges.{IsOrderInRange}
-use Rattle.cns_movements.specs.declared.order.Order.{Order}
-use Rattle.cns_records.specs.Fields.{bad, Reader, ◌&◌, made, tested_at, whole_at, payload_as, member_at, issue_at, shares_at, asked_at, move_no_at, move_kind_bytes, move_kind_at}
+use Rattle.cns_records.specs.Fields.{bad, ◌&◌, made, tested_at, whole_at, payload_as, order_at, shares_at, move_kind_bytes}
 use Rattle.cns_records.specs.declared.bad_record.BadRecord.{BadRecord}
 use Rattle.cns_records.specs.declared.dep_record.DepRecord.{DepRecord}
 use Rattle.cns_records.specs.declared.dep_record.DepRecord.TheVariants.{Exec}
 
 -- the one payload of a record: the version 1, the kind, and the fields
 unfoldable pub dep_spelling : DepRecord → List ℕ
-dep_spelling (Exec o moved) =
-    1 ∷ 7 ∷ (move_kind_bytes o.kind ++ (to_be_bytes w64 o.number ++ (to_be_bytes w16 o.member ++ (cusip_text o.issue ++ (to_be_bytes w64 o.asked ++ to_be_bytes w64 moved)))))
+dep_spelling (Exec o moved) = 1 ∷ 7 ∷ (move_kind_bytes o.kind ++ (order_bytes o ++ to_be_bytes w64 moved))
 
 -- what the types of a record's fields promise
 abbrev pub HasDepRanges : DepRecord → Type 0
@@ -26,13 +24,6 @@ IsDepWritable (Exec o moved) = moved ≤ o.asked
 -- the records that have a payload of their own
 abbrev pub HasDepPayload : DepRecord → Type 0
 HasDepPayload r = HasDepRanges r × IsDepWritable r
-
--- an order
-abbrev pub order_at : Reader Order
-order_at bytes =
-    made (move_kind_at & move_no_at & member_at & issue_at & asked_at)
-    (λ o. record { kind = o.0; number = o.1.0; member = o.1.1.0; issue = o.1.1.1.0; asked = o.1.1.1.1 })
-    bytes
 
 -- an order and what was moved, no more than the order asks for
 unfoldable pub exec_of : List ℕ → Result DepRecord BadRecord

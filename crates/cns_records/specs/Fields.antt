@@ -1,5 +1,6 @@
 -- The fields of a payload, and how each is read from the front of the bytes (this project's own format).
-use Rattle.std.specs.Prelude.{◌≡◌, ℕ, ◌/◌, ◌%◌, Bool, true, false, ◌==◌, nat_lt, List, [], ◌∷◌, ◌++◌, length, take, drop, Result, Ok, Err, if◌then◌else◌}
+use Rattle.std.specs.Prelude.{◌≡◌, ℕ, ◌/◌, ◌%◌, Bool, true, false, ◌==◌, nat_lt, List, [], ◌∷◌, ◌++◌, length, take, drop, Option, Result, Ok, Err, if◌then◌else◌}
+use Rattle.std.specs.Option.{ok_or}
 use Rattle.std.specs.Int.{Width, w16, w64, byte_len, from_be_bytes, to_be_bytes}
 use Rattle.cns_ids.specs.Cusip.{read_cusip}
 use Rattle.cns_ids.specs.Day.{is_real_day, number_of_day}
@@ -10,9 +11,11 @@ use Rattle.cns_ids.specs.declared.cusip.CusipFault.{CusipFault}
 use Rattle.cns_ids.specs.declared.cycle.CycleKind.{CycleKind}
 use Rattle.cns_ids.specs.declared.cycle.CycleKind.TheVariants.{Night, Day}
 use Rattle.cns_movements.specs.Asked.{is_asked}
-use Rattle.cns_movements.specs.Number.{is_move_no}
+use Rattle.cns_movements.specs.Fields.{read_order, read_reply}
 use Rattle.cns_movements.specs.declared.order.MoveKind.{MoveKind}
 use Rattle.cns_movements.specs.declared.order.MoveKind.TheVariants.{Cover, Delivery}
+use Rattle.cns_movements.specs.declared.order.Order.{Order}
+use Rattle.cns_movements.specs.declared.order.Reply.{Reply}
 use Rattle.cns_trades.specs.TradeId.{is_id_text}
 use Rattle.cns_records.specs.declared.bad_record.BadRecord.{BadRecord}
 
@@ -92,9 +95,6 @@ quantity_at bytes = tested_at (number_at w64) is_quantity bytes
 unfoldable pub shares_at : Reader ℕ
 shares_at bytes = tested_at (number_at w64) is_shares bytes
 
-unfoldable pub move_no_at : Reader ℕ
-move_no_at bytes = tested_at (number_at w64) is_move_no bytes
-
 unfoldable pub asked_at : Reader ℕ
 asked_at bytes = tested_at (number_at w64) is_asked bytes
 
@@ -155,3 +155,20 @@ move_kind_bytes Delivery = 2 ∷ []
 
 unfoldable pub move_kind_at : Reader MoveKind
 move_kind_at bytes = one_of_at 1 Cover 2 Delivery bytes
+
+-- the value that the next bytes are, so many of them
+abbrev pub value_at : {A : Type 0} → ℕ → (List ℕ → Option A) → Reader A
+value_at size read bytes = do
+  text ← text_at size bytes
+  value ← ok_or (read text.0) (record {})
+  Ok (value, text.1)
+
+-- an order: its kind, and its other fields
+unfoldable pub order_at : Reader Order
+order_at bytes = do
+  kind ← move_kind_at bytes
+  value_at 27 (read_order kind.0) kind.1
+
+-- a reply: its fields
+unfoldable pub reply_at : Reader Reply
+reply_at bytes = value_at 16 read_reply bytes

@@ -200,11 +200,9 @@ fn add_confirm(payload: &mut Vec<u8>, reply: &Reply) -> Result<(), AllocError>
     ensures spelled { OnOk result (payload.new.items ≡ payload.old.items ++ spelling (ClearRecord.Confirm reply.now)) }
     ensures ranges { HasRanges (ClearRecord.Confirm reply.now) }
 {
-    let number = reply.number.number().to_be_bytes();
-    let moved = reply.moved.count().to_be_bytes();
+    let fields = reply.to_bytes();
     begin(payload, &[VERSION, CONFIRM])?;
-    payload.extend_from_slice(&number)?;
-    payload.extend_from_slice(&moved)?;
+    payload.extend_from_slice(&fields)?;
     Ok(())
 }
 
@@ -247,10 +245,7 @@ fn take_entry(kind: u8, fields: &mut Fields) -> Result<ClearRecord, BadRecord>
             day: fields.take_day()?,
             kind: fields.take_cycle_kind()?,
         })),
-        CONFIRM => Ok(ClearRecord::Confirm(Reply {
-            number: fields.take_move_no()?,
-            moved: fields.take_shares()?,
-        })),
+        CONFIRM => Ok(ClearRecord::Confirm(fields.take_reply()?)),
         _ => Err(BadRecord),
     }
 }

@@ -81,16 +81,10 @@ fn add_exec(payload: &mut Vec<u8>, order: &Order, moved: Shares) -> Result<(), A
         MoveKind::Cover => COVER_ORDER,
         MoveKind::Delivery => DELIVERY_ORDER,
     };
-    let number = order.number.number().to_be_bytes();
-    let member = order.member.number().to_be_bytes();
-    let issue = order.issue.to_bytes();
-    let asked = order.asked.shares().to_be_bytes();
+    let fields = order.to_bytes();
     let moved = moved.count().to_be_bytes();
     begin(payload, &[VERSION, EXEC, kind])?;
-    payload.extend_from_slice(&number)?;
-    payload.extend_from_slice(&member)?;
-    payload.extend_from_slice(&issue)?;
-    payload.extend_from_slice(&asked)?;
+    payload.extend_from_slice(&fields)?;
     payload.extend_from_slice(&moved)?;
     Ok(())
 }
@@ -99,13 +93,7 @@ fn add_exec(payload: &mut Vec<u8>, order: &Order, moved: Shares) -> Result<(), A
 fn read_exec(mut fields: Fields) -> Result<DepRecord, BadRecord>
     ensures { result ≡ exec_of fields.entry }
 {
-    let order = Order {
-        kind: fields.take_move_kind()?,
-        number: fields.take_move_no()?,
-        member: fields.take_member()?,
-        issue: fields.take_issue()?,
-        asked: fields.take_asked()?,
-    };
+    let order = fields.take_order()?;
     let moved = fields.take_shares()?;
     if !fields.is_at_end() || moved.count() > order.asked.shares() {
         return Err(BadRecord);

@@ -3,14 +3,14 @@ ghost use Rattle.std.specs.Prelude.{◌≡◌, ◌≤◌, ◌==◌, ◌++◌, If
 ghost use Rattle.std.specs.Int.{w16, w32, w64};
 ghost use Rattle.std.specs.List.{flat_map};
 ghost use Rattle.cns_ids.specs.Day.{IsDayNumber};
-ghost use Rattle.cns_records.specs.Fields.{day_bytes as day_bytes_of, Gives, byte_at, number_at, text_at, member_at, quantity_at, shares_at, move_no_at, asked_at, id_at, day_at, issue_at, one_of_at, flag_at, cycle_kind_at, move_kind_at};
+ghost use Rattle.cns_records.specs.Fields.{day_bytes as day_bytes_of, Gives, byte_at, number_at, text_at, member_at, quantity_at, shares_at, asked_at, id_at, day_at, issue_at, one_of_at, flag_at, cycle_kind_at, move_kind_at, order_at, reply_at};
 ghost use Rattle.cns_records.specs.Drawn.{ticket_bytes, ticket_at, tickets_at, tickets_of, drawn_of, AnswersIfRoom};
 
 use crate::bad_record::BadRecord;
 use crate::drawn::{Drawn, DrawnList, MAX_DRAWN};
 use cns_ids::{Cusip, CycleKind, Day, MemberNo, Quantity, Shares};
 use cns_journal::RecordFault;
-use cns_movements::{Asked, MoveKind, MoveNo};
+use cns_movements::{Asked, MoveKind, Order, Reply};
 use cns_trades::TradeId;
 use std::alloc::{AllocError, Global};
 use std::marker::Model;
@@ -172,17 +172,9 @@ impl<'a> Fields<'a> {
         Shares::new(self.take_u64()?).ok_or(BadRecord)
     }
 
-    /// A movement's number: 8 bytes.
-    #[tactic(auto, unfolding(crate::specs::Fields::move_no_at))]
-    pub fn take_move_no(&mut self) -> Result<MoveNo, BadRecord>
-        ensures { Gives result self.new (move_no_at self.old) }
-    {
-        MoveNo::new(self.take_u64()?).ok_or(BadRecord)
-    }
-
-    /// The shares that an order asks for: 8 bytes.
+    // The shares that are asked for: 8 bytes.
     #[tactic(auto, unfolding(crate::specs::Fields::asked_at))]
-    pub fn take_asked(&mut self) -> Result<Asked, BadRecord>
+    fn take_asked(&mut self) -> Result<Asked, BadRecord>
         ensures { Gives result self.new (asked_at self.old) }
     {
         Asked::new(self.take_u64()?).ok_or(BadRecord)
@@ -255,15 +247,32 @@ impl<'a> Fields<'a> {
         self.take_one_of((NIGHT_CYCLE, CycleKind::Night), (DAY_CYCLE, CycleKind::Day))
     }
 
-    /// An order's kind: a byte, 1 for a cover and 2 for a delivery.
+    // An order's kind: a byte, 1 for a cover and 2 for a delivery.
     #[tactic(auto, unfolding(crate::specs::Fields::move_kind_at))]
-    pub fn take_move_kind(&mut self) -> Result<MoveKind, BadRecord>
+    fn take_move_kind(&mut self) -> Result<MoveKind, BadRecord>
         ensures { Gives result self.new (move_kind_at self.old) }
     {
         self.take_one_of(
             (COVER_ORDER, MoveKind::Cover),
             (DELIVERY_ORDER, MoveKind::Delivery),
         )
+    }
+
+    /// An order: its kind in a byte, and its other fields.
+    #[tactic(auto, unfolding(crate::specs::Fields::order_at))]
+    pub fn take_order(&mut self) -> Result<Order, BadRecord>
+        ensures { Gives result self.new (order_at self.old) }
+    {
+        let kind = self.take_move_kind()?;
+        Order::from_bytes(kind, &self.take_array()?).ok_or(BadRecord)
+    }
+
+    /// A reply: its fields.
+    #[tactic(auto, unfolding(crate::specs::Fields::reply_at))]
+    pub fn take_reply(&mut self) -> Result<Reply, BadRecord>
+        ensures { Gives result self.new (reply_at self.old) }
+    {
+        Reply::from_bytes(&self.take_array()?).ok_or(BadRecord)
     }
 
     // A ticket: its member (2), its start (8) and how many shares it has (8).

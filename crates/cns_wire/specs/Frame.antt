@@ -1,7 +1,6 @@
 -- The frames of orders and of replies, byte by byte (this project's own format).
 use Rattle.std.specs.Prelude.{◌≡◌, ℕ, List, [], ◌∷◌, ◌++◌, codes}
-use Rattle.std.specs.Int.{to_be_bytes, w16, w64}
-use Rattle.cns_ids.specs.Cusip.{cusip_text}
+use Rattle.cns_movements.specs.Fields.{order_bytes, reply_bytes}
 use Rattle.cns_movements.specs.Ranges.{IsOrderInRange, IsReplyInRange}
 use Rattle.cns_movements.specs.declared.order.MoveKind.{MoveKind}
 use Rattle.cns_movements.specs.declared.order.MoveKind.TheVariants.{Cover, Delivery}
@@ -19,13 +18,13 @@ kind_byte Delivery = 2
 abbrev pub header : ℕ → List ℕ
 header kind = codes "CD" ++ 1 ∷ kind ∷ []
 
--- an order: its kind, number, member, issue and shares asked
+-- an order: its kind, and its other fields
 unfoldable pub order_frame : Order → List ℕ
-order_frame o = header (kind_byte o.kind) ++ to_be_bytes w64 o.number ++ to_be_bytes w16 o.member ++ cusip_text o.issue ++ to_be_bytes w64 o.asked
+order_frame o = header (kind_byte o.kind) ++ order_bytes o
 
--- a reply: the kind 3, its number and the shares moved
+-- a reply: the kind 3, and its fields
 unfoldable pub reply_frame : Reply → List ℕ
-reply_frame r = header 3 ++ to_be_bytes w64 r.number ++ to_be_bytes w64 r.moved
+reply_frame r = header 3 ++ reply_bytes r
 
 -- the one spelling of a frame
 abbrev pub frame_text : Frame → List ℕ

@@ -1,11 +1,11 @@
--- Packets of bytes: how one is stored, and which one a number means.
+-- Packets of bytes: how the bytes of one are stored, and which one a number means.
 use Rattle.std.specs.Prelude.{◌≡◌, ℕ, ◌-◌, ◌==◌, List, ◌++◌, length, take, replicate, slice_get, Option, None, if◌then◌else◌}
 
 -- bytes with zeros after them, 36 in all
 abbrev pub padded : List ℕ → List ℕ
 padded text = text ++ replicate (36 - length text) 0
 
--- how a packet is stored: its length, and its bytes with zeros after them
+-- how the bytes of a frame are stored: their length, and the bytes with zeros after them
 pub record IsStored (len : ℕ) (bytes : List ℕ) : Type 0 where
   pub size : length (take len bytes) ≡ len
   pub rest : padded (take len bytes) ≡ bytes

@@ -1,14 +1,14 @@
-use cns_movements::{Order, Reply};
+use cns_movements::{ORDER_FIELDS_SIZE, Order, REPLY_FIELDS_SIZE, Reply};
 use thiserror::Error;
 
 /// How many bytes the frame of an order has.
-pub const ORDER_SIZE: usize = 31;
+pub const ORDER_SIZE: usize = HEADER_SIZE + ORDER_FIELDS_SIZE;
 
 /// How many bytes the frame of a reply has.
-pub const REPLY_SIZE: usize = 20;
+pub const REPLY_SIZE: usize = HEADER_SIZE + REPLY_FIELDS_SIZE;
 
-// A frame begins with the magic bytes, the version and the kind, and then has the movement's number.
-// Each number stands with its highest byte first.
+// A frame begins with the magic bytes, the version and the kind. Behind this header stand the fields of
+// the order or the reply.
 pub(crate) const MAGIC: [u8; 2] = *b"CD";
 
 pub(crate) const VERSION: u8 = 1;
@@ -20,23 +20,13 @@ pub(crate) const DELIVERY: u8 = 2;
 
 pub(crate) const REPLY: u8 = 3;
 
-// How many bytes stand before the number.
+// How many bytes the header has.
 pub(crate) const HEADER_SIZE: usize = 4;
 
-// Where the parts of a frame begin.
+// Where its parts begin.
 pub(crate) const VERSION_AT: usize = 2;
 
 pub(crate) const KIND_AT: usize = 3;
-
-pub(crate) const NUMBER_AT: usize = 4;
-
-pub(crate) const MEMBER_AT: usize = 12;
-
-pub(crate) const ISSUE_AT: usize = 14;
-
-pub(crate) const ASKED_AT: usize = 23;
-
-pub(crate) const MOVED_AT: usize = 12;
 
 /// What a frame says.
 #[derive(Clone, Copy, PartialEq, Eq, Debug)]

@@ -3,13 +3,13 @@
 #![tactic(auto)]
 
 mod frame;
-mod packet;
+mod frame_bytes;
 mod read;
 mod wire;
 mod write;
 
 pub use frame::{Frame, FrameFault, ORDER_SIZE, REPLY_SIZE};
-pub use packet::MAX_PACKET_SIZE;
+pub use frame_bytes::{FrameBytes, MAX_PACKET_SIZE};
 pub use read::read_frame;
 pub use wire::Wire;
 pub use write::{write_order, write_reply};

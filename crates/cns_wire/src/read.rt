@@ -1,78 +1,41 @@
-ghost use Rattle.std.specs.Prelude.{◌≡◌, length, IfOk, Ok};
-ghost use Rattle.std.specs.Int.{from_be_bytes, w16, w64};
+ghost use Rattle.std.specs.Prelude.{◌≡◌, ◌≤◌, length, IfErr, IfOk, Err, Ok};
 ghost use Rattle.cns_wire.specs.Frame.{frame_text, IsInRange, IsFrame};
-ghost use Rattle.cns_wire.specs.ReadFrame.{of_size, order_in, reply_in, read_frame_of};
+ghost use Rattle.cns_wire.specs.ReadFrame.{fields_of as fields_in, order_in, reply_in, read_frame_of};
 
 use crate::frame::{
-    ASKED_AT, COVER, DELIVERY, Frame, FrameFault, HEADER_SIZE, ISSUE_AT, KIND_AT, MAGIC, MEMBER_AT,
-    MOVED_AT, NUMBER_AT, ORDER_SIZE, REPLY, REPLY_SIZE, VERSION, VERSION_AT,
+    COVER, DELIVERY, Frame, FrameFault, HEADER_SIZE, KIND_AT, MAGIC, REPLY, VERSION, VERSION_AT,
 };
-use cns_ids::{Cusip, MemberNo, Shares};
-use cns_movements::{Asked, MoveKind, MoveNo, Order, Reply};
-use std::cmp::Ordering;
+use cns_movements::{MoveKind, Order, Reply};
 
-// Eight bytes as one number.
-fn u64_of(bytes: &[u8]) -> u64
-    requires { length bytes.now ≡ 8 }
-    ensures { result ≡ from_be_bytes w64 bytes.now }
+// The fields of a frame: the bytes after its header, which are just so many.
+fn fields_of<const N: usize>(bytes: &[u8]) -> Result<&[u8; N], FrameFault>
+    requires { 4 ≤ length bytes.now }
+    ensures fields { IfOk result (λ fields. fields_in N bytes.now ≡ Ok fields.now) }
+    ensures fault { IfErr result (λ fault. fields_in N bytes.now ≡ Err fault) }
 {
-    u64::from_be_bytes([
-        bytes[0], bytes[1], bytes[2], bytes[3], bytes[4], bytes[5], bytes[6], bytes[7],
-    ])
-}
-
-// Two bytes as one number.
-fn u16_of(bytes: &[u8]) -> u16
-    requires { length bytes.now ≡ 2 }
-    ensures { result ≡ from_be_bytes w16 bytes.now }
-{
-    u16::from_be_bytes([bytes[0], bytes[1]])
-}
-
-// Refuses bytes that are not of this size.
-fn check_size(bytes: &[u8], size: usize) -> Result<(), FrameFault>
-    ensures { result ≡ of_size size bytes.now (Ok tt) }
-{
-    match bytes.len().cmp(&size) {
-        Ordering::Less => Err(FrameFault::Short),
-        Ordering::Equal => Ok(()),
-        Ordering::Greater => Err(FrameFault::Long),
+    match bytes[HEADER_SIZE..].split_first_chunk::<N>() {
+        None => Err(FrameFault::Short),
+        Some((fields, [])) => Ok(fields),
+        Some(_) => Err(FrameFault::Long),
     }
 }
 
 // The order in a frame of this kind.
 #[tactic(auto, unfolding(crate::specs::ReadFrame::order_in))]
 fn read_order(kind: MoveKind, bytes: &[u8]) -> Result<Order, FrameFault>
+    requires { 4 ≤ length bytes.now }
     ensures { result ≡ order_in kind bytes.now }
 {
-    check_size(bytes, ORDER_SIZE)?;
-    let number = u64_of(&bytes[NUMBER_AT..MEMBER_AT]);
-    let member = u16_of(&bytes[MEMBER_AT..ISSUE_AT]);
-    let asked = u64_of(&bytes[ASKED_AT..ORDER_SIZE]);
-    let Ok(issue) = Cusip::read(&bytes[ISSUE_AT..ASKED_AT]) else {
-        return Err(FrameFault::Field);
-    };
-    Ok(Order {
-        number: MoveNo::new(number).ok_or(FrameFault::Field)?,
-        kind,
-        member: MemberNo::new(member).ok_or(FrameFault::Field)?,
-        issue,
-        asked: Asked::new(asked).ok_or(FrameFault::Field)?,
-    })
+    Order::from_bytes(kind, fields_of(bytes)?).ok_or(FrameFault::Field)
 }
 
 // The reply in a frame.
 #[tactic(auto, unfolding(crate::specs::ReadFrame::reply_in))]
 fn read_reply(bytes: &[u8]) -> Result<Reply, FrameFault>
+    requires { 4 ≤ length bytes.now }
     ensures { result ≡ reply_in bytes.now }
 {
-    check_size(bytes, REPLY_SIZE)?;
-    let number = u64_of(&bytes[NUMBER_AT..MOVED_AT]);
-    let moved = u64_of(&bytes[MOVED_AT..REPLY_SIZE]);
-    Ok(Reply {
-        number: MoveNo::new(number).ok_or(FrameFault::Field)?,
-        moved: Shares::new(moved).ok_or(FrameFault::Field)?,
-    })
+    Reply::from_bytes(fields_of(bytes)?).ok_or(FrameFault::Field)
 }
 
 // What the bytes hold, or their first fault.

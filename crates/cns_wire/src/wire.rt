@@ -1,7 +1,7 @@
 ghost use Rattle.std.specs.Prelude.{◌≡◌, ◌+◌, ◌<◌, ◌≤◌, ◌↔◌, [], ◌∷◌, ◌++◌, length, option_map, IfOk, OnOk, OnErr, IsOk, IsTrue};
 ghost use Rattle.cns_wire.specs.Packet.{at_number};
 
-use crate::packet::Packet;
+use crate::frame_bytes::FrameBytes;
 use std::alloc::{AllocError, Global};
 use std::marker::Model;
 
@@ -11,7 +11,7 @@ use std::marker::Model;
 /// Contracts see the packets with the oldest first, and how many more there is room for.
 #[derive(Drop)]
 pub struct Wire {
-    packets: Vec<Packet>,
+    packets: Vec<FrameBytes>,
 }
 
 impl Model for Wire {
@@ -49,7 +49,7 @@ impl Wire {
         ensures room { 0 < self.old.room → IsOk result }
         ensures left { self.old.room ≤ self.new.room + 1 }
     {
-        self.packets.push(Packet::new(frame))?;
+        self.packets.push(FrameBytes::new(frame))?;
         Ok(self.packets.len() as u64)
     }
 
@@ -68,7 +68,7 @@ impl Wire {
         ensures { option_map (λ bytes. bytes.now) result ≡ at_number self.now.packets number }
     {
         let place = number.checked_sub(1)?;
-        self.packets.get(place as usize).map(Packet::as_bytes)
+        self.packets.get(place as usize).map(FrameBytes::as_bytes)
     }
 
     /// How many packets there are.

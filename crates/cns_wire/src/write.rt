@@ -3,10 +3,7 @@ ghost use Rattle.cns_wire.specs.Frame.{header as header_of, kind_byte as byte_of
 ghost use Rattle.cns_wire.specs.ReadFrame.{read_frame_of};
 ghost use Rattle.cns_wire.specs.declared.frame.Frame.{Frame};
 
-use crate::frame::{
-    ASKED_AT, COVER, DELIVERY, HEADER_SIZE, ISSUE_AT, MAGIC, MEMBER_AT, MOVED_AT, NUMBER_AT,
-    ORDER_SIZE, REPLY, REPLY_SIZE, VERSION,
-};
+use crate::frame::{COVER, DELIVERY, HEADER_SIZE, MAGIC, ORDER_SIZE, REPLY, REPLY_SIZE, VERSION};
 use cns_movements::{MoveKind, Order, Reply};
 
 // The first four bytes of a frame of this kind.
@@ -34,16 +31,9 @@ pub fn write_order(order: &Order) -> [u8; ORDER_SIZE]
     ensures text { result ≡ order_frame order.now }
     ensures back { read_frame_of result ≡ Ok (Frame.Order order.now) }
 {
-    let number = order.number.number();
-    let member = order.member.number();
-    let issue = order.issue.to_bytes();
-    let asked = order.asked.shares();
     let mut frame = [0; ORDER_SIZE];
     frame[..HEADER_SIZE].copy_from_slice(&header(kind_byte(order.kind)));
-    frame[NUMBER_AT..MEMBER_AT].copy_from_slice(&number.to_be_bytes());
-    frame[MEMBER_AT..ISSUE_AT].copy_from_slice(&member.to_be_bytes());
-    frame[ISSUE_AT..ASKED_AT].copy_from_slice(&issue);
-    frame[ASKED_AT..].copy_from_slice(&asked.to_be_bytes());
+    frame[HEADER_SIZE..].copy_from_slice(&order.to_bytes());
     frame
 }
 
@@ -56,11 +46,8 @@ pub fn write_reply(reply: &Reply) -> [u8; REPLY_SIZE]
     ensures text { result ≡ reply_frame reply.now }
     ensures back { read_frame_of result ≡ Ok (Frame.Reply reply.now) }
 {
-    let number = reply.number.number();
-    let moved = reply.moved.count();
     let mut frame = [0; REPLY_SIZE];
     frame[..HEADER_SIZE].copy_from_slice(&header(REPLY));
-    frame[NUMBER_AT..MOVED_AT].copy_from_slice(&number.to_be_bytes());
-    frame[MOVED_AT..].copy_from_slice(&moved.to_be_bytes());
+    frame[HEADER_SIZE..].copy_from_slice(&reply.to_bytes());
     frame
 }

@@ -6,6 +6,4 @@ use Rattle.cns_wire.proofs.write.write_reply.Goals as goal
 
 pub returns-clause-back : goal.returns-clause-back
 unfolding reply_frame
-returns-clause-back c =
-    ap read_frame_of (search rules)
-    ∙ read_frame_of-reply_frame c.args.reply.now (record { number = c.number-number.ensures.range; moved = c.count-moved.ensures.range })
+returns-clause-back c = ap read_frame_of (search rules) ∙ read_frame_of-reply_frame c.args.reply.now c.to_bytes.ensures.ranges

@@ -3,7 +3,7 @@ use Rattle.std.specs.Prelude.{replicate}
 use Rattle.std.proofs.Math.Seq.{take-append_seam}
 use Rattle.std.proofs.lemmas.List.{drop-replicate}
 use Rattle.cns_wire.specs.Packet.{IsStored}
-use Rattle.cns_wire.proofs.packet.Packet.new.Goals as goal
+use Rattle.cns_wire.proofs.frame_bytes.FrameBytes.new.Goals as goal
 
 stored : (text new : List ℕ) → new ≡ text → IsStored (length text) (new ++ drop (length text) (replicate 36 0))
 stored text new e =
