@@ -11,6 +11,7 @@ mod depository;
 mod fault;
 mod ledger;
 mod moved;
+mod movement;
 mod opening_index;
 mod openings;
 mod place;
