@@ -61,36 +61,23 @@ delivery_leaves o = by o.kind refl
     by Cover is = rw is refl
     by Delivery is = rw is refl
 
--- covers alone move shares into the CNS account
+-- a sum over records to which each adds what its movement moved, where the order passes a test
+sum_executed : (part : DepRecord → ℕ) (test : Order → Bool) → ((o : Order) (moved : ℕ) → part (Exec o moved) ≡ moved_where test (record { order = o; moved = moved }))
+    → (p : List DepRecord) → sum_by part p ≡ sum_by (moved_where test) (executed_of p)
+sum_executed part test same [] = refl
+sum_executed part test same (Exec o moved ∷ p) =
+    let m : Movement = record { order = o; moved = moved } in
+    omega (arith, sum_by-cons part (Exec o moved) p, sum_by-cons (moved_where test) m (executed_of p), same o moved, sum_executed part test same p)
+
+-- covers alone move shares into the CNS account, and deliveries alone move them out of it
 pub moved_in_cns : (p : List DepRecord) (issue : ℕ) → moved_in p Cns issue ≡ covers_moved (executed_of p) issue
 unfolding moved_in
-moved_in_cns [] issue = refl
-moved_in_cns (Exec o moved ∷ p) issue =
-    let e : DepRecord = Exec o moved in
-    let m : Movement = record { order = o; moved = moved } in
-    let here : part_in Cns issue (transfer_of e) ≡ moved_where (λ o. is_cover o.kind && (o.issue == issue)) m =
-    ap (λ (b : Bool). if b && (o.issue == issue) then moved else 0) (cover_enters o) in
-    omega (
-      arith,
-      sum_by-cons (λ (x : DepRecord). part_in Cns issue (transfer_of x)) e p,
-      sum_by-cons (moved_where (λ o. is_cover o.kind && (o.issue == issue))) m (executed_of p),
-      here,
-      moved_in_cns p issue,
-    )
+moved_in_cns p issue =
+    sum_executed (λ e. part_in Cns issue (transfer_of e)) (λ o. is_cover o.kind && (o.issue == issue))
+    (λ o moved. ap (λ (b : Bool). if b && (o.issue == issue) then moved else 0) (cover_enters o)) p
 
--- and deliveries alone move them out of it
 pub moved_out_cns : (p : List DepRecord) (issue : ℕ) → moved_out p Cns issue ≡ deliveries_moved (executed_of p) issue
 unfolding moved_out
-moved_out_cns [] issue = refl
-moved_out_cns (Exec o moved ∷ p) issue =
-    let e : DepRecord = Exec o moved in
-    let m : Movement = record { order = o; moved = moved } in
-    let here : part_out Cns issue (transfer_of e) ≡ moved_where (λ o. is_delivery o.kind && (o.issue == issue)) m =
-    ap (λ (b : Bool). if b && (o.issue == issue) then moved else 0) (delivery_leaves o) in
-    omega (
-      arith,
-      sum_by-cons (λ (x : DepRecord). part_out Cns issue (transfer_of x)) e p,
-      sum_by-cons (moved_where (λ o. is_delivery o.kind && (o.issue == issue))) m (executed_of p),
-      here,
-      moved_out_cns p issue,
-    )
+moved_out_cns p issue =
+    sum_executed (λ e. part_out Cns issue (transfer_of e)) (λ o. is_delivery o.kind && (o.issue == issue))
+    (λ o moved. ap (λ (b : Bool). if b && (o.issue == issue) then moved else 0) (delivery_leaves o)) p

@@ -4,7 +4,7 @@ use Rattle.std.specs.Prelude.{◌==◌, option_and_then, if◌then◌else◌}
 use Rattle.std.specs.List.{slice_get}
 use Rattle.std.proofs.Math.Seq.{get_or-append_seam}
 use Rattle.std.proofs.lemmas.Bool.{eqb-true, cond-true, cond-false}
-use Rattle.std.proofs.lemmas.List.{get_or_append_left, length-reverse, reverse-append}
+use Rattle.std.proofs.lemmas.List.{get_or_append_left, length-reverse, reverse-append, reverse-reverse}
 use Rattle.std.proofs.lemmas.List.Sums.{sum_by-cons}
 use Rattle.std.proofs.lemmas.Option.{slice_get-get_or}
 use Rattle.cns_records.specs.declared.dep_record.DepRecord.{DepRecord}
@@ -52,9 +52,11 @@ index_more p e n index has = by (executes n e) refl index has
 pub index_none_of : (p : List DepRecord) (n : ℕ) (o : Option ℕ) → HasIndex p n o → o ≡ None → movement_of (executed_of p) n ≡ None
 index_none_of p n o stands none = subst (HasIndex p n) none stands
 
-pub index_some_of : (p : List DepRecord) (n i : ℕ) (o : Option ℕ) → HasIndex p n o → o ≡ Some i
-    → option_and_then executed_in (slice_get (reverse p) i) ≡ movement_of (executed_of p) n
-index_some_of p n i o stands some = let at = subst (HasIndex p n) some stands in at.1
+pub index_some_of : (records : List DepRecord) (n i : ℕ) (o : Option ℕ) → HasIndex (reverse records) n o → o ≡ Some i
+    → option_and_then executed_in (slice_get records i) ≡ movement_of (executed_of (reverse records)) n
+index_some_of records n i o stands some =
+    let at = subst (HasIndex (reverse records) n) some stands in
+    ap (λ (xs : List DepRecord). option_and_then executed_in (slice_get xs i)) (sym (reverse-reverse records)) ∙ at.1
 
 -- ---- places
 

@@ -21,4 +21,5 @@ pub use account::Account;
 pub use balances::{BalanceRow, BalanceRows};
 pub use depository::Depository;
 pub use fault::{Answer, DepFault};
+pub use movement::Movement;
 pub use openings::{OpeningFault, Openings};

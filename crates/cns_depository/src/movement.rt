@@ -8,10 +8,10 @@ use cns_movements::{Order, Reply};
 use cns_records::DepRecord;
 
 /// An order that was executed, and the shares that it moved.
-#[derive(Clone, Copy, PartialEq, Eq)]
-pub(crate) struct Movement {
-    pub(crate) order: Order,
-    pub(crate) moved: Shares,
+#[derive(Clone, Copy, PartialEq, Eq, Debug)]
+pub struct Movement {
+    pub order: Order,
+    pub moved: Shares,
 }
 
 impl Movement {
