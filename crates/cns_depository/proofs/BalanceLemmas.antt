@@ -1,54 +1,34 @@
 -- No account gives more than it has.
-use Rattle.std.proofs.Common.{◌≡◌, ℕ, ◌+◌, ◌-◌, ◌≤◌, Bool, true, false, ◌&&◌, List, [], ◌∷◌, eqb, arith, refl, ap, ◌∙◌, inl, inr}
-use Rattle.std.specs.Prelude.{min, sum_by}
+use Rattle.std.proofs.Common.{◌≡◌, ℕ, ◌+◌, ◌-◌, ◌≤◌, ◌&&◌, List, [], ◌∷◌, eqb, arith, ap, ◌∙◌, inl, inr}
+use Rattle.std.specs.Prelude.{sum_by}
 use Rattle.std.proofs.lemmas.Bool.{eqb-true, cases_Bool, cond-true, cond-false}
 use Rattle.std.proofs.lemmas.List.Sums.{sum_by-cons}
-use Rattle.cns_movements.specs.declared.order.MoveKind.{MoveKind}
-use Rattle.cns_movements.specs.declared.order.MoveKind.TheVariants.{Cover, Delivery}
-use Rattle.cns_movements.specs.declared.order.Order.{Order}
 use Rattle.cns_records.specs.declared.dep_record.DepRecord.{DepRecord}
 use Rattle.cns_trades.specs.declared.opening.Opening.{Opening}
 use Rattle.cns_depository.specs.declared.account.Account.{Account}
-use Rattle.cns_depository.specs.declared.account.Account.TheVariants.{Cns, Member}
-use Rattle.cns_depository.specs.Account.{enters, giver, leaves}
+use Rattle.cns_depository.specs.declared.movement.Transfer.{Transfer}
+use Rattle.cns_depository.specs.Account.{same_account}
 use Rattle.cns_depository.specs.Openings.{opening_shares}
-use Rattle.cns_depository.specs.Stock.{IsExecutable, IsLawfulDepot, balance_of, moved_by, moved_in, moved_out, part_where, order_in}
+use Rattle.cns_depository.specs.Stock.{IsExecutable, IsLawfulDepot, balance_of, moved_in, moved_out, part_in, part_out, transfer_of}
+use Rattle.cns_depository.proofs.MovementLemmas.{and_left, and_right, equal_accounts, transfer_covered}
 
-pub and_left : (a b : Bool) → (a && b) ≡ true → a ≡ true
-and_left true b both = refl
-and_left false b both = absurd cc
-
-pub and_right : (a b : Bool) → (a && b) ≡ true → b ≡ true
-and_right true b both = both
-and_right false b both = absurd cc
-
--- the account that shares leave is the one that gives
-leaves_giver : (a : Account) (o : Order) → leaves a o ≡ true → giver o ≡ a
-leaves_giver a o = by a o.kind refl
-  where
-    by : (x : Account) (kind : MoveKind) → o.kind ≡ kind → leaves x o ≡ true → giver o ≡ x
-    by Cns Cover is gives = cc (rw is at gives)
-    by Cns Delivery is gives = rw is refl
-    by (Member m) Cover is gives = rw is (ap Member (eqb-true o.member m (rw is at gives)))
-    by (Member m) Delivery is gives = cc (rw is at gives)
-
--- what an executed record moves out of an account is at most its balance before
-part_out_le : (openings : List Opening) (p : List DepRecord) (e : DepRecord) (a : Account) (issue : ℕ) → IsExecutable openings p e → part_where (leaves a) issue e ≤ balance_of openings p a issue
+-- what a record takes out of an account is at most its balance before
+part_out_le : (openings : List Opening) (p : List DepRecord) (e : DepRecord) (a : Account) (issue : ℕ) → IsExecutable openings p e
+    → part_out a issue (transfer_of e) ≤ balance_of openings p a issue
 part_out_le openings p e a issue allowed =
-    let o = order_in e in
-    let test = leaves a o && eqb o.issue issue in
-    let held = balance_of openings p (giver o) o.issue in
-    let moves : moved_by e ≡ min o.asked held = ap moved_by allowed.moves in
-    let less : moved_by e ≤ held = omega (arith, moves) in
+    let t : Transfer = transfer_of e in
+    let test = same_account t.giver a && eqb t.issue issue in
+    let held = balance_of openings p t.giver t.issue in
+    let less : t.shares ≤ held = transfer_covered openings p e allowed in
     elim (cases_Bool test) [
       | inl given ↦
-          let from : giver o ≡ a = leaves_giver a o (and_left (leaves a o) (eqb o.issue issue) given) in
-          let of : o.issue ≡ issue = eqb-true o.issue issue (and_right (leaves a o) (eqb o.issue issue) given) in
-          let same : held ≡ balance_of openings p a issue = ap (λ (x : Account). balance_of openings p x o.issue) from ∙ ap (λ (i : ℕ). balance_of openings p a i) of in
-          let part : part_where (leaves a) issue e ≡ moved_by e = cond-true test (moved_by e) 0 given in
+          let from : t.giver ≡ a = equal_accounts t.giver a (and_left (same_account t.giver a) (eqb t.issue issue) given) in
+          let of : t.issue ≡ issue = eqb-true t.issue issue (and_right (same_account t.giver a) (eqb t.issue issue) given) in
+          let same : held ≡ balance_of openings p a issue = ap (λ (x : Account). balance_of openings p x t.issue) from ∙ ap (λ (i : ℕ). balance_of openings p a i) of in
+          let part : part_out a issue t ≡ t.shares = cond-true test t.shares 0 given in
           omega (arith, part, less, same)
       | inr other ↦
-          let part : part_where (leaves a) issue e ≡ 0 = cond-false test (moved_by e) 0 other in
+          let part : part_out a issue t ≡ 0 = cond-false test t.shares 0 other in
           omega (arith, part)
     ]
 
@@ -57,6 +37,8 @@ pub moved_out_covered : (openings : List Opening) (p : List DepRecord) (a : Acco
 unfolding moved_in moved_out balance_of
 moved_out_covered openings [] a issue lawful = omega arith
 moved_out_covered openings (e ∷ p) a issue lawful =
-    let before : sum_by (part_where (leaves a) issue) p ≤ opening_shares openings a issue + sum_by (part_where (enters a) issue) p = moved_out_covered openings p a issue lawful.1 in
-    let part : part_where (leaves a) issue e ≤ (opening_shares openings a issue + sum_by (part_where (enters a) issue) p) - sum_by (part_where (leaves a) issue) p = part_out_le openings p e a issue lawful.0 in
-    omega (arith, sum_by-cons (part_where (leaves a) issue) e p, sum_by-cons (part_where (enters a) issue) e p, before, part)
+    let into : DepRecord → ℕ = λ e. part_in a issue (transfer_of e) in
+    let out : DepRecord → ℕ = λ e. part_out a issue (transfer_of e) in
+    let before : sum_by out p ≤ opening_shares openings a issue + sum_by into p = moved_out_covered openings p a issue lawful.1 in
+    let part : out e ≤ (opening_shares openings a issue + sum_by into p) - sum_by out p = part_out_le openings p e a issue lawful.0 in
+    omega (arith, sum_by-cons out e p, sum_by-cons into e p, before, part)

@@ -10,7 +10,7 @@ use Rattle.cns_depository.specs.declared.account.Account.TheVariants.{Member}
 use Rattle.cns_depository.specs.declared.opening_index.Holding.{Holding}
 use Rattle.cns_depository.specs.Openings.{is_opening_of, issue_sum, opening_shares}
 use Rattle.cns_depository.specs.OpeningIndex.{holding_at, opened_with, IsIndex}
-use Rattle.cns_depository.proofs.BalanceLemmas.{and_left, and_right}
+use Rattle.cns_depository.proofs.MovementLemmas.{and_left, and_right}
 use Rattle.cns_depository.proofs.OpeningLemmas.{issue_sum-more, fits_more}
 
 -- a member that has no opening in an issue opens with nothing there

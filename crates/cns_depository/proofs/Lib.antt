@@ -1,3 +1,5 @@
+pub mod MovementLemmas
+pub mod ExecutedLemmas
 pub mod OpeningLemmas
 pub mod TotalLemmas
 pub mod NodeLemmas

@@ -13,31 +13,30 @@ use Rattle.std.proofs.lemmas.Cmp.{ranked}
 use Rattle.std.proofs.lemmas.Option.{none-some, same_Some}
 use Rattle.std.proofs.lemmas.List.Elements.{Contains-append_left, Contains-append_right, Contains-push}
 use Rattle.std.proofs.lemmas.List.Sums.{sum_by-cons}
-use Rattle.cns_movements.specs.Order.{is_delivery}
-use Rattle.cns_movements.specs.declared.order.Order.{Order}
 use Rattle.cns_records.specs.declared.dep_record.DepRecord.{DepRecord}
 use Rattle.cns_trades.specs.declared.opening.Opening.{Opening}
 use Rattle.cns_depository.specs.declared.account.Account.{Account}
 use Rattle.cns_depository.specs.declared.account.Account.TheVariants.{Cns, Member}
+use Rattle.cns_depository.specs.declared.movement.Transfer.{Transfer}
 use Rattle.cns_depository.specs.declared.place.Place.{Place}
 use Rattle.cns_depository.specs.declared.balances.BalanceRow.{BalanceRow}
-use Rattle.cns_depository.specs.Account.{enters}
+use Rattle.cns_depository.specs.Account.{same_account}
 use Rattle.cns_depository.specs.Openings.{is_opening_of, opening_shares}
-use Rattle.cns_depository.specs.Stock.{balance_of, moved_by, moved_in, part_where, order_in}
+use Rattle.cns_depository.specs.Stock.{balance_of, moved_in, part_in, transfer_of}
 use Rattle.cns_depository.specs.Balances.{place_cmp, places_of, balance_row, balance_rows, rank, row_place, AreComplete, AreAscending}
 use Rattle.cns_depository.specs.contracts.place.PlaceOrd.TheImpl.Laws.{total-law}
-use Rattle.cns_depository.proofs.BalanceLemmas.{and_left, and_right}
+use Rattle.cns_depository.proofs.MovementLemmas.{and_left, and_right, equal_accounts}
 use Rattle.cns_depository.proofs.PlaceLemmas.{place_order}
 
 -- places that compare equal are the same
 same_number : (x y : ℕ) → nat_cmp x y ≡ Equal → x ≡ y
 same_number x y e = ranked x y Equal (sym e)
 
-same_account : (a b : Account) → rank a ≡ rank b → a ≡ b
-same_account Cns Cns e = refl
-same_account Cns (Member m) e = absurd (omega (arith, e))
-same_account (Member m) Cns e = absurd (omega (arith, e))
-same_account (Member m) (Member k) e = ap Member (omega (arith, e))
+same_rank : (a b : Account) → rank a ≡ rank b → a ≡ b
+same_rank Cns Cns e = refl
+same_rank Cns (Member m) e = absurd (omega (arith, e))
+same_rank (Member m) Cns e = absurd (omega (arith, e))
+same_rank (Member m) (Member k) e = ap Member (omega (arith, e))
 
 both_equal : (x y : Ordering) → ordering_then x y ≡ Equal → (x ≡ Equal) × (y ≡ Equal)
 both_equal Less y e = absurd cc
@@ -47,7 +46,7 @@ both_equal Greater y e = absurd cc
 pub same_place : (a b : Place) → place_cmp a b ≡ Equal → a ≡ b
 same_place a b e =
     let both = both_equal (nat_cmp a.issue b.issue) (nat_cmp (rank a.account) (rank b.account)) e in
-    let account = same_account a.account b.account (same_number (rank a.account) (rank b.account) both.1) in
+    let account = same_rank a.account b.account (same_number (rank a.account) (rank b.account) both.1) in
     let issue = same_number a.issue b.issue both.0 in
     λ i. record { issue = issue i; account = account i }
 
@@ -74,12 +73,12 @@ insert_has (x ∷ xs) k = by (place_cmp k x) refl (insert_has xs k)
     by Equal e rest = inl (sym (same_place k x e))
     by Greater e rest = inr rest
 
--- places with the one that an opening names, and with those that an order names, each once, ascending
+-- places with the one that an opening names, and with those that a transfer names, each once, ascending
 abbrev pub with_opening : List Place → Opening → List Place
 with_opening ps o = insert_key place_cmp ps (record { issue = o.issue; account = Member o.member })
 
-abbrev with_order : List Place → Order → List Place
-with_order ps o = insert_key place_cmp (insert_key place_cmp ps (record { issue = o.issue; account = Cns })) (record { issue = o.issue; account = Member o.member })
+abbrev with_transfer : List Place → Transfer → List Place
+with_transfer ps t = insert_key place_cmp (insert_key place_cmp ps (record { issue = t.issue; account = t.giver })) (record { issue = t.issue; account = t.receiver })
 
 -- the places of openings
 opened_keeps : (os : List Opening) (ps : List Place) (q : Place) → IsAmong q ps → IsAmong q (fold with_opening ps os)
@@ -102,36 +101,35 @@ opened_has (o ∷ os) ps m i held = by (is_opening_of m i o) refl (opened_has os
         rest (λ z. held (omega (arith, sum_by-cons f o os, none, z)))
 
 -- the places of records
-order_keeps : (ps : List Place) (o : Order) (q : Place) → IsAmong q ps → IsAmong q (with_order ps o)
-order_keeps ps o q in' = insert_keeps _ _ q (insert_keeps ps _ q in')
+transfer_keeps : (ps : List Place) (t : Transfer) (q : Place) → IsAmong q ps → IsAmong q (with_transfer ps t)
+transfer_keeps ps t q in' = insert_keeps _ _ q (insert_keeps ps _ q in')
 
-order_has : (ps : List Place) (o : Order) (a : Account) → enters a o ≡ true → IsAmong (record { issue = o.issue; account = a }) (with_order ps o)
-order_has ps o Cns enters_it = insert_keeps _ _ _ (insert_has ps _)
-order_has ps o (Member m) enters_it =
-    let of : o.member ≡ m = eqb-true o.member m (and_right (is_delivery o.kind) (eqb o.member m) enters_it) in
-    let before = insert_key place_cmp ps (record { issue = o.issue; account = Cns }) in
-    subst (λ (x : ℕ). IsAmong (record { issue = o.issue; account = Member x }) (with_order ps o)) of (insert_has before (record { issue = o.issue; account = Member o.member }))
+transfer_has : (ps : List Place) (t : Transfer) → IsAmong (record { issue = t.issue; account = t.receiver }) (with_transfer ps t)
+transfer_has ps t = insert_has (insert_key place_cmp ps (record { issue = t.issue; account = t.giver })) _
 
 opening_place : (openings : List Opening) (p : List DepRecord) (a : Account) (i : ℕ) → opening_shares openings a i ≢ 0 → IsAmong (record { issue = i; account = a }) (places_of openings p)
 unfolding places_of
 opening_place openings [] Cns i held = absurd (held refl)
 opening_place openings [] (Member m) i held = opened_has openings [] m i held
-opening_place openings (e ∷ p) a i held = order_keeps (places_of openings p) (order_in e) _ (opening_place openings p a i held)
+opening_place openings (e ∷ p) a i held = transfer_keeps (places_of openings p) (transfer_of e) _ (opening_place openings p a i held)
 
 moved_place : (openings : List Opening) (p : List DepRecord) (a : Account) (i : ℕ) → moved_in p a i ≢ 0 → IsAmong (record { issue = i; account = a }) (places_of openings p)
 unfolding places_of moved_in
 moved_place openings [] a i held = absurd (held refl)
-moved_place openings (e ∷ p) a i held = by (enters a (order_in e) && eqb (order_in e).issue i) refl (moved_place openings p a i)
+moved_place openings (e ∷ p) a i held = by (same_account (transfer_of e).receiver a && eqb (transfer_of e).issue i) refl (moved_place openings p a i)
   where
-    by : (b : Bool) → (enters a (order_in e) && eqb (order_in e).issue i) ≡ b → (moved_in p a i ≢ 0 → IsAmong (record { issue = i; account = a }) (places_of openings p))
-        → IsAmong (record { issue = i; account = a }) (with_order (places_of openings p) (order_in e))
+    by : (b : Bool) → (same_account (transfer_of e).receiver a && eqb (transfer_of e).issue i) ≡ b
+        → (moved_in p a i ≢ 0 → IsAmong (record { issue = i; account = a }) (places_of openings p))
+        → IsAmong (record { issue = i; account = a }) (with_transfer (places_of openings p) (transfer_of e))
     by true h rest =
-        let o = order_in e in
-        let at : o.issue ≡ i = eqb-true o.issue i (and_right (enters a o) (eqb o.issue i) h) in
-        subst (λ (x : ℕ). IsAmong (record { issue = x; account = a }) (with_order (places_of openings p) o)) at (order_has (places_of openings p) o a (and_left (enters a o) (eqb o.issue i) h))
+        let t : Transfer = transfer_of e in
+        let to : t.receiver ≡ a = equal_accounts t.receiver a (and_left (same_account t.receiver a) (eqb t.issue i) h) in
+        let at : t.issue ≡ i = eqb-true t.issue i (and_right (same_account t.receiver a) (eqb t.issue i) h) in
+        subst (λ (q : Place). IsAmong q (with_transfer (places_of openings p) t)) (λ j. record { issue = at j; account = to j }) (transfer_has (places_of openings p) t)
     by false h rest =
-        let none : part_where (enters a) i e ≡ 0 = cond-false (enters a (order_in e) && eqb (order_in e).issue i) (moved_by e) 0 h in
-        order_keeps (places_of openings p) (order_in e) _ (rest (λ z. held (omega (arith, sum_by-cons (part_where (enters a) i) e p, none, z))))
+        let t : Transfer = transfer_of e in
+        let none : part_in a i t ≡ 0 = cond-false (same_account t.receiver a && eqb t.issue i) t.shares 0 h in
+        transfer_keeps (places_of openings p) t _ (rest (λ z. held (omega (arith, sum_by-cons (λ (x : DepRecord). part_in a i (transfer_of x)) e p, none, z))))
 
 -- a balance other than 0 is of a place that is named
 pub held_place : (openings : List Opening) (p : List DepRecord) (a : Account) (i : ℕ) → balance_of openings p a i ≢ 0 → IsAmong (record { issue = i; account = a }) (places_of openings p)

@@ -1,24 +1,22 @@
 -- What the records of a depository come to, as there are more of them.
 use Rattle.std.proofs.Common.{◌≡◌, ℕ, ◌+◌, ◌^◌, ◌<◌, ◌≤◌, Bool, true, false, ◌&&◌, List, [], ◌∷◌, ◌++◌, reverse, length, length-append, Option, Some, None, eqb, refl, sym, ap, ◌∙◌, subst, arith}
-use Rattle.std.specs.Prelude.{◌==◌, if◌then◌else◌}
+use Rattle.std.specs.Prelude.{◌==◌, option_and_then, if◌then◌else◌}
 use Rattle.std.specs.List.{slice_get}
 use Rattle.std.proofs.Math.Seq.{get_or-append_seam}
 use Rattle.std.proofs.lemmas.Bool.{eqb-true, cond-true, cond-false}
-use Rattle.std.proofs.lemmas.List.{get_or_append_left, length-reverse, reverse-append}
+use Rattle.std.proofs.lemmas.List.{get_or_append_left, length-reverse, reverse-append, reverse-reverse}
 use Rattle.std.proofs.lemmas.List.Sums.{sum_by-cons}
 use Rattle.std.proofs.lemmas.Option.{slice_get-get_or}
-use Rattle.cns_movements.specs.declared.order.MoveKind.{MoveKind}
-use Rattle.cns_movements.specs.declared.order.MoveKind.TheVariants.{Cover, Delivery}
-use Rattle.cns_movements.specs.declared.order.Order.{Order}
 use Rattle.cns_records.specs.declared.dep_record.DepRecord.{DepRecord}
 use Rattle.cns_depository.specs.declared.account.Account.{Account}
 use Rattle.cns_depository.specs.declared.account.Account.TheVariants.{Cns, Member}
 use Rattle.cns_depository.specs.declared.moved.Moved.{Moved}
+use Rattle.cns_depository.specs.declared.movement.Transfer.{Transfer}
 use Rattle.cns_depository.specs.declared.place.Place.{Place}
-use Rattle.cns_depository.specs.Account.{enters, giver, leaves, receiver}
-use Rattle.cns_depository.specs.Stock.{moved_by, moved_in, moved_out, part_where, order_in, record_of}
-use Rattle.cns_depository.proofs.BalanceLemmas.{and_left, and_right}
-use Rattle.cns_depository.specs.Totals.{AreTotalsOf, place_eq, HasIndex}
+use Rattle.cns_depository.specs.Account.{same_account}
+use Rattle.cns_depository.specs.Stock.{executed_in, executed_of, moved_in, moved_out, movement_of, part_in, part_out, transfer_of}
+use Rattle.cns_depository.specs.Totals.{AreTotalsOf, HasIndex, executes, place_eq}
+use Rattle.cns_depository.proofs.MovementLemmas.{and_left, and_right, earlier_movement, newest_movement}
 
 -- ---- the index of a record
 
@@ -32,41 +30,45 @@ slice_last xs e = slice_get-get_or (xs ++ e ∷ []) (length xs) e (omega (arith,
 
 -- the record that is added stands after the others
 index_more : (p : List DepRecord) (e : DepRecord) (n : ℕ) (index : Option ℕ) → HasIndex p n index
-    → HasIndex (e ∷ p) n (if (order_in e).number == n then Some (length p) else index)
-index_more p e n index has = by ((order_in e).number == n) refl index has
+    → HasIndex (e ∷ p) n (if executes n e then Some (length p) else index)
+index_more p e n index has = by (executes n e) refl index has
   where
     turned : reverse (e ∷ p) ≡ reverse p ++ e ∷ []
     turned = reverse-append (e ∷ []) p
 
-    by : (b : Bool) → ((order_in e).number == n) ≡ b → (o : Option ℕ) → HasIndex p n o → HasIndex (e ∷ p) n (if b then Some (length p) else o)
+    by : (b : Bool) → executes n e ≡ b → (o : Option ℕ) → HasIndex p n o → HasIndex (e ∷ p) n (if b then Some (length p) else o)
     by true is o had =
         let last : slice_get (reverse p ++ e ∷ []) (length p) ≡ Some e = ap (slice_get (reverse p ++ e ∷ [])) (sym (length-reverse p)) ∙ slice_last (reverse p) e in
-        (omega arith, ap (λ (xs : List DepRecord). slice_get xs (length p)) turned ∙ last ∙ sym (cond-true ((order_in e).number == n) (Some e) (record_of p n) is))
-    by false is None had = cond-false ((order_in e).number == n) (Some e) (record_of p n) is ∙ had
+        (omega arith, ap (λ (xs : List DepRecord). option_and_then executed_in (slice_get xs (length p))) turned ∙ ap (option_and_then executed_in) last ∙ sym (newest_movement e p n is))
+    by false is None had = earlier_movement e p n is ∙ had
     by false is (Some i) had =
         let within : i < length (reverse p) = omega (arith, had.0, length-reverse p) in (
           omega (arith, had.0),
-          ap (λ (xs : List DepRecord). slice_get xs i) turned ∙ slice_more (reverse p) e i within ∙ had.1 ∙ sym (cond-false ((order_in e).number == n) (Some e) (record_of p n) is),
+          ap (λ (xs : List DepRecord). option_and_then executed_in (slice_get xs i)) turned ∙ ap (option_and_then executed_in) (slice_more (reverse p) e i within) ∙ had.1
+              ∙ sym (earlier_movement e p n is),
         )
 
--- the record of a number by the index that is found
-pub index_none_of : (p : List DepRecord) (n : ℕ) (o : Option ℕ) → HasIndex p n o → o ≡ None → record_of p n ≡ None
+-- the movement of a number by the index that is found
+pub index_none_of : (p : List DepRecord) (n : ℕ) (o : Option ℕ) → HasIndex p n o → o ≡ None → movement_of (executed_of p) n ≡ None
 index_none_of p n o stands none = subst (HasIndex p n) none stands
 
-pub index_some_of : (p : List DepRecord) (n i : ℕ) (o : Option ℕ) → HasIndex p n o → o ≡ Some i → slice_get (reverse p) i ≡ record_of p n
-index_some_of p n i o stands some = let at = subst (HasIndex p n) some stands in at.1
+pub index_some_of : (records : List DepRecord) (n i : ℕ) (o : Option ℕ) → HasIndex (reverse records) n o → o ≡ Some i
+    → option_and_then executed_in (slice_get records i) ≡ movement_of (executed_of (reverse records)) n
+index_some_of records n i o stands some =
+    let at = subst (HasIndex (reverse records) n) some stands in
+    ap (λ (xs : List DepRecord). option_and_then executed_in (slice_get xs i)) (sym (reverse-reverse records)) ∙ at.1
 
 -- ---- places
 
-equal_accounts : (issue other : ℕ) (a b : Account) → place_eq (record { issue = issue; account = a }) (record { issue = other; account = b }) ≡ true → (issue ≡ other) × (a ≡ b)
-equal_accounts issue other Cns Cns e = (eqb-true issue other (and_left (eqb issue other) true e), refl)
-equal_accounts issue other Cns (Member k) e = cc (and_right (eqb issue other) false e)
-equal_accounts issue other (Member m) Cns e = cc (and_right (eqb issue other) false e)
-equal_accounts issue other (Member m) (Member k) e = (eqb-true issue other (and_left (eqb issue other) (eqb m k) e), ap Member (eqb-true m k (and_right (eqb issue other) (eqb m k) e)))
+equal_parts : (issue other : ℕ) (a b : Account) → place_eq (record { issue = issue; account = a }) (record { issue = other; account = b }) ≡ true → (issue ≡ other) × (a ≡ b)
+equal_parts issue other Cns Cns e = (eqb-true issue other (and_left (eqb issue other) true e), refl)
+equal_parts issue other Cns (Member k) e = cc (and_right (eqb issue other) false e)
+equal_parts issue other (Member m) Cns e = cc (and_right (eqb issue other) false e)
+equal_parts issue other (Member m) (Member k) e = (eqb-true issue other (and_left (eqb issue other) (eqb m k) e), ap Member (eqb-true m k (and_right (eqb issue other) (eqb m k) e)))
 
 pub equal_places : (a b : Place) → place_eq a b ≡ true → a ≡ b
 equal_places a b e =
-    let both = equal_accounts a.issue b.issue a.account b.account e in
+    let both = equal_parts a.issue b.issue a.account b.account e in
     λ i. record { issue = both.0 i; account = both.1 i }
 
 -- a number of each place grows by n where w is put at a place, and stays everywhere else
@@ -93,25 +95,12 @@ swap true false = refl
 swap false true = refl
 swap false false = refl
 
--- the place of the account that receives is the one that the order enters
-received : (a : Account) (issue : ℕ) (o : Order) → place_eq (record { issue = o.issue; account = receiver o }) (record { issue = issue; account = a }) ≡ (enters a o && (o.issue == issue))
-received a issue o = by a o.kind refl
-  where
-    by : (x : Account) (kind : MoveKind) → o.kind ≡ kind → place_eq (record { issue = o.issue; account = receiver o }) (record { issue = issue; account = x }) ≡ (enters x o && (o.issue == issue))
-    by Cns Cover is = rw is (swap (o.issue == issue) true)
-    by Cns Delivery is = rw is (swap (o.issue == issue) false)
-    by (Member m) Cover is = rw is (swap (o.issue == issue) false)
-    by (Member m) Delivery is = rw is (swap (o.issue == issue) (o.member == m))
-
--- and that of the account that gives is the one that it leaves
-given : (a : Account) (issue : ℕ) (o : Order) → place_eq (record { issue = o.issue; account = giver o }) (record { issue = issue; account = a }) ≡ (leaves a o && (o.issue == issue))
-given a issue o = by a o.kind refl
-  where
-    by : (x : Account) (kind : MoveKind) → o.kind ≡ kind → place_eq (record { issue = o.issue; account = giver o }) (record { issue = issue; account = x }) ≡ (leaves x o && (o.issue == issue))
-    by Cns Cover is = rw is (swap (o.issue == issue) false)
-    by Cns Delivery is = rw is (swap (o.issue == issue) true)
-    by (Member m) Cover is = rw is (swap (o.issue == issue) (o.member == m))
-    by (Member m) Delivery is = rw is (swap (o.issue == issue) false)
+-- a place is that of an account in an issue where both are the same
+at_place : (x a : Account) (i issue : ℕ) → place_eq (record { issue = i; account = x }) (record { issue = issue; account = a }) ≡ (same_account x a && (i == issue))
+at_place Cns Cns i issue = swap (i == issue) true
+at_place Cns (Member m) i issue = swap (i == issue) false
+at_place (Member m) Cns i issue = swap (i == issue) false
+at_place (Member m) (Member n) i issue = swap (i == issue) (m == n)
 
 -- ---- the totals
 
@@ -144,25 +133,34 @@ totals_kept moved now indices after p same found totals = record {
 }
 
 -- those with one more record
-pub totals_more : (moved now : Place → Moved) (indices after : ℕ → Option ℕ) (p : List DepRecord) (e : DepRecord) → AreTotalsOf moved indices p
-    → length p < 2 ^ 64 → moved_by e ≤ 10 ^ 18
-    → ((k : Place) → (now k).entered ≡ (moved k).entered + (if place_eq (record { issue = (order_in e).issue; account = receiver (order_in e) }) k then moved_by e else 0))
-    → ((k : Place) → (now k).left ≡ (moved k).left + (if place_eq (record { issue = (order_in e).issue; account = giver (order_in e) }) k then moved_by e else 0))
-    → ((n : ℕ) → after n ≡ (if (order_in e).number == n then Some (length p) else indices n))
+pub totals_more : (moved now : Place → Moved) (indices after : ℕ → Option ℕ) (p : List DepRecord) (e : DepRecord) (t : Transfer) (shares : ℕ) → AreTotalsOf moved indices p
+    → length p < 2 ^ 64 → t ≡ transfer_of e → shares ≡ t.shares → t.shares ≤ 10 ^ 18
+    → ((k : Place) → (now k).entered ≡ (moved k).entered + (if place_eq (record { issue = t.issue; account = t.receiver }) k then shares else 0))
+    → ((k : Place) → (now k).left ≡ (moved k).left + (if place_eq (record { issue = t.issue; account = t.giver }) k then shares else 0))
+    → ((n : ℕ) → after n ≡ (if executes n e then Some (length p) else indices n))
     → AreTotalsOf now after (e ∷ p)
 unfolding moved_in moved_out
-totals_more moved now indices after p e totals few small entered left found =
-    let o = order_in e in
-    let m = moved_by e in
+totals_more moved now indices after p e t shares totals few is worth small entered left found =
+    let into : Account → ℕ → DepRecord → ℕ = λ a i x. part_in a i (transfer_of x) in
+    let out : Account → ℕ → DepRecord → ℕ = λ a i x. part_out a i (transfer_of x) in
+    let within : (transfer_of e).shares ≤ 10 ^ 18 = subst (λ (x : Transfer). x.shares ≤ 10 ^ 18) is small in
     record {
       entered = λ a i.
-          let here = ap (λ (b : Bool). if b then m else 0) (received a i o) in
-          omega (arith, entered (record { issue = i; account = a }), totals.entered a i, here, sum_by-cons (part_where (enters a) i) e p);
+          let here = ap (λ (b : Bool). if b then shares else 0) (at_place t.receiver a t.issue i) in
+          let part : (if same_account t.receiver a && (t.issue == i) then shares else 0) ≡ into a i e =
+          ap (λ (n : ℕ). if same_account t.receiver a && (t.issue == i) then n else 0) worth ∙ ap (part_in a i) is in
+          omega (arith, entered (record { issue = i; account = a }), totals.entered a i, here, part, sum_by-cons (into a i) e p);
       left = λ a i.
-          let here = ap (λ (b : Bool). if b then m else 0) (given a i o) in
-          omega (arith, left (record { issue = i; account = a }), totals.left a i, here, sum_by-cons (part_where (leaves a) i) e p);
+          let here = ap (λ (b : Bool). if b then shares else 0) (at_place t.giver a t.issue i) in
+          let part : (if same_account t.giver a && (t.issue == i) then shares else 0) ≡ out a i e =
+          ap (λ (n : ℕ). if same_account t.giver a && (t.issue == i) then n else 0) worth ∙ ap (part_out a i) is in
+          omega (arith, left (record { issue = i; account = a }), totals.left a i, here, part, sum_by-cons (out a i) e p);
       found = λ n. subst (HasIndex (e ∷ p) n) (sym (found n)) (index_more p e n (indices n) (totals.found n));
       few = omega (arith, few);
-      entered_small = λ a i. omega (arith, totals.entered_small a i, small, at_most (enters a o && (o.issue == i)) m, sum_by-cons (part_where (enters a) i) e p);
-      left_small = λ a i. omega (arith, totals.left_small a i, small, at_most (leaves a o && (o.issue == i)) m, sum_by-cons (part_where (leaves a) i) e p);
+      entered_small = λ a i.
+          let most : into a i e ≤ (transfer_of e).shares = at_most (same_account (transfer_of e).receiver a && ((transfer_of e).issue == i)) (transfer_of e).shares in
+          omega (arith, totals.entered_small a i, within, most, sum_by-cons (into a i) e p);
+      left_small = λ a i.
+          let most : out a i e ≤ (transfer_of e).shares = at_most (same_account (transfer_of e).giver a && ((transfer_of e).issue == i)) (transfer_of e).shares in
+          omega (arith, totals.left_small a i, within, most, sum_by-cons (out a i) e p);
     }

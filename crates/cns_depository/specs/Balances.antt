@@ -11,7 +11,7 @@ use Rattle.cns_depository.specs.declared.account.Account.{Account}
 use Rattle.cns_depository.specs.declared.account.Account.TheVariants.{Cns, Member}
 use Rattle.cns_depository.specs.declared.place.Place.{Place}
 use Rattle.cns_depository.specs.declared.balances.BalanceRow.{BalanceRow}
-use Rattle.cns_depository.specs.Stock.{order_in, balance_of}
+use Rattle.cns_depository.specs.Stock.{balance_of, transfer_of}
 
 -- the rank of an account: the CNS account first, then the members by number
 abbrev pub rank : Account → ℕ
@@ -21,11 +21,11 @@ rank account = elim account [ Cns ↦ 0 | Member m ↦ m + 1 ]
 abbrev pub place_cmp : Place → Place → Ordering
 place_cmp a b = ordering_then (nat_cmp a.issue b.issue) (nat_cmp (rank a.account) (rank b.account))
 
--- the places that some opening or order names, each once, ascending
+-- the places that some opening or transfer names, each once, ascending
 unfoldable pub places_of : List Opening → List DepRecord → List Place
 places_of openings [] = fold (λ ps o. insert_key place_cmp ps (record { issue = o.issue; account = Member o.member })) [] openings
 places_of openings (e ∷ p) =
-    let o = order_in e in fold (λ ps a. insert_key place_cmp ps (record { issue = o.issue; account = a })) (places_of openings p) (Cns ∷ Member o.member ∷ [])
+    let t = transfer_of e in fold (λ ps a. insert_key place_cmp ps (record { issue = t.issue; account = a })) (places_of openings p) (t.giver ∷ t.receiver ∷ [])
 
 -- the row of a place, where its balance is not 0
 unfoldable pub balance_row : List Opening → List DepRecord → Place → Option BalanceRow

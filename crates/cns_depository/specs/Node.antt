@@ -14,12 +14,12 @@ use Rattle.cns_records.specs.Dep.{dep_spelling, HasDepPayload}
 use Rattle.cns_trades.specs.declared.opening.Opening.{Opening}
 use Rattle.cns_depository.specs.Stock.{IsExecutable}
 
--- the openings, and the log of the executed movements
+-- the openings, and the log of the records
 pub record DepNode : Type 0 where
   pub openings : List Opening
   pub log : LogState DepRecord
 
--- each movement may stand after those before it
+-- each record may stand after those before it
 abbrev pub IsNode : DepNode → Type 0
 IsNode node = IsLawfulLog (IsExecutable node.openings) node.log
 

@@ -1,8 +1,8 @@
 ghost use Rattle.std.specs.Prelude.{◌≡◌, ◌+◌, ◌≤◌, true, false, option_map, reverse, IfOk, IfErr};
 ghost use Rattle.cns_depository.specs.Openings.{opening_shares};
-ghost use Rattle.cns_depository.specs.Stock.{IsExecutable, IsLawfulDepot, order_in, moved_by, record_of as record_in, moved_in, moved_out, balance_of as balance_in};
+ghost use Rattle.cns_depository.specs.Stock.{IsNextMovement, IsLawfulDepot, execution, executed_of, movement_of, moved_in, moved_out, balance_of as balance_in};
 ghost use Rattle.cns_depository.specs.Balances.{balance_rows as balance_rows_of, AreComplete, AreAscending};
-ghost use Rattle.cns_depository.specs.Answers.{OrderLeaves, IsKnownAnswer};
+ghost use Rattle.cns_depository.specs.Answers.{OrderLeaves, IsKnownAnswer, known_at};
 ghost use Rattle.cns_depository.specs.Node.{Commits, IsOpened, IsUnread, NodePlanned, RestartLeaves};
 ghost use Rattle.cns_journal.specs.RecordLog.{IsGivenUp};
 ghost use Rattle.cns_records.specs.Dep.{dep_spelling};
@@ -10,12 +10,13 @@ ghost use Rattle.cns_records.specs.Dep.{dep_spelling};
 use crate::account::Account;
 use crate::balances::{BalanceRows, balance_rows};
 use crate::fault::{Answer, DepFault};
+use crate::movement::Movement;
 use crate::openings::Openings;
 use crate::place::Place;
 use crate::stock::Stock;
 use cns_ids::{Cusip, Shares};
 use cns_journal::{CommitFault, Keeper, NotPlanned, RecordLog, Refused, ReplayFault, Restarted};
-use cns_movements::{MoveNo, Order, Reply};
+use cns_movements::{MoveNo, Order};
 use cns_records::DepRecord;
 use std::alloc::{AllocError, Global};
 use std::marker::Model;
@@ -98,9 +99,9 @@ impl<K: Keeper> Depository<K> {
     /// The order that was executed under this number, and the shares that it moved. Costs a look-up.
     pub fn executed(&self, number: MoveNo) -> Option<(Order, Shares)>
         ensures { result
-            ≡ option_map (λ entry. (order_in entry, moved_by entry)) (record_in self.now.log.records number) }
+            ≡ option_map (λ movement. (movement.order, movement.moved)) (movement_of (executed_of self.now.log.records) number) }
     {
-        let DepRecord::Exec { order, moved } = self.known(number)?;
+        let Movement { order, moved } = self.known(number)?;
         Some((order, moved))
     }
 
@@ -145,13 +146,9 @@ impl<K: Keeper> Depository<K> {
         if let Some(known) = self.known(order.number) {
             return again(&known, order);
         }
-        let entry = self.stock.movement(&self.openings, order);
-        let DepRecord::Exec { moved, .. } = entry;
-        self.execute(&entry)?;
-        Ok(Answer::Done(Reply {
-            number: order.number,
-            moved,
-        }))
+        let movement = self.stock.movement(&self.openings, order);
+        self.execute(&movement)?;
+        Ok(Answer::Done(movement.reply()))
     }
 
     /// Reads the journal again, and puts the depository up. A refused restart leaves it down and
@@ -195,43 +192,36 @@ impl<K: Keeper> Depository<K> {
 }
 
 impl<K: Keeper> Depository<K> {
-    // The record of this number.
-    fn known(&self, number: MoveNo) -> Option<DepRecord>
-        ensures { result ≡ record_in self.now.log.records number }
+    // The movement of the order of this number.
+    fn known(&self, number: MoveNo) -> Option<Movement>
+        ensures { result ≡ known_at self.now number }
     {
-        self.stock.record(self.log.records(), number)
+        self.stock.movement_at(self.log.records(), number)
     }
 
-    // Commits a record that may stand after the others, and then adds it to the stock.
-    fn execute(&mut self, entry: &DepRecord) -> Result<(), CommitFault>
+    // Commits the record of a movement that may be executed next, and then adds it to the stock.
+    fn execute(&mut self, movement: &Movement) -> Result<(), CommitFault>
         requires up { self.old.log.down ≡ false }
-        requires executable { IsExecutable self.old.openings self.old.log.records entry.now }
-        ensures { Commits entry.now result self.old self.new }
+        requires next { IsNextMovement self.old.openings self.old.log.records movement.now }
+        ensures { Commits (execution movement.now) result self.old self.new }
     {
         if self.stock.room().is_err() {
             return Err(CommitFault::OutOfMemory);
         }
         let index = self.log.records().len();
-        self.log.commit(*entry)?;
-        let DepRecord::Exec { order, moved } = entry;
-        self.stock.add(index, order, *moved);
+        let record = movement.to_record();
+        self.log.commit(record)?;
+        self.stock.add(index, &record);
         Ok(())
     }
 }
 
-// The answer to an order whose number has a record.
-fn again(known: &DepRecord, order: &Order) -> Result<Answer, DepFault>
+// The answer to an order under whose number this movement was executed.
+fn again(known: &Movement, order: &Order) -> Result<Answer, DepFault>
     ensures { IsKnownAnswer order.now known.now result }
 {
-    let DepRecord::Exec {
-        order: executed,
-        moved,
-    } = known;
-    if executed == order {
-        Ok(Answer::Again(Reply {
-            number: order.number,
-            moved: *moved,
-        }))
+    if known.order == *order {
+        Ok(Answer::Again(known.reply()))
     } else {
         Err(DepFault::Conflict)
     }

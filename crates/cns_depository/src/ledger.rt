@@ -26,8 +26,7 @@ impl Ledger for Stock {
             return Ok(false);
         }
         self.room()?;
-        let DepRecord::Exec { order, moved } = entry;
-        self.add(records.len(), order, *moved);
+        self.add(records.len(), entry);
         Ok(true)
     }
 }

@@ -1,14 +1,14 @@
-ghost use Rattle.std.specs.Prelude.{◌≡◌, ℕ, ◌^◌, ◌<◌, ◌≤◌, ◌↔◌, IsTrue, List, [], ◌∷◌, Some, OnOk, reverse, length, nat_eq, ◌==◌, fold, if◌then◌else◌};
+ghost use Rattle.std.specs.Prelude.{◌≡◌, ℕ, ◌^◌, ◌<◌, ◌≤◌, ◌↔◌, IsTrue, List, [], ◌∷◌, Some, OnOk, reverse, length, nat_eq, fold, if◌then◌else◌};
 ghost use Rattle.std.specs.BTreeSet.{insert_key};
 ghost use Rattle.std.specs.HashMap.{get, keys, spare};
 ghost use Rattle.cns_records.specs.declared.dep_record.DepRecord.{DepRecord};
-ghost use Rattle.cns_records.specs.declared.dep_record.DepRecord.TheVariants.{Exec};
 ghost use Rattle.cns_depository.specs.Balances.{place_cmp};
-ghost use Rattle.cns_depository.specs.Stock.{record_of as record_in, balance_of as balance_in, movement as movement_after, IsExecutable};
-ghost use Rattle.cns_depository.specs.Totals.{HasRoom, IsStock, IsStockOf};
+ghost use Rattle.cns_depository.specs.Stock.{balance_of as balance_in, executed_of, movement as movement_after, movement_of, IsExecutable, IsNextMovement};
+ghost use Rattle.cns_depository.specs.Totals.{HasRoom, IsStock, IsStockOf, executes};
 
-use crate::account::{giver_of, receiver_of};
+use crate::account::giver_of;
 use crate::moved::{Moved, enter, leave, moved_of};
+use crate::movement::{Movement, executed_in, transfer_of};
 use crate::openings::Openings;
 use crate::place::Place;
 use cns_ids::Shares;
@@ -22,18 +22,20 @@ use std::collections::{BTreeSet, HashMap};
 pub(crate) struct Stock {
     // What was moved into each account in each issue, and out of it.
     moved: HashMap<Place, Moved>,
-    // The index of the record of each number among the records, the first one first.
+    // The index of the record that executed the order of each number, among the records, the first one first.
     indices: HashMap<MoveNo, usize>,
 }
 
-// Notes the index of the record of a number, for which there is room.
-fn note(indices: &mut HashMap<MoveNo, usize>, number: MoveNo, index: usize)
+// Notes the index of a record under the number of the order that it executed, for which there is room.
+fn note(indices: &mut HashMap<MoveNo, usize>, entry: &DepRecord, index: usize)
     requires { 0 < spare indices.old }
-    ensures { (n : ℕ) → get nat_eq indices.new n ≡ (if number == n then Some index else get nat_eq indices.old n) }
+    ensures { (n : ℕ) → get nat_eq indices.new n ≡ (if executes n entry.now then Some index else get nat_eq indices.old n) }
 {
-    let Ok(_) = indices.insert(number, index) else {
-        unreachable!()
-    };
+    if let Some(movement) = executed_in(entry) {
+        let Ok(_) = indices.insert(movement.order.number, index) else {
+            unreachable!()
+        };
+    }
 }
 
 impl Stock {
@@ -47,13 +49,13 @@ impl Stock {
         }
     }
 
-    /// The record of this number, among those that the stock comes from.
-    pub(crate) fn record(&self, records: &[DepRecord], number: MoveNo) -> Option<DepRecord>
+    /// The movement of this number, among those of the records that the stock comes from.
+    pub(crate) fn movement_at(&self, records: &[DepRecord], number: MoveNo) -> Option<Movement>
         requires { IsStockOf self.now (reverse records.now) }
-        ensures { result ≡ record_in (reverse records.now) number }
+        ensures { result ≡ movement_of (executed_of (reverse records.now)) number }
     {
         let index = self.indices.get(&number)?;
-        records.get(*index).copied()
+        executed_in(records.get(*index)?)
     }
 
     /// The balance of an account in an issue.
@@ -68,8 +70,8 @@ impl Stock {
         held.saturating_sub(moved.left)
     }
 
-    /// The record of a new order.
-    pub(crate) fn movement(&self, openings: &Openings, order: &Order) -> DepRecord
+    /// The movement of a new order.
+    pub(crate) fn movement(&self, openings: &Openings, order: &Order) -> Movement
         ensures { (p : List DepRecord) → IsStockOf self.now p → result ≡ movement_after openings.now p order.now }
     {
         let asked = order.asked.shares();
@@ -82,10 +84,20 @@ impl Stock {
         let Some(moved) = Shares::new(moved) else {
             unreachable!()
         };
-        DepRecord::Exec {
+        Movement {
             order: *order,
             moved,
         }
+    }
+
+    // Whether a movement may be executed after those of the records that the stock comes from.
+    fn is_next(&self, openings: &Openings, records: &[DepRecord], movement: &Movement) -> bool
+        requires { IsStockOf self.now (reverse records.now) }
+        ensures { IsTrue result ↔ IsNextMovement openings.now (reverse records.now) movement.now }
+    {
+        let order = &movement.order;
+        self.movement_at(records, order.number).is_none()
+            && *movement == self.movement(openings, order)
     }
 
     /// Whether a record may stand after those that the stock comes from.
@@ -98,8 +110,15 @@ impl Stock {
         requires { IsStockOf self.now (reverse records.now) }
         ensures { IsTrue result ↔ IsExecutable openings.now (reverse records.now) entry.now }
     {
-        let DepRecord::Exec { order, .. } = entry;
-        self.record(records, order.number).is_none() && *entry == self.movement(openings, order)
+        match entry {
+            DepRecord::Exec { order, moved } => {
+                let movement = Movement {
+                    order: *order,
+                    moved: *moved,
+                };
+                self.is_next(openings, records, &movement)
+            }
+        }
     }
 
     /// Takes the memory that `add` of a record needs.
@@ -111,25 +130,26 @@ impl Stock {
         self.indices.reserve(1)
     }
 
-    /// Adds the record of what an order moved, which stands at this index. It takes no memory.
-    pub(crate) fn add(&mut self, index: usize, order: &Order, moved: Shares)
+    /// Adds what a record transfers, and notes its index. It takes no memory.
+    pub(crate) fn add(&mut self, index: usize, entry: &DepRecord)
         requires room { HasRoom self.old }
         requires stock { IsStock self.old }
         ensures { (p : List DepRecord) → IsStockOf self.old p → length p ≡ index
-            → IsStockOf self.new (Exec order.now moved ∷ p) }
+            → IsStockOf self.new (entry.now ∷ p) }
     {
+        let transfer = transfer_of(entry);
         let receiver = Place {
-            issue: order.issue,
-            account: receiver_of(order),
+            issue: transfer.issue,
+            account: transfer.receiver,
         };
         let giver = Place {
-            issue: order.issue,
-            account: giver_of(order),
+            issue: transfer.issue,
+            account: transfer.giver,
         };
-        let shares = u128::from(moved.count());
+        let shares = u128::from(transfer.shares.count());
         enter(&mut self.moved, &receiver, shares);
         leave(&mut self.moved, &giver, shares);
-        note(&mut self.indices, order.number, index);
+        note(&mut self.indices, entry, index);
     }
 
     /// Whether nothing was moved.
