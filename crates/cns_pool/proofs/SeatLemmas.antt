@@ -7,8 +7,8 @@ use Rattle.cns_pool.specs.declared.ticket.Ticket.{Ticket}
 use Rattle.cns_pool.specs.declared.pool.Asked.{Asked}
 use Rattle.cns_pool.specs.declared.pool.TheConstants.{MAX_POOL}
 use Rattle.cns_pool.specs.declared.view.View.{View}
-use Rattle.cns_pool.specs.Tiles.{Tiles}
-use Rattle.cns_pool.specs.Pool.{interval_of, intervals_of, HaveShares}
+use Rattle.cns_pool.specs.Tiles.{Tiles, size_sum}
+use Rattle.cns_pool.specs.Pool.{asked_sum, interval_of, intervals_of, HaveShares}
 use Rattle.cns_pool.specs.Seen.{both_seen}
 use Rattle.cns_pool.specs.WorkerSeat.{WorkerState, calls_out, EndWithin, after_ticket, after_sealed, DrawsTicket, MeetsSeal, room_taken, after_join, Joins, ShowsAsked}
 use Rattle.cns_pool.specs.FeederSeat.{FeederState}
@@ -226,6 +226,9 @@ module _ (before feeding last : Token) (worker : WorkerState) (feeder : FeederSt
 
   pub ended_poured : max feeder.seen.poured worker.seen.poured ≤ feeder.poured
   ended_poured = let most = ended.poured in omega arith
+
+  pub ended_asked : feeder.sealed ≡ false → max feeder.seen.asked worker.seen.asked ≤ asked_sum worker.tickets
+  ended_asked unsealed = omega (arith, ended.asked unsealed, ap size_sum (append-nil (intervals_of worker.tickets)), size_sum-intervals_of worker.tickets)
 
   pub ended_sealed : worker.seen.sealed ≡ true → feeder.sealed ≡ true
   ended_sealed saw = ended.sealed (ap (λ b. b || feeder.seen.sealed) saw)

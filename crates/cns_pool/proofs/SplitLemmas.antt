@@ -7,7 +7,7 @@ use Rattle.atomic_table.specs.Seated.{TableId}
 use Rattle.atomic_table.specs.Table.{Splits, Joins, Final, opening, Seen as SeenBy}
 use Rattle.cns_pool.specs.declared.pool.TheConstants.{MAX_POOL}
 use Rattle.cns_pool.specs.declared.view.View.{View}
-use Rattle.cns_pool.specs.Tiles.{Tiles}
+use Rattle.cns_pool.specs.Tiles.{Tiles, size_sum}
 use Rattle.cns_pool.specs.Seen.{both_seen}
 use Rattle.cns_pool.specs.CellLaw.{Account, calls_of, IsSeat}
 use Rattle.cns_pool.specs.CellWords.{Token, KeepsCell, no_view, first_view, working_part, feeding_part, view_after_split, view_split_off, view_after_join, last_view, note_of, view_told}
@@ -136,6 +136,7 @@ told cell its notes id other v w me here there two is = (here, there, ap (λ (t 
 pub record Ended (v : View) : Type 0 where
   pub tiles : Tiles v.intervals
   pub poured : v.seen.poured ≤ v.poured
+  pub asked : v.sealed ≡ false → v.seen.asked ≤ size_sum v.intervals
   pub sealed : v.seen.sealed ≡ true → v.sealed ≡ true
 
 pub closes : (words : List ℕ) (values : List (Unit {0})) (id : ℕ) (v : View) → Final (SeenBy KeepsCell id v) words values → v.feeds ≡ true → v.works ≡ true → v.given ≡ calls_of v → Ended v
@@ -143,5 +144,6 @@ closes words values id v (s, (rule, at), _, _, _) feeds works all =
     let of = rule.cell.seats id v at in let f = of.feeds feeds in let is = f.pours in let seen = of.saw_poured in record {
       tiles = λ share. all_covered s.views rule.account rule.cell id v at works all share ∙ ap (λ (n : ℕ). cond (nat_lt share n) 1 0) (sym (all_drawn s.views rule.account rule.cell id v at works all));
       poured = omega arith;
+      asked = λ unsealed. omega (arith, of.saw_asked, rule.cell.unsealed (sym f.seals ∙ unsealed), all_drawn s.views rule.account rule.cell id v at works all);
       sealed = λ sealed. f.seals ∙ of.saw_seal sealed;
     }

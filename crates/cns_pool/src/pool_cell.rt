@@ -1,6 +1,6 @@
-ghost use Rattle.std.specs.Prelude.{◌≡◌, ◌+◌, ◌<◌, ◌≤◌, ◌^◌, [], length, true, vec_capacity, vec_len, IfErr, IfOk, OnErr, OnOk};
+ghost use Rattle.std.specs.Prelude.{◌≡◌, ◌+◌, ◌<◌, ◌≤◌, ◌^◌, [], false, length, true, vec_capacity, vec_len, IfErr, IfOk, OnErr, OnOk};
 ghost use Rattle.cns_pool.specs.Tiles.{Tiles};
-ghost use Rattle.cns_pool.specs.Pool.{intervals_of};
+ghost use Rattle.cns_pool.specs.Pool.{asked_sum, intervals_of};
 ghost use Rattle.cns_pool.specs.Replies.{AreDrawn};
 ghost use Rattle.cns_pool.specs.Seen.{both_seen};
 ghost use Rattle.cns_pool.specs.WorkerSeat.{EndWithin, Joins, Reserves, after_split, calls_out, new_worker, room_taken, split_off, worker_seeing};
@@ -224,6 +224,9 @@ impl PoolCell {
 
     /// Ends the cell, with the feeder's seat and the seat into which all others with calls were joined.
     /// It gives this seat's tickets in their order. It takes no memory.
+    ///
+    /// No look has shown more poured shares than were poured, nor more asked shares of a cell that is
+    /// not sealed than the tickets have.
     pub fn close(self, feeder: FeederSeat, worker: WorkerSeat) -> Closed
         requires feeder { feeder.cell ≡ self }
         requires worker { worker.cell ≡ self }
@@ -234,6 +237,7 @@ impl PoolCell {
         ensures drawn { AreDrawn result.tickets }
         ensures poured { result.poured ≡ feeder.poured }
         ensures seen { (both_seen feeder.seen worker.seen).poured ≤ result.poured }
+        ensures seen_asked { result.sealed ≡ false → (both_seen feeder.seen worker.seen).asked ≤ asked_sum result.tickets }
         ensures sealed { result.sealed ≡ feeder.sealed }
         ensures seal_seen { worker.seen.sealed ≡ true → result.sealed ≡ true }
     {

@@ -1,7 +1,7 @@
 use Rattle.std.proofs.Common.{◌≡◌, List, arith, sym, ap, ◌∙◌, subst}
 use Rattle.cns_pool.specs.declared.ticket.Ticket.{Ticket}
 use Rattle.cns_pool.specs.Tiles.{Tiles}
-use Rattle.cns_pool.specs.Pool.{intervals_of}
+use Rattle.cns_pool.specs.Pool.{asked_sum, intervals_of}
 use Rattle.cns_pool.specs.Replies.{AreDrawn}
 use Rattle.cns_pool.specs.WorkerSeat.{WorkerState, calls_out}
 use Rattle.cns_pool.specs.FeederSeat.{FeederState}
@@ -9,7 +9,7 @@ use Rattle.cns_pool.specs.CellWords.{Token}
 use Rattle.cns_pool.specs.SeatData.{worker_of}
 use Rattle.cns_pool.proofs.SplitLemmas.{feeder_joins}
 use Rattle.cns_pool.proofs.ReplyLemmas.{Tiles-AreDrawn}
-use Rattle.cns_pool.proofs.SeatLemmas.{EndWithin-HaveShares, ended_tiles, ended_poured, ended_sealed}
+use Rattle.cns_pool.proofs.SeatLemmas.{EndWithin-HaveShares, ended_asked, ended_tiles, ended_poured, ended_sealed}
 use Rattle.cns_pool.proofs.pool_cell.PoolCell.close.Goals as goal
 
 pub join_seat-requires : goal.join_seat-requires
@@ -44,6 +44,16 @@ returns-clause-seen c =
       ap (λ (w : WorkerState). w.seen.poured) c.worker.view_is,
       ap (λ (f : FeederState). f.seen.poured) c.feeder.view_is,
       ended_poured c.worker.inside.token.me c.feeder.inside.token.me c.join_seat.new.seat.me _ _ _ c.worker.invariant c.feeder.invariant c.join_seat.ensures.2 _ _ _ c.close_with.ensures.values.2 (back c),
+    )
+
+pub returns-clause-seen_asked : goal.returns-clause-seen_asked
+returns-clause-seen_asked c unsealed =
+    omega (
+      arith,
+      ap (λ (w : WorkerState). w.seen.asked) c.worker.view_is,
+      ap (λ (f : FeederState). f.seen.asked) c.feeder.view_is,
+      ap asked_sum (tickets_are c),
+      ended_asked c.worker.inside.token.me c.feeder.inside.token.me c.join_seat.new.seat.me _ _ _ c.worker.invariant c.feeder.invariant c.join_seat.ensures.2 _ _ _ c.close_with.ensures.values.2 (back c) unsealed,
     )
 
 pub returns-clause-seal_seen : goal.returns-clause-seal_seen
