@@ -11,6 +11,7 @@ use Rattle.cns_journal.specs.RecordLog.{LogState}
 use Rattle.cns_journal.specs.declared.record_log.ReplayFault.{ReplayFault}
 use Rattle.cns_journal.specs.declared.record_log.ReplayFault.TheVariants as replay
 use Rattle.cns_journal.specs.declared.record_log.Restarted.{Restarted}
+use Rattle.cns_movements.specs.Book.{next_orders}
 use Rattle.cns_movements.specs.declared.order.Ask.{Ask}
 use Rattle.cns_movements.specs.declared.order.Reply.{Reply}
 use Rattle.cns_wire.specs.Packet.{at_number}
@@ -24,7 +25,7 @@ use Rattle.cns_clearing.specs.Books.{are_spent, history_of, is_later, latest_of,
 use Rattle.cns_netting.specs.History.{becoming_due}
 use Rattle.cns_clearing.specs.declared.answer.Cycled.{Cycled}
 use Rattle.cns_depository.specs.Node.{RestartLeaves as DepotRestartLeaves}
-use Rattle.cns_system.specs.Happens.{Decision, Goes, Judged, clear_commits, happens, judged, next_orders, settled}
+use Rattle.cns_system.specs.Happens.{Decision, Goes, Judged, clear_commits, happens, judged, settled}
 use Rattle.cns_system.specs.Lot.{with_end, with_seal}
 use Rattle.cns_system.specs.Lots.{LotLeaves, ReserveLeaves}
 use Rattle.cns_system.specs.Numbered.{NumberedNode, CloseLeaves, OpenLeaves, PourLeaves}
@@ -122,7 +123,7 @@ cycle_spent d id w up later none spent = rw (up, later, none, spent) refl
 
 -- what a cycle tells
 abbrev cycled : Shown → CycleId → List Ask → Outcome
-cycled w id asks = outcomes.Cycled (record { due = becoming_due (history_of w.clear.records) id.day; orders = next_orders w asks })
+cycled w id asks = outcomes.Cycled (record { due = becoming_due (history_of w.clear.records) id.day; orders = next_orders (orders_of w.clear.records) asks })
 
 cycle_numbered : (d : Decision) (id : CycleId) (w : Shown) → w.clear.down ≡ false → is_later (latest_of w.clear.records) id ≡ true → w.open_lots ≡ []
     → are_spent (orders_of w.clear.records) (length (covers_in w.clear.records id.day)) ≡ false

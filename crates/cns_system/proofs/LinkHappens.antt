@@ -4,14 +4,12 @@ use Rattle.std.specs.Option.{option_flatten}
 use Rattle.std.proofs.lemmas.List.{length-map, map-append}
 use Rattle.std.proofs.lemmas.Option.{slice_get-map}
 use Rattle.std.proofs.Common.{◌≡◌, ◌≢◌, ℕ, ◌+◌, ◌++◌, Bool, true, false, [], ◌∷◌, length, Option, Some, None, Result, Ok, Err, inl, inr, refl, sym, ap, ◌∙◌, subst}
-use Rattle.std.proofs.lemmas.Bool.{and_parts, eq-eqb, eqb-true, false_from_ne_true}
-use Rattle.cns_movements.specs.Order.{order_of, same_kind}
+use Rattle.cns_movements.specs.Order.{order_of}
 use Rattle.cns_movements.specs.declared.book.Confirm.{Confirm}
 use Rattle.cns_movements.specs.declared.book.Confirm.TheVariants as answers
-use Rattle.cns_movements.specs.declared.order.MoveKind.{MoveKind}
-use Rattle.cns_movements.specs.declared.order.MoveKind.TheVariants.{Cover, Delivery}
 use Rattle.cns_movements.specs.declared.order.Order.{Order}
 use Rattle.cns_movements.specs.declared.order.Reply.{Reply}
+use Rattle.cns_movements.proofs.SameOrderLemmas.{same_order-differ, same_order-refl}
 use Rattle.cns_wire.specs.Frame.{order_frame, reply_frame}
 use Rattle.cns_wire.specs.Packet.{at_number}
 use Rattle.cns_records.specs.declared.clear_record.ClearRecord.TheVariants as entry
@@ -29,7 +27,7 @@ use Rattle.cns_depository.specs.declared.fault.Answer.{Answer}
 use Rattle.cns_depository.specs.declared.fault.Answer.TheVariants as answer
 use Rattle.cns_depository.specs.declared.fault.DepFault.{DepFault}
 use Rattle.cns_depository.specs.declared.fault.DepFault.TheVariants as fault
-use Rattle.cns_system.specs.Happens.{Decision, NoMemory, clear_commits, commits, grows, happens, judged, same_order, settled, with_reply}
+use Rattle.cns_system.specs.Happens.{Decision, NoMemory, clear_commits, commits, grows, happens, judged, settled, with_reply}
 use Rattle.cns_system.specs.Outcomes.{order_outcome, reply_outcome}
 use Rattle.cns_system.specs.Shown.{Shown, depot_added, depot_failed, shown_of}
 use Rattle.cns_system.specs.Step.{ByNode, IsItsOwn, IsNotSent, IsSent, OrderInStep, OrderTaken, Puts, SendStep}
@@ -102,31 +100,6 @@ send_by d n outcome old new (inr (r, is, why, same)) fits =
 
 -- ---- an order arrives at the depository
 
-same_kind_refl : (k : MoveKind) → same_kind k k ≡ true
-same_kind_refl Cover = refl
-same_kind_refl Delivery = refl
-
-same_kind_is : (a b : MoveKind) → same_kind a b ≡ true → a ≡ b
-same_kind_is Cover Cover e = refl
-same_kind_is Cover Delivery e = absurd (cc e)
-same_kind_is Delivery Cover e = absurd (cc e)
-same_kind_is Delivery Delivery e = refl
-
-pub same_order_refl : (o : Order) → same_order o o ≡ true
-same_order_refl o =
-    rw (eq-eqb o.number o.number refl, same_kind_refl o.kind, eq-eqb o.member o.member refl, eq-eqb o.issue o.issue refl, eq-eqb o.asked o.asked refl) refl
-
-same_order_is : (a b : Order) → same_order a b ≡ true → a ≡ b
-same_order_is a b e =
-    let one = and_parts _ _ e in
-    let two = and_parts _ _ one.1 in
-    let three = and_parts _ _ two.1 in
-    let four = and_parts _ _ three.1 in
-    rw (eqb-true a.number b.number one.0, same_kind_is a.kind b.kind two.0, eqb-true a.member b.member three.0, eqb-true a.issue b.issue four.0, eqb-true a.asked b.asked four.1) refl
-
-pub differ : (a b : Order) → a ≢ b → same_order a b ≡ false
-differ a b isnt = false_from_ne_true (same_order a b) (λ e. isnt (same_order_is a b e))
-
 -- a packet that spells this order, or none
 abbrev Holds : ℕ → Option Order → Shown → Type 0
 Holds packet held w = option_flatten (at_number w.orders packet) ≡ held
@@ -149,12 +122,12 @@ order_known : (d : Decision) (packet : ℕ) (o : Order) (moved : ℕ) (w : Shown
     → record_of w.depot.records o.number ≡ Some (Exec o moved)
     → happens d (event.OrderIn packet) w ≡ settled w (grows d (outcomes.ExecutedAgain (reply_to o moved) (length w.replies + 1), with_reply (reply_to o moved) w))
 unfolding happens judged
-order_known d packet o moved w held up found = rw held (ap (settled w) (passes (not w.depot.down) refusal.Down _ (ap not up)) ∙ rw (found, same_order_refl o) refl)
+order_known d packet o moved w held up found = rw held (ap (settled w) (passes (not w.depot.down) refusal.Down _ (ap not up)) ∙ rw (found, same_order-refl o) refl)
 
 order_other : (d : Decision) (packet : ℕ) (o other : Order) (moved : ℕ) (w : Shown) → Holds packet (Some o) w → w.depot.down ≡ false
     → record_of w.depot.records o.number ≡ Some (Exec other moved) → other ≢ o → happens d (event.OrderIn packet) w ≡ refuse refusal.Conflict w
 unfolding happens judged
-order_other d packet o other moved w held up found isnt = rw (held, up, found, differ other o isnt) refl
+order_other d packet o other moved w held up found isnt = rw (held, up, found, same_order-differ other o isnt) refl
 
 -- nothing but memory is in the way of an order that is new, or the one of its number
 order_short : (d : Decision) (packet : ℕ) (o : Order) (w : Shown) → Holds packet (Some o) w → w.depot.down ≡ false → IsItsOwn o w.depot.records → d ≡ NoMemory

@@ -1,17 +1,16 @@
 -- What happens at each event, as a function of what the surroundings decide (this project's own rules). Each event has one case, which tells
 -- its refusals in their order; a refusal leaves all as it was, but for `Device`, which puts the node down and leaves its record undecided, and
 -- for a refused restart.
-use Rattle.std.specs.Prelude.{ℕ, ◌+◌, ◌==◌, ◌&&◌, ◌||◌, not, min, nat_lt, Bool, true, false, List, [], ◌∷◌, ◌++◌, length, map, Some, None, Result, Ok, Err}
+use Rattle.std.specs.Prelude.{ℕ, ◌+◌, ◌==◌, ◌||◌, not, min, nat_lt, true, false, List, [], ◌∷◌, ◌++◌, length, map, Some, None, Result, Ok, Err}
 use Rattle.std.specs.Option.{is_none, ok_or, option_flatten}
 use Rattle.cns_ids.specs.Steps.{◌>>=◌, ◌>>◌, need}
 use Rattle.cns_trades.specs.declared.list.Verdict.TheVariants as verdicts
 use Rattle.cns_trades.specs.Verdicts.{verdict}
 use Rattle.cns_netting.specs.History.{accepted, becoming_due}
+use Rattle.cns_movements.specs.Book.{next_orders}
 use Rattle.cns_movements.specs.Confirm.{confirm_answer}
-use Rattle.cns_movements.specs.Order.{numbered, order_of, same_kind}
+use Rattle.cns_movements.specs.Order.{order_of, same_order}
 use Rattle.cns_movements.specs.declared.book.Confirm.TheVariants as answers
-use Rattle.cns_movements.specs.declared.order.Ask.{Ask}
-use Rattle.cns_movements.specs.declared.order.Order.{Order}
 use Rattle.cns_movements.specs.declared.order.Reply.{Reply}
 use Rattle.cns_wire.specs.Packet.{at_number}
 use Rattle.cns_pool.specs.Pool.{asked_sum}
@@ -70,10 +69,6 @@ book w = books_of w.clear.records
 abbrev pub clear_up : Shown → Result (Unit {0}) Refusal
 clear_up w = need (not w.clear.down) refusal.Down
 
--- the orders that are made of asks, under the next numbers
-abbrev pub next_orders : Shown → List Ask → List Order
-next_orders w asks = numbered (length (book w).orders.orders + 1) asks
-
 -- the lot of a number, which has not ended
 abbrev pub going_lot : Shown → ℕ → Result LotState Refusal
 going_lot w number = ok_or (at_number w.lots number) refusal.NoLot >>= λ lot. need (not lot.ended) refusal.StaleLot >> Ok lot
@@ -81,10 +76,6 @@ going_lot w number = ok_or (at_number w.lots number) refusal.NoLot >>= λ lot. n
 -- a reply is put on the link, as its next packet
 abbrev pub with_reply : Reply → Shown → Shown
 with_reply r w = record w { replies = w.replies ++ Some r ∷ [] }
-
--- whether both orders have the same in every field
-abbrev pub same_order : Order → Order → Bool
-same_order a b = (a.number == b.number) && (same_kind a.kind b.kind && ((a.member == b.member) && ((a.issue == b.issue) && (a.asked == b.asked))))
 
 -- a restart of a node with this log, whose journal gives these records, and what is left by the log; where it is refused, the node is down
 abbrev pub restarted : {R : Type 0} → Decision → LogShown R → List R → (LogShown R → Shown) → Judged
@@ -106,7 +97,7 @@ judged d (event.Cycle id) w = do
   need (length w.open_lots == 0) refusal.LotsOpen
   let asks = covers_on (book w) id.day
   need (not (are_spent (book w).orders (length asks))) refusal.NumbersSpent
-  clear_commits d (entry.Cycle id) (outcomes.Cycled (record { due = becoming_due (book w).history id.day; orders = next_orders w asks })) w
+  clear_commits d (entry.Cycle id) (outcomes.Cycled (record { due = becoming_due (book w).history id.day; orders = next_orders (book w).orders asks })) w
 judged d (event.LotOpen issue) w = do
   clear_up w
   need (is_none (lot_of w.open_lots issue)) refusal.LotAlready
@@ -133,7 +124,7 @@ judged d (event.LotClose number) w = do
   twin ← ok_or (lot_of w.open_lots lot.issue) refusal.NoLot
   let a = allocation_of twin lot.tickets lot.sealed
   need (not (are_spent (book w).orders (length (deliveries_in a)))) refusal.NumbersSpent
-  let told = outcomes.Closed (record { granted = min a.poured (asked_sum lot.tickets); orders = next_orders w (deliveries_in a) })
+  let told = outcomes.Closed (record { granted = min a.poured (asked_sum lot.tickets); orders = next_orders (book w).orders (deliveries_in a) })
   commits d (told, with_lot number (with_end lot) (clear_added (entry.Allocate a) w)) (clear_failed (entry.Allocate a) w)
 judged d (event.Send number) w = do
   clear_up w
