@@ -80,12 +80,11 @@ tells e _ old new may = tt
 comes_by : (chance : Chance) (e : Event) (outcome : Outcome) (old new : World) → Fits (decision_at chance e (scene_of old)) e outcome (shown_of new)
     → scene_of new ≡ scene_after chance e outcome (shown_of new) (scene_of old) → Step e outcome old new → Comes e outcome old new
 unfolding comes_to
-comes_by chance e outcome old new fits leaves step =
-    (
-      chance,
-      tells e outcome old new (decided_may e outcome old new step),
-      rw (step_happens (decision_at chance e (scene_of old)) e outcome old new fits step) (ap (λ (s : Scene). (outcome, s)) (sym leaves)),
-    )
+comes_by chance e outcome old new fits leaves step = (
+  chance,
+  tells e outcome old new (decided_may e outcome old new step),
+  rw (step_happens (decision_at chance e (scene_of old)) e outcome old new fits step) (ap (λ (s : Scene). (outcome, s)) (sym leaves)),
+)
 
 -- ---- commits
 
