@@ -124,7 +124,7 @@ came_as e o p old new chance more before came = ap (with_outcome e (course_at p.
 
 pub told_event : (e : Event) (o : Outcome) (p q : Place) (old new : World) → p.run.world ≡ old → Comes e o old new → q.run ≡ record p.run { world = new; held = q.run.held }
     → Writes (outcome_line e o) (output_at p) (output_at q) → Continues (happened e) (gives o) p q
-told_event e o p q old new before (chance, came) is writes = record {
+told_event e o p q old new before (chance, failed_so, came) is writes = record {
   chances = chance ∷ [];
   text = outcome_line e o;
   act_is = λ more.
@@ -137,7 +137,7 @@ told_event e o p q old new before (chance, came) is writes = record {
 -- or a first part of it
 pub half_told_event : (e : Event) (o : Outcome) (p q : Place) (old new : World) → p.run.world ≡ old → Comes e o old new → BreaksOff (outcome_line e o) (output_at p) q.sent
     → Stops (happened e) p q
-half_told_event e o p q old new before (chance, came) (size, written) = record {
+half_told_event e o p q old new before (chance, failed_so, came) (size, written) = record {
   chances = chance ∷ [];
   size = size;
   writes = subst (λ t. Appends p.sent q.sent (take size (p.run.held ++ t))) (sym (ap (λ (t : Told Outcome). t.text) (came_as e o p old new chance [] before came))) written;

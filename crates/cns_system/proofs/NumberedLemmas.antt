@@ -44,7 +44,7 @@ stays_tied open_lots lots n l x are found going issue stays =
     (λ other differ. refl)
 
 -- a lot whose next ticket was drawn
-drawn_stays : (plan : List Planned) (l : LotState) (member : ℕ) (t : Ticket) → IsTurnFor member l t.asked → t ≡ ticket_in l member t.asked → IsOfPlan plan l
+pub drawn_stays : (plan : List Planned) (l : LotState) (member : ℕ) (t : Ticket) → IsTurnFor member l t.asked → t ≡ ticket_in l member t.asked → IsOfPlan plan l
     → IsOfPlan plan (with_ticket t l)
 drawn_stays plan l member t turn next is = record {
   is = is.is;

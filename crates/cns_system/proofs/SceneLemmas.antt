@@ -1,7 +1,7 @@
 -- An event comes to what it does by a chance, and leaves what that chance makes known of both keepers.
-use Rattle.std.proofs.Common.{◌≡◌, ◌≢◌, ℕ, ◌+◌, ◌&&◌, Bool, true, false, List, length, Option, Some, None, Result, Ok, Err, inl, inr, refl, sym, ap, ◌∙◌, subst}
+use Rattle.std.proofs.Common.{◌≡◌, ◌≢◌, ℕ, ◌+◌, Bool, true, false, List, length, Option, Some, None, Result, Ok, Err, inl, inr, refl, sym, ap, ◌∙◌, subst}
 use Rattle.std.specs.Prelude.{unwrap_or}
-use Rattle.std.proofs.lemmas.Bool.{and_left, and_parts, and_right, false_from_ne_true}
+use Rattle.std.proofs.lemmas.Bool.{false_from_ne_true}
 use Rattle.cns_ids.specs.declared.cycle.CycleId.{CycleId}
 use Rattle.cns_trades.specs.declared.trade.Trade.{Trade}
 use Rattle.cns_journal.specs.Keeper.{FailsTo, Forecast, Foresight, MaySucceed, Unforeseen, Succeeds, Fails}
@@ -36,13 +36,14 @@ use Rattle.cns_depository.specs.declared.fault.Answer.{Answer}
 use Rattle.cns_depository.specs.declared.fault.Answer.TheVariants as answer
 use Rattle.cns_depository.specs.declared.fault.DepFault.{DepFault}
 use Rattle.cns_depository.specs.declared.fault.DepFault.TheVariants as fault
+use Rattle.cns_system.specs.Decisions.{MayDecide, MayTell, node_of}
 use Rattle.cns_system.specs.Happens.{Decision, Goes, NoMemory, DeviceFails, ClearReads, DepotReads, FindsBad}
 use Rattle.cns_system.specs.Lot.{with_seal}
 use Rattle.cns_system.specs.Lots.{LotLeaves, ReserveLeaves}
 use Rattle.cns_system.specs.Numbered.{NumberedNode, CloseLeaves, OpenLeaves, PourLeaves}
 use Rattle.cns_system.specs.Outcomes.{asked_outcome, close_outcome, cycle_outcome, done_outcome, open_outcome, order_outcome, pour_outcome, poured_outcome, reply_outcome, reserve_outcome, restart_outcome, trade_outcome}
 use Rattle.cns_system.specs.Readers.{PlanStep}
-use Rattle.cns_system.specs.Scene.{Chance, Comes, ComesBack, Decides, Forgets, Plans, Scene, Sight, after_commit, after_restart, comes_to, commit_decision, decision_at, given_back, is_foreseen, known_after, known_of, node_of, restart_decision, scene_of, sight_of, with_known}
+use Rattle.cns_system.specs.Scene.{Chance, Comes, ComesBack, Decides, Forgets, Plans, Scene, Sight, after_commit, after_restart, comes_to, commit_decision, decision_at, given_back, is_foreseen, known_after, known_of, restart_decision, restart_fails, scene_of, sight_of, with_known}
 use Rattle.cns_system.specs.Shown.{Shown, shown_of}
 use Rattle.cns_system.specs.Step.{AtClear, ByLots, ByNode, ClearRestarts, DepotRestartStep, IsNotSent, Looks, OrderInStep, OrderTaken, ReplyInStep, SendStep, Step}
 use Rattle.cns_system.specs.World.{World, order_in_packet, reply_in_packet}
@@ -54,7 +55,8 @@ use Rattle.cns_system.specs.declared.event.NodeName.TheVariants as node
 use Rattle.cns_system.specs.declared.numbered.Opened.{Opened}
 use Rattle.cns_system.specs.declared.outcome.Outcome.{Outcome}
 use Rattle.cns_system.specs.declared.outcome.Outcome.TheVariants as outcomes
-use Rattle.cns_system.proofs.Decided.{Fits, FitsDone, FitsRestart}
+use Rattle.cns_system.proofs.Decided.{Fits, FitsDone, FitsRestart, decided}
+use Rattle.cns_system.proofs.DecisionLemmas.{decided_may}
 use Rattle.cns_system.proofs.HappensLemmas.{step_happens}
 use Rattle.cns_system.proofs.LotsLemmas.{open-parts}
 
@@ -69,12 +71,20 @@ scene_same w a b c d clear depot = rw (clear, depot) refl
 abbrev scene_after : Chance → Event → Outcome → Shown → Scene → Scene
 scene_after chance e outcome w s = with_known (node_of e) (known_after chance e outcome (known_of (node_of e) s)) (record s { shown = w })
 
+-- a device is told to have failed only where that was decided
+tells : (e : Event) (outcome : Outcome) (old new : World) → MayDecide (decided e outcome (shown_of new)) e old new → MayTell e outcome old new
+tells e (outcomes.Refused refusal.Device) old new may = may
+tells e _ old new may = tt
+
 -- a chance gives a decision that fits what an event came to, and what is known of both keepers after it
 comes_by : (chance : Chance) (e : Event) (outcome : Outcome) (old new : World) → Fits (decision_at chance e (scene_of old)) e outcome (shown_of new)
     → scene_of new ≡ scene_after chance e outcome (shown_of new) (scene_of old) → Step e outcome old new → Comes e outcome old new
 unfolding comes_to
-comes_by chance e outcome old new fits leaves step =
-    (chance, rw (step_happens (decision_at chance e (scene_of old)) e outcome old new fits step) (ap (λ (s : Scene). (outcome, s)) (sym leaves)))
+comes_by chance e outcome old new fits leaves step = (
+  chance,
+  tells e outcome old new (decided_may e outcome old new step),
+  rw (step_happens (decision_at chance e (scene_of old)) e outcome old new fits step) (ap (λ (s : Scene). (outcome, s)) (sym leaves)),
+)
 
 -- ---- commits
 
@@ -406,17 +416,21 @@ record Rereads {R : Type 0} (reads : List R → Decision) (e : Event) (outcome :
   fits : Fits (restart_decision reads (sight_of old) old.tried old.records chance) e outcome w
   leaves : sight_of new ≡ record (sight_of old) { foresight = after_restart chance outcome old.foresight }
 
--- where nothing is known of an honest keeper, the surroundings decide
-decides : {R : Type 0} (reads : List R → Decision) (d : Decision) (s : Sight) (tried : Option R) (records : List R) → d ≢ NoMemory
-    → (s.honest && is_foreseen s.foresight.next) ≡ false → restart_decision reads s tried records (Decides d) ≡ d
-decides reads NoMemory s tried records room unknown = absurd (room refl)
-decides reads Goes s tried records room unknown = rw unknown refl
-decides reads DeviceFails s tried records room unknown = rw unknown refl
-decides reads (ClearReads c) s tried records room unknown = rw unknown refl
-decides reads (DepotReads p) s tried records room unknown = rw unknown refl
-decides reads (FindsBad place) s tried records room unknown = rw unknown refl
+-- of a keeper that is not honest, the surroundings decide
+decides : {R : Type 0} (reads : List R → Decision) (d : Decision) (s : Sight) (tried : Option R) (records : List R) → s.honest ≡ false
+    → restart_decision reads s tried records (Decides d) ≡ d
+decides reads d s tried records dishonest = rw dishonest refl
 
--- the chance at a restart of a keeper of which something is known, by whether the undecided record comes back
+-- the device of a keeper fails of which nothing is known
+fails_unknown : {R : Type 0} (reads : List R → Decision) (s : Sight) (tried : Option R) (records : List R) → s.foresight.next ≡ Unforeseen
+    → restart_decision reads s tried records (Decides DeviceFails) ≡ DeviceFails
+fails_unknown reads s tried records unknown = by s.honest refl
+  where
+    by : (honest : Bool) → s.honest ≡ honest → restart_decision reads s tried records (Decides DeviceFails) ≡ DeviceFails
+    by false is = decides reads DeviceFails s tried records is
+    by true is = rw (is, unknown) refl
+
+-- the chance at a restart of an honest keeper, by whether the undecided record comes back
 abbrev chance_of : Bool → Chance
 chance_of true = ComesBack
 chance_of false = Decides Goes
@@ -429,56 +443,52 @@ given_when : {R : Type 0} (kept : Bool) (old new : LogState R) → Restarts kept
 given_when false old new is = sym is
 given_when true old new (r, tried, is) = rw (tried, is) refl
 
--- an honest keeper of which something is known gives its journal back
-gives : {R : Type 0} (reads : List R → Decision) (kept : Bool) (s : Sight) (tried : Option R) (records : List R)
-    → (s.honest && is_foreseen s.foresight.next) ≡ true
+-- an honest keeper gives its journal back
+gives : {R : Type 0} (reads : List R → Decision) (kept : Bool) (s : Sight) (tried : Option R) (records : List R) → s.honest ≡ true
     → restart_decision reads s tried records (chance_of kept) ≡ reads (given_back tried (unwrap_or s.foresight.stands kept) records)
-gives reads true s tried records known = rw known refl
-gives reads false s tried records known = rw known refl
+gives reads true s tried records honest = rw honest refl
+gives reads false s tried records honest = rw honest refl
 
 -- a restart that succeeded
-reread : {R : Type 0} (reads : List R → Decision) (kept : Bool) (old new : LogState R) → ((c : List R) → reads c ≢ NoMemory)
+reread : {R : Type 0} (reads : List R → Decision) (kept : Bool) (old new : LogState R)
     → (old.honest ≡ true → Restarts kept old new) → (old.honest ≡ true → (stands : Bool) → old.foresight.stands ≡ Some stands → kept ≡ stands)
     → (chance : Chance) × (restart_decision reads (sight_of old) old.tried old.records chance ≡ reads new.records)
-reread reads kept old new room restarts as_known = by (old.honest && is_foreseen old.foresight.next) refl
+reread reads kept old new restarts as_known = by old.honest refl
   where
-    by : (known : Bool) → (old.honest && is_foreseen old.foresight.next) ≡ known
-        → (chance : Chance) × (restart_decision reads (sight_of old) old.tried old.records chance ≡ reads new.records)
-    by false is = (Decides (reads new.records), decides reads (reads new.records) (sight_of old) old.tried old.records (room new.records) is)
-    by true is =
-        let honest = (and_parts old.honest (is_foreseen old.foresight.next) is).0 in (
-          chance_of kept,
-          gives reads kept (sight_of old) old.tried old.records is
-              ∙ ap (λ (k : Bool). reads (given_back old.tried k old.records)) (came_back kept old.foresight.stands (as_known honest))
-              ∙ ap reads (given_when kept old new (restarts honest)),
-        )
+    by : (honest : Bool) → old.honest ≡ honest → (chance : Chance) × (restart_decision reads (sight_of old) old.tried old.records chance ≡ reads new.records)
+    by false is = (Decides (reads new.records), decides reads (reads new.records) (sight_of old) old.tried old.records is)
+    by true is = (
+      chance_of kept,
+      gives reads kept (sight_of old) old.tried old.records is
+          ∙ ap (λ (k : Bool). reads (given_back old.tried k old.records)) (came_back kept old.foresight.stands (as_known is))
+          ∙ ap reads (given_when kept old new (restarts is)),
+    )
 
 restart_rereads : {R : Type 0} (spelling : R → List ℕ) (allows : List R → R → Type 0) (fits : R → Type 0) (reads : List R → Decision) (e : Event)
-    (result : Result Restarted ReplayFault) (w : Shown) (old new : LogState R) → ((c : List R) → reads c ≢ NoMemory)
-    → ((d : Decision) → d ≡ reads new.records → FitsRestart d e w) → LogRestarts spelling allows fits result old new
+    (result : Result Restarted ReplayFault) (w : Shown) (old new : LogState R) → ((d : Decision) → d ≡ reads new.records → FitsRestart d e w) → LogRestarts spelling allows fits result old new
     → Rereads reads e (restart_outcome result) w old new
-restart_rereads {R} spelling allows fits reads e (Ok r) w old new room found left =
-    let by = reread reads r.kept old new room left.4 left.5 in
+restart_rereads {R} spelling allows fits reads e (Ok r) w old new found left =
+    let by = reread reads r.kept old new left.4 left.5 in
     let honest = ap (λ (l : LogState R). l.honest) left.0 in
     let foresight = ap (λ (l : LogState R). l.foresight) left.0 in record { chance = by.0; fits = found _ by.1; leaves = rw (honest, foresight) refl }
-restart_rereads {R} spelling allows fits reads e (Err replay.OutOfMemory) w old new room found left =
+restart_rereads {R} spelling allows fits reads e (Err replay.OutOfMemory) w old new found left =
     let honest = ap (λ (l : LogState R). l.honest) left.0 in
     record { chance = Forgets new.foresight.stands; fits = refl; leaves = rw (honest, ← left.1) refl }
-restart_rereads {R} spelling allows fits reads e (Err (replay.BadJournal place)) w old new room found left =
+restart_rereads {R} spelling allows fits reads e (Err (replay.BadJournal place)) w old new found left =
     let dishonest = false_from_ne_true old.honest left.2 in
     let honest = ap (λ (l : LogState R). l.honest) left.0 in
     let foresight = ap (λ (l : LogState R). l.foresight) left.0 in
     record {
       chance = Decides (FindsBad place);
-      fits = decides reads (FindsBad place) (sight_of old) old.tried old.records (λ e. absurd (cc e)) (and_left old.honest _ dishonest);
+      fits = decides reads (FindsBad place) (sight_of old) old.tried old.records dishonest;
       leaves = rw (honest, foresight) refl;
     }
-restart_rereads {R} spelling allows fits reads e (Err replay.Device) w old new room found left =
+restart_rereads {R} spelling allows fits reads e (Err replay.Device) w old new found left =
     let honest = ap (λ (l : LogState R). l.honest) left.0 in
     let foresight = ap (λ (l : LogState R). l.foresight) left.0 in
     record {
       chance = Decides DeviceFails;
-      fits = decides reads DeviceFails (sight_of old) old.tried old.records (λ e. absurd (cc e)) (and_right old.honest _ (ap is_foreseen left.2));
+      fits = fails_unknown reads (sight_of old) old.tried old.records left.2;
       leaves = rw (honest, foresight) refl;
     }
 
@@ -488,8 +498,8 @@ clear_restart_comes outcome old new step (depot, orders, replies, (result, is, l
     let e = event.Restart node.Clear in
     let rereads : Rereads ClearReads e outcome (shown_of new) old.clear.clear.log new.clear.clear.log =
     subst (λ (o : Outcome). Rereads ClearReads e o (shown_of new) old.clear.clear.log new.clear.clear.log) (sym is)
-    (restart_rereads spelling IsAllowed HasPayload ClearReads e result (shown_of new) old.clear.clear.log new.clear.clear.log (λ c e. absurd (cc e))
-    (λ d reads. reads) left.0.0)
+    (restart_rereads spelling IsAllowed HasPayload ClearReads e result (shown_of new) old.clear.clear.log new.clear.clear.log (λ d reads. reads)
+    left.0.0)
     in
     comes_by rereads.chance e outcome old new rereads.fits
     (scene_same (shown_of new) _ _ _ _ rereads.leaves (ap (λ (n : DepNode). sight_of n.log) depot)) step
@@ -501,7 +511,7 @@ depot_restart_comes outcome old new step (clear, orders, replies, (result, is, l
     let rereads : Rereads DepotReads e outcome (shown_of new) old.depot.log new.depot.log =
     subst (λ (o : Outcome). Rereads DepotReads e o (shown_of new) old.depot.log new.depot.log) (sym is)
     (restart_rereads dep_spelling (IsExecutable old.depot.openings) HasDepPayload DepotReads e result (shown_of new) old.depot.log new.depot.log
-    (λ p e. absurd (cc e)) (λ d reads. reads) left.0)
+    (λ d reads. reads) left.0)
     in
     comes_by rereads.chance e outcome old new rereads.fits
     (scene_same (shown_of new) _ _ _ _ (ap (λ (n : NumberedNode). sight_of n.clear.log) clear) rereads.leaves) step

@@ -2,18 +2,33 @@
 use Rattle.std.specs.Prelude.{◌≡◌, ◌⊎◌, ℕ, Bool, true, List, ◌∷◌, Some}
 use Rattle.cns_journal.specs.Keeper.{HasRisen}
 use Rattle.cns_journal.specs.RecordLog.{LogState}
+use Rattle.cns_records.specs.declared.refusal.Refusal.TheVariants as refusal
 use Rattle.cns_system.specs.Happens.{Decision, Goes, NoMemory, DeviceFails, ClearReads, DepotReads, FindsBad}
 use Rattle.cns_system.specs.World.{World}
 use Rattle.cns_system.specs.declared.event.Event.{Event}
 use Rattle.cns_system.specs.declared.event.Event.TheVariants as event
 use Rattle.cns_system.specs.declared.event.NodeName.{NodeName}
 use Rattle.cns_system.specs.declared.event.NodeName.TheVariants as node
+use Rattle.cns_system.specs.declared.outcome.Outcome.{Outcome}
+use Rattle.cns_system.specs.declared.outcome.Outcome.TheVariants as outcomes
 
--- the node whose keeper an event comes to
+-- the node whose keeper an event may call
 abbrev pub node_of : Event → NodeName
+node_of (event.Trade t) = node.Clear
+node_of (event.Exempt member issue shares) = node.Clear
+node_of (event.Priority member issue on) = node.Clear
+node_of (event.Cycle id) = node.Clear
+node_of (event.LotOpen issue) = node.Clear
+node_of (event.LotPour lot) = node.Clear
+node_of (event.Reserve lot member) = node.Clear
+node_of (event.LookPoured lot) = node.Clear
+node_of (event.LookAsked lot) = node.Clear
+node_of (event.Seal lot) = node.Clear
+node_of (event.LotClose lot) = node.Clear
+node_of (event.Send number) = node.Clear
 node_of (event.OrderIn packet) = node.Depot
+node_of (event.ReplyIn packet) = node.Clear
 node_of (event.Restart name) = name
-node_of _ = node.Clear
 
 -- how often the device of a node's keeper has failed, and whether the keeper is honest
 abbrev pub failures_of : NodeName → World → ℕ
@@ -36,3 +51,8 @@ MayDecide DeviceFails e old new = HasRisen (failures_of (node_of e) old) (failur
 MayDecide (ClearReads c) e old new = IsGivenBack old.clear.clear.log c
 MayDecide (DepotReads p) e old new = IsGivenBack old.depot.log p
 MayDecide (FindsBad place) e old new = is_honest (node_of e) old ≡ true → ⊥
+
+-- `Device` is told only where the device of the node's keeper has failed at the event
+abbrev pub MayTell : Event → Outcome → World → World → Type 0
+MayTell e (outcomes.Refused refusal.Device) old new = HasRisen (failures_of (node_of e) old) (failures_of (node_of e) new)
+MayTell e _ old new = Unit {0}

@@ -6,7 +6,7 @@ use Rattle.cns_allocate.specs.declared.serving.ServeFault.{ServeFault}
 use Rattle.cns_allocate.specs.declared.serving.Served.{Served}
 use Rattle.cns_allocate.specs.Serving.{FollowPlanByStart}
 use Rattle.cns_system.specs.Begin.{IsRefusal}
-use Rattle.cns_system.specs.Finish.{AreOfOnePlan, FinishGives}
+use Rattle.cns_system.specs.Finish.{AreOfLot, FinishGives}
 use Rattle.cns_system.specs.Floor.{FloorState, IsLawfulFloor}
 use Rattle.cns_system.specs.Run.{Occurs}
 use Rattle.cns_system.specs.declared.desk.Allocated.{Allocated}
@@ -18,22 +18,30 @@ use Rattle.cns_system.specs.declared.numbered.Opened.{Opened}
 use Rattle.cns_system.specs.declared.outcome.Outcome.{Outcome}
 use Rattle.cns_system.specs.declared.outcome.Outcome.TheVariants as outcomes
 
--- a lot was opened in one hold of the lock
-pub record IsOpenedIn (issue : ℕ) (opened : Opened) : Type 0 where
+-- the opening of a lot of an issue came to this in one hold of the lock
+pub record IsToldIn (issue : ℕ) (outcome : Outcome) : Type 0 where
   pub old : FloorState
   pub new : FloorState
   pub before : IsLawfulFloor old
   pub after : IsLawfulFloor new
-  pub occurs : Occurs (event.LotOpen issue) (outcomes.LotOpened opened) old.system new.system
+  pub occurs : Occurs (event.LotOpen issue) outcome old.system new.system
 
--- what workers drew of a lot was entered in one hold of the lock, and came to this; the tickets that were entered are of one plan
+-- a lot was opened in one hold of the lock
+abbrev pub IsOpenedIn : ℕ → Opened → Type 0
+IsOpenedIn issue opened = IsToldIn issue (outcomes.LotOpened opened)
+
+-- no lot was opened in one hold of the lock, and this is why
+abbrev pub IsNotOpenedIn : ℕ → Outcome → Type 0
+IsNotOpenedIn issue outcome = IsToldIn issue outcome × IsRefusal outcome
+
+-- what workers drew of a lot was entered in one hold of the lock, and came to this; the tickets that were entered are of the lot's plan
 pub record IsEnteredIn (lot : ℕ) (drawn : Drawn) (told : List Outcome) : Type 0 where
   pub old : FloorState
   pub new : FloorState
   pub before : IsLawfulFloor old
   pub after : IsLawfulFloor new
   pub gives : FinishGives lot drawn.seat.tickets (is_some drawn.cut) told old new.system
-  pub tickets : AreOfOnePlan old.system.clear.clear.log.records told
+  pub tickets : AreOfLot lot old.system told
 
 -- by start, what the workers of a lot drew follows the plan of its opening; and that was entered
 pub record IsServedAs (opened : Opened) (all : Allocated) (drawn : Drawn) : Type 0 where
@@ -41,10 +49,10 @@ pub record IsServedAs (opened : Opened) (all : Allocated) (drawn : Drawn) : Type
   pub follow : FollowPlanByStart opened.plan drawn.seat.tickets (is_some drawn.cut)
   pub entered : IsEnteredIn opened.number drawn all.entered.items
 
--- what an allocation answers: a lot that was opened and served; or the refusal of one that was not opened, and then nothing was entered
+-- what an allocation answers: a lot that was opened and served; or why none was opened, and then nothing was entered
 abbrev pub IsAllocated : ℕ → Allocated → Type 0
 IsAllocated issue all =
-    MatchOption all.drawn (IsRefusal all.opened × (all.entered.items ≡ [])) (λ (d : Drawn). (opened : Opened) × IsOpenedIn issue opened × IsServedAs opened all d)
+    MatchOption all.drawn (IsNotOpenedIn issue all.opened × (all.entered.items ≡ [])) (λ (d : Drawn). (opened : Opened) × IsOpenedIn issue opened × IsServedAs opened all d)
 
 -- a seal that a worker met cuts the workers off
 abbrev pub cut_by : Bool → Option Cut

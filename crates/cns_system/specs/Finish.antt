@@ -6,7 +6,8 @@ use Rattle.cns_pool.specs.declared.ticket.Ticket.{Ticket}
 use Rattle.cns_allocate.specs.Plan.{IsPlan}
 use Rattle.cns_allocate.specs.Served.{IsServed}
 use Rattle.cns_allocate.specs.declared.planned.Planned.{Planned}
-use Rattle.cns_records.specs.declared.clear_record.ClearRecord.{ClearRecord}
+use Rattle.cns_clearing.specs.Pools.{lot_of}
+use Rattle.cns_clearing.specs.declared.lot.Lot.{Lot}
 use Rattle.cns_records.specs.declared.refusal.Refusal.{Refusal}
 use Rattle.cns_records.specs.declared.refusal.Refusal.TheVariants as refusal
 use Rattle.cns_system.specs.Begin.{IsRefusal}
@@ -118,15 +119,31 @@ is_close _ = false
 abbrev pub drawn_in : List Outcome → List Ticket
 drawn_in told = filter_map drawn_by told
 
--- the tickets that were drawn are those of a lot that may close: they follow one plan, which a first part of the clearing node's records
--- has of an issue, as far as they go, and stand end to end from 0; each member of the plan has one where the lot was closed and not sealed
-pub record AreOfOnePlan (c : List ClearRecord) (told : List Outcome) : Type 0 where
+-- the lot of a number has not ended, and is of this issue and of this plan: the plan is that of the clearing node's open lot of the
+-- issue, and the one that a first part of the node's records has of the issue
+pub record HasPlan (number : ℕ) (w : World) (issue : ℕ) (plan : List Planned) : Type 0 where
+  pub lot : LotState
+  pub found : at_number w.clear.lots number ≡ Some lot
+  pub going : lot.ended ≡ false
+  pub issue_is : lot.issue ≡ issue
+  pub twin : Lot
+  pub twin_is : lot_of w.clear.clear.lots issue ≡ Some twin
+  pub plan_is : twin.plan ≡ plan
+  pub of : IsPlanOf w.clear.clear.log.records issue plan
+
+-- the tickets that were drawn are those of a lot that may close: they follow the plan of the lot of a number, as far as they go, and
+-- stand end to end from 0; each member of the plan has one where the lot was closed and not sealed
+pub record AreOfOnePlan (number : ℕ) (w : World) (told : List Outcome) : Type 0 where
   pub issue : ℕ
   pub plan : List Planned
-  pub of : IsPlanOf c issue plan
+  pub of : HasPlan number w issue plan
   pub is : IsPlan plan
   pub served : IsServed plan (drawn_in told) true
   pub whole : list_any is_close told ≡ true → list_any is_done told ≡ false → IsServed plan (drawn_in told) false
+
+-- the tickets that were drawn are of the plan of the lot of a number; or none was drawn, and the lot was not closed
+abbrev pub AreOfLot : ℕ → World → List Outcome → Type 0
+AreOfLot number w told = ((drawn_in told ≡ []) × (list_any is_close told ≡ false)) ⊎ AreOfOnePlan number w told
 
 -- nobody drew a ticket of the lot of a number, where it has not ended, and it is not sealed
 abbrev pub IsUnserved : ℕ → List LotState → Type 0

@@ -1,10 +1,11 @@
 -- Both nodes and the link with what is known beforehand of the two keepers, and what an event comes to by what comes between (this
 -- project's own rules).
-use Rattle.std.specs.Prelude.{◌≡◌, ◌&&◌, Bool, true, false, List, ◌∷◌, Option, Some, None, Result, Ok, Err, if◌then◌else◌, unwrap_or}
+use Rattle.std.specs.Prelude.{◌≡◌, Bool, true, false, not, List, ◌∷◌, Option, Some, None, Result, Ok, Err, if◌then◌else◌, unwrap_or}
 use Rattle.cns_journal.specs.Keeper.{Foresight, Forecast, Unforeseen, Succeeds, Fails}
 use Rattle.cns_journal.specs.RecordLog.{LogState}
 use Rattle.cns_journal.specs.declared.keeper.NotPlanned.{NotPlanned}
 use Rattle.cns_records.specs.declared.refusal.Refusal.TheVariants as refusal
+use Rattle.cns_system.specs.Decisions.{MayTell, node_of}
 use Rattle.cns_system.specs.Happens.{Decision, Goes, NoMemory, DeviceFails, ClearReads, DepotReads, happens}
 use Rattle.cns_system.specs.Shown.{Shown, shown_of}
 use Rattle.cns_system.specs.World.{World}
@@ -32,10 +33,6 @@ sight_of log = record { honest = log.honest; foresight = log.foresight }
 abbrev pub scene_of : World → Scene
 scene_of w = record { shown = shown_of w; clear = sight_of w.clear.clear.log; depot = sight_of w.depot.log }
 
--- the node whose keeper an event may call
-abbrev pub node_of : Event → NodeName
-node_of e = elim e [ event.Restart name ↦ name | event.OrderIn packet ↦ node.Depot | _ ↦ node.Clear ]
-
 -- what is known beforehand of a node's keeper
 abbrev pub known_of : NodeName → Scene → Foresight
 known_of name s = elim name [ node.Clear ↦ s.clear.foresight | node.Depot ↦ s.depot.foresight ]
@@ -47,8 +44,8 @@ with_known node.Depot f s = record s { depot = record s.depot { foresight = f } 
 
 -- what comes between at an event: at a restart, an undecided record comes back of which that was not known; at a restart, there is no
 -- memory, and this is known of the undecided record from then on; or the surroundings decide (`Goes` where nothing comes between): of a
--- commit of which something is known, only that there is no memory, and of the restart of an honest keeper of which something is
--- known, nothing
+-- commit of which something is known, only that there is no memory, and of the restart of an honest keeper, only that its device fails,
+-- where nothing is known of it
 pub data Chance : Type 0 where
   ComesBack : Chance
   Forgets : Option Bool → Chance
@@ -69,13 +66,18 @@ is_foreseen next = elim next [ Unforeseen ↦ false | _ ↦ true ]
 abbrev pub given_back : {R : Type 0} → Option R → Bool → List R → List R
 given_back tried comes records = if comes then elim tried [ None ↦ records | Some r ↦ r ∷ records ] else records
 
--- the decision at a restart: an honest keeper of which something is known gives its journal back, with the undecided record where
--- that is known to stand, or comes back
+-- whether the device of an honest keeper fails at a restart, which it may where nothing is known of the keeper
+abbrev pub restart_fails : Forecast → Chance → Bool
+restart_fails next chance = elim chance [ Decides DeviceFails ↦ not (is_foreseen next) | _ ↦ false ]
+
+-- the decision at a restart: the device of an honest keeper fails, or it gives its records back, with the undecided one where that is
+-- known to stand, or comes back; the journal of another keeper may give anything
 abbrev pub restart_decision : {R : Type 0} → (List R → Decision) → Sight → Option R → List R → Chance → Decision
 restart_decision reads s tried records (Forgets known) = NoMemory
 restart_decision reads s tried records chance =
-    if s.honest && is_foreseen s.foresight.next then reads (given_back tried (unwrap_or s.foresight.stands (elim chance [ ComesBack ↦ true | _ ↦ false ])) records)
-    else elim chance [ Decides d ↦ d | _ ↦ Goes ]
+    if not s.honest then elim chance [ Decides d ↦ d | _ ↦ Goes ] else
+    if restart_fails s.foresight.next chance then DeviceFails else
+    reads (given_back tried (unwrap_or s.foresight.stands (elim chance [ ComesBack ↦ true | _ ↦ false ])) records)
 
 abbrev pub decision_at : Chance → Event → Scene → Decision
 decision_at chance (event.Restart node.Clear) s = restart_decision ClearReads s.clear s.shown.clear.tried s.shown.clear.records chance
@@ -105,9 +107,9 @@ comes_to chance e s =
     let (outcome, shown) = happens (decision_at chance e s) e s.shown in
     (outcome, with_known (node_of e) (known_after chance e outcome (known_of (node_of e) s)) (record s { shown = shown }))
 
--- so it is by something that comes between
+-- so it is by something that comes between, and a failure of the device is told only where there was one
 abbrev pub Comes : Event → Outcome → World → World → Type 0
-Comes e outcome old new = (chance : Chance) × (comes_to chance e (scene_of old) ≡ (outcome, scene_of new))
+Comes e outcome old new = (chance : Chance) × MayTell e outcome old new × (comes_to chance e (scene_of old) ≡ (outcome, scene_of new))
 
 -- the next commit of a node is planned to fail
 abbrev pub planned : NodeName → Bool → Scene → Scene

@@ -4,8 +4,8 @@ ghost use Rattle.std.specs.Sync.Mutex.{mutex_guard_value};
 ghost use Rattle.cns_pool.specs.WorkerSeat.{new_worker};
 ghost use Rattle.cns_allocate.specs.Serving.{Serves};
 ghost use Rattle.cns_allocate.specs.declared.serving.ServeCause.TheVariants.{TooManyWorkers};
-ghost use Rattle.cns_system.specs.Begin.{IsRefusal, opened_of};
-ghost use Rattle.cns_system.specs.Desk.{HasTooFew, IsAllocated, IsDrawn, IsEnteredIn, IsOpenedIn, IsServedAs, is_seal};
+ghost use Rattle.cns_system.specs.Begin.{opened_of};
+ghost use Rattle.cns_system.specs.Desk.{HasTooFew, IsAllocated, IsDrawn, IsEnteredIn, IsNotOpenedIn, IsOpenedIn, IsServedAs, is_seal};
 ghost use Rattle.cns_system.specs.Floor.{IsLawfulFloor};
 ghost use Rattle.cns_system.specs.Lot.{planned_sum};
 ghost use Rattle.cns_system.specs.declared.desk.Cut.TheVariants.{Fault};
@@ -111,7 +111,7 @@ impl<C: Keeper, D: Keeper> Desk<C, D> {
     fn begin<R: Wait>(&self, rt: &R, alloc: Global, issue: Cusip) -> Result<Begun, Outcome>
         ensures seat { IfOk result (λ begun. begun.seat ≡ new_worker (arc_value begun.cell) (planned_sum begun.plan) (length begun.plan)) }
         ensures opened { IfOk result (λ begun. IsOpenedIn issue (opened_of begun)) }
-        ensures err { IfErr result IsRefusal }
+        ensures err { IfErr result (IsNotOpenedIn issue) }
     {
         self.lock(rt).begin(alloc, issue)
     }

@@ -1,7 +1,7 @@
 ghost use Rattle.std.specs.Prelude.{◌≡◌, ◌≢◌, ◌++◌, ◌+◌, ◌≤◌, List, [], None, length, vec_capacity, IfErr, IfOk, IsPermutation, OnErr, OnOk};
 ghost use Rattle.std.specs.List.Sorted.{IsNonDecreasingBy};
 ghost use Rattle.cns_pool.specs.declared.ticket.Ticket.{Ticket};
-ghost use Rattle.cns_system.specs.Finish.{AreAllEntered, AreCutOff, AreEntered, AreOfOnePlan, FinishGives, IsClosed, IsEnded, IsFinished, IsNotEntered, IsSealedFirst, IsUnserved, without_busy};
+ghost use Rattle.cns_system.specs.Finish.{AreAllEntered, AreCutOff, AreEntered, AreOfLot, FinishGives, IsClosed, IsEnded, IsFinished, IsNotEntered, IsSealedFirst, IsUnserved, without_busy};
 ghost use Rattle.cns_system.specs.Floor.{IsLawfulFloor, NumbersRise, busy_at};
 ghost use Rattle.cns_system.specs.Headline.{AreStrict};
 ghost use Rattle.cns_system.specs.Run.{Occurs};
@@ -25,8 +25,8 @@ impl<C: Keeper, D: Keeper> Floor<C, D> {
     /// `LotClose`. It ends at the first of them that is refused, and with `BadTickets`, where a reserve
     /// would draw another ticket than the one that was handed in: this reserve does not happen.
     ///
-    /// The tickets among the outcomes are those of one plan, which the clearing node's records had of an
-    /// issue at some place, as far as they go, and stand end to end from 0; where the lot is closed and not
+    /// The tickets among the outcomes follow the plan of the lot, which is that of the clearing node's open
+    /// lot of its issue, as far as they go, and stand end to end from 0; where the lot is closed and not
     /// sealed, each member of the plan has one.
     ///
     /// The lot is no longer busy, also where there is no memory; then no event happens. Of a lot that is
@@ -41,7 +41,7 @@ impl<C: Keeper, D: Keeper> Floor<C, D> {
         failed: bool,
     ) -> Result<Vec<Outcome>, AllocError>
         ensures ok { IfOk result (λ told. FinishGives lot tickets.now failed told.items self.old self.new.system) }
-        ensures tickets { IfOk result (λ told. AreOfOnePlan self.old.system.clear.clear.log.records told.items) }
+        ensures tickets { IfOk result (λ told. AreOfLot lot self.old.system told.items) }
         ensures err { OnErr result (self.new.system ≡ self.old.system) }
         ensures memory { OnErr result (busy_at self.old.busy lot ≢ None) }
         ensures busy { self.new.busy ≡ without_busy lot self.old.busy }
@@ -73,7 +73,7 @@ impl<C: Keeper, D: Keeper> Floor<C, D> {
         requires free { busy_at self.old.busy lot ≡ None }
         requires unserved { IsUnserved lot self.old.system.clear.lots }
         ensures ok { IfOk result (λ told. IsFinished lot tickets.now sealed told.items self.old.system self.new.system) }
-        ensures tickets { IfOk result (λ told. AreOfOnePlan self.old.system.clear.clear.log.records told.items) }
+        ensures tickets { IfOk result (λ told. AreOfLot lot self.old.system told.items) }
         ensures err { OnErr result (self.new.system ≡ self.old.system) }
         ensures busy { self.new.busy ≡ self.old.busy }
     {
@@ -90,11 +90,11 @@ impl<C: Keeper, D: Keeper> Floor<C, D> {
         requires none { told.old.items ≡ [] }
         requires room { length tickets.now + 2 ≤ vec_capacity told.old }
         ensures entered { AreAllEntered lot tickets.now sealed told.new.items self.old.system self.new.system }
-        ensures tickets { AreOfOnePlan self.old.system.clear.clear.log.records told.new.items }
+        ensures tickets { AreOfLot lot self.old.system told.new.items }
         ensures busy { self.new.busy ≡ self.old.busy }
     {
-        let drawn = self.draw_each(lot, tickets, told);
         self.planned();
+        let drawn = self.draw_each(lot, tickets, told);
         match drawn {
             Ok(()) => self.end(lot, sealed, told),
             Err(refusal) => told.push_reserved(Outcome::Refused(refusal)),

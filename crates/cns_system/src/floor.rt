@@ -6,7 +6,7 @@ ghost use Rattle.cns_system.specs.Floor.{AreInOrder, BySystem, FloorStep, IsLawf
 ghost use Rattle.cns_system.specs.Headline.{AreStrict};
 ghost use Rattle.cns_system.specs.Lot.{planned_sum};
 ghost use Rattle.cns_system.specs.Lots.{ArePlanned};
-ghost use Rattle.cns_system.specs.Numbered.{OpenLeaves};
+ghost use Rattle.cns_system.specs.Numbered.{AreTied, OpenLeaves};
 ghost use Rattle.cns_system.specs.Readers.{PlanStep, counts_of, unconfirmed};
 ghost use Rattle.cns_system.specs.Run.{Occurs};
 ghost use Rattle.cns_system.specs.Scene.{Plans, scene_of};
@@ -272,7 +272,8 @@ impl<C: Keeper, D: Keeper> Floor<C, D> {
 
     // Does nothing, and tells of which plans the lots are.
     pub(crate) fn planned(&self)
-        ensures { ArePlanned self.now.system.clear.clear.log.records self.now.system.clear.lots }
+        ensures planned { ArePlanned self.now.system.clear.clear.log.records self.now.system.clear.lots }
+        ensures tied { AreTied self.now.system.clear.clear.lots self.now.system.clear.lots }
     {
         self.system.agreed();
     }

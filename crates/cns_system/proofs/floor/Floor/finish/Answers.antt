@@ -1,9 +1,8 @@
-use Rattle.std.proofs.Common.{ap, subst, sym, ◌∙◌}
+use Rattle.std.proofs.Common.{ap, inl, refl, subst, sym, ◌∙◌}
 use Rattle.std.specs.Prelude.{◌≡◌, ◌||◌, Bool, IfOk}
-use Rattle.cns_system.specs.Finish.{AreOfOnePlan}
+use Rattle.cns_system.specs.Finish.{AreOfLot}
 use Rattle.cns_system.specs.World.{World}
 use Rattle.cns_system.proofs.FinishLemmas.{finish_goes, finish_told, released_gone, released_rest, released_system}
-use Rattle.cns_system.proofs.OnePlanLemmas.{nothing_drawn}
 use Rattle.cns_system.proofs.floor.Floor.finish.Goals as goal
 use Rattle.cns_system.proofs.floor.Floor.finish.Goals.{then-failed, else-failed}
 
@@ -22,7 +21,7 @@ returns-after-failed-clause-ok g c =
 
 pub returns-after-failed-clause-tickets : goal.returns-after-failed-clause-tickets
 returns-after-failed-clause-tickets g c =
-    subst (λ (w : World). IfOk c.enter-told.result (λ told. AreOfOnePlan w.clear.clear.log.records told.items))
+    subst (λ (w : World). IfOk c.enter-told.result (λ told. AreOfLot c.args.lot w told.items))
     (released_system c.args.lot c.in-Some.sealed c.args.self.now c.release.new.self c.in-Some.ensures.released) c.enter-told.ensures.tickets
 
 pub returns-after-failed-clause-strict : goal.returns-after-failed-clause-strict
@@ -40,5 +39,4 @@ returns-in-None-clause-busy g c = released_rest c.args.lot c.release.result c.ar
 
 pub returns-in-None-clause-tickets : goal.returns-in-None-clause-tickets
 returns-in-None-clause-tickets g c =
-    let records = c.args.self.now.system.clear.clear.log.records in
-    subst (AreOfOnePlan records) (sym c.new.ensures.items) (nothing_drawn records)
+    subst (AreOfLot c.args.lot c.args.self.now.system) (sym c.new.ensures.items) (inl (refl, refl))
