@@ -1,10 +1,10 @@
 -- Each event keeps the two nodes and the link in accord.
-use Rattle.std.proofs.Common.{◌≡◌, ◌≤◌, ◌∙◌, ℕ, zero, suc, Bool, true, false, List, [], ◌∷◌, ◌++◌, Some, None, ap, cond, refl, subst, sym}
-use Rattle.std.proofs.Math.Nat.{min-le_left}
-use Rattle.std.specs.Prelude.{◌==◌, All, slice_get}
+use Rattle.std.proofs.Common.{◌≡◌, ◌∙◌, ℕ, zero, suc, Bool, true, false, List, [], ◌∷◌, ◌++◌, Option, Some, None, ap, cond, refl, subst, sym}
+use Rattle.std.specs.Prelude.{◌==◌, All, IfSome, slice_get}
+use Rattle.std.specs.List.{cons_option}
 use Rattle.std.proofs.lemmas.Bool.{eqb-true}
-use Rattle.std.proofs.lemmas.List.Elements.{All-cons, All-head, All-nil, All-tail, All-weaker}
-use Rattle.std.proofs.lemmas.Option.{none-some, same_Some}
+use Rattle.std.proofs.lemmas.List.Elements.{All-cons, All-weaker}
+use Rattle.std.proofs.lemmas.Option.{IfSome_then, none-some, same_Some}
 use Rattle.cns_movements.specs.Order.{order_of}
 use Rattle.cns_movements.specs.declared.order.Order.{Order}
 use Rattle.cns_movements.specs.declared.order.Reply.{Reply}
@@ -12,14 +12,15 @@ use Rattle.cns_movements.proofs.OrderLemmas.{order_of-append}
 use Rattle.cns_records.specs.declared.clear_record.ClearRecord.{ClearRecord}
 use Rattle.cns_records.specs.declared.clear_record.ClearRecord.TheVariants as entry
 use Rattle.cns_records.specs.declared.dep_record.DepRecord.{DepRecord}
-use Rattle.cns_records.specs.declared.dep_record.DepRecord.TheVariants.{Exec}
 use Rattle.cns_clearing.specs.Books.{books_of, orders_of}
 use Rattle.cns_journal.specs.Keeper.{KeeperState}
 use Rattle.cns_journal.specs.RecordLog.{LogState}
 use Rattle.cns_trades.specs.declared.opening.Opening.{Opening}
-use Rattle.cns_depository.specs.Stock.{IsLawfulDepot, moved_by, order_in, record_of}
+use Rattle.cns_depository.specs.declared.movement.Movement.{Movement}
+use Rattle.cns_depository.specs.Stock.{executed_in, executed_of, movement_of}
+use Rattle.cns_depository.proofs.ExecutedLemmas.{IsWithin, lawful_within}
 use Rattle.cns_wire.specs.Frame.{order_frame, reply_frame}
-use Rattle.cns_system.specs.Accord.{Accord, FitsStock, IsInAccord, IsKnown, IsOrderPacket, IsReplyPacket}
+use Rattle.cns_system.specs.Accord.{Accord, FitsOrders, FitsStock, IsInAccord, IsKnown, IsOrderPacket, IsReplyPacket}
 use Rattle.cns_system.specs.Agreement.{IsExecuted, IsOrdered}
 use Rattle.cns_system.specs.Start.{IsStarted}
 use Rattle.cns_system.specs.World.{World, order_in_packet, reply_in_packet}
@@ -36,39 +37,62 @@ order_stays (entry.Cycle id) c n o found = order_of-append (orders_of c).orders 
 order_stays (entry.Allocate a) c n o found = order_of-append (orders_of c).orders _ n o found
 order_stays (entry.Confirm r) c n o found = found
 
--- the order of an executed movement is found under its number
-pub ordered_found : (orders : List Order) (e : DepRecord) → IsOrdered orders e → order_of orders (order_in e).number ≡ Some (order_in e)
-ordered_found orders (Exec o moved) ordered = ordered.0
+-- a movement stays that of its order
+ordered_stays : (u : ClearRecord) (c : List ClearRecord) (m : Movement) → IsOrdered (orders_of c).orders m → IsOrdered (orders_of (u ∷ c)).orders m
+ordered_stays u c m ordered = (order_stays u c m.order.number m.order ordered.0, ordered.1)
 
--- and the movement stays that of its order
-ordered_stays : (u : ClearRecord) (c : List ClearRecord) (e : DepRecord) → IsOrdered (orders_of c).orders e → IsOrdered (orders_of (u ∷ c)).orders e
-ordered_stays u c (Exec o moved) ordered = (order_stays u c o.number o ordered.0, ordered.1)
+known_stays : (u : ClearRecord) (c : List ClearRecord) (m : Movement) → IsKnown (orders_of c).orders m → IsKnown (orders_of (u ∷ c)).orders m
+known_stays u c m known = (ordered_stays u c m known.0, known.1)
 
--- a movement stays executed as one of another number is executed
-pub executed_stays : (e : DepRecord) (p : List DepRecord) (r : Reply) → record_of p (order_in e).number ≡ None → IsExecuted p r → IsExecuted (e ∷ p) r
-executed_stays e p r fresh done = (done.0, by ((order_in e).number == r.number) refl, done.2)
+-- a record of the depository stays one that fits the orders
+orders_fit_stays : (u : ClearRecord) (c : List ClearRecord) (movements : List Movement) (e : DepRecord) → FitsOrders (orders_of c).orders movements e
+    → FitsOrders (orders_of (u ∷ c)).orders movements e
+orders_fit_stays u c movements e fits = IfSome_then (executed_in e) fits (λ m its. (known_stays u c m its.0, its.1))
+
+-- what a record executes is known, and no movement of its number was executed before
+fits_known : (orders : List Order) (movements : List Movement) (e : DepRecord) → FitsOrders orders movements e → IfSome (executed_in e) (IsKnown orders)
+fits_known orders movements e fits = IfSome_then (executed_in e) fits (λ m its. its.0)
+
+-- no movement of the number of this one was executed
+abbrev pub IsNew : List Movement → Option Movement → Type 0
+IsNew movements x = IfSome x (λ (m : Movement). movement_of movements m.order.number ≡ None)
+
+fits_new : (orders : List Order) (movements : List Movement) (e : DepRecord) → FitsOrders orders movements e → IsNew movements (executed_in e)
+fits_new orders movements e fits = IfSome_then (executed_in e) fits (λ m its. its.1)
+
+-- a movement stays executed as one of another number is executed, or none is
+pub executed_stays : (x : Option Movement) (movements : List Movement) (r : Reply) → IsNew movements x → IsExecuted movements r → IsExecuted (cons_option x movements) r
+executed_stays None movements r fresh done = done
+executed_stays (Some m) movements r fresh done = (done.0, by (m.order.number == r.number) refl, done.2)
   where
-    by : (b : Bool) → ((order_in e).number == r.number) ≡ b → cond b (Some e) (record_of p r.number) ≡ Some done.0
-    by true same = absurd (none-some done.0 (sym fresh ∙ ap (record_of p) (eqb-true (order_in e).number r.number same) ∙ done.1))
+    by : (b : Bool) → (m.order.number == r.number) ≡ b → cond b (Some m) (movement_of movements r.number) ≡ Some done.0
+    by true same = absurd (none-some done.0 (sym fresh ∙ ap (movement_of movements) (eqb-true m.order.number r.number same) ∙ done.1))
     by false other = done.1
 
--- the confirmations of one more record were executed too
-pub replies_fit : (u : ClearRecord) (c : List ClearRecord) (p : List DepRecord) → FitsStock p u → All (IsExecuted p) (orders_of c).replies → All (IsExecuted p) (orders_of (u ∷ c)).replies
-unfolding books_of
-replies_fit (entry.Accept t) c p fits all = all
-replies_fit (entry.Exempt m i s) c p fits all = all
-replies_fit (entry.Priority m i on) c p fits all = all
-replies_fit (entry.Cycle id) c p fits all = all
-replies_fit (entry.Allocate a) c p fits all = all
-replies_fit (entry.Confirm r) c p fits all = All-cons (IsExecuted p) r (orders_of c).replies fits all
+-- movements stay known as one that is known is executed, or none is
+known_more : (orders : List Order) (x : Option Movement) (movements : List Movement) → IfSome x (IsKnown orders) → All (IsKnown orders) movements
+    → All (IsKnown orders) (cons_option x movements)
+known_more orders None movements its all = all
+known_more orders (Some m) movements its all = All-cons (IsKnown orders) m movements its all
 
-fits_stays : (e : DepRecord) (p : List DepRecord) (u : ClearRecord) → record_of p (order_in e).number ≡ None → FitsStock p u → FitsStock (e ∷ p) u
-fits_stays e p (entry.Accept t) fresh fits = tt
-fits_stays e p (entry.Exempt m i s) fresh fits = tt
-fits_stays e p (entry.Priority m i on) fresh fits = tt
-fits_stays e p (entry.Cycle id) fresh fits = tt
-fits_stays e p (entry.Allocate a) fresh fits = tt
-fits_stays e p (entry.Confirm r) fresh fits = executed_stays e p r fresh fits
+-- the confirmations of one more record were executed too
+pub replies_fit : (u : ClearRecord) (c : List ClearRecord) (movements : List Movement) → FitsStock movements u → All (IsExecuted movements) (orders_of c).replies
+    → All (IsExecuted movements) (orders_of (u ∷ c)).replies
+unfolding books_of
+replies_fit (entry.Accept t) c movements fits all = all
+replies_fit (entry.Exempt m i s) c movements fits all = all
+replies_fit (entry.Priority m i on) c movements fits all = all
+replies_fit (entry.Cycle id) c movements fits all = all
+replies_fit (entry.Allocate a) c movements fits all = all
+replies_fit (entry.Confirm r) c movements fits all = All-cons (IsExecuted movements) r (orders_of c).replies fits all
+
+fits_stays : (x : Option Movement) (movements : List Movement) (u : ClearRecord) → IsNew movements x → FitsStock movements u → FitsStock (cons_option x movements) u
+fits_stays x movements (entry.Accept t) fresh fits = tt
+fits_stays x movements (entry.Exempt m i s) fresh fits = tt
+fits_stays x movements (entry.Priority m i on) fresh fits = tt
+fits_stays x movements (entry.Cycle id) fresh fits = tt
+fits_stays x movements (entry.Allocate a) fresh fits = tt
+fits_stays x movements (entry.Confirm r) fresh fits = executed_stays x movements r fresh fits
 
 -- packets with one more at their end
 packet_cases : (P : List ℕ → Type 0) (xs : List (List ℕ)) (y : List ℕ) → ((k : ℕ) (x : List ℕ) → slice_get xs k ≡ Some x → P x) → P y
@@ -83,90 +107,93 @@ order_packet_stays : (u : ClearRecord) (c : List ClearRecord) (bytes : List ℕ)
     → IsOrderPacket (orders_of (u ∷ c)).orders bytes
 order_packet_stays u c bytes i = record { order = i.order; found = order_stays u c i.order.number i.order i.found; frame = i.frame; reads = i.reads }
 
-reply_packet_stays : (e : DepRecord) (p : List DepRecord) (bytes : List ℕ) → record_of p (order_in e).number ≡ None → IsReplyPacket p bytes
-    → IsReplyPacket (e ∷ p) bytes
-reply_packet_stays e p bytes fresh i = record { reply = i.reply; done = executed_stays e p i.reply fresh i.done; frame = i.frame; reads = i.reads }
+reply_packet_stays : (x : Option Movement) (movements : List Movement) (bytes : List ℕ) → IsNew movements x → IsReplyPacket movements bytes
+    → IsReplyPacket (cons_option x movements) bytes
+reply_packet_stays x movements bytes fresh i = record { reply = i.reply; done = executed_stays x movements i.reply fresh i.done; frame = i.frame; reads = i.reads }
 
 -- the order that is read from a packet is that of its number, and the reply that is read from one tells of an executed movement
 pub packet_found : (orders : List Order) (bytes : List ℕ) (o : Order) → IsOrderPacket orders bytes → order_in_packet (Some bytes) ≡ Some o
     → order_of orders o.number ≡ Some o
 packet_found orders bytes o i reads = subst (λ (q : Order). order_of orders q.number ≡ Some q) (same_Some i.order o (sym i.reads ∙ reads)) i.found
 
-pub packet_done : (p : List DepRecord) (bytes : List ℕ) (r : Reply) → IsReplyPacket p bytes → reply_in_packet (Some bytes) ≡ Some r → IsExecuted p r
-packet_done p bytes r i reads = subst (IsExecuted p) (same_Some i.reply r (sym i.reads ∙ reads)) i.done
+pub packet_done : (movements : List Movement) (bytes : List ℕ) (r : Reply) → IsReplyPacket movements bytes → reply_in_packet (Some bytes) ≡ Some r → IsExecuted movements r
+packet_done movements bytes r i reads = subst (IsExecuted movements) (same_Some i.reply r (sym i.reads ∙ reads)) i.done
 
 -- ---- what one node leaves
 
 module _ (c c' : LogState ClearRecord) (d : LogState DepRecord) (orders replies : List (List ℕ)) where
   -- the clearing node has a record more
-  pub grown : (u : ClearRecord) → Accord c d orders replies → FitsStock d.records u → c'.records ≡ u ∷ c.records → c'.tried ≡ None → Accord c' d orders replies
+  pub grown : (u : ClearRecord) → Accord c d orders replies → FitsStock (executed_of d.records) u → c'.records ≡ u ∷ c.records → c'.tried ≡ None → Accord c' d orders replies
   grown u a fits more none =
+      let movements : List Movement = executed_of d.records in
       record {
         known =
-            subst (λ (l : List ClearRecord). All (IsKnown (orders_of l).orders) d.records) (sym more)
-            (All-weaker (IsKnown (orders_of c.records).orders) (IsKnown (orders_of (u ∷ c.records)).orders)
-            (λ e known. (ordered_stays u c.records e known.0, known.1)) d.records a.known);
+            subst (λ (l : List ClearRecord). All (IsKnown (orders_of l).orders) movements) (sym more)
+            (All-weaker (IsKnown (orders_of c.records).orders) (IsKnown (orders_of (u ∷ c.records)).orders) (known_stays u c.records) movements a.known);
         executed =
-            subst (λ (l : List ClearRecord). All (IsExecuted d.records) (orders_of l).replies) (sym more) (replies_fit u c.records d.records fits a.executed);
+            subst (λ (l : List ClearRecord). All (IsExecuted movements) (orders_of l).replies) (sym more) (replies_fit u c.records movements fits a.executed);
         sent = λ k bytes at.
             subst (λ (l : List ClearRecord). IsOrderPacket (orders_of l).orders bytes) (sym more) (order_packet_stays u c.records bytes (a.sent k bytes at));
         answered = a.answered;
         clear_tried = λ v tried. absurd (none-some v (sym none ∙ tried));
         depot_tried = λ e tried.
-            let before = a.depot_tried e tried in
-            (subst (λ (l : List ClearRecord). IsKnown (orders_of l).orders e) (sym more) (ordered_stays u c.records e before.0.0, before.0.1), before.1);
+            subst (λ (l : List ClearRecord). FitsOrders (orders_of l).orders movements e) (sym more) (orders_fit_stays u c.records movements e (a.depot_tried e tried));
         clear_up = λ up. none;
         depot_up = a.depot_up;
       }
 
   -- it has the records that it had, and perhaps one whose commit failed
-  pub kept : Accord c d orders replies → c'.records ≡ c.records → ((u : ClearRecord) → c'.tried ≡ Some u → FitsStock d.records u) → (c'.down ≡ false → c'.tried ≡ None)
+  pub kept : Accord c d orders replies → c'.records ≡ c.records → ((u : ClearRecord) → c'.tried ≡ Some u → FitsStock (executed_of d.records) u) → (c'.down ≡ false → c'.tried ≡ None)
       → Accord c' d orders replies
-  kept a same fits up = record {
-    known = subst (λ (l : List ClearRecord). All (IsKnown (orders_of l).orders) d.records) (sym same) a.known;
-    executed = subst (λ (l : List ClearRecord). All (IsExecuted d.records) (orders_of l).replies) (sym same) a.executed;
-    sent = λ k bytes at. subst (λ (l : List ClearRecord). IsOrderPacket (orders_of l).orders bytes) (sym same) (a.sent k bytes at);
-    answered = a.answered;
-    clear_tried = fits;
-    depot_tried = λ e tried.
-        let before = a.depot_tried e tried in
-        (subst (λ (l : List ClearRecord). IsKnown (orders_of l).orders e) (sym same) before.0, before.1);
-    clear_up = up;
-    depot_up = a.depot_up;
-  }
+  kept a same fits up =
+      let movements : List Movement = executed_of d.records in
+      record {
+        known = subst (λ (l : List ClearRecord). All (IsKnown (orders_of l).orders) movements) (sym same) a.known;
+        executed = subst (λ (l : List ClearRecord). All (IsExecuted movements) (orders_of l).replies) (sym same) a.executed;
+        sent = λ k bytes at. subst (λ (l : List ClearRecord). IsOrderPacket (orders_of l).orders bytes) (sym same) (a.sent k bytes at);
+        answered = a.answered;
+        clear_tried = fits;
+        depot_tried = λ e tried. subst (λ (l : List ClearRecord). FitsOrders (orders_of l).orders movements e) (sym same) (a.depot_tried e tried);
+        clear_up = up;
+        depot_up = a.depot_up;
+      }
 
 module _ (c : LogState ClearRecord) (d d' : LogState DepRecord) (orders replies : List (List ℕ)) where
-  -- the depository has executed a movement
-  pub executed_more : (e : DepRecord) → Accord c d orders replies → record_of d.records (order_in e).number ≡ None → IsKnown (orders_of c.records).orders e
+  -- the depository has a record more
+  pub executed_more : (e : DepRecord) → Accord c d orders replies → FitsOrders (orders_of c.records).orders (executed_of d.records) e
       → d'.records ≡ e ∷ d.records → d'.tried ≡ None → Accord c d' orders replies
-  executed_more e a fresh found more none = record {
-    known =
-        subst (λ (l : List DepRecord). All (IsKnown (orders_of c.records).orders) l) (sym more)
-        (All-cons (IsKnown (orders_of c.records).orders) e d.records found a.known);
-    executed =
-        subst (λ (l : List DepRecord). All (IsExecuted l) (orders_of c.records).replies) (sym more)
-        (All-weaker (IsExecuted d.records) (IsExecuted (e ∷ d.records)) (λ r done. executed_stays e d.records r fresh done) (orders_of c.records).replies a.executed);
-    sent = a.sent;
-    answered = λ k bytes at. subst (λ (l : List DepRecord). IsReplyPacket l bytes) (sym more) (reply_packet_stays e d.records bytes fresh (a.answered k bytes at));
-    clear_tried = λ u tried. subst (λ (l : List DepRecord). FitsStock l u) (sym more) (fits_stays e d.records u fresh (a.clear_tried u tried));
-    depot_tried = λ f tried. absurd (none-some f (sym none ∙ tried));
-    clear_up = a.clear_up;
-    depot_up = λ up. none;
-  }
+  executed_more e a fits more none =
+      let known_orders : List Order = (orders_of c.records).orders in
+      let movements : List Movement = executed_of d.records in
+      let x : Option Movement = executed_in e in
+      let fresh : IsNew movements x = fits_new known_orders movements e fits in
+      record {
+        known =
+            subst (λ (l : List DepRecord). All (IsKnown known_orders) (executed_of l)) (sym more)
+            (known_more known_orders x movements (fits_known known_orders movements e fits) a.known);
+        executed =
+            subst (λ (l : List DepRecord). All (IsExecuted (executed_of l)) (orders_of c.records).replies) (sym more)
+            (All-weaker (IsExecuted movements) (IsExecuted (cons_option x movements)) (λ r done. executed_stays x movements r fresh done) (orders_of c.records).replies a.executed);
+        sent = a.sent;
+        answered = λ k bytes at.
+            subst (λ (l : List DepRecord). IsReplyPacket (executed_of l) bytes) (sym more) (reply_packet_stays x movements bytes fresh (a.answered k bytes at));
+        clear_tried = λ u tried. subst (λ (l : List DepRecord). FitsStock (executed_of l) u) (sym more) (fits_stays x movements u fresh (a.clear_tried u tried));
+        depot_tried = λ f tried. absurd (none-some f (sym none ∙ tried));
+        clear_up = a.clear_up;
+        depot_up = λ up. none;
+      }
 
   -- it has the records that it had, and perhaps one whose commit failed
   pub stock_kept : Accord c d orders replies → d'.records ≡ d.records
-      → ((e : DepRecord) → d'.tried ≡ Some e → IsKnown (orders_of c.records).orders e × (record_of d.records (order_in e).number ≡ None))
+      → ((e : DepRecord) → d'.tried ≡ Some e → FitsOrders (orders_of c.records).orders (executed_of d.records) e)
       → (d'.down ≡ false → d'.tried ≡ None) → Accord c d' orders replies
   stock_kept a same fits up = record {
-    known = subst (λ (l : List DepRecord). All (IsKnown (orders_of c.records).orders) l) (sym same) a.known;
-    executed = subst (λ (l : List DepRecord). All (IsExecuted l) (orders_of c.records).replies) (sym same) a.executed;
+    known = subst (λ (l : List DepRecord). All (IsKnown (orders_of c.records).orders) (executed_of l)) (sym same) a.known;
+    executed = subst (λ (l : List DepRecord). All (IsExecuted (executed_of l)) (orders_of c.records).replies) (sym same) a.executed;
     sent = a.sent;
-    answered = λ k bytes at. subst (λ (l : List DepRecord). IsReplyPacket l bytes) (sym same) (a.answered k bytes at);
-    clear_tried = λ u tried. subst (λ (l : List DepRecord). FitsStock l u) (sym same) (a.clear_tried u tried);
-    depot_tried = λ e tried.
-        let now = fits e tried in
-        (now.0, subst (λ (l : List DepRecord). record_of l (order_in e).number ≡ None) (sym same) now.1);
+    answered = λ k bytes at. subst (λ (l : List DepRecord). IsReplyPacket (executed_of l) bytes) (sym same) (a.answered k bytes at);
+    clear_tried = λ u tried. subst (λ (l : List DepRecord). FitsStock (executed_of l) u) (sym same) (a.clear_tried u tried);
+    depot_tried = λ e tried. subst (λ (l : List DepRecord). FitsOrders (orders_of c.records).orders (executed_of l) e) (sym same) (fits e tried);
     clear_up = a.clear_up;
     depot_up = up;
   }
@@ -186,25 +213,21 @@ order_put c d orders replies o a found reads = record {
 }
 
 pub reply_put : (c : LogState ClearRecord) (d : LogState DepRecord) (orders replies : List (List ℕ)) (r : Reply) → Accord c d orders replies
-    → IsExecuted d.records r → reply_in_packet (Some (reply_frame r)) ≡ Some r → Accord c d orders (replies ++ reply_frame r ∷ [])
+    → IsExecuted (executed_of d.records) r → reply_in_packet (Some (reply_frame r)) ≡ Some r → Accord c d orders (replies ++ reply_frame r ∷ [])
 reply_put c d orders replies r a done reads = record {
   known = a.known;
   executed = a.executed;
   sent = a.sent;
-  answered = packet_cases (IsReplyPacket d.records) replies (reply_frame r) a.answered (record { reply = r; done = done; frame = refl; reads = reads });
+  answered = packet_cases (IsReplyPacket (executed_of d.records)) replies (reply_frame r) a.answered (record { reply = r; done = done; frame = refl; reads = reads });
   clear_tried = a.clear_tried;
   depot_tried = a.depot_tried;
   clear_up = a.clear_up;
   depot_up = a.depot_up;
 }
 
--- executed movements of a lawful depository are known where each is that of the order of its number
-pub known_all : (openings : List Opening) (orders : List Order) (p : List DepRecord) → IsLawfulDepot openings p → All (IsOrdered orders) p → All (IsKnown orders) p
-known_all openings orders [] lawful all = All-nil (IsKnown orders)
-known_all openings orders (Exec o moved ∷ p) lawful all =
-    let ordered = All-head (IsOrdered orders) (Exec o moved) p all in
-    let within = subst (λ n. n ≤ o.asked) (sym (ap moved_by lawful.0.moves)) (min-le_left o.asked _) in
-    All-cons (IsKnown orders) (Exec o moved) p (ordered, within) (known_all openings orders p lawful.1 (All-tail (IsOrdered orders) (Exec o moved) p all))
+-- executed movements are known where each is that of the order of its number, and moved no more than that asks for
+known_all : (orders : List Order) (movements : List Movement) → All IsWithin movements → All (IsOrdered orders) movements → All (IsKnown orders) movements
+known_all orders movements within ordered = λ i m inside. (ordered i m inside, within i m inside)
 
 -- nodes that were opened are in accord, as there is no packet yet
 pub started : (openings : List Opening) (clear depot : KeeperState) (w : World) → IsStarted openings clear depot w → IsInAccord w
@@ -212,7 +235,7 @@ started openings clear depot w s =
     let none = ap (λ (l : LogState ClearRecord). l.tried) s.clear_opens.0.value in
     let stock_none = ap (λ (l : LogState DepRecord). l.tried) s.depot_opens.0.value in
     λ clear_honest depot_honest. record {
-      known = known_all openings (orders_of w.clear.clear.log.records).orders w.depot.log.records s.depot_opens.0.allowed s.agree.ordered;
+      known = known_all (orders_of w.clear.clear.log.records).orders (executed_of w.depot.log.records) (lawful_within openings w.depot.log.records s.depot_opens.0.allowed) s.agree.ordered;
       executed = s.agree.executed;
       sent = λ k bytes at. absurd (none-some bytes (ap (λ (l : List (List ℕ)). slice_get l k) (sym s.orders) ∙ at));
       answered = λ k bytes at. absurd (none-some bytes (ap (λ (l : List (List ℕ)). slice_get l k) (sym s.replies) ∙ at));

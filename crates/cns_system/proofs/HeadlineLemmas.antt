@@ -7,40 +7,42 @@ use Rattle.cns_movements.specs.declared.order.MoveKind.TheVariants.{Cover, Deliv
 use Rattle.cns_movements.specs.declared.order.Order.{Order}
 use Rattle.cns_movements.specs.Book.{Orders}
 use Rattle.cns_movements.proofs.OrderLemmas.{sum_same_from}
-use Rattle.cns_records.specs.declared.dep_record.DepRecord.{DepRecord}
 use Rattle.cns_clearing.specs.Books.{orders_of}
 use Rattle.cns_clearing.proofs.BooksLemmas.{lawful_bounded}
-use Rattle.cns_depository.specs.Stock.{moved_by}
+use Rattle.cns_clearing.proofs.PositionLemmas.{position_in_is}
+use Rattle.cns_depository.specs.declared.movement.Movement.{Movement}
+use Rattle.cns_depository.specs.Stock.{executed_of}
 use Rattle.cns_depository.proofs.BalanceLemmas.{moved_out_covered}
+use Rattle.cns_depository.proofs.ExecutedLemmas.{AreOnce, lawful_once, moved_in_cns}
 use Rattle.cns_system.specs.Accord.{AreLawful, IsInAccord, IsKnown}
 use Rattle.cns_system.specs.Agreement.{IsExecuted}
 use Rattle.cns_system.specs.Headline.{IsAgreed, IsBalanced, confirmed_sum}
 use Rattle.cns_system.specs.World.{World}
-use Rattle.cns_system.proofs.DeliveredLemmas.{AreOnce, confirmed_as, covers_executed, executed_part, executed_sum, executed_where, lawful_once}
+use Rattle.cns_system.proofs.DeliveredLemmas.{confirmed_as, covers_executed, executed_part, executed_sum, executed_where}
 
 -- what confirmed orders moved is what the movements that both nodes hold moved
-module _ (book : Orders) (p : List DepRecord) (kind : MoveKind) (member issue : ℕ) (executed : All (IsExecuted p) book.replies) where
+module _ (book : Orders) (movements : List Movement) (kind : MoveKind) (member issue : ℕ) (executed : All (IsExecuted movements) book.replies) where
   is_counted : Order → Bool
   is_counted o = is_of kind member issue o && is_some (moved_of book.replies o.number)
 
   -- of an order that is confirmed, what was executed is what was confirmed
-  same_part : (o : Order) → executed_where is_counted p o ≡ (if is_of kind member issue o then moved_part book.replies o else 0)
+  same_part : (o : Order) → executed_where is_counted movements o ≡ (if is_of kind member issue o then moved_part book.replies o else 0)
   unfolding is_counted
   same_part o = by (is_of kind member issue o) (moved_of book.replies o.number) refl
     where
       by : (its : Bool) (m : Option ℕ) → moved_of book.replies o.number ≡ m
-          → (if its && is_some m then executed_part p o else 0) ≡ (if its then unwrap_or m 0 else 0)
+          → (if its && is_some m then executed_part movements o else 0) ≡ (if its then unwrap_or m 0 else 0)
       by false m is = refl
       by true None is = refl
       by true (Some m) is =
-          let done = confirmed_as p book.replies o.number m executed is in
-          ap (λ (r : Option DepRecord). unwrap_or (option_map moved_by r) 0) done.1 ∙ done.2
+          let done = confirmed_as movements book.replies o.number m executed is in
+          ap (λ (r : Option Movement). unwrap_or (option_map (λ (x : Movement). x.moved) r) 0) done.1 ∙ done.2
 
-  pub confirmed_moved : IsNumbered 1 book.orders → All (IsKnown book.orders) p → AreOnce p
-      → moved_sum book.orders book.replies kind member issue ≡ confirmed_sum p book.replies kind member issue
+  pub confirmed_moved : IsNumbered 1 book.orders → All (IsKnown book.orders) movements → AreOnce movements
+      → moved_sum book.orders book.replies kind member issue ≡ confirmed_sum movements book.replies kind member issue
   unfolding moved_sum confirmed_sum is_counted
   confirmed_moved numbered known once =
-      let all = executed_sum is_counted book.orders p numbered known once in
+      let all = executed_sum is_counted book.orders movements numbered known once in
       let parts = sum_same_from _ _ book.orders 1 numbered (λ o from. same_part o) in
       omega (arith, all, parts)
 
@@ -50,22 +52,27 @@ agreed w lawful balanced accord honest depot_honest =
     let a = accord honest depot_honest in
     let c = w.clear.clear.log.records in
     let p = w.depot.log.records in
+    let movements : List Movement = executed_of p in
     let book : Orders = orders_of c in
     let numbered : IsNumbered 1 book.orders = (lawful_bounded c lawful.0).ordered.numbered in
-    let once : AreOnce p = lawful_once w.depot.openings p lawful.1 in
-    let moved : (kind : MoveKind) (member issue : ℕ) → moved_sum book.orders book.replies kind member issue ≡ confirmed_sum p book.replies kind member issue =
-    λ kind member issue. confirmed_moved book p kind member issue a.executed numbered a.known once in
+    let once : AreOnce movements = lawful_once w.depot.openings p lawful.1 in
+    let moved : (kind : MoveKind) (member issue : ℕ) → moved_sum book.orders book.replies kind member issue ≡ confirmed_sum movements book.replies kind member issue =
+    λ kind member issue. confirmed_moved book movements kind member issue a.executed numbered a.known once in
     record {
       executed = a.known;
       confirmed = a.executed;
       sent = a.sent;
       answered = a.answered;
+      lawful = lawful.0;
       stock = lawful.1;
       given = λ account issue. moved_out_covered w.depot.openings p account issue lawful.1;
       netted = λ member issue. rw (moved Cover member issue, moved Delivery member issue) refl;
+      one_position = λ member issue. position_in_is c member issue lawful.0;
       pool = λ issue. let sums = balanced issue in omega (arith, sums.0, sums.1);
       whole = λ issue. (balanced issue).1;
       backed = λ issue.
           let sums = balanced issue in
-          omega (arith, sums.1, covers_executed book p issue numbered a.known once a.executed);
+          omega (arith, sums.1, covers_executed book movements issue numbered a.known once a.executed, moved_in_cns p issue);
+      available = λ issue. let sums = balanced issue in omega (arith, sums.1);
+      lent = λ issue. let sums = balanced issue in omega (arith, sums.1);
     }

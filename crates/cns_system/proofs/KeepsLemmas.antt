@@ -11,7 +11,6 @@ use Rattle.cns_movements.proofs.OrderLemmas.{order_of_number}
 use Rattle.cns_records.specs.declared.clear_record.ClearRecord.{ClearRecord}
 use Rattle.cns_records.specs.declared.clear_record.ClearRecord.TheVariants as entry
 use Rattle.cns_records.specs.declared.dep_record.DepRecord.{DepRecord}
-use Rattle.cns_records.specs.declared.dep_record.DepRecord.TheVariants.{Exec}
 use Rattle.cns_clearing.specs.Answers.{CycleLeaves, ReplyLeaves, SettingLeaves, TradeLeaves}
 use Rattle.cns_clearing.specs.Books.{orders_of}
 use Rattle.cns_journal.specs.RecordLog.{LogRestarts, LogState}
@@ -19,14 +18,15 @@ use Rattle.cns_journal.specs.declared.record_log.ReplayFault.{ReplayFault}
 use Rattle.cns_journal.specs.declared.record_log.Restarted.{Restarted}
 use Rattle.cns_trades.specs.declared.opening.Opening.{Opening}
 use Rattle.cns_records.specs.Dep.{dep_spelling, HasDepPayload}
-use Rattle.cns_depository.specs.Answers.{OrderLeaves, next_record}
+use Rattle.cns_depository.specs.Answers.{OrderLeaves, known_at, next_movement, next_record}
 use Rattle.cns_depository.specs.Node.{DepNode}
-use Rattle.cns_depository.specs.Stock.{IsExecutable, order_in, record_of}
+use Rattle.cns_depository.specs.Stock.{IsExecutable, executed_of, movement_of}
+use Rattle.cns_depository.specs.declared.movement.Movement.{Movement}
 use Rattle.cns_depository.specs.declared.fault.Answer.{Answer}
 use Rattle.cns_depository.specs.declared.fault.Answer.TheVariants as answer
 use Rattle.cns_depository.specs.declared.fault.DepFault.{DepFault}
 use Rattle.cns_depository.specs.declared.fault.DepFault.TheVariants as fault
-use Rattle.cns_system.specs.Accord.{Accord, AreLawful, FitsStock, IsInAccord, IsKnown}
+use Rattle.cns_system.specs.Accord.{Accord, AreLawful, FitsOrders, FitsStock, IsInAccord, IsKnown}
 use Rattle.cns_system.specs.Agreement.{IsExecuted}
 use Rattle.cns_system.specs.Lot.{with_seal}
 use Rattle.cns_system.specs.Lots.{LotLeaves, ReserveLeaves}
@@ -54,7 +54,7 @@ use Rattle.cns_system.proofs.LogLemmas.{IsKept, Keeps, by_added, by_failed, by_l
 -- ---- the accord, of either log
 
 -- with the clearing node's log
-pub accord_kept : (d : LogState DepRecord) (orders replies : List (List ℕ)) → IsKept (λ (c : LogState ClearRecord). Accord c d orders replies) (λ before u. FitsStock d.records u)
+pub accord_kept : (d : LogState DepRecord) (orders replies : List (List ℕ)) → IsKept (λ (c : LogState ClearRecord). Accord c d orders replies) (λ before u. FitsStock (executed_of d.records) u)
 accord_kept d orders replies = record {
   grows = λ old new u a fits more none. grown old new d orders replies u a fits more none;
   stays = λ old new a same fits up. kept old new d orders replies a same fits up;
@@ -62,14 +62,14 @@ accord_kept d orders replies = record {
   up = λ log a up. a.clear_up up;
 }
 
--- a record of the depository is of an order, whose number is new
+-- a record of the depository fits the orders of the clearing node's log
 abbrev FitsBook : LogState ClearRecord → List DepRecord → DepRecord → Type 0
-FitsBook c p e = IsKnown (orders_of c.records).orders e × (record_of p (order_in e).number ≡ None)
+FitsBook c p e = FitsOrders (orders_of c.records).orders (executed_of p) e
 
 -- with the depository's log
 stock_accord_kept : (c : LogState ClearRecord) (orders replies : List (List ℕ)) → IsKept (λ (d : LogState DepRecord). Accord c d orders replies) (FitsBook c)
 stock_accord_kept c orders replies = record {
-  grows = λ old new e a fits more none. executed_more c old new orders replies e a fits.1 fits.0 more none;
+  grows = λ old new e a fits more none. executed_more c old new orders replies e a fits more none;
   stays = λ old new a same fits up. stock_kept c old new orders replies a same fits up;
   tried = λ log e a tried. a.depot_tried e tried;
   up = λ log a up. a.depot_up up;
@@ -85,9 +85,9 @@ module _ (c : LogState ClearRecord) (orders replies : List (List ℕ)) where
   stock_same : (old new : DepNode) → new ≡ old → StockKeeps old.log new.log
   stock_same old new e = by_log (λ d. Accord c d orders replies) (FitsBook c) (stock_accord_kept c orders replies) old.log new.log (ap (λ (n : DepNode). n.log) e)
 
-  -- an order that the clearing node has, whose record is known where it is new
+  -- an order that the clearing node has, whose movement is known where it is new
   order_keeps : (o : Order) (result : Result Answer DepFault) (old new : DepNode)
-      → (Accord c old.log orders replies → record_of old.log.records o.number ≡ None → IsKnown (orders_of c.records).orders (next_record old o))
+      → (Accord c old.log orders replies → known_at old o.number ≡ None → IsKnown (orders_of c.records).orders (next_movement old o))
       → OrderLeaves o result old new → StockKeeps old.log new.log
   order_keeps o (Ok (answer.Done r)) old new known h =
       by_added (λ d. Accord c d orders replies) (FitsBook c) (stock_accord_kept c orders replies) old.log new.log (next_record old o) (λ a. (known a h.0, h.0)) h.2.0 h.2.1
@@ -104,16 +104,17 @@ module _ (c : LogState ClearRecord) (orders replies : List (List ℕ)) where
       restart_keeps (λ d. Accord c d orders replies) (FitsBook c) (stock_accord_kept c orders replies) dep_spelling (IsExecutable openings) HasDepPayload
 
 -- a movement that was just executed, or was executed before, is one that the reply tells of
-done_executed : (o : Order) (r : Reply) (old new : DepNode) → OrderLeaves o (Ok (answer.Done r)) old new → IsExecuted new.log.records r
+done_executed : (o : Order) (r : Reply) (old new : DepNode) → OrderLeaves o (Ok (answer.Done r)) old new → IsExecuted (executed_of new.log.records) r
 done_executed o r old new h =
-    let e = next_record old o in
-    subst (λ (l : List DepRecord). IsExecuted l r) (sym (ap (λ (l : LogState DepRecord). l.records) h.2.1.0))
-    (subst (IsExecuted (e ∷ old.log.records)) (sym h.1)
-    (e, ap (λ b. cond b (Some e) (record_of old.log.records o.number)) (eq-eqb o.number o.number refl), refl))
+    let m : Movement = next_movement old o in
+    subst (λ (l : List DepRecord). IsExecuted (executed_of l) r) (sym (ap (λ (l : LogState DepRecord). l.records) h.2.1.0))
+    (subst (IsExecuted (m ∷ executed_of old.log.records)) (sym h.1)
+    (m, ap (λ b. cond b (Some m) (known_at old o.number)) (eq-eqb o.number o.number refl), refl))
 
-again_executed : (o : Order) (r : Reply) (old new : DepNode) → OrderLeaves o (Ok (answer.Again r)) old new → IsExecuted new.log.records r
+again_executed : (o : Order) (r : Reply) (old new : DepNode) → OrderLeaves o (Ok (answer.Again r)) old new → IsExecuted (executed_of new.log.records) r
 again_executed o r old new h =
-    subst (λ (n : DepNode). IsExecuted n.log.records r) (sym h.3) (Exec o r.moved, ap (record_of old.log.records) h.2 ∙ h.1, refl)
+    subst (λ (n : DepNode). IsExecuted (executed_of n.log.records) r) (sym h.3)
+    (record { order = o; moved = r.moved }, ap (movement_of (executed_of old.log.records)) h.2 ∙ h.1, refl)
 
 -- ---- events
 
@@ -170,7 +171,7 @@ puts_keep c o (Err fault) old new h p a = subst (λ (l : List (List ℕ)). Accor
 order_taken : (k : ℕ) (bytes : List ℕ) (o : Order) (outcome : Outcome) (old new : World) → slice_get old.orders k ≡ Some bytes → order_in_packet (Some bytes) ≡ Some o
     → new.clear ≡ old.clear → new.orders ≡ old.orders → OrderTaken o outcome old new → AreLawful old → IsInAccord old → IsInAccord new
 order_taken k bytes o outcome old new at reads clear orders (inl t) lawful accord = λ clear_honest depot_honest.
-    let known = λ (a : Accord old.clear.clear.log old.depot.log old.orders old.replies) (fresh : record_of old.depot.log.records o.number ≡ None).
+    let known = λ (a : Accord old.clear.clear.log old.depot.log old.orders old.replies) (fresh : known_at old.depot o.number ≡ None).
     next_known old.depot.openings old.clear.clear.log.records old.depot.log.records o lawful.0 lawful.1 a.known a.executed
     (packet_found (orders_of old.clear.clear.log.records).orders bytes o (a.sent k bytes at) reads) fresh in
     let now = order_keeps old.clear.clear.log old.orders old.replies o t.0 old.depot new.depot known t.2 in
@@ -205,11 +206,11 @@ order_arrives (Some bytes) (Some o) outcome old new place is h lawful accord =
 
 -- a reply that arrives is of a movement that the depository executed
 reply_fits : (packet : Option (List ℕ)) (r : Reply) (w : World) → ((bytes : List ℕ) → packet ≡ Some bytes → (k : ℕ) × (slice_get w.replies k ≡ Some bytes))
-    → reply_in_packet packet ≡ Some r → Accord w.clear.clear.log w.depot.log w.orders w.replies → IsExecuted w.depot.log.records r
+    → reply_in_packet packet ≡ Some r → Accord w.clear.clear.log w.depot.log w.orders w.replies → IsExecuted (executed_of w.depot.log.records) r
 reply_fits None r w place is a = absurd (none-some r is)
 reply_fits (Some bytes) r w place is a =
     let at = place bytes refl in
-    packet_done w.depot.log.records bytes r (a.answered at.0 bytes at.1) is
+    packet_done (executed_of w.depot.log.records) bytes r (a.answered at.0 bytes at.1) is
 
 reply_arrives : (held : Option Reply) (outcome : Outcome) (old new : World)
     → Keeps (λ (c : LogState ClearRecord). Accord c old.depot.log old.orders old.replies) old.clear.clear.log new.clear.clear.log
@@ -223,20 +224,20 @@ depot_restart_step outcome old new h =
     at_depot old new (depot_restart_keeps old.clear.clear.log old.orders old.replies old.depot.openings h.3.0 old.depot.log new.depot.log h.3.2.0) h.0 h.1 h.2
 
 -- records that are no confirmations fit the stock
-plain_fits : (p : List DepRecord) (u : ClearRecord) → IsPlain u → FitsStock p u
-plain_fits p (entry.Accept t) plain = tt
-plain_fits p (entry.Exempt m i s) plain = tt
-plain_fits p (entry.Priority m i on) plain = tt
-plain_fits p (entry.Cycle id) plain = tt
-plain_fits p (entry.Allocate a) plain = tt
-plain_fits p (entry.Confirm r) plain = absurd plain
+plain_fits : (movements : List Movement) (u : ClearRecord) → IsPlain u → FitsStock movements u
+plain_fits movements (entry.Accept t) plain = tt
+plain_fits movements (entry.Exempt m i s) plain = tt
+plain_fits movements (entry.Priority m i on) plain = tt
+plain_fits movements (entry.Cycle id) plain = tt
+plain_fits movements (entry.Allocate a) plain = tt
+plain_fits movements (entry.Confirm r) plain = absurd plain
 
 -- each event keeps the clearing node's log in accord with what there was beside it
 log_keeps : (e : Event) (outcome : Outcome) (old new : World) → Step e outcome old new
     → Keeps (λ (c : LogState ClearRecord). Accord c old.depot.log old.orders old.replies) old.clear.clear.log new.clear.clear.log
 log_keeps e outcome old new h =
-    event_keeps (λ c. Accord c old.depot.log old.orders old.replies) (λ before u. FitsStock old.depot.log.records u) (accord_kept old.depot.log old.orders old.replies)
-    (λ c u. plain_fits old.depot.log.records u) (λ c a is. tt) e outcome old new
+    event_keeps (λ c. Accord c old.depot.log old.orders old.replies) (λ before u. FitsStock (executed_of old.depot.log.records) u) (accord_kept old.depot.log old.orders old.replies)
+    (λ c u. plain_fits (executed_of old.depot.log.records) u) (λ c a is. tt) e outcome old new
     (λ packet r is. reply_fits (at_number old.replies packet) r old (packet_place old.replies packet) is) h
 
 -- each event keeps both nodes and the link in accord, as the records of both are lawful
@@ -310,7 +311,7 @@ pub planned_accord : (name : NodeName) (stands : Bool) (result : Result (Unit {0
 planned_accord node.Clear stands result old new h =
     let kept = accord_kept old.depot.log old.orders old.replies in
     at_clear old new
-    (planned_keeps (λ (c : LogState ClearRecord). Accord c old.depot.log old.orders old.replies) (λ before u. FitsStock old.depot.log.records u) kept
+    (planned_keeps (λ (c : LogState ClearRecord). Accord c old.depot.log old.orders old.replies) (λ before u. FitsStock (executed_of old.depot.log.records) u) kept
     stands result old.clear.clear.log new.clear.clear.log h.0.0) h.2 h.3 h.4
 planned_accord node.Depot stands result old new h =
     let kept = stock_accord_kept old.clear.clear.log old.orders old.replies in

@@ -13,16 +13,15 @@ use Rattle.cns_movements.proofs.SameOrderLemmas.{same_order-differ, same_order-r
 use Rattle.cns_wire.specs.Frame.{order_frame, reply_frame}
 use Rattle.cns_wire.specs.Packet.{at_number}
 use Rattle.cns_records.specs.declared.clear_record.ClearRecord.TheVariants as entry
-use Rattle.cns_records.specs.declared.dep_record.DepRecord.{DepRecord}
-use Rattle.cns_records.specs.declared.dep_record.DepRecord.TheVariants.{Exec}
 use Rattle.cns_records.specs.declared.refusal.Refusal.{Refusal}
 use Rattle.cns_records.specs.declared.refusal.Refusal.TheVariants as refusal
 use Rattle.cns_clearing.specs.Answers.{answer_in, ReplyLeaves}
 use Rattle.cns_clearing.specs.Books.{orders_of}
 use Rattle.cns_clearing.specs.declared.answer.Taken.{Taken}
 use Rattle.cns_clearing.specs.declared.answer.Taken.TheVariants as taken
-use Rattle.cns_depository.specs.Answers.{OrderLeaves, next_record, reply_to}
-use Rattle.cns_depository.specs.Stock.{moved_by, movement, record_of}
+use Rattle.cns_depository.specs.Answers.{OrderLeaves, next_movement, next_record, reply_to}
+use Rattle.cns_depository.specs.declared.movement.Movement.{Movement}
+use Rattle.cns_depository.specs.Stock.{executed_of, execution, movement, movement_of}
 use Rattle.cns_depository.specs.declared.fault.Answer.{Answer}
 use Rattle.cns_depository.specs.declared.fault.Answer.TheVariants as answer
 use Rattle.cns_depository.specs.declared.fault.DepFault.{DepFault}
@@ -112,54 +111,54 @@ order_down : (d : Decision) (packet : ℕ) (o : Order) (w : Shown) → Holds pac
 unfolding happens judged
 order_down d packet o w held down = rw (held, down) refl
 
-order_new : (d : Decision) (packet : ℕ) (o : Order) (w : Shown) → Holds packet (Some o) w → w.depot.down ≡ false → record_of w.depot.records o.number ≡ None
-    → happens d (event.OrderIn packet) w ≡ settled w (let e = movement w.openings w.depot.records o in let r = reply_to o (moved_by e) in
+order_new : (d : Decision) (packet : ℕ) (o : Order) (w : Shown) → Holds packet (Some o) w → w.depot.down ≡ false → movement_of (executed_of w.depot.records) o.number ≡ None
+    → happens d (event.OrderIn packet) w ≡ settled w (let m = movement w.openings w.depot.records o in let r = reply_to m in let e = execution m in
     commits d (outcomes.Executed r (length w.replies + 1), with_reply r (depot_added e w)) (depot_failed e w))
 unfolding happens judged
 order_new d packet o w held up none = rw held (ap (settled w) (passes (not w.depot.down) refusal.Down _ (ap not up)) ∙ rw none refl)
 
 order_known : (d : Decision) (packet : ℕ) (o : Order) (moved : ℕ) (w : Shown) → Holds packet (Some o) w → w.depot.down ≡ false
-    → record_of w.depot.records o.number ≡ Some (Exec o moved)
-    → happens d (event.OrderIn packet) w ≡ settled w (grows d (outcomes.ExecutedAgain (reply_to o moved) (length w.replies + 1), with_reply (reply_to o moved) w))
+    → movement_of (executed_of w.depot.records) o.number ≡ Some (record { order = o; moved = moved })
+    → happens d (event.OrderIn packet) w ≡ settled w (let r = reply_to (record { order = o; moved = moved }) in grows d (outcomes.ExecutedAgain r (length w.replies + 1), with_reply r w))
 unfolding happens judged
 order_known d packet o moved w held up found = rw held (ap (settled w) (passes (not w.depot.down) refusal.Down _ (ap not up)) ∙ rw (found, same_order-refl o) refl)
 
-order_other : (d : Decision) (packet : ℕ) (o other : Order) (moved : ℕ) (w : Shown) → Holds packet (Some o) w → w.depot.down ≡ false
-    → record_of w.depot.records o.number ≡ Some (Exec other moved) → other ≢ o → happens d (event.OrderIn packet) w ≡ refuse refusal.Conflict w
+order_other : (d : Decision) (packet : ℕ) (o : Order) (other : Movement) (w : Shown) → Holds packet (Some o) w → w.depot.down ≡ false
+    → movement_of (executed_of w.depot.records) o.number ≡ Some other → other.order ≢ o → happens d (event.OrderIn packet) w ≡ refuse refusal.Conflict w
 unfolding happens judged
-order_other d packet o other moved w held up found isnt = rw (held, up, found, same_order-differ other o isnt) refl
+order_other d packet o other w held up found isnt = rw (held, up, found, same_order-differ other.order o isnt) refl
 
 -- nothing but memory is in the way of an order that is new, or the one of its number
-order_short : (d : Decision) (packet : ℕ) (o : Order) (w : Shown) → Holds packet (Some o) w → w.depot.down ≡ false → IsItsOwn o w.depot.records → d ≡ NoMemory
+order_short : (d : Decision) (packet : ℕ) (o : Order) (w : Shown) → Holds packet (Some o) w → w.depot.down ≡ false → IsItsOwn o (executed_of w.depot.records) → d ≡ NoMemory
     → happens d (event.OrderIn packet) w ≡ refuse refusal.OutOfMemory w
-order_short d packet o w held up own short = by (record_of w.depot.records o.number) refl
+order_short d packet o w held up own short = by (movement_of (executed_of w.depot.records) o.number) refl
   where
-    by : (found : Option DepRecord) → record_of w.depot.records o.number ≡ found → happens d (event.OrderIn packet) w ≡ refuse refusal.OutOfMemory w
+    by : (found : Option Movement) → movement_of (executed_of w.depot.records) o.number ≡ found → happens d (event.OrderIn packet) w ≡ refuse refusal.OutOfMemory w
     by None e = order_new d packet o w held up e ∙ commit_short d _ w w _ short refl
-    by (Some (Exec known moved)) e =
-        let is : known ≡ o = own (Exec known moved) e in
-        order_known d packet o moved w held up (subst (λ (k : Order). record_of w.depot.records o.number ≡ Some (Exec k moved)) is e) ∙ without_room d _ w w short refl
+    by (Some m) e =
+        let is : m.order ≡ o = own m e in
+        order_known d packet o m.moved w held up (subst (λ (k : Order). movement_of (executed_of w.depot.records) o.number ≡ Some (record { order = k; moved = m.moved })) is e) ∙ without_room d _ w w short refl
 
 order_by : (d : Decision) (packet : ℕ) (o : Order) (result : Result Answer DepFault) (old new : World) → Holds packet (Some o) (shown_of old) → IsAtDepot old new
     → OrderLeaves o result old.depot new.depot → Puts result old new → Fits d (event.OrderIn packet) (order_outcome (length old.replies + 1) result) (shown_of new)
     → happens d (event.OrderIn packet) (shown_of old) ≡ (order_outcome (length old.replies + 1) result, shown_of new)
 order_by d packet o (Ok (answer.Done r)) old new held at (none, is, added) puts fits =
-    let e : DepRecord = next_record old.depot o in
-    let reply : Reply = reply_to o (moved_by e) in
+    let e = next_record old.depot o in
+    let reply : Reply = reply_to (next_movement old.depot o) in
     let put : new.replies ≡ old.replies ++ reply_frame reply ∷ [] = rw (← is) puts.put in
     let reads : reply_spelt (reply_frame reply) ≡ Some reply = rw (← is) puts.reads in
     order_new d packet o (shown_of old) held added.0 none
     ∙ commit_goes d _ _ _ _ _ fits (depot_when_added e reply old new at added put reads)
     ∙ rw (← is, length-map old.replies reply_spelt) refl
 order_by d packet o (Ok (answer.Again r)) old new held at (up, found, number, same) puts fits =
-    let is : r ≡ reply_to o r.moved = ap (λ n. record { number = n; moved = r.moved }) number in
+    let is : r ≡ record { number = o.number; moved = r.moved } = ap (λ n. record { number = n; moved = r.moved }) number in
     order_known d packet o r.moved (shown_of old) held up found ∙ with_room d _ (shown_of old) fits
     ∙ ap (λ (x : Reply). (outcomes.ExecutedAgain x (length (map reply_spelt old.replies) + 1), with_reply x (shown_of old))) (sym is)
     ∙ rw (same, puts.put, map-append reply_spelt old.replies (reply_frame r ∷ []), puts.reads, length-map old.replies reply_spelt, at.clear, at.orders) refl
 order_by d packet o (Err fault.Down) old new held at (down, same) puts fits =
     came _ _ _ _ (order_down d packet o (shown_of old) held down) (depot_same old new at same puts)
-order_by d packet o (Err fault.Conflict) old new held at (up, (other, moved, found, isnt), same) puts fits =
-    came _ _ _ _ (order_other d packet o other moved (shown_of old) held up found isnt) (depot_same old new at same puts)
+order_by d packet o (Err fault.Conflict) old new held at (up, (other, found, isnt), same) puts fits =
+    came _ _ _ _ (order_other d packet o other (shown_of old) held up found isnt) (depot_same old new at same puts)
 order_by d packet o (Err fault.OutOfMemory) old new held at (up, none, same) puts fits =
     order_new d packet o (shown_of old) held up none ∙ commit_short d _ _ _ _ fits (depot_same old new at same puts)
 order_by d packet o (Err fault.Device) old new held at (none, failed) puts fits =

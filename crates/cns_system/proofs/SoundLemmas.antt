@@ -10,9 +10,8 @@ use Rattle.cns_movements.specs.declared.book.Confirm.{Confirm}
 use Rattle.cns_movements.specs.declared.book.Confirm.TheVariants as confirm
 use Rattle.cns_movements.specs.declared.order.Order.{Order}
 use Rattle.cns_movements.specs.declared.order.Reply.{Reply}
-use Rattle.cns_records.specs.declared.dep_record.DepRecord.{DepRecord}
-use Rattle.cns_records.specs.declared.dep_record.DepRecord.TheVariants.{Exec}
-use Rattle.cns_depository.specs.Stock.{moved_by, order_in, record_of}
+use Rattle.cns_depository.specs.declared.movement.Movement.{Movement}
+use Rattle.cns_depository.specs.Stock.{executed_of, movement_of}
 use Rattle.cns_clearing.specs.Answers.{ReplyLeaves}
 use Rattle.cns_clearing.specs.Books.{orders_of}
 use Rattle.cns_clearing.specs.Node.{ClearNode}
@@ -36,8 +35,8 @@ use Rattle.cns_system.specs.World.{World, order_in_packet, reply_in_packet}
 use Rattle.cns_system.specs.declared.event.Event.{Event}
 use Rattle.cns_system.specs.declared.event.Event.TheVariants as event
 use Rattle.cns_system.specs.declared.event.NodeName.TheVariants as node
-use Rattle.cns_system.proofs.AccordLemmas.{ordered_found, packet_done, packet_found}
-use Rattle.cns_system.proofs.DeliveredLemmas.{confirmed_as, record_known}
+use Rattle.cns_system.proofs.AccordLemmas.{packet_done, packet_found}
+use Rattle.cns_system.proofs.DeliveredLemmas.{confirmed_as, movement_known}
 use Rattle.cns_system.proofs.KeepsLemmas.{packet_place}
 use Rattle.cns_system.specs.declared.outcome.Outcome.{Outcome}
 use Rattle.cns_system.specs.declared.outcome.Outcome.TheVariants as outcomes
@@ -46,44 +45,44 @@ use Rattle.cns_records.specs.declared.refusal.Refusal.TheVariants as refusal
 use Rattle.cns_system.specs.Agreement.{IsExecuted}
 
 -- an executed order of a number is the order of that number
-pub same_order : (orders : List Order) (p : List DepRecord) (o other : Order) (moved : ℕ) → All (IsKnown orders) p → order_of orders o.number ≡ Some o
-    → record_of p o.number ≡ Some (Exec other moved) → other ≡ o
-same_order orders p o other moved all found executed =
-    let known = record_known orders p o.number (Exec other moved) all executed in
-    sym (same_Some o other (sym found ∙ ap (order_of orders) (sym known.1) ∙ known.0.0.0))
+pub same_order : (orders : List Order) (movements : List Movement) (o : Order) (m : Movement) → All (IsKnown orders) movements → order_of orders o.number ≡ Some o
+    → movement_of movements o.number ≡ Some m → m.order ≡ o
+same_order orders movements o m all found executed =
+    let known = movement_known orders movements o.number m all executed in
+    sym (same_Some o m.order (sym found ∙ ap (order_of orders) (sym known.1) ∙ known.0.0.0))
 
 -- a reply of an executed movement is a first or a repeated confirmation
-pub answer_known : (book : Orders) (p : List DepRecord) (r : Reply) → All (IsKnown book.orders) p → All (IsExecuted p) book.replies → IsExecuted p r
+pub answer_known : (book : Orders) (movements : List Movement) (r : Reply) → All (IsKnown book.orders) movements → All (IsExecuted movements) book.replies → IsExecuted movements r
     → (confirm_answer book r ≡ confirm.Done) ⊎ (confirm_answer book r ≡ confirm.Again)
-answer_known book p r known executed done =
-    let order = record_known book.orders p r.number done.0 known done.1 in
-    let found = ap (order_of book.orders) (sym order.1) ∙ ordered_found book.orders done.0 order.0.0 in
-    let most = subst (λ (n : ℕ). n ≤ (order_in done.0).asked) done.2 order.0.1 in
+answer_known book movements r known executed done =
+    let order = movement_known book.orders movements r.number done.0 known done.1 in
+    let found = ap (order_of book.orders) (sym order.1) ∙ order.0.0.0 in
+    let most = subst (λ (n : ℕ). n ≤ done.0.order.asked) done.2 order.0.1 in
     subst (λ (o : Option Order). (answer_by o (moved_of book.replies r.number) r.moved ≡ confirm.Done) ⊎ (answer_by o (moved_of book.replies r.number) r.moved ≡ confirm.Again))
     (sym found) (by (moved_of book.replies r.number) refl most)
   where
-    not_more : (b : Bool) → nat_lt (order_in done.0).asked r.moved ≡ b → r.moved ≤ (order_in done.0).asked
+    not_more : (b : Bool) → nat_lt done.0.order.asked r.moved ≡ b → r.moved ≤ done.0.order.asked
         → ((if b then confirm.TooMuch else confirm.Done) ≡ confirm.Done) ⊎ ((if b then confirm.TooMuch else confirm.Done) ≡ confirm.Again)
-    not_more true less most = let more = ltb-true (order_in done.0).asked r.moved less in absurd (omega (arith, more, most))
+    not_more true less most = let more = ltb-true done.0.order.asked r.moved less in absurd (omega (arith, more, most))
     not_more false less most = inl refl
 
-    by : (m : Option ℕ) → moved_of book.replies r.number ≡ m → r.moved ≤ (order_in done.0).asked
-        → (answer_by (Some (order_in done.0)) m r.moved ≡ confirm.Done) ⊎ (answer_by (Some (order_in done.0)) m r.moved ≡ confirm.Again)
-    by None is most = not_more (nat_lt (order_in done.0).asked r.moved) refl most
+    by : (m : Option ℕ) → moved_of book.replies r.number ≡ m → r.moved ≤ done.0.order.asked
+        → (answer_by (Some done.0.order) m r.moved ≡ confirm.Done) ⊎ (answer_by (Some done.0.order) m r.moved ≡ confirm.Again)
+    by None is most = not_more (nat_lt done.0.order.asked r.moved) refl most
     by (Some m) is most =
-        let before = confirmed_as p book.replies r.number m executed is in
-        let same : m ≡ r.moved = sym before.2 ∙ ap moved_by (same_Some before.0 done.0 (sym before.1 ∙ done.1)) ∙ done.2 in
+        let before = confirmed_as movements book.replies r.number m executed is in
+        let same : m ≡ r.moved = sym before.2 ∙ ap (λ (x : Movement). x.moved) (same_Some before.0 done.0 (sym before.1 ∙ done.1)) ∙ done.2 in
         inr (ap (λ b. if b then confirm.Again else confirm.Conflict) (eq-eqb m r.moved same))
 
 -- ---- events
 
 -- an order that came is not another one than was executed under its number
-order_sound : (o : Order) (packet : ℕ) (result : Result Answer DepFault) (old new : DepNode) (orders : List Order) → All (IsKnown orders) old.log.records
+order_sound : (o : Order) (packet : ℕ) (result : Result Answer DepFault) (old new : DepNode) (orders : List Order) → All (IsKnown orders) (executed_of old.log.records)
     → order_of orders o.number ≡ Some o → OrderLeaves o result old new → order_outcome packet result ≢ outcomes.Refused refusal.Conflict
 order_sound o packet (Ok (answer.Done r)) old new orders all found h = λ e. cc e
 order_sound o packet (Ok (answer.Again r)) old new orders all found h = λ e. cc e
 order_sound o packet (Err fault.Down) old new orders all found h = λ e. cc e
-order_sound o packet (Err fault.Conflict) old new orders all found h = λ e. h.1.3 (same_order orders old.log.records o h.1.0 h.1.1 all found h.1.2)
+order_sound o packet (Err fault.Conflict) old new orders all found h = λ e. h.1.2 (same_order orders (executed_of old.log.records) o h.1.0 all found h.1.1)
 order_sound o packet (Err fault.OutOfMemory) old new orders all found h = λ e. cc e
 order_sound o packet (Err fault.Device) old new orders all found h = λ e. cc e
 
@@ -141,8 +140,8 @@ reply_in_sound packet None outcome old new place is h a = (λ e. cc (h.0, e), λ
 reply_in_sound None (Some r) outcome old new place is h a = absurd (none-some r is)
 reply_in_sound (Some bytes) (Some r) outcome old new place is h a =
     let at = place bytes refl in
-    let done = packet_done old.depot.log.records bytes r (a.answered at.0 bytes at.1) is in
-    let known = answer_known (orders_of old.clear.clear.log.records) old.depot.log.records r a.known a.executed done in
+    let done = packet_done (executed_of old.depot.log.records) bytes r (a.answered at.0 bytes at.1) is in
+    let known = answer_known (orders_of old.clear.clear.log.records) (executed_of old.depot.log.records) r a.known a.executed done in
     subst IsSoundReply (sym h.3.1)
     (reply_sound r h.3.0 old.clear.clear new.clear.clear (not_refused (confirm_answer (orders_of old.clear.clear.log.records) r) known) h.3.2.0)
 

@@ -1,5 +1,5 @@
 -- What is so of both nodes and the link after any events, where both keepers are honest.
-use Rattle.std.specs.Prelude.{◌≡◌, ◌≢◌, ◌≤◌, ℕ, true, false, List, All, Some, None, slice_get}
+use Rattle.std.specs.Prelude.{◌≡◌, ◌≢◌, ◌≤◌, ℕ, true, false, List, All, Some, None, IfSome, slice_get}
 use Rattle.cns_movements.specs.Order.{order_of}
 use Rattle.cns_movements.specs.declared.order.Order.{Order}
 use Rattle.cns_movements.specs.declared.order.Reply.{Reply}
@@ -9,7 +9,8 @@ use Rattle.cns_records.specs.declared.clear_record.ClearRecord.{ClearRecord}
 use Rattle.cns_records.specs.declared.clear_record.ClearRecord.TheVariants as entry
 use Rattle.cns_records.specs.declared.dep_record.DepRecord.{DepRecord}
 use Rattle.cns_clearing.specs.Books.{IsLawful, orders_of}
-use Rattle.cns_depository.specs.Stock.{IsLawfulDepot, moved_by, order_in, record_of}
+use Rattle.cns_depository.specs.declared.movement.Movement.{Movement}
+use Rattle.cns_depository.specs.Stock.{IsLawfulDepot, executed_in, executed_of, movement_of}
 use Rattle.cns_system.specs.Agreement.{IsExecuted, IsOrdered}
 use Rattle.cns_system.specs.World.{World, order_in_packet, reply_in_packet}
 use Rattle.cns_system.specs.declared.event.Event.{Event}
@@ -20,17 +21,21 @@ use Rattle.cns_records.specs.declared.refusal.Refusal.TheVariants as refusal
 
 -- an executed movement is that of the order of its number, so its member, issue, kind and quantity asked for are the same in both
 -- nodes; a delivery moved all of that quantity, and a cover no more than it
-abbrev pub IsKnown : List Order → DepRecord → Type 0
-IsKnown orders e = IsOrdered orders e × (moved_by e ≤ (order_in e).asked)
+abbrev pub IsKnown : List Order → Movement → Type 0
+IsKnown orders m = IsOrdered orders m × (m.moved ≤ m.order.asked)
 
 -- a record of the clearing node fits what was executed: a confirmation is of a movement that was executed, and moved so much
-abbrev pub FitsStock : List DepRecord → ClearRecord → Type 0
-FitsStock p (entry.Accept t) = Unit {0}
-FitsStock p (entry.Exempt m i s) = Unit {0}
-FitsStock p (entry.Priority m i on) = Unit {0}
-FitsStock p (entry.Cycle id) = Unit {0}
-FitsStock p (entry.Allocate a) = Unit {0}
-FitsStock p (entry.Confirm r) = IsExecuted p r
+abbrev pub FitsStock : List Movement → ClearRecord → Type 0
+FitsStock movements (entry.Accept t) = Unit {0}
+FitsStock movements (entry.Exempt m i s) = Unit {0}
+FitsStock movements (entry.Priority m i on) = Unit {0}
+FitsStock movements (entry.Cycle id) = Unit {0}
+FitsStock movements (entry.Allocate a) = Unit {0}
+FitsStock movements (entry.Confirm r) = IsExecuted movements r
+
+-- a record of the depository fits what was ordered: where it executes a movement, that is known, and no other was executed under its number
+abbrev pub FitsOrders : List Order → List Movement → DepRecord → Type 0
+FitsOrders orders movements e = IfSome (executed_in e) (λ (m : Movement). IsKnown orders m × (movement_of movements m.order.number ≡ None))
 
 -- a packet of an order is the frame of an order that is found under its number, and reads as it
 pub record IsOrderPacket (orders : List Order) (bytes : List ℕ) : Type 0 where
@@ -40,22 +45,21 @@ pub record IsOrderPacket (orders : List Order) (bytes : List ℕ) : Type 0 where
   pub reads : order_in_packet (Some bytes) ≡ Some order
 
 -- a packet of a reply is the frame of a reply that tells of an executed movement, and reads as it
-pub record IsReplyPacket (p : List DepRecord) (bytes : List ℕ) : Type 0 where
+pub record IsReplyPacket (movements : List Movement) (bytes : List ℕ) : Type 0 where
   pub reply : Reply
-  pub done : IsExecuted p reply
+  pub done : IsExecuted movements reply
   pub frame : bytes ≡ reply_frame reply
   pub reads : reply_in_packet (Some bytes) ≡ Some reply
 
 -- the two nodes' records agree, each packet is the frame of the order of its number or of the reply to a movement that was executed,
 -- and so it stays where a record whose commit failed comes back; a node that is up has no such record
 pub record Accord (clear : LogState ClearRecord) (depot : LogState DepRecord) (orders replies : List (List ℕ)) : Type 0 where
-  pub known : All (IsKnown (orders_of clear.records).orders) depot.records
-  pub executed : All (IsExecuted depot.records) (orders_of clear.records).replies
+  pub known : All (IsKnown (orders_of clear.records).orders) (executed_of depot.records)
+  pub executed : All (IsExecuted (executed_of depot.records)) (orders_of clear.records).replies
   pub sent : (k : ℕ) (bytes : List ℕ) → slice_get orders k ≡ Some bytes → IsOrderPacket (orders_of clear.records).orders bytes
-  pub answered : (k : ℕ) (bytes : List ℕ) → slice_get replies k ≡ Some bytes → IsReplyPacket depot.records bytes
-  pub clear_tried : (u : ClearRecord) → clear.tried ≡ Some u → FitsStock depot.records u
-  pub depot_tried : (e : DepRecord) → depot.tried ≡ Some e
-      → IsKnown (orders_of clear.records).orders e × (record_of depot.records (order_in e).number ≡ None)
+  pub answered : (k : ℕ) (bytes : List ℕ) → slice_get replies k ≡ Some bytes → IsReplyPacket (executed_of depot.records) bytes
+  pub clear_tried : (u : ClearRecord) → clear.tried ≡ Some u → FitsStock (executed_of depot.records) u
+  pub depot_tried : (e : DepRecord) → depot.tried ≡ Some e → FitsOrders (orders_of clear.records).orders (executed_of depot.records) e
   pub clear_up : clear.down ≡ false → clear.tried ≡ None
   pub depot_up : depot.down ≡ false → depot.tried ≡ None
 

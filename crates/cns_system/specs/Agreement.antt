@@ -6,19 +6,19 @@ use Rattle.cns_movements.specs.declared.order.Order.{Order}
 use Rattle.cns_movements.specs.declared.order.Reply.{Reply}
 use Rattle.cns_records.specs.declared.clear_record.ClearRecord.{ClearRecord}
 use Rattle.cns_records.specs.declared.dep_record.DepRecord.{DepRecord}
-use Rattle.cns_records.specs.declared.dep_record.DepRecord.TheVariants.{Exec}
 use Rattle.cns_clearing.specs.Books.{orders_of}
-use Rattle.cns_depository.specs.Stock.{moved_by, record_of}
+use Rattle.cns_depository.specs.declared.movement.Movement.{Movement}
+use Rattle.cns_depository.specs.Stock.{executed_of, movement_of}
 
 -- an executed movement is that of the order of its number, and a delivery moved all that it asks for
-abbrev pub IsOrdered : List Order → DepRecord → Type 0
-IsOrdered orders (Exec o moved) = (order_of orders o.number ≡ Some o) × (o.kind ≡ Delivery → moved ≡ o.asked)
+abbrev pub IsOrdered : List Order → Movement → Type 0
+IsOrdered orders m = (order_of orders m.order.number ≡ Some m.order) × (m.order.kind ≡ Delivery → m.moved ≡ m.order.asked)
 
 -- a confirmed movement was executed, and moved so much
-abbrev pub IsExecuted : List DepRecord → Reply → Type 0
-IsExecuted p r = (e : DepRecord) × (record_of p r.number ≡ Some e) × (moved_by e ≡ r.moved)
+abbrev pub IsExecuted : List Movement → Reply → Type 0
+IsExecuted movements r = (m : Movement) × (movement_of movements r.number ≡ Some m) × (m.moved ≡ r.moved)
 
 -- the records of a clearing node and those of a depository agree
 pub record Agree (c : List ClearRecord) (p : List DepRecord) : Type 0 where
-  pub ordered : All (IsOrdered (orders_of c).orders) p
-  pub executed : All (IsExecuted p) (orders_of c).replies
+  pub ordered : All (IsOrdered (orders_of c).orders) (executed_of p)
+  pub executed : All (IsExecuted (executed_of p)) (orders_of c).replies

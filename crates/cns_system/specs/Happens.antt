@@ -26,7 +26,7 @@ use Rattle.cns_clearing.specs.Books.{Books, are_spent, books_of, covers_on, deli
 use Rattle.cns_clearing.specs.Lots.{new_lot}
 use Rattle.cns_clearing.specs.Pools.{free_of, lent_of, lot_of}
 use Rattle.cns_depository.specs.Answers.{reply_to}
-use Rattle.cns_depository.specs.Stock.{moved_by, movement, order_in, record_of}
+use Rattle.cns_depository.specs.Stock.{executed_of, execution, movement, movement_of}
 use Rattle.cns_system.specs.Lot.{LotState, ticket_in, with_end, with_seal, with_ticket}
 use Rattle.cns_system.specs.Shown.{Shown, LogShown, clear_added, clear_failed, depot_added, depot_failed, with_lot, with_new_lot, with_pour}
 use Rattle.cns_system.specs.declared.event.Event.{Event}
@@ -133,11 +133,11 @@ judged d (event.Send number) w = do
 judged d (event.OrderIn packet) w = do
   o ← ok_or (option_flatten (at_number w.orders packet)) refusal.NoPacket
   need (not w.depot.down) refusal.Down
-  let e = movement w.openings w.depot.records o
-  let reply = λ (e : DepRecord). reply_to o (moved_by e)
-  elim (record_of w.depot.records o.number) [
-    | None ↦ commits d (outcomes.Executed (reply e) (length w.replies + 1), with_reply (reply e) (depot_added e w)) (depot_failed e w)
-    | Some known ↦ need (same_order (order_in known) o) refusal.Conflict >> grows d (outcomes.ExecutedAgain (reply known) (length w.replies + 1), with_reply (reply known) w)
+  let m = movement w.openings w.depot.records o
+  let e = execution m
+  elim (movement_of (executed_of w.depot.records) o.number) [
+    | None ↦ commits d (outcomes.Executed (reply_to m) (length w.replies + 1), with_reply (reply_to m) (depot_added e w)) (depot_failed e w)
+    | Some known ↦ need (same_order known.order o) refusal.Conflict >> grows d (outcomes.ExecutedAgain (reply_to known) (length w.replies + 1), with_reply (reply_to known) w)
   ]
 judged d (event.ReplyIn packet) w = do
   r ← ok_or (option_flatten (at_number w.replies packet)) refusal.NoPacket

@@ -1,42 +1,43 @@
 -- The headline: what is so of the two nodes and the link after any events, where both keepers are honest (this project's own rule).
 use Rattle.std.specs.Prelude.{◌≡◌, ℕ, ◌+◌, ◌≤◌, ◌&&◌, Bool, true, ℤ, pos, ◌-ℤ◌, List, All, Some, is_some, slice_get, sum_by, if◌then◌else◌}
 use Rattle.cns_trades.specs.declared.opening.Opening.{Opening}
-use Rattle.cns_netting.specs.History.{bought, longs_of, shorts_of, sold}
+use Rattle.cns_netting.specs.History.{bought, longs_of, position_of, shorts_of, sold}
 use Rattle.cns_movements.specs.Order.{is_of, moved_of}
 use Rattle.cns_movements.specs.declared.order.MoveKind.{MoveKind}
 use Rattle.cns_movements.specs.declared.order.MoveKind.TheVariants.{Cover, Delivery}
 use Rattle.cns_movements.specs.declared.order.Reply.{Reply}
 use Rattle.cns_records.specs.declared.clear_record.ClearRecord.{ClearRecord}
 use Rattle.cns_records.specs.declared.dep_record.DepRecord.{DepRecord}
-use Rattle.cns_clearing.specs.Books.{confirmed_of, history_of, orders_of}
+use Rattle.cns_clearing.specs.Books.{IsLawful, confirmed_of, history_of, orders_of}
 use Rattle.cns_clearing.specs.Lots.{ClosesLot}
-use Rattle.cns_clearing.specs.Pools.{covered_of, delivered_of, free_of, lent_of, out_of}
+use Rattle.cns_clearing.specs.Pools.{avail_of, covered_of, delivered_of, free_of, lent_of, out_of}
 use Rattle.cns_clearing.specs.Position.{due_in, position_in}
 use Rattle.cns_clearing.specs.declared.lot.Lot.{Lot}
 use Rattle.cns_depository.specs.Openings.{opening_shares}
-use Rattle.cns_depository.specs.Stock.{IsLawfulDepot, moved_by, moved_in, moved_out, order_in}
+use Rattle.cns_depository.specs.Stock.{IsLawfulDepot, executed_of, moved_in, moved_out}
 use Rattle.cns_depository.specs.declared.account.Account.{Account}
 use Rattle.cns_depository.specs.declared.account.Account.TheVariants.{Cns}
+use Rattle.cns_depository.specs.declared.movement.Movement.{Movement}
 use Rattle.cns_journal.specs.RecordLog.{IsLawfulLog}
 use Rattle.cns_system.specs.Accord.{IsKnown, IsOrderPacket, IsReplyPacket}
 use Rattle.cns_system.specs.Agreement.{IsExecuted}
 use Rattle.cns_system.specs.World.{World}
 
 -- whether the depository's movement is one that both nodes hold: the clearing node has its confirmation
-abbrev pub is_confirmed : List Reply → DepRecord → Bool
-is_confirmed replies e = is_some (moved_of replies (order_in e).number)
+abbrev pub is_confirmed : List Reply → Movement → Bool
+is_confirmed replies m = is_some (moved_of replies m.order.number)
 
 -- the shares that the movements which both nodes hold moved, of a kind, a member and an issue
-unfoldable pub confirmed_sum : List DepRecord → List Reply → MoveKind → ℕ → ℕ → ℕ
-confirmed_sum p replies kind member issue =
-    sum_by (λ (e : DepRecord). if is_of kind member issue (order_in e) && is_confirmed replies e then moved_by e else 0) p
+unfoldable pub confirmed_sum : List Movement → List Reply → MoveKind → ℕ → ℕ → ℕ
+confirmed_sum movements replies kind member issue =
+    sum_by (λ (m : Movement). if is_of kind member issue m.order && is_confirmed replies m then m.moved else 0) movements
 
 -- a member's position in an issue as it is reckoned from both nodes: what it bought in due trades, with what confirmed covers
 -- moved, less what it sold in them and what confirmed deliveries moved
-abbrev pub reckoned : List ClearRecord → List DepRecord → ℕ → ℕ → ℤ
-reckoned c p member issue =
-    pos (bought (due_in c) member issue + confirmed_sum p (confirmed_of c) Cover member issue)
-    -ℤ pos (sold (due_in c) member issue + confirmed_sum p (confirmed_of c) Delivery member issue)
+abbrev pub reckoned : List ClearRecord → List Movement → ℕ → ℕ → ℤ
+reckoned c movements member issue =
+    pos (bought (due_in c) member issue + confirmed_sum movements (confirmed_of c) Cover member issue)
+    -ℤ pos (sold (due_in c) member issue + confirmed_sum movements (confirmed_of c) Delivery member issue)
 
 -- the shares of an issue in the pool: those that are free, those that are lent to its open lot, and those on their way to members
 abbrev pub pool_of : List ClearRecord → List Lot → ℕ → ℕ
@@ -47,22 +48,30 @@ pool_of c lots issue = free_of (orders_of c) lots issue + lent_of lots issue + o
 pub record Headline (c : List ClearRecord) (lots : List Lot) (openings : List Opening) (p : List DepRecord) (orders replies : List (List ℕ)) : Type 0 where
   -- Same: each executed movement is the order of its number at the clearing node, so it has its kind, member, issue and quantity; a
   -- delivery moved all that it asks for, and a cover no more than it. Each confirmed movement was executed, and moved so much.
-  pub executed : All (IsKnown (orders_of c).orders) p
-  pub confirmed : All (IsExecuted p) (confirmed_of c)
+  pub executed : All (IsKnown (orders_of c).orders) (executed_of p)
+  pub confirmed : All (IsExecuted (executed_of p)) (confirmed_of c)
   -- Link: each packet of an order is the frame of the order of its number, and each packet of a reply that of an executed movement.
   pub sent : (k : ℕ) (bytes : List ℕ) → slice_get orders k ≡ Some bytes → IsOrderPacket (orders_of c).orders bytes
-  pub answered : (k : ℕ) (bytes : List ℕ) → slice_get replies k ≡ Some bytes → IsReplyPacket p bytes
+  pub answered : (k : ℕ) (bytes : List ℕ) → slice_get replies k ≡ Some bytes → IsReplyPacket (executed_of p) bytes
+  -- Lawful: each record of the clearing node may stand after those before it.
+  pub lawful : IsLawful c
   -- Stock: no number was executed twice, each movement moved what the giving account then had, at most what was asked for, and no
   -- account gave more than its opening and what was moved into it.
   pub stock : IsLawfulDepot openings p
   pub given : (account : Account) (issue : ℕ) → moved_out p account issue ≤ opening_shares openings account issue + moved_in p account issue
-  -- Netted: each position is the netted trades, with confirmed covers added and confirmed deliveries taken off.
-  pub netted : (member issue : ℕ) → position_in c member issue ≡ reckoned c p member issue
+  -- Netted: each position is the netted trades, with confirmed covers added and confirmed deliveries taken off. There is one position: that
+  -- of the netting history, of which the longs, the shorts and the reports are, is the same.
+  pub netted : (member issue : ℕ) → position_in c member issue ≡ reckoned c (executed_of p) member issue
+  pub one_position : (member issue : ℕ) → position_of (history_of c) member issue ≡ position_in c member issue
   -- Pool: in each issue the longs are the shorts and the pool; the pool, with what confirmed deliveries moved, is what confirmed covers
   -- brought; and what confirmed deliveries moved, with what open ones ask for, is no more than executed covers brought.
   pub pool : (issue : ℕ) → longs_of (history_of c) issue ≡ shorts_of (history_of c) issue + pool_of c lots issue
   pub whole : (issue : ℕ) → pool_of c lots issue + delivered_of (orders_of c) issue ≡ covered_of (orders_of c) issue
   pub backed : (issue : ℕ) → delivered_of (orders_of c) issue + out_of (orders_of c) issue ≤ moved_in p Cns issue
+  -- Available: nothing is cut off in the two differences that the pool is made of. What confirmed deliveries took, with what open ones ask
+  -- for, is no more than confirmed covers brought, so what is available of an issue is just the rest of it; and no more is lent than that.
+  pub available : (issue : ℕ) → delivered_of (orders_of c) issue + out_of (orders_of c) issue ≤ covered_of (orders_of c) issue
+  pub lent : (issue : ℕ) → lent_of lots issue ≤ avail_of (orders_of c) issue
 
 -- the headline of both nodes, where both keepers are honest
 abbrev pub IsAgreed : World → Type 0

@@ -9,8 +9,8 @@ use Rattle.cns_wire.specs.Frame.{order_frame, reply_frame}
 use Rattle.cns_wire.specs.Packet.{at_number}
 use Rattle.cns_depository.specs.Answers.{OrderLeaves}
 use Rattle.cns_depository.specs.Node.{DepNode, RestartLeaves as DepotRestartLeaves}
-use Rattle.cns_depository.specs.Stock.{order_in, record_of}
-use Rattle.cns_records.specs.declared.dep_record.DepRecord.{DepRecord}
+use Rattle.cns_depository.specs.declared.movement.Movement.{Movement}
+use Rattle.cns_depository.specs.Stock.{executed_of, movement_of}
 use Rattle.cns_depository.specs.declared.fault.Answer.{Answer}
 use Rattle.cns_depository.specs.declared.fault.Answer.TheVariants as answer
 use Rattle.cns_depository.specs.declared.fault.DepFault.{DepFault}
@@ -98,8 +98,8 @@ Puts (Ok (answer.Again r)) old new = IsPut r old new
 Puts (Err fault) old new = new.replies ≡ old.replies
 
 -- no other order was executed under the number of an order
-abbrev pub IsItsOwn : Order → List DepRecord → Type 0
-IsItsOwn o p = (e : DepRecord) → record_of p o.number ≡ Some e → order_in e ≡ o
+abbrev pub IsItsOwn : Order → List Movement → Type 0
+IsItsOwn o movements = (m : Movement) → movement_of movements o.number ≡ Some m → m.order ≡ o
 
 -- an order that came to the depository: its answer, and the packet of its reply; or there was no memory for that packet, where
 -- nothing else refuses the order
@@ -107,13 +107,13 @@ abbrev pub OrderTaken : Order → Outcome → World → World → Type 0
 OrderTaken o outcome old new =
     ((result : Result Answer DepFault) × (outcome ≡ order_outcome (length old.replies + 1) result) × OrderLeaves o result old.depot new.depot × Puts result old new)
     ⊎ ((outcome ≡ outcomes.Refused refusal.OutOfMemory) × (new.depot ≡ old.depot) × (new.replies ≡ old.replies)
-    × (old.depot.log.down ≡ false) × IsItsOwn o old.depot.log.records)
+    × (old.depot.log.down ≡ false) × IsItsOwn o (executed_of old.depot.log.records))
 
 -- why an order is refused for whose reply there is no room
 abbrev pub OrderRefused : Order → DepNode → Refusal → Type 0
 OrderRefused o node refusal.Down = OrderLeaves o (Err fault.Down) node node
 OrderRefused o node refusal.Conflict = OrderLeaves o (Err fault.Conflict) node node
-OrderRefused o node refusal.OutOfMemory = (node.log.down ≡ false) × IsItsOwn o node.log.records
+OrderRefused o node refusal.OutOfMemory = (node.log.down ≡ false) × IsItsOwn o (executed_of node.log.records)
 OrderRefused o node _ = ⊥
 
 -- a packet arrives at the depository, where it is one of an order

@@ -1,4 +1,5 @@
-ghost use Rattle.std.specs.Prelude.{◌≡◌, ◌↔◌, All, IsTrue};
+ghost use Rattle.std.specs.Prelude.{◌≡◌, ◌↔◌, All, IfSome, IsTrue};
+ghost use Rattle.cns_depository.specs.Stock.{executed_in, executed_of};
 ghost use Rattle.cns_system.specs.Agreement.{Agree, IsExecuted, IsOrdered};
 
 use cns_clearing::Clearing;
@@ -7,12 +8,11 @@ use cns_journal::Keeper;
 use cns_movements::{MoveKind, OrderBook, Reply};
 use cns_records::DepRecord;
 
-// Whether an executed movement is that of the order of its number, and a delivery moved all that it
-// asks for.
-fn is_ordered(orders: &OrderBook, executed: &DepRecord) -> bool
-    ensures { IsTrue result ↔ IsOrdered orders.now.book.orders executed.now }
+// Whether what a record executed is the order of its number, and a delivery moved all that it asks for.
+fn is_ordered(orders: &OrderBook, entry: &DepRecord) -> bool
+    ensures { IsTrue result ↔ IfSome (executed_in entry.now) (IsOrdered orders.now.book.orders) }
 {
-    let DepRecord::Exec { order, moved } = executed;
+    let DepRecord::Exec { order, moved } = entry;
     let Some(known) = orders.get(order.number) else {
         return false;
     };
@@ -21,7 +21,7 @@ fn is_ordered(orders: &OrderBook, executed: &DepRecord) -> bool
 
 // Whether that is so of each of them.
 fn are_ordered(orders: &OrderBook, records: &[DepRecord]) -> bool
-    ensures { IsTrue result ↔ All (IsOrdered orders.now.book.orders) records.now }
+    ensures { IsTrue result ↔ All (λ entry. IfSome (executed_in entry) (IsOrdered orders.now.book.orders)) records.now }
 {
     for record in records {
         if !is_ordered(orders, record) {
@@ -33,7 +33,7 @@ fn are_ordered(orders: &OrderBook, records: &[DepRecord]) -> bool
 
 // Whether a confirmed movement was executed, and moved so much.
 fn is_executed<D: Keeper>(depot: &Depository<D>, reply: &Reply) -> bool
-    ensures { IsTrue result ↔ IsExecuted depot.now.log.records reply.now }
+    ensures { IsTrue result ↔ IsExecuted (executed_of depot.now.log.records) reply.now }
 {
     match depot.executed(reply.number) {
         Some((_, moved)) => moved == reply.moved,
@@ -43,7 +43,7 @@ fn is_executed<D: Keeper>(depot: &Depository<D>, reply: &Reply) -> bool
 
 // Whether that is so of each of them.
 fn are_executed<D: Keeper>(depot: &Depository<D>, replies: &[Reply]) -> bool
-    ensures { IsTrue result ↔ All (IsExecuted depot.now.log.records) replies.now }
+    ensures { IsTrue result ↔ All (IsExecuted (executed_of depot.now.log.records)) replies.now }
 {
     for reply in replies {
         if !is_executed(depot, reply) {
