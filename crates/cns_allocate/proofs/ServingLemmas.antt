@@ -7,9 +7,8 @@ use Rattle.std.proofs.lemmas.List.Elements.{All-append, All-cons, All-drop, All-
 use Rattle.std.proofs.lemmas.List.Sorted.{length_permutation}
 use Rattle.cns_pool.specs.declared.ticket.Ticket.{Ticket}
 use Rattle.cns_pool.specs.WorkerSeat.{EndWithin, WorkerState}
-use Rattle.cns_movements.specs.Asked.{IsAsked}
 use Rattle.cns_allocate.specs.Group.{rank}
-use Rattle.cns_allocate.specs.Plan.{IsPlan}
+use Rattle.cns_allocate.specs.Plan.{IsServable}
 use Rattle.cns_allocate.specs.Serving.{FollowPlanByStart, HasDrawn, shares_of}
 use Rattle.cns_allocate.specs.declared.planned.Planned.{Planned}
 use Rattle.cns_allocate.proofs.DealLemmas.{shares_of-append}
@@ -72,12 +71,10 @@ group_size plan m n fits = record {
 }
 
 -- each of a group asks for a share
-pub asks-group : (m n : ℕ) (plan : List Planned) → IsPlan plan → All (λ (p : Planned). 1 ≤ p.asked) (take n (drop m plan))
-asks-group m n plan is =
-    All-weaker (λ (p : Planned). IsAsked p.asked) (λ (p : Planned). 1 ≤ p.asked) (λ p asked. asked.from) (take n (drop m plan))
-    (All-take (λ (p : Planned). IsAsked p.asked) n (drop m plan) (All-drop (λ (p : Planned). IsAsked p.asked) m plan is.asked))
+pub asks-group : (m n : ℕ) (plan : List Planned) → IsServable plan → All (λ (p : Planned). 1 ≤ p.asked) (take n (drop m plan))
+asks-group m n plan is = All-take (λ (p : Planned). 1 ≤ p.asked) n (drop m plan) (All-drop (λ (p : Planned). 1 ≤ p.asked) m plan is.asks)
 
-module _ (plan : List Planned) (m n r : ℕ) (is : IsPlan plan) (below : m < length plan) (some : 0 < n)
+module _ (plan : List Planned) (m n r : ℕ) (is : IsServable plan) (below : m < length plan) (some : 0 < n)
     (same : All (λ (p : Planned). rank p.group ≡ r) (take n (drop m plan))) where
   -- the group of its first place
   rank_at : (d : Planned) → rank (get_or plan m d).group ≡ r

@@ -11,7 +11,7 @@ use Rattle.std.proofs.lemmas.List.Sorted.{All-permutation, IsPermutation-cons, I
 use Rattle.std.proofs.lemmas.List.Sums.{sum_by-cons}
 use Rattle.cns_movements.specs.Asked.{IsAsked}
 use Rattle.cns_allocate.specs.Group.{rank}
-use Rattle.cns_allocate.specs.Plan.{IsPlan}
+use Rattle.cns_allocate.specs.Plan.{IsPlan, IsServable}
 use Rattle.cns_allocate.specs.Served.{is_after_others, turn_of, without}
 use Rattle.cns_allocate.specs.declared.group.Group.{Group}
 use Rattle.cns_allocate.specs.declared.group.Group.TheVariants.{Priority, WasLong, Other}
@@ -195,6 +195,13 @@ same_rest = same_others same_planned same_planned-true same_planned-itself
 -- nobody is planned
 pub no_pairs : {X : Type 0} (R : X → X → Type 0) → AllPairs R []
 no_pairs R i j d less below = absurd (omega (arith, below))
+
+-- workers can serve a plan
+pub IsPlan-servable : (plan : List Planned) → IsPlan plan → IsServable plan
+IsPlan-servable plan is = record {
+  asks = All-weaker (λ (p : Planned). IsAsked p.asked) (λ (p : Planned). 1 ≤ p.asked) (λ p asked. asked.from) plan is.asked;
+  groups = is.groups;
+}
 
 pub IsPlan-none : IsPlan []
 IsPlan-none = record { asked = All-nil _; once = λ m. omega arith; groups = no_pairs (λ (p q : Planned). rank p.group ≤ rank q.group) }

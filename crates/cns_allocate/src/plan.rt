@@ -3,7 +3,7 @@ ghost use Rattle.std.specs.List.{filter_map, position_from};
 ghost use Rattle.cns_netting.specs.declared.position.PositionRow.{PositionRow};
 ghost use Rattle.cns_netting.specs.History.{credit_part};
 ghost use Rattle.cns_allocate.specs.Group.{is_in};
-ghost use Rattle.cns_allocate.specs.Plan.{IsPlan, LongsFit, plan_of, planned_of};
+ghost use Rattle.cns_allocate.specs.Plan.{IsPlan, IsServable, LongsFit, plan_of, planned_of};
 ghost use Rattle.cns_allocate.specs.Served.{without};
 ghost use Rattle.cns_allocate.specs.declared.planned.Planned.{Planned};
 
@@ -107,6 +107,7 @@ impl Plan {
     pub fn as_slice(&self) -> &[Planned]
         ensures value { result.now ≡ self.now }
         ensures lawful { IsPlan self.now }
+        ensures servable { IsServable self.now }
     {
         self.list.as_slice()
     }

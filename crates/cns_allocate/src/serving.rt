@@ -1,7 +1,7 @@
 ghost use Rattle.std.specs.Prelude.{◌≡◌, ◌↔◌, ◌⊎◌, ℕ, ◌<◌, ◌≤◌, ◌||◌, [], length, take, true, All, IfErr, IfOk, OnErr, OnOk};
 ghost use Rattle.cns_pool.specs.WorkerSeat.{EndWithin};
 ghost use Rattle.cns_allocate.specs.Group.{rank};
-ghost use Rattle.cns_allocate.specs.Plan.{IsPlan};
+ghost use Rattle.cns_allocate.specs.Plan.{IsServable};
 ghost use Rattle.cns_allocate.specs.Serving.{HasDrawn, Serves, shares_of};
 ghost use Rattle.cns_allocate.specs.declared.planned.Planned.{Planned};
 ghost use Rattle.cns_allocate.specs.declared.serving.ServeCause.TheVariants.{OutOfMemory, TooManyWorkers};
@@ -64,7 +64,7 @@ pub fn serve<G: Gate + Sync, R: Threads + Sync>(
 ) -> Result<Served, ServeFault>
     requires cell { seat.cell ≡ cell.now }
     requires none { seat.tickets ≡ [] }
-    requires plan { IsPlan plan.now }
+    requires plan { IsServable plan.now }
     requires budget { shares_of plan.now ≤ seat.budget }
     requires calls { length plan.now ≤ seat.calls }
     ensures served { IfOk result (λ served. Serves plan.now seat served.seat served.sealed) }
@@ -104,7 +104,7 @@ fn serve_groups<G: Gate + Sync, R: Threads + Sync>(
     requires cell { seat.old.cell ≡ cell.now }
     requires none { seat.old.tickets ≡ [] }
     requires workers { (0 < workers) × (workers ≤ 64) }
-    requires plan { IsPlan plan.now }
+    requires plan { IsServable plan.now }
     requires budget { shares_of plan.now ≤ seat.old.budget }
     requires calls { length plan.now ≤ seat.old.calls }
     ensures served { IfOk result (λ sealed. Serves plan.now seat.old seat.new sealed) }

@@ -1,5 +1,6 @@
 -- What each call of a depository answers, and what it leaves (this project's own rules).
-use Rattle.std.specs.Prelude.{◌≡◌, ◌≢◌, ℕ, true, false, Option, Some, None, Result, Ok, Err}
+use Rattle.std.specs.Prelude.{◌≡◌, ℕ, true, false, Option, Some, None, Result, Ok, Err}
+use Rattle.cns_movements.specs.Order.{IsSameOrder}
 use Rattle.cns_movements.specs.declared.order.Order.{Order}
 use Rattle.cns_movements.specs.declared.order.Reply.{Reply}
 use Rattle.cns_journal.specs.declared.record_log.CommitFault.{CommitFault}
@@ -50,12 +51,12 @@ OrderLeaves o (Ok (Again r)) old new =
     (old.log.down ≡ false) × (known_at old o.number ≡ Some (record { order = o; moved = r.moved })) × (r.number ≡ o.number) × (new ≡ old)
 OrderLeaves o (Err Down) old new = (old.log.down ≡ true) × (new ≡ old)
 OrderLeaves o (Err Conflict) old new =
-    (old.log.down ≡ false) × ((other : Movement) × (known_at old o.number ≡ Some other) × (other.order ≢ o)) × (new ≡ old)
+    (old.log.down ≡ false) × ((other : Movement) × (known_at old o.number ≡ Some other) × (IsSameOrder other.order o → ⊥)) × (new ≡ old)
 OrderLeaves o (Err OutOfMemory) old new = (old.log.down ≡ false) × (known_at old o.number ≡ None) × (new ≡ old)
 OrderLeaves o (Err Device) old new = (known_at old o.number ≡ None) × Failed (next_record old o) old new
 
 -- what an order is answered under whose number this movement was executed
 abbrev pub IsKnownAnswer : Order → Movement → Result Answer DepFault → Type 0
-IsKnownAnswer o known (Ok (Again r)) = (known.order ≡ o) × (r ≡ reply_to known)
-IsKnownAnswer o known (Err Conflict) = known.order ≢ o
+IsKnownAnswer o known (Ok (Again r)) = IsSameOrder known.order o × (r ≡ reply_to known)
+IsKnownAnswer o known (Err Conflict) = IsSameOrder known.order o → ⊥
 IsKnownAnswer o known _ = ⊥

@@ -220,7 +220,7 @@ impl<K: Keeper> Depository<K> {
 fn again(known: &Movement, order: &Order) -> Result<Answer, DepFault>
     ensures { IsKnownAnswer order.now known.now result }
 {
-    if known.order == *order {
+    if known.order.is_same(order) {
         Ok(Answer::Again(known.reply()))
     } else {
         Err(DepFault::Conflict)

@@ -44,8 +44,10 @@ pub struct Counts {
 /// each movement that the clearing node has confirmed was executed, and moved just what was confirmed;
 /// each packet is a frame, on the link of orders that of the order of its number, on the link of replies
 /// that of the reply to a movement that was executed; no number is executed twice, and no account gives
-/// more than it has; each position is the netted trades with the confirmed movements; and in each issue
-/// the longs less the shorts are the shares of the pool.
+/// more than it has; each record of the clearing node may stand after those before it; each position is
+/// the netted trades with the confirmed movements, and is the one by which its netting book goes; in each
+/// issue the longs less the shorts are the shares of the pool; and what confirmed deliveries took and open
+/// ones ask for is no more than what confirmed covers brought.
 ///
 /// Contracts see the clearing node with its lots by number, the depository, and the packets that were
 /// put on the link in each direction, the oldest first.
