@@ -1,7 +1,6 @@
-ghost use Rattle.std.specs.Prelude.{◌≡◌, ◌+◌, ◌<◌, ◌≤◌, ◌⊎◌, length, vec_len, IfOk, IfErr, IfSome, OnOk};
+ghost use Rattle.std.specs.Prelude.{◌≡◌, ◌+◌, ◌≤◌, length, vec_len, IfOk, IfErr, OnOk};
 ghost use Rattle.std.specs.Io.KnownBytes.{IsAtEnd, ReadConsumes};
-ghost use Rattle.cns_input.specs.Reading.{IsReadFault};
-ghost use Rattle.cns_input.specs.declared.fault.BatchFault.TheVariants.{TooLong};
+ghost use Rattle.cns_input.specs.Reading.{HasGiven, IsInput, IsReadFault};
 
 use crate::fault::BatchFault;
 use crate::steps::Steps;
@@ -28,16 +27,16 @@ fn read_once<R: Read, L: Ledger>(
 
 /// Reads an input to its end.
 ///
-/// Refuses `Read` where the reader fails, `TooLong` where there are more than 67,108,864 bytes, and
+/// Refuses `Read` where the reader fails, `TooLong` where it gives more than 67,108,864 bytes, and
 /// `Memory` where there is none for them. `steps` counts the read calls, at most 67,108,866.
 pub fn read_input<R: Read, L: Ledger>(
     alloc: Global,
     reader: &mut R,
     steps: &mut Steps<L>,
 ) -> Result<Vec<u8>, BatchFault>
-    ensures text { IfOk result (λ t. IfSome (R.remaining reader.old) (λ input. t.items ≡ input)) }
+    ensures text { IfOk result (λ t. IsInput (R.remaining reader.old) t.items) }
     ensures size { IfOk result (λ t. length t.items ≤ 67108864) }
-    ensures long { result ≡ Err TooLong → IfSome (R.remaining reader.old) (λ input. 67108864 < length input) }
+    ensures given { HasGiven result (R.remaining reader.old) (R.remaining reader.new) }
     ensures end { OnOk result (IsAtEnd (R.remaining reader.new)) }
     ensures kind { IfErr result IsReadFault }
     ensures reads { steps.new ≤ steps.old + 67108866 }
