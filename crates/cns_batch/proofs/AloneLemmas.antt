@@ -1,5 +1,5 @@
 -- Acts that do what they do where nothing comes between, where there was memory for all that occurs by them.
-use Rattle.std.proofs.Common.{◌≡◌, ◌≢◌, ◌-◌, ℕ, ◌+◌, ◌==◌, Bool, true, false, get_or, List, [], ◌∷◌, ◌++◌, drop, take, length, Option, Some, None, Result, Ok, Err, refl, sym, ap, ◌∙◌, subst, inl, inr}
+use Rattle.std.proofs.Common.{◌≡◌, ◌≢◌, ◌-◌, ℕ, ◌+◌, ◌==◌, Bool, true, false, get_or, List, [], ◌∷◌, ◌++◌, drop, take, Option, Some, None, Result, Ok, refl, sym, ap, ◌∙◌, subst, inl}
 use Rattle.std.specs.Prelude.{All, is_some, if◌then◌else◌}
 use Rattle.std.specs.Option.{option_and_then}
 use Rattle.std.proofs.lemmas.List.Elements.{All-cons, All-head, All-nil, All-tail}
@@ -14,7 +14,7 @@ use Rattle.cns_trades.specs.declared.opening.Opening.{Opening}
 use Rattle.cns_trades.specs.declared.row.Row.{Row}
 use Rattle.cns_trades.specs.declared.row.Row.TheVariants as row
 use Rattle.cns_system.specs.Happens.{Goes, book}
-use Rattle.cns_system.specs.Scene.{Chance, Decides, Scene, comes_to, is_planner, planned}
+use Rattle.cns_system.specs.Scene.{Decides, Scene, comes_to, is_planner}
 use Rattle.cns_system.specs.declared.event.Event.{Event}
 use Rattle.cns_system.specs.declared.event.Event.TheVariants as event
 use Rattle.cns_system.specs.declared.event.NodeName.{NodeName}
@@ -31,10 +31,10 @@ use Rattle.cns_batch.specs.Acts.{Act, Came, Course, Occurrence, Told, ◌>>=◌,
 use Rattle.cns_batch.specs.Commands.{delivered, event_run, failed, looked, names_busy, opened, pumped, report_text, row_taken, served, served_if_open}
 use Rattle.cns_batch.specs.Run.{command_run, ended, line_counted, line_run, lines_run, waited}
 use Rattle.cns_batch.specs.Memory.{HadMemory, IsOfBytes, was_short}
-use Rattle.cns_batch.specs.Text.{Input, first_scene, text_from}
+use Rattle.cns_batch.specs.Text.{first_scene, text_from}
 use Rattle.cns_batch.specs.declared.runner.Beside.{Beside}
 use Rattle.cns_batch.proofs.CommandLemmas.{after_look, after_open, after_reply, after_send, after_ticket}
-use Rattle.cns_batch.proofs.MemoryLemmas.{AreKnown, IsKnown, comes_alone}
+use Rattle.cns_batch.proofs.MemoryLemmas.{AreKnown, comes_alone}
 use Rattle.cns_batch.proofs.TextLemmas.{text_in}
 
 -- a course where nothing comes between any more

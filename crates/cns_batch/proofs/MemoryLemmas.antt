@@ -1,5 +1,5 @@
 -- Over honest keepers of which all is known, an event that is not refused for want of memory comes to what it does where nothing comes between.
-use Rattle.std.proofs.Common.{◌≡◌, ◌≢◌, ℕ, ◌+◌, ◌==◌, ◌&&◌, ◌||◌, ◌⊎◌, min, not, Bool, true, false, List, [], length, map, Option, Some, None, Result, Ok, Err, inl, inr, refl, sym, ap, ◌∙◌, subst}
+use Rattle.std.proofs.Common.{◌≡◌, ◌≢◌, ℕ, ◌+◌, ◌==◌, ◌||◌, ◌⊎◌, min, not, Bool, true, false, List, [], length, map, Option, Some, None, Ok, Err, inl, inr, refl, sym, ap, ◌∙◌, subst}
 use Rattle.std.specs.Prelude.{unwrap_or}
 use Rattle.std.specs.Option.{ok_or, option_flatten}
 use Rattle.cns_ids.specs.Steps.{◌>>=◌, ◌>>◌, need}
@@ -9,7 +9,9 @@ use Rattle.cns_trades.specs.declared.list.Verdict.TheVariants as verdicts
 use Rattle.cns_trades.specs.declared.trade.Trade.{Trade}
 use Rattle.cns_netting.specs.History.{accepted}
 use Rattle.cns_journal.specs.Keeper.{Forecast, Foresight, Unforeseen, Succeeds, Fails}
+use Rattle.cns_movements.specs.Book.{next_orders}
 use Rattle.cns_movements.specs.Confirm.{confirm_answer}
+use Rattle.cns_movements.specs.Order.{same_order}
 use Rattle.cns_movements.specs.declared.book.Confirm.{Confirm}
 use Rattle.cns_movements.specs.declared.book.Confirm.TheVariants as answers
 use Rattle.cns_movements.specs.declared.order.Order.{Order}
@@ -29,10 +31,12 @@ use Rattle.cns_clearing.specs.Books.{are_spent, deliveries_in}
 use Rattle.cns_clearing.specs.Pools.{lot_of}
 use Rattle.cns_clearing.specs.declared.lot.Lot.{Lot}
 use Rattle.cns_depository.specs.Answers.{reply_to}
-use Rattle.cns_depository.specs.Stock.{moved_by, movement, order_in, record_of}
-use Rattle.cns_system.specs.Happens.{Decision, Goes, NoMemory, DeviceFails, ClearReads, DepotReads, Judged, book, clear_commits, commits, going_lot, grows, happens, judged, next_orders, same_order, settled, with_reply}
+use Rattle.cns_depository.specs.Stock.{executed_of, execution, movement, movement_of}
+use Rattle.cns_depository.specs.declared.movement.Movement.{Movement}
+use Rattle.cns_system.specs.Decisions.{node_of}
+use Rattle.cns_system.specs.Happens.{Decision, Goes, NoMemory, DeviceFails, ClearReads, DepotReads, Judged, book, clear_commits, commits, going_lot, grows, happens, judged, settled, with_reply}
 use Rattle.cns_system.specs.Lot.{LotState, ticket_in, with_end, with_ticket}
-use Rattle.cns_system.specs.Scene.{Chance, ComesBack, Decides, Forgets, Scene, Sight, after_commit, comes_to, commit_decision, given_back, is_foreseen, known_of, node_of, planned, restart_decision, with_known}
+use Rattle.cns_system.specs.Scene.{Chance, ComesBack, Decides, Forgets, Scene, Sight, after_commit, comes_to, commit_decision, given_back, is_foreseen, known_of, restart_decision, with_known}
 use Rattle.cns_system.specs.Shown.{LogShown, Shown, clear_added, clear_failed, depot_added, depot_failed, with_lot}
 use Rattle.cns_system.specs.declared.event.Event.{Event}
 use Rattle.cns_system.specs.declared.event.Event.TheVariants as event
@@ -140,7 +144,7 @@ clear_goes d w r outcome other = commits_on d node.Clear w outcome (clear_added 
 abbrev closed_with : Decision → ℕ → Shown → LotState → Lot → Judged
 closed_with d number w lot twin =
     let a = allocation_of twin lot.tickets lot.sealed in
-    let told = outcomes.Closed (record { granted = min a.poured (asked_sum lot.tickets); orders = next_orders w (deliveries_in a) }) in
+    let told = outcomes.Closed (record { granted = min a.poured (asked_sum lot.tickets); orders = next_orders (book w).orders (deliveries_in a) }) in
     need (not (are_spent (book w).orders (length (deliveries_in a)))) refusal.NumbersSpent
     >> commits d (told, with_lot number (with_end lot) (clear_added (entry.Allocate a) w)) (clear_failed (entry.Allocate a) w)
 
@@ -178,19 +182,19 @@ turn_goes turn.EarlierGroup d lot number member w = refuses d node.Clear w refus
 turn_goes (turn.Next asked) d lot number member w =
     needs d node.Clear w (not lot.sealed) refusal.Sealed _ _ (λ e. absurd (cc e)) (goes_on d node.Clear w _ _ (λ e. absurd (cc e)) refl refl)
 
-abbrev executed_by : Option DepRecord → Decision → Order → Shown → Judged
+abbrev executed_by : Option Movement → Decision → Order → Shown → Judged
 executed_by done d o w =
-    let e = movement w.openings w.depot.records o in
-    let reply = λ (e : DepRecord). reply_to o (moved_by e) in
+    let m = movement w.openings w.depot.records o in
+    let e = execution m in
     elim done [
-      | None ↦ commits d (outcomes.Executed (reply e) (length w.replies + 1), with_reply (reply e) (depot_added e w)) (depot_failed e w)
-      | Some known ↦ need (same_order (order_in known) o) refusal.Conflict >> grows d (outcomes.ExecutedAgain (reply known) (length w.replies + 1), with_reply (reply known) w)
+      | None ↦ commits d (outcomes.Executed (reply_to m) (length w.replies + 1), with_reply (reply_to m) (depot_added e w)) (depot_failed e w)
+      | Some known ↦ need (same_order known.order o) refusal.Conflict >> grows d (outcomes.ExecutedAgain (reply_to known) (length w.replies + 1), with_reply (reply_to known) w)
     ]
 
-order_goes : (done : Option DepRecord) (d : Decision) (o : Order) (w : Shown) → IsSteady d node.Depot w (executed_by done NoMemory o w) (executed_by done d o w)
+order_goes : (done : Option Movement) (d : Decision) (o : Order) (w : Shown) → IsSteady d node.Depot w (executed_by done NoMemory o w) (executed_by done d o w)
 order_goes None d o w = commits_on d node.Depot w _ _ _ (λ e. absurd (cc e)) refl refl refl
 order_goes (Some known) d o w =
-    needs d node.Depot w (same_order (order_in known) o) refusal.Conflict _ _ (λ e. absurd (cc e)) (grows_on d node.Depot w _ _ (λ e. absurd (cc e)) refl refl)
+    needs d node.Depot w (same_order known.order o) refusal.Conflict _ _ (λ e. absurd (cc e)) (grows_on d node.Depot w _ _ (λ e. absurd (cc e)) refl refl)
 
 abbrev confirmed_by : Confirm → Decision → Reply → Shown → Judged
 confirmed_by answer d r w = elim answer [
@@ -242,7 +246,7 @@ steady d (event.Send number) w plain =
     (found d node.Clear w _ refusal.UnknownMove _ _ (λ e. absurd (cc e)) (λ o. grows_on d node.Clear w _ _ (λ e. absurd (cc e)) refl refl))
 steady d (event.OrderIn packet) w plain =
     found d node.Depot w (option_flatten (at_number w.orders packet)) refusal.NoPacket _ _ (λ e. absurd (cc e))
-    (λ o. needs d node.Depot w (not w.depot.down) refusal.Down _ _ (λ e. absurd (cc e)) (order_goes (record_of w.depot.records o.number) d o w))
+    (λ o. needs d node.Depot w (not w.depot.down) refusal.Down _ _ (λ e. absurd (cc e)) (order_goes (movement_of (executed_of w.depot.records) o.number) d o w))
 steady d (event.ReplyIn packet) w plain =
     found d node.Clear w (option_flatten (at_number w.replies packet)) refusal.NoPacket _ _ (λ e. absurd (cc e))
     (λ r. needs d node.Clear w (not w.clear.down) refusal.Down _ _ (λ e. absurd (cc e)) (reply_goes (confirm_answer (book w).orders r) d r w))
@@ -343,8 +347,9 @@ given_of log s = given_back log.tried (unwrap_or s.foresight.stands false) log.r
 restart_either : {R : Type 0} (reads : List R → Decision) (log : LogShown R) (s : Sight) (chance : Chance) → IsKnown log s
     → (restart_decision reads s log.tried log.records chance ≡ NoMemory) ⊎ (restart_decision reads s log.tried log.records chance ≡ reads (given_of log s))
 restart_either reads log s (Forgets stands) known = inl refl
-restart_either reads log s ComesBack known = inr (rw (known.honest, known.foreseen) (ap reads (back_same log.tried s.foresight.stands log.records true false known.stands)))
-restart_either reads log s (Decides d) known = inr (rw (known.honest, known.foreseen) refl)
+restart_either reads log s ComesBack known = inr (rw known.honest (ap reads (back_same log.tried s.foresight.stands log.records true false known.stands)))
+restart_either reads log s (Decides DeviceFails) known = inr (rw (known.honest, known.foreseen) refl)
+restart_either reads log s (Decides d) known = inr (rw known.honest refl)
 
 abbrev clear_reread : List ClearRecord → Scene → Outcome × Scene
 clear_reread read s = (
@@ -385,7 +390,7 @@ restart_known read log s known = record { honest = known.honest; foreseen = know
 
 restart_goes : {R : Type 0} (reads : List R → Decision) (log : LogShown R) (s : Sight) → IsKnown log s
     → restart_decision reads s log.tried log.records (Decides Goes) ≡ reads (given_of log s)
-restart_goes reads log s known = rw (known.honest, known.foreseen) refl
+restart_goes reads log s known = rw known.honest refl
 
 restart_alone : (chance : Chance) (name : NodeName) (s : Scene) → AreKnown s → (comes_to chance (event.Restart name) s).0 ≢ outcomes.Refused refusal.OutOfMemory
     → IsAlone chance (event.Restart name) s

@@ -7,21 +7,19 @@ use Rattle.std.specs.Io.KnownBytes.{Appends, Consumes}
 use Rattle.cns_ids.specs.Steps.{◌>>=◌}
 use Rattle.cns_journal.specs.Keeper.{KeeperState}
 use Rattle.cns_journal.specs.RecordLog.{IsGivenUp}
-use Rattle.cns_journal.specs.declared.record_log.ReplayFault.TheVariants as replay
 use Rattle.cns_records.specs.Clear.{spelling}
 use Rattle.cns_records.specs.Dep.{dep_spelling}
 use Rattle.cns_system.specs.Scene.{Chance, Scene, scene_of}
 use Rattle.cns_system.specs.Start.{IsNotOpened, IsStarted}
 use Rattle.cns_system.specs.World.{World}
 use Rattle.cns_system.specs.declared.fault.StartFault.{StartFault}
-use Rattle.cns_system.specs.declared.fault.StartFault.TheVariants as start
 use Rattle.cns_batch.specs.Acts.{Told, done, scene_at}
 use Rattle.cns_batch.specs.Ending.{batch_result}
 use Rattle.cns_batch.specs.Run.{lines_run}
 use Rattle.cns_batch.specs.Runs.{Continues, Place, RunState, Runs, Stops, course_at}
 use Rattle.cns_input.specs.Reading.{HasGiven, IsInput, IsReadFault}
 use Rattle.cns_input.specs.Sections.{raw_lines}
-use Rattle.cns_batch.specs.Text.{BatchLeaves, Input, KeptLeaves, LeavesSomeKeepers, OpensBoth, RunsInput, SaysOf, Tells, WritesAll, WritesNothing, WritesPart, WritesTextPart, fault_of_start, input_of, is_short, new_keeper, first_scene, parts_of, run_from, text_by, text_from}
+use Rattle.cns_batch.specs.Text.{BatchLeaves, Input, KeptLeaves, OpensBoth, RunsInput, SaysOf, Tells, WritesAll, WritesNothing, WritesPart, WritesTextPart, fault_of_start, input_of, is_short, new_keeper, first_scene, parts_of, run_from, text_by, text_from}
 use Rattle.cns_input.specs.declared.fault.BatchFault.{BatchFault}
 use Rattle.cns_input.specs.declared.fault.BatchFault.TheVariants as fault
 use Rattle.cns_batch.specs.declared.fault.OutputFault.{OutputFault}
@@ -215,15 +213,6 @@ pub says_unopened : (known : Option (List ℕ)) (bytes : List ℕ) (input : Inpu
 says_unopened known bytes input why c d c' d' all le is unopened =
     (bytes, all, said_unopened (is_short why) bytes input why c d c' d' refl (within bytes le ∙ is) unopened)
 
-pub start_other : (why : StartFault) → fault_of_start why ≡ fault.TooLong → ⊥
-start_other (start.Clear replay.OutOfMemory) is = absurd (cc is)
-start_other (start.Clear replay.Device) is = absurd (cc is)
-start_other (start.Clear (replay.BadJournal place)) is = absurd (cc is)
-start_other (start.Depot replay.OutOfMemory) is = absurd (cc is)
-start_other (start.Depot replay.Device) is = absurd (cc is)
-start_other (start.Depot (replay.BadJournal place)) is = absurd (cc is)
-start_other start.Disagree is = absurd (cc is)
-
 said_ran : (ran : Result (Unit {0}) OutputFault) (bytes : List ℕ) (c d : KeeperState) → OpensBoth bytes c d → SaysOf (batch_result ran) bytes c d
 said_ran (Ok u) bytes c d opens = opens
 said_ran (Err output.Memory) bytes c d opens = tt
@@ -238,7 +227,7 @@ ran_other (Ok u) is = absurd (cc is)
 ran_other (Err output.Memory) is = absurd (cc is)
 ran_other (Err output.Write) is = absurd (cc is)
 
--- with a fault of reading, and with one of the sections, it says the same
+-- the input was not read to its end
 pub says_unread : {A : Type 0} (e : BatchFault) (known left : Option (List ℕ)) (c d : KeeperState) → IsReadFault e → HasGiven {A = A} (Err e) known left
     → (bytes : List ℕ) × IsInput known bytes × SaysOf (Err e) bytes c d
 says_unread fault.Read known left c d kind gave = let (bytes, all) = some_input known in (bytes, all, tt)
@@ -248,37 +237,6 @@ says_unread fault.Sections known left c d kind gave = absurd kind
 says_unread fault.Csv known left c d kind gave = absurd kind
 says_unread fault.Journal known left c d kind gave = absurd kind
 says_unread fault.Write known left c d kind gave = absurd kind
-
-said_refused : (e : BatchFault) (bytes : List ℕ) (c d : KeeperState) → length bytes ≤ 67108864 → Tells e (parts_of bytes) → SaysOf (Err e) bytes c d
-said_refused fault.Read bytes c d le told = tt
-said_refused fault.Sections bytes c d le told = within bytes le ∙ told
-said_refused fault.Csv bytes c d le told = within bytes le ∙ told
-said_refused fault.Memory bytes c d le told = tt
-said_refused _ bytes c d le told = absurd told
-
-pub says_refused : (e : BatchFault) (known : Option (List ℕ)) (bytes : List ℕ) (c d : KeeperState) → IsInput known bytes → length bytes ≤ 67108864 → Tells e (parts_of bytes)
-    → (bytes : List ℕ) × IsInput known bytes × SaysOf (Err e) bytes c d
-says_refused e known bytes c d all le told = (bytes, all, said_refused e bytes c d le told)
-
--- what a batch over keepers leaves tells as much
-said_kept : (result : Result (Unit {0}) BatchFault) (bytes : List ℕ) (c d c' d' : KeeperState) (old new : Option (List ℕ)) → KeptLeaves result bytes c d c' d' old new
-    → SaysOf result bytes c d
-said_kept (Ok u) bytes c d c' d' old new (input, is, (w, started, rest)) = (input, is, (w, started))
-said_kept (Err fault.Read) bytes c d c' d' old new left = tt
-said_kept (Err fault.TooLong) bytes c d c' d' old new left = left.0
-said_kept (Err fault.Sections) bytes c d c' d' old new left = left.0
-said_kept (Err fault.Csv) bytes c d c' d' old new left = left.0
-said_kept (Err fault.Journal) bytes c d c' d' old new (input, is, (unopened, same)) = (input, is, (c', d', unopened))
-said_kept (Err fault.Memory) bytes c d c' d' old new left = tt
-said_kept (Err fault.Write) bytes c d c' d' old new (input, is, (w, started, rest)) = (input, is, (w, started))
-
-pub says_kept : (known : Option (List ℕ)) (result : Result (Unit {0}) BatchFault) (c d c' d' : KeeperState) (old new : Option (List ℕ))
-    → (bytes : List ℕ) × IsInput known bytes × KeptLeaves result bytes c d c' d' old new → (bytes : List ℕ) × IsInput known bytes × SaysOf result bytes c d
-says_kept known result c d c' d' old new (bytes, all, left) = (bytes, all, said_kept result bytes c d c' d' old new left)
-
-pub some_kept : (known : Option (List ℕ)) (result : Result (Unit {0}) BatchFault) (c d c' d' : KeeperState) (old new : Option (List ℕ))
-    → (bytes : List ℕ) × IsInput known bytes × KeptLeaves result bytes c d c' d' old new → (bytes : List ℕ) × IsInput known bytes × LeavesSomeKeepers result bytes c d old new
-some_kept known result c d c' d' old new (bytes, all, left) = (bytes, all, (c', d', left))
 
 -- a run that ends in a fault may have written
 pub run_may_write : (P : Type 0) (ran : Result (Unit {0}) OutputFault) → IfErr (batch_result ran) (λ e. WritesNothing e → P)
