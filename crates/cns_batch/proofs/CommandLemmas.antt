@@ -31,7 +31,7 @@ pub takes_row : {E : Type 0} (r : Row) (act : Act (Unit {0})) (result : Result (
     → Runs (row_taken r) result (record { run = record run { rows = r ∷ run.rows }; sent = sent }) q
 takes_row r act result run sent q same runs =
     let p : Place = record { run = record run { rows = r ∷ run.rows }; sent = sent } in
-    runs_after (row_taken r) act result p (record { run = run; sent = sent }) q (moves (row_taken r) act p (record { run = run; sent = sent }) same refl refl) runs
+    runs_after (row_taken r) act result p (record { run = run; sent = sent }) q (moves (row_taken r) act p (record { run = run; sent = sent }) same refl refl refl) runs
 
 rows_after : (r : Row) (c : Course) → (row_taken r c).course.rows ≡ drop 1 c.rows
 unfolding ◌>>=◌ happened
@@ -46,7 +46,7 @@ one_fewer : (n i : ℕ) → i < n → n - i ≡ suc (n - (i + 1))
 one_fewer n i lt = omega (arith, lt)
 
 first_taken : (n i : ℕ) (r : Row) (rest : List Row) (p : Place) → i < n → p.run.rows ≡ r ∷ rest → Continues (taken (n - i)) (each row_taken (r ∷ take (n - (i + 1)) rest)) p p
-first_taken n i r rest p lt rows = moves (taken (n - i)) (each row_taken (r ∷ take (n - (i + 1)) rest)) p p (λ more. rw (rows, one_fewer n i lt) refl) refl refl
+first_taken n i r rest p lt rows = moves (taken (n - i)) (each row_taken (r ∷ take (n - (i + 1)) rest)) p p (λ more. rw (rows, one_fewer n i lt) refl) refl refl refl
 
 -- the next row is taken
 row_back : (r : Row) (old new : RunState) → IsNextRow (Some r) old new → record new { rows = r ∷ new.rows } ≡ old
@@ -63,7 +63,7 @@ taken_next n i r old new sent p s lt next so took =
     continues_more (taken n) (taken (n - i)) (taken (n - (i + 1))) p q s so
     (continues_more (taken (n - i)) (each row_taken (r ∷ left)) (taken (n - (i + 1))) q q s (first_taken n i r new.rows q lt next.0)
     (continues_more (each row_taken (r ∷ left)) (each row_taken left) (taken (n - (i + 1))) q s s (each_step row_taken r left q s one)
-    (moves (each row_taken left) (taken (n - (i + 1))) s s (λ more. rw after refl) refl refl)))
+    (moves (each row_taken left) (taken (n - (i + 1))) s s (λ more. rw after refl) refl refl refl)))
 
 pub taken_stops : (n i : ℕ) (r : Row) (old new : RunState) (sent : Option (List ℕ)) (p s : Place) → i < n → IsNextRow (Some r) old new
     → Continues (taken n) (taken (n - i)) p (record { run = old; sent = sent }) → Stops (row_taken r) (record { run = record new { rows = r ∷ new.rows }; sent = sent }) s
@@ -86,13 +86,13 @@ unfolding each
 taken_none n k old new sent p next so =
     let q : Place = record { run = old; sent = sent } in
     subst (λ (x : RunState). Continues (taken n) done p (record { run = x; sent = sent })) (sym next.1)
-    (continues_more (taken n) (taken k) done p q q so (moves (taken k) done q q (λ more. rw (take_none k old.rows next.0) refl) refl refl))
+    (continues_more (taken n) (taken k) done p q q so (moves (taken k) done q q (λ more. rw (take_none k old.rows next.0) refl) refl refl refl))
 
 -- or so many were taken
 pub taken_done : (n i : ℕ) (p q : Place) → n ≤ i → Continues (taken n) (taken (n - i)) p q → Continues (taken n) done p q
 unfolding each
 taken_done n i p q le so =
-    let none : n - i ≡ 0 = omega (arith, le) in continues_more (taken n) (taken (n - i)) done p q q so (moves (taken (n - i)) done q q (λ more. rw none refl) refl refl)
+    let none : n - i ≡ 0 = omega (arith, le) in continues_more (taken n) (taken (n - i)) done p q q so (moves (taken (n - i)) done q q (λ more. rw none refl) refl refl refl)
 
 -- ---- what follows the outcome of an event
 

@@ -5,3 +5,5 @@ pub mod CommandLemmas
 pub mod RunLemmas
 pub mod OpenedLemmas
 pub mod TextLemmas
+pub mod MemoryLemmas
+pub mod AloneLemmas

@@ -24,12 +24,12 @@ writes_more p q r s t (one, a, e) (two, b, f) = (
 )
 
 -- as much is at the front of a longer list
-take_front : (n : ℕ) (xs ys : List ℕ) → (m : ℕ) × (take m (xs ++ ys) ≡ take n xs)
+pub take_front : {A : Type 0} (n : ℕ) (xs ys : List A) → (m : ℕ) × (take m (xs ++ ys) ≡ take n xs)
 take_front zero xs ys = (0, refl)
 take_front (suc n) [] ys = (0, refl)
 take_front (suc n) (x ∷ xs) ys = let (m, e) = take_front n xs ys in (suc m, ap (λ l. x ∷ l) e)
 
-take_past : (n : ℕ) (xs ys : List ℕ) → take (length xs + n) (xs ++ ys) ≡ xs ++ take n ys
+pub take_past : {A : Type 0} (n : ℕ) (xs ys : List A) → take (length xs + n) (xs ++ ys) ≡ xs ++ take n ys
 take_past n [] ys = let none : 0 + n ≡ n = omega arith in ap (λ k. take k ys) none
 take_past n (x ∷ xs) ys =
     let one : suc (length xs) + n ≡ suc (length xs + n) = omega arith in ap (λ k. take k (x ∷ (xs ++ ys))) one ∙ ap (λ l. x ∷ l) (take_past n xs ys)

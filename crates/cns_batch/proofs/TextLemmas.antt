@@ -1,21 +1,25 @@
 -- What a run of a script writes of an input's text.
-use Rattle.std.proofs.Common.{◌≡◌, ◌≤◌, ℕ, Bool, false, true, length, List, [], ◌++◌, take, Option, None, Result, Ok, Err, refl, sym, ap, ◌∙◌, subst, inl, inr}
-use Rattle.std.specs.Prelude.{IfErr, IfSome, OnOk, if◌then◌else◌}
+use Rattle.std.proofs.Common.{◌≡◌, ◌≤◌, ◌<◌, ℕ, Bool, false, true, length, List, [], ◌++◌, take, Option, None, Some, Result, Ok, Err, refl, sym, ap, ◌∙◌, subst, inl, inr, arith, length-append}
+use Rattle.std.specs.Prelude.{IfErr, OnOk, if◌then◌else◌}
 use Rattle.std.proofs.lemmas.List.{append-nil}
-use Rattle.std.proofs.lemmas.Option.{IfSome_then}
-use Rattle.std.specs.Io.KnownBytes.{Appends}
+use Rattle.std.proofs.lemmas.Bool.{le-leb, lt-leb}
+use Rattle.std.specs.Io.KnownBytes.{Appends, Consumes}
 use Rattle.cns_ids.specs.Steps.{◌>>=◌}
 use Rattle.cns_journal.specs.Keeper.{KeeperState}
+use Rattle.cns_journal.specs.RecordLog.{IsGivenUp}
+use Rattle.cns_records.specs.Clear.{spelling}
+use Rattle.cns_records.specs.Dep.{dep_spelling}
 use Rattle.cns_system.specs.Scene.{Chance, Scene, scene_of}
 use Rattle.cns_system.specs.Start.{IsNotOpened, IsStarted}
 use Rattle.cns_system.specs.World.{World}
 use Rattle.cns_system.specs.declared.fault.StartFault.{StartFault}
-use Rattle.cns_batch.specs.Acts.{Told, done}
+use Rattle.cns_batch.specs.Acts.{Told, done, scene_at}
 use Rattle.cns_batch.specs.Ending.{batch_result}
 use Rattle.cns_batch.specs.Run.{lines_run}
 use Rattle.cns_batch.specs.Runs.{Continues, Place, RunState, Runs, Stops, course_at}
+use Rattle.cns_input.specs.Reading.{HasGiven, IsInput, IsReadFault}
 use Rattle.cns_input.specs.Sections.{raw_lines}
-use Rattle.cns_batch.specs.Text.{BatchLeaves, Input, KeptLeaves, OpensBoth, RunsInput, SaysOf, Tells, WritesAll, WritesNothing, WritesPart, WritesTextPart, fault_of_start, input_of, is_short, new_keeper, first_scene, text_by, text_from}
+use Rattle.cns_batch.specs.Text.{BatchLeaves, Input, KeptLeaves, OpensBoth, RunsInput, SaysOf, Tells, WritesAll, WritesNothing, WritesPart, WritesTextPart, fault_of_start, input_of, is_short, new_keeper, first_scene, parts_of, run_from, text_by, text_from}
 use Rattle.cns_input.specs.declared.fault.BatchFault.{BatchFault}
 use Rattle.cns_input.specs.declared.fault.BatchFault.TheVariants as fault
 use Rattle.cns_batch.specs.declared.fault.OutputFault.{OutputFault}
@@ -26,66 +30,142 @@ use Rattle.cns_batch.proofs.OpenedLemmas.{none_unopened, started_first}
 abbrev pub IsAtStart : Input → World → Place → Type 0
 IsAtStart input w p = p.run ≡ record { world = w; rows = input.rows; beside = None; held = input.told }
 
-wrote_all : (input : Input) (clear depot : KeeperState) (w : World) (p q : Place) → IsStarted input.openings clear depot w → IsAtStart input w p
-    → Continues (lines_run 1 (raw_lines input.script)) done p q → q.run.held ≡ [] → WritesAll input clear depot p.sent q.sent
-wrote_all input clear depot w p q started start one none =
+-- both keepers of a place that was come to are as its nodes give them up
+abbrev pub AreOf : Place → KeeperState → KeeperState → Type 0
+AreOf q clear depot = IsGivenUp spelling q.run.world.clear.clear.log clear × IsGivenUp dep_spelling q.run.world.depot.log depot
+
+wrote_all : (input : Input) (clear depot clear' depot' : KeeperState) (w : World) (p q : Place) → IsStarted input.openings clear depot w → IsAtStart input w p
+    → Continues (lines_run 1 (raw_lines input.script)) done p q → q.run.held ≡ [] → AreOf q clear' depot' → WritesAll input clear depot clear' depot' p.sent q.sent
+wrote_all input clear depot clear' depot' w p q started start one none left =
     let act = lines_run 1 (raw_lines input.script) in
+    let chances = one.chances ++ [] in
     let part = one.writes.0 in
     let written : part ≡ p.run.held ++ one.text = sym (append-nil part) ∙ ap (λ l. part ++ l) (sym none) ∙ one.writes.2 in
-    let told : (act (course_at p.run (one.chances ++ []))).text ≡ one.text = ap (λ (t : Told (Unit {0})). t.text) (one.act_is []) ∙ append-nil one.text in
-    let here : text_from (one.chances ++ []) (scene_of w) input ≡ part =
-    sym (ap (λ (r : RunState). r.held ++ (act (course_at r (one.chances ++ []))).text) start) ∙ ap (λ l. p.run.held ++ l) told ∙ sym written in
-    (w, started, (one.chances ++ [], subst (λ t. Appends p.sent q.sent t) (sym here) one.writes.1))
+    let told : (act (course_at p.run chances)).text ≡ one.text = ap (λ (t : Told (Unit {0})). t.text) (one.act_is []) ∙ append-nil one.text in
+    let here : text_from chances (scene_of w) input ≡ part =
+    sym (ap (λ (r : RunState). r.held ++ (act (course_at r chances)).text) start) ∙ ap (λ l. p.run.held ++ l) told ∙ sym written in
+    let last : scene_of q.run.world ≡ (run_from chances (scene_of w) input).course.scene =
+    sym (ap (λ (t : Told (Unit {0})). t.course.scene) (one.act_is [])) ∙ ap (λ (r : RunState). (act (course_at r chances)).course.scene) start in
+    (w, started, (chances, subst (λ t. Appends p.sent q.sent t) (sym here) one.writes.1, (q.run.world, last, left.0, left.1)))
 
-wrote_part : (input : Input) (clear depot : KeeperState) (w : World) (p q : Place) → IsStarted input.openings clear depot w → IsAtStart input w p
-    → Stops (lines_run 1 (raw_lines input.script)) p q → WritesPart input clear depot p.sent q.sent
-wrote_part input clear depot w p q started start stop =
+wrote_part : (input : Input) (clear depot clear' depot' : KeeperState) (w : World) (p q : Place) → IsStarted input.openings clear depot w → IsAtStart input w p
+    → Stops (lines_run 1 (raw_lines input.script)) p q → AreOf q clear' depot' → WritesPart input clear depot clear' depot' p.sent q.sent
+wrote_part input clear depot clear' depot' w p q started start stop left =
     let act = lines_run 1 (raw_lines input.script) in
     let here : text_from stop.chances (scene_of w) input ≡ p.run.held ++ (act (course_at p.run stop.chances)).text =
     sym (ap (λ (r : RunState). r.held ++ (act (course_at r stop.chances)).text) start) in
-    (w, started, (stop.chances, stop.size, subst (λ t. Appends p.sent q.sent (take stop.size t)) (sym here) stop.writes))
+    let last : scene_of q.run.world ≡ scene_at (scene_of w) (take stop.count (run_from stop.chances (scene_of w) input).occurred) =
+    stop.scene ∙ ap (λ (r : RunState). scene_at (scene_of r.world) (take stop.count (act (course_at r stop.chances)).occurred)) start in (
+      w,
+      started,
+      (
+        stop.chances,
+        (stop.size, subst (λ t. Appends p.sent q.sent (take stop.size t)) (sym here) stop.writes),
+        (stop.count, (q.run.world, last, left.0, left.1)),
+      ),
+    )
 
 pub runs_input : (ran : Result (Unit {0}) OutputFault) (input : Input) (clear depot clear' depot' : KeeperState) (w : World) (p q : Place) → IsStarted input.openings clear depot w
-    → IsAtStart input w p → Runs (lines_run 1 (raw_lines input.script)) ran p q → OnOk ran (q.run.held ≡ [])
+    → IsAtStart input w p → Runs (lines_run 1 (raw_lines input.script)) ran p q → OnOk ran (q.run.held ≡ []) → AreOf q clear' depot'
     → RunsInput (batch_result ran) input clear depot clear' depot' p.sent q.sent
-runs_input (Ok u) input clear depot clear' depot' w p q started start one none = wrote_all input clear depot w p q started start one none
-runs_input (Err output.Memory) input clear depot clear' depot' w p q started start stop none = inr (wrote_part input clear depot w p q started start stop)
-runs_input (Err output.Write) input clear depot clear' depot' w p q started start stop none = wrote_part input clear depot w p q started start stop
+runs_input (Ok u) input clear depot clear' depot' w p q started start one none left = wrote_all input clear depot clear' depot' w p q started start one none left
+runs_input (Err output.Memory) input clear depot clear' depot' w p q started start stop none left =
+    inr (wrote_part input clear depot clear' depot' w p q started start stop left)
+runs_input (Err output.Write) input clear depot clear' depot' w p q started start stop none left = wrote_part input clear depot clear' depot' w p q started start stop left
+
+-- ---- the bytes of an input, and their size
+
+-- bytes that are no more than may be read
+within : (bytes : List ℕ) → length bytes ≤ 67108864 → input_of bytes ≡ parts_of bytes
+within bytes le = rw (le-leb (length bytes) 67108864 le) refl
+
+-- and bytes that are more
+pub too_long : (bytes : List ℕ) → 67108864 < length bytes → input_of bytes ≡ Err fault.TooLong
+too_long bytes more = rw (lt-leb (length bytes) 67108864 more) refl
+
+-- there are bytes that are those that are known, where some are
+some_input : (known : Option (List ℕ)) → (bytes : List ℕ) × IsInput known bytes
+some_input None = ([], tt)
+some_input (Some all) = (all, refl)
+
+-- a reader gave more bytes than may be read, and so there are more
+long_input : (known left : Option (List ℕ)) (given : List ℕ) → Consumes known left given → 67108864 < length given
+    → (bytes : List ℕ) × IsInput known bytes × (67108864 < length bytes)
+long_input None left given took more = (given, tt, more)
+long_input (Some all) None given took more = absurd took
+long_input (Some all) (Some rest) given took more = (all, refl, rw took (omega (arith, length-append given rest, more)))
+
+-- an answer that comes once all is read is not that there is too much
+pub given_after : {A B : Type 0} (text : A) (result : Result B BatchFault) (old new : Option (List ℕ)) → (result ≡ Err fault.TooLong → ⊥) → HasGiven (Ok text) old new → HasGiven result old new
+given_after text result old new other (given, took, long) = (given, took, (λ is. absurd (other is), λ more. absurd (cc (long.1 more))))
+
+pub given_refused : {A B : Type 0} (e : BatchFault) (old new : Option (List ℕ)) → HasGiven {A = A} (Err e) old new → HasGiven {A = B} (Err e) old new
+given_refused e old new (given, took, long) = (given, took, (λ is. long.0 (cc is), λ more. cc (long.1 more)))
 
 -- ---- what a batch over keepers leaves
 
--- what is known of the bytes that were read holds of all that there were
-of_all : (P : List ℕ → Type 0) (known : Option (List ℕ)) (bytes : List ℕ) → IfSome known (λ b. bytes ≡ b) → P bytes → IfSome known P
-of_all P known bytes all holds = IfSome_then known all (λ b is. subst P is holds)
+kept_by : (result : Result (Unit {0}) BatchFault) (bytes : List ℕ) (input : Input) (c d c' d' : KeeperState) (old new : Option (List ℕ)) → input_of bytes ≡ Ok input
+    → RunsInput result input c d c' d' old new → KeptLeaves result bytes c d c' d' old new
+kept_by (Ok u) bytes input c d c' d' old new is runs = (input, is, runs)
+kept_by (Err fault.Journal) bytes input c d c' d' old new is runs = (input, is, runs)
+kept_by (Err fault.Memory) bytes input c d c' d' old new is runs = inr (input, is, runs)
+kept_by (Err fault.Write) bytes input c d c' d' old new is runs = (input, is, runs)
+kept_by (Err _) bytes input c d c' d' old new is runs = absurd runs
 
-kept_by : (result : Result (Unit {0}) BatchFault) (bytes : List ℕ) (input : Input) (c d c' d' : KeeperState) (old new : Option (List ℕ)) → length bytes ≤ 67108864
-    → input_of bytes ≡ Ok input → RunsInput result input c d c' d' old new → KeptLeaves result bytes c d c' d' old new
-kept_by (Ok u) bytes input c d c' d' old new le is runs = (le, (input, is, runs))
-kept_by (Err fault.Journal) bytes input c d c' d' old new le is runs = (input, is, runs)
-kept_by (Err fault.Memory) bytes input c d c' d' old new le is runs = inr (input, is, runs)
-kept_by (Err fault.Write) bytes input c d c' d' old new le is runs = (input, is, runs)
-kept_by (Err _) bytes input c d c' d' old new le is runs = absurd runs
-
+-- the input was read
 pub kept_ran : (known : Option (List ℕ)) (bytes : List ℕ) (input : Input) (result : Result (Unit {0}) BatchFault) (c d c' d' : KeeperState) (old new : Option (List ℕ))
-    → IfSome known (λ b. bytes ≡ b) → length bytes ≤ 67108864 → input_of bytes ≡ Ok input → RunsInput result input c d c' d' old new
-    → IfSome known (λ b. KeptLeaves result b c d c' d' old new)
-kept_ran known bytes input result c d c' d' old new all le is runs =
-    of_all (λ b. KeptLeaves result b c d c' d' old new) known bytes all (kept_by result bytes input c d c' d' old new le is runs)
+    → IsInput known bytes → length bytes ≤ 67108864 → parts_of bytes ≡ Ok input → RunsInput result input c d c' d' old new
+    → (bytes : List ℕ) × IsInput known bytes × KeptLeaves result bytes c d c' d' old new
+kept_ran known bytes input result c d c' d' old new all le is runs = (bytes, all, kept_by result bytes input c d c' d' old new (within bytes le ∙ is) runs)
 
-refused_by : (e : BatchFault) (bytes : List ℕ) (c d : KeeperState) (old : Option (List ℕ)) → Tells e (input_of bytes) → KeptLeaves (Err e) bytes c d c d old old
-refused_by fault.Read bytes c d old told = (refl, refl)
-refused_by fault.Sections bytes c d old told = (told, refl, refl)
-refused_by fault.Csv bytes c d old told = (told, refl, refl)
-refused_by fault.Memory bytes c d old told = inl (refl, refl, refl)
-refused_by _ bytes c d old told = absurd told
+-- and another answer than that it is too long follows
+pub runs_other : (result : Result (Unit {0}) BatchFault) (input : Input) (c d c' d' : KeeperState) (old new : Option (List ℕ)) → RunsInput result input c d c' d' old new
+    → result ≡ Err fault.TooLong → ⊥
+runs_other (Ok u) input c d c' d' old new runs is = absurd (cc is)
+runs_other (Err fault.TooLong) input c d c' d' old new runs is = runs
+runs_other (Err fault.Journal) input c d c' d' old new runs is = absurd (cc is)
+runs_other (Err fault.Memory) input c d c' d' old new runs is = absurd (cc is)
+runs_other (Err fault.Write) input c d c' d' old new runs is = absurd (cc is)
+runs_other (Err fault.Read) input c d c' d' old new runs is = runs
+runs_other (Err fault.Sections) input c d c' d' old new runs is = runs
+runs_other (Err fault.Csv) input c d c' d' old new runs is = runs
 
-pub kept_refused : (known : Option (List ℕ)) (bytes : List ℕ) (e : BatchFault) (c d : KeeperState) (old : Option (List ℕ)) → IfSome known (λ b. bytes ≡ b) → Tells e (input_of bytes)
-    → IfSome known (λ b. KeptLeaves (Err e) b c d c d old old)
-kept_refused known bytes e c d old all told = of_all (λ b. KeptLeaves (Err e) b c d c d old old) known bytes all (refused_by e bytes c d old told)
+refused_by : (e : BatchFault) (bytes : List ℕ) (c d : KeeperState) (old : Option (List ℕ)) → length bytes ≤ 67108864 → Tells e (parts_of bytes) → KeptLeaves (Err e) bytes c d c d old old
+refused_by fault.Read bytes c d old le told = (refl, refl)
+refused_by fault.Sections bytes c d old le told = (within bytes le ∙ told, refl, refl)
+refused_by fault.Csv bytes c d old le told = (within bytes le ∙ told, refl, refl)
+refused_by fault.Memory bytes c d old le told = inl (refl, refl, refl)
+refused_by _ bytes c d old le told = absurd told
+
+-- the input was read, and is refused
+pub kept_refused : (known : Option (List ℕ)) (bytes : List ℕ) (e : BatchFault) (c d : KeeperState) (old : Option (List ℕ)) → IsInput known bytes → length bytes ≤ 67108864
+    → Tells e (parts_of bytes) → (bytes : List ℕ) × IsInput known bytes × KeptLeaves (Err e) bytes c d c d old old
+kept_refused known bytes e c d old all le told = (bytes, all, refused_by e bytes c d old le told)
+
+pub refuses_other : (e : BatchFault) (r : Result Input BatchFault) → Tells e r → e ≡ fault.TooLong → ⊥
+refuses_other fault.TooLong r told is = told
+refuses_other fault.Read r told is = absurd (cc is)
+refuses_other fault.Memory r told is = absurd (cc is)
+refuses_other fault.Sections r told is = absurd (cc is)
+refuses_other fault.Csv r told is = absurd (cc is)
+refuses_other fault.Journal r told is = told
+refuses_other fault.Write r told is = told
+
+-- the input was not read to its end
+pub kept_unread : {A : Type 0} (e : BatchFault) (known left : Option (List ℕ)) (c d : KeeperState) (old : Option (List ℕ)) → IsReadFault e → HasGiven {A = A} (Err e) known left
+    → (bytes : List ℕ) × IsInput known bytes × KeptLeaves (Err e) bytes c d c d old old
+kept_unread fault.Read known left c d old kind gave = let (bytes, all) = some_input known in (bytes, all, (refl, refl))
+kept_unread fault.Memory known left c d old kind gave = let (bytes, all) = some_input known in (bytes, all, inl (refl, refl, refl))
+kept_unread fault.TooLong known left c d old kind (given, took, long) =
+    let (bytes, all, more) = long_input known left given took (long.0 refl) in (bytes, all, (too_long bytes more, refl, refl))
+kept_unread fault.Sections known left c d old kind gave = absurd kind
+kept_unread fault.Csv known left c d old kind gave = absurd kind
+kept_unread fault.Journal known left c d old kind gave = absurd kind
+kept_unread fault.Write known left c d old kind gave = absurd kind
 
 -- ---- over keepers in memory
 
-abbrev text_in : List Chance → Result Input BatchFault → Result (List ℕ) BatchFault
+abbrev pub text_in : List Chance → Result Input BatchFault → Result (List ℕ) BatchFault
 text_in chances read = read >>= λ input. Ok (text_from chances (first_scene input.openings) input)
 
 text_here : (chances : List Chance) (bytes : List ℕ) (input : Input) (w : World) → input_of bytes ≡ Ok input → IsStarted input.openings new_keeper new_keeper w
@@ -94,29 +174,32 @@ text_here chances bytes input w is started =
     let text_over : Scene → Result (List ℕ) BatchFault = λ s. Ok (text_from chances s input) in
     ap (text_in chances) is ∙ ap text_over (sym (started_first input.openings w started))
 
-part_here : (bytes : List ℕ) (input : Input) (old new : Option (List ℕ)) → input_of bytes ≡ Ok input → WritesPart input new_keeper new_keeper old new → WritesTextPart bytes old new
-part_here bytes input old new is (w, started, (chances, size, written)) =
+part_here : (bytes : List ℕ) (input : Input) (c' d' : KeeperState) (old new : Option (List ℕ)) → input_of bytes ≡ Ok input → WritesPart input new_keeper new_keeper c' d' old new
+    → WritesTextPart bytes old new
+part_here bytes input c' d' old new is (w, started, (chances, (size, written), left)) =
     (chances, text_from chances (scene_of w) input, size, text_here chances bytes input w is started, written)
 
 batch_by : (result : Result (Unit {0}) BatchFault) (bytes : List ℕ) (c' d' : KeeperState) (old new : Option (List ℕ)) → KeptLeaves result bytes new_keeper new_keeper c' d' old new
     → BatchLeaves result bytes old new
-batch_by (Ok u) bytes c' d' old new (le, (input, is, (w, started, (chances, written)))) =
-    (le, (chances, text_from chances (scene_of w) input, text_here chances bytes input w is started, written))
+batch_by (Ok u) bytes c' d' old new (input, is, (w, started, (chances, written, left))) =
+    (chances, text_from chances (scene_of w) input, text_here chances bytes input w is started, written)
 batch_by (Err fault.Read) bytes c' d' old new left = tt
-batch_by (Err fault.TooLong) bytes c' d' old new left = left.0
+batch_by (Err fault.TooLong) bytes c' d' old new left = ap (text_in []) left.0
 batch_by (Err fault.Sections) bytes c' d' old new left = ap (text_in []) left.0
 batch_by (Err fault.Csv) bytes c' d' old new left = ap (text_in []) left.0
 batch_by (Err fault.Journal) bytes c' d' old new (input, is, (unopened, same)) = absurd (none_unopened input c' d' unopened)
 batch_by (Err fault.Memory) bytes c' d' old new (inl left) = inl left.0
 batch_by (Err fault.Memory) bytes c' d' old new (inr (input, is, inl unopened)) = inl unopened.1
-batch_by (Err fault.Memory) bytes c' d' old new (inr (input, is, inr part)) = inr (part_here bytes input old new is part)
-batch_by (Err fault.Write) bytes c' d' old new (input, is, part) = part_here bytes input old new is part
+batch_by (Err fault.Memory) bytes c' d' old new (inr (input, is, inr part)) = inr (part_here bytes input c' d' old new is part)
+batch_by (Err fault.Write) bytes c' d' old new (input, is, part) = part_here bytes input c' d' old new is part
 
 pub batch_leaves : (known : Option (List ℕ)) (result : Result (Unit {0}) BatchFault) (c d c' d' : KeeperState) (old new : Option (List ℕ)) → c ≡ new_keeper → d ≡ new_keeper
-    → IfSome known (λ b. KeptLeaves result b c d c' d' old new) → IfSome known (λ b. BatchLeaves result b old new)
-batch_leaves known result c d c' d' old new is_c is_d left =
-    IfSome_then known left (λ b kept.
-    batch_by result b c' d' old new (subst (λ c. KeptLeaves result b c new_keeper c' d' old new) is_c (subst (λ d. KeptLeaves result b c d c' d' old new) is_d kept)))
+    → (bytes : List ℕ) × IsInput known bytes × KeptLeaves result bytes c d c' d' old new → (bytes : List ℕ) × IsInput known bytes × BatchLeaves result bytes old new
+batch_leaves known result c d c' d' old new is_c is_d (bytes, all, kept) = (
+  bytes,
+  all,
+  batch_by result bytes c' d' old new (subst (λ c. KeptLeaves result bytes c new_keeper c' d' old new) is_c (subst (λ d. KeptLeaves result bytes c d c' d' old new) is_d kept)),
+)
 
 -- ---- what an answer says of the input, whatever was written
 
@@ -125,20 +208,35 @@ said_unopened : (short : Bool) (bytes : List ℕ) (input : Input) (why : StartFa
 said_unopened true bytes input why c d c' d' short is unopened = tt
 said_unopened false bytes input why c d c' d' short is unopened = (input, is, (c', d', (why, short, unopened)))
 
-pub says_unopened : (known : Option (List ℕ)) (bytes : List ℕ) (input : Input) (why : StartFault) (c d c' d' : KeeperState) → IfSome known (λ b. bytes ≡ b)
-    → input_of bytes ≡ Ok input → IsNotOpened input.openings why c d c' d' → IfSome known (λ b. SaysOf (Err (fault_of_start why)) b c d)
-says_unopened known bytes input why c d c' d' all is unopened =
-    of_all (λ b. SaysOf (Err (fault_of_start why)) b c d) known bytes all (said_unopened (is_short why) bytes input why c d c' d' refl is unopened)
+pub says_unopened : (known : Option (List ℕ)) (bytes : List ℕ) (input : Input) (why : StartFault) (c d c' d' : KeeperState) → IsInput known bytes → length bytes ≤ 67108864
+    → parts_of bytes ≡ Ok input → IsNotOpened input.openings why c d c' d' → (bytes : List ℕ) × IsInput known bytes × SaysOf (Err (fault_of_start why)) bytes c d
+says_unopened known bytes input why c d c' d' all le is unopened =
+    (bytes, all, said_unopened (is_short why) bytes input why c d c' d' refl (within bytes le ∙ is) unopened)
 
-said_ran : (ran : Result (Unit {0}) OutputFault) (bytes : List ℕ) (c d : KeeperState) → length bytes ≤ 67108864 → OpensBoth bytes c d → SaysOf (batch_result ran) bytes c d
-said_ran (Ok u) bytes c d le opens = (le, opens)
-said_ran (Err output.Memory) bytes c d le opens = tt
-said_ran (Err output.Write) bytes c d le opens = opens
+said_ran : (ran : Result (Unit {0}) OutputFault) (bytes : List ℕ) (c d : KeeperState) → OpensBoth bytes c d → SaysOf (batch_result ran) bytes c d
+said_ran (Ok u) bytes c d opens = opens
+said_ran (Err output.Memory) bytes c d opens = tt
+said_ran (Err output.Write) bytes c d opens = opens
 
-pub says_ran : (known : Option (List ℕ)) (ran : Result (Unit {0}) OutputFault) (bytes : List ℕ) (input : Input) (c d : KeeperState) (w : World) → IfSome known (λ b. bytes ≡ b)
-    → length bytes ≤ 67108864 → input_of bytes ≡ Ok input → IsStarted input.openings c d w → IfSome known (λ b. SaysOf (batch_result ran) b c d)
-says_ran known ran bytes input c d w all le is started =
-    of_all (λ b. SaysOf (batch_result ran) b c d) known bytes all (said_ran ran bytes c d le (input, is, (w, started)))
+pub says_ran : (known : Option (List ℕ)) (ran : Result (Unit {0}) OutputFault) (bytes : List ℕ) (input : Input) (c d : KeeperState) (w : World) → IsInput known bytes
+    → length bytes ≤ 67108864 → parts_of bytes ≡ Ok input → IsStarted input.openings c d w → (bytes : List ℕ) × IsInput known bytes × SaysOf (batch_result ran) bytes c d
+says_ran known ran bytes input c d w all le is started = (bytes, all, said_ran ran bytes c d (input, within bytes le ∙ is, (w, started)))
+
+pub ran_other : (ran : Result (Unit {0}) OutputFault) → batch_result ran ≡ Err fault.TooLong → ⊥
+ran_other (Ok u) is = absurd (cc is)
+ran_other (Err output.Memory) is = absurd (cc is)
+ran_other (Err output.Write) is = absurd (cc is)
+
+-- the input was not read to its end
+pub says_unread : {A : Type 0} (e : BatchFault) (known left : Option (List ℕ)) (c d : KeeperState) → IsReadFault e → HasGiven {A = A} (Err e) known left
+    → (bytes : List ℕ) × IsInput known bytes × SaysOf (Err e) bytes c d
+says_unread fault.Read known left c d kind gave = let (bytes, all) = some_input known in (bytes, all, tt)
+says_unread fault.Memory known left c d kind gave = let (bytes, all) = some_input known in (bytes, all, tt)
+says_unread fault.TooLong known left c d kind (given, took, long) = let (bytes, all, more) = long_input known left given took (long.0 refl) in (bytes, all, too_long bytes more)
+says_unread fault.Sections known left c d kind gave = absurd kind
+says_unread fault.Csv known left c d kind gave = absurd kind
+says_unread fault.Journal known left c d kind gave = absurd kind
+says_unread fault.Write known left c d kind gave = absurd kind
 
 -- a run that ends in a fault may have written
 pub run_may_write : (P : Type 0) (ran : Result (Unit {0}) OutputFault) → IfErr (batch_result ran) (λ e. WritesNothing e → P)

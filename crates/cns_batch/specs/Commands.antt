@@ -10,7 +10,7 @@ use Rattle.cns_records.specs.declared.refusal.Refusal.TheVariants as refusal
 use Rattle.cns_clearing.specs.Pools.{rows_of as pools_of}
 use Rattle.cns_depository.specs.Balances.{balance_rows}
 use Rattle.cns_system.specs.Happens.{book}
-use Rattle.cns_system.specs.Scene.{is_planner, planned}
+use Rattle.cns_system.specs.Scene.{is_planner}
 use Rattle.cns_system.specs.Shown.{Shown}
 use Rattle.cns_system.specs.declared.event.Event.{Event}
 use Rattle.cns_system.specs.declared.event.Event.TheVariants as event
@@ -21,7 +21,7 @@ use Rattle.cns_report.specs.Lines.{line_text}
 use Rattle.cns_report.specs.Outcomes.{outcome_line}
 use Rattle.cns_report.specs.Report.{balance_line, cycle_report_text}
 use Rattle.cns_report.specs.declared.line.Line.TheVariants as line
-use Rattle.cns_batch.specs.Acts.{Act, ◌>>=◌, done, gives, happened, single, tells}
+use Rattle.cns_batch.specs.Acts.{Act, ◌>>=◌, ◌>>◌, done, gives, happened, plans, single, tells}
 use Rattle.cns_batch.specs.declared.runner.Beside.{Beside}
 
 -- this row, the first of those that are left, is taken: a good one is a trade, and a faulty one is told
@@ -73,8 +73,7 @@ event_run e c = if names_busy c.beside e then tells (outcome_line e (outcomes.Re
 -- the next commit of a node is planned to fail, where its keeper plans failures
 abbrev pub failed : NodeName → Bool → Act (Unit {0})
 failed name stands c =
-    if is_planner name c.scene then tells (line_text line.FailurePlanned) (record c { scene = planned name stands c.scene })
-    else tells (line_text line.FailureNotPlanned) c
+    if is_planner name c.scene then (plans name stands >> tells (line_text line.FailurePlanned)) c else tells (line_text line.FailureNotPlanned) c
 
 abbrev pub report_text : Shown → List ℕ
 report_text w =

@@ -5,4 +5,5 @@ pub mod Runs
 pub mod Run
 pub mod Opened
 pub mod Text
+pub mod Memory
 pub mod Check

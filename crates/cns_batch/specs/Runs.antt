@@ -5,7 +5,7 @@ use Rattle.cns_trades.specs.declared.row.Row.{Row}
 use Rattle.cns_system.specs.Scene.{Chance, is_planner, planned, scene_of}
 use Rattle.cns_system.specs.declared.event.NodeName.{NodeName}
 use Rattle.cns_system.specs.World.{World}
-use Rattle.cns_batch.specs.Acts.{Act, Course, Told, gives}
+use Rattle.cns_batch.specs.Acts.{Act, Course, Occurrence, Told, gives, scene_at}
 use Rattle.cns_batch.specs.declared.runner.Beside.{Beside}
 
 -- what was told and is not yet written, and what its writer holds
@@ -45,22 +45,26 @@ course_at r chances = record { scene = scene_of r.world; rows = r.rows; beside =
 abbrev pub output_at : Place → Output
 output_at p = record { held = p.run.held; sent = p.sent }
 
--- a text before what is told
-abbrev pub after_text : {A : Type 0} → List ℕ → Told A → Told A
-after_text text told = record told { text = text ++ told.text }
+-- a text before what is told, and what occurred before
+abbrev pub after_all : {A : Type 0} → List ℕ → List Occurrence → Told A → Told A
+after_all text occurred told = record told { text = text ++ told.text; occurred = occurred ++ told.occurred }
 
--- an act has come so far that another one is left of it
+-- an act has come so far that another one is left of it, and both nodes are as what occurred leaves them
 pub record Continues {A : Type 0} (act left : Act A) (old new : Place) : Type 0 where
   pub chances : List Chance
   pub text : List ℕ
-  pub act_is : (more : List Chance) → act (course_at old.run (chances ++ more)) ≡ after_text text (left (course_at new.run more))
+  pub occurred : List Occurrence
+  pub act_is : (more : List Chance) → act (course_at old.run (chances ++ more)) ≡ after_all text occurred (left (course_at new.run more))
   pub writes : Writes text (output_at old) (output_at new)
+  pub scene : scene_of new.run.world ≡ scene_at (scene_of old.run.world) occurred
 
--- a first part of what is held and of what an act tells was written
+-- a first part of what is held and of what an act tells was written, and both nodes are as the first so many of what occurs by it leave them
 pub record Stops {A : Type 0} (act : Act A) (old new : Place) : Type 0 where
   pub chances : List Chance
   pub size : ℕ
   pub writes : Appends old.sent new.sent (take size (old.run.held ++ (act (course_at old.run chances)).text))
+  pub count : ℕ
+  pub scene : scene_of new.run.world ≡ scene_at (scene_of old.run.world) (take count (act (course_at old.run chances)).occurred)
 
 -- a call does an act, or stops in it
 abbrev pub Runs : {A E : Type 0} → Act A → Result A E → Place → Place → Type 0

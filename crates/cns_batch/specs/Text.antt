@@ -1,9 +1,9 @@
 -- The output text of a whole input, and what a fault says of it.
-use Rattle.std.specs.Prelude.{◌≡◌, ◌⊎◌, ⊤, ℕ, Bool, ◌<◌, ◌≤◌, true, false, List, [], ◌++◌, length, take, Option, None, Result, Ok, Err, if◌then◌else◌}
+use Rattle.std.specs.Prelude.{◌≡◌, ◌⊎◌, ⊤, ℕ, Bool, nat_le, true, false, List, [], ◌++◌, length, take, Option, None, Result, Ok, Err, if◌then◌else◌}
 use Rattle.std.specs.Io.KnownBytes.{Appends}
 use Rattle.std.specs.List.{enumerate_from, fold}
 use Rattle.std.specs.Option.{ok_or}
-use Rattle.cns_ids.specs.Steps.{◌>>=◌}
+use Rattle.cns_ids.specs.Steps.{◌>>=◌, ◌>>◌, need}
 use Rattle.cns_trades.specs.Openings.{opening_rows}
 use Rattle.cns_trades.specs.Rows.{trade_rows}
 use Rattle.cns_trades.specs.declared.fault.CsvFault.{CsvFault}
@@ -11,7 +11,10 @@ use Rattle.cns_trades.specs.declared.fault.CsvFault.TheVariants as rows
 use Rattle.cns_trades.specs.declared.opening.Opening.{Opening}
 use Rattle.cns_trades.specs.declared.row.Row.{Row}
 use Rattle.cns_journal.specs.Keeper.{Succeeds, KeeperState}
+use Rattle.cns_journal.specs.RecordLog.{IsGivenUp}
 use Rattle.cns_system.specs.Scene.{Chance, Scene, Sight, scene_of}
+use Rattle.cns_records.specs.Clear.{spelling}
+use Rattle.cns_records.specs.Dep.{dep_spelling}
 use Rattle.cns_records.specs.declared.clear_record.ClearRecord.{ClearRecord}
 use Rattle.cns_records.specs.declared.dep_record.DepRecord.{DepRecord}
 use Rattle.cns_system.specs.Shown.{LogShown, Shown}
@@ -20,6 +23,7 @@ use Rattle.cns_system.specs.Start.{IsNotOpened, IsStarted}
 use Rattle.cns_system.specs.declared.fault.StartFault.{StartFault}
 use Rattle.cns_system.specs.declared.fault.StartFault.TheVariants as start
 use Rattle.cns_system.specs.World.{World}
+use Rattle.cns_batch.specs.Acts.{Told, scene_at}
 use Rattle.cns_batch.specs.Opened.{told_opening}
 use Rattle.cns_batch.specs.Run.{lines_run}
 use Rattle.cns_input.specs.Sections.{raw_lines, sections}
@@ -33,19 +37,26 @@ pub record Input : Type 0 where
   pub rows : List Row
   pub script : List ℕ
 
--- what the bytes of an input hold, or their fault
-abbrev pub input_of : List ℕ → Result Input BatchFault
-input_of bytes = do
+-- what the sections of a text hold, or their fault
+abbrev pub parts_of : List ℕ → Result Input BatchFault
+parts_of bytes = do
   (openings, trades, script) ← ok_or (sections bytes) fault.Sections
   opened ← ok_or (opening_rows openings) fault.Csv
   rows ← ok_or (trade_rows trades) fault.Csv
   let (held, told) = fold told_opening ([], []) (enumerate_from 1 opened)
   Ok (record { openings = held; told = told; rows = rows; script = script })
 
+-- what the bytes of an input hold, or their first fault: no more than 67,108,864 bytes are read
+abbrev pub input_of : List ℕ → Result Input BatchFault
+input_of bytes = need (nat_le (length bytes) 67108864) fault.TooLong >> parts_of bytes
+
+-- what the script of an input comes to, from a scene on, by what comes between
+abbrev pub run_from : List Chance → Scene → Input → Told (Unit {0})
+run_from chances scene input = lines_run 1 (raw_lines input.script) (record { scene = scene; rows = input.rows; beside = None; chances = chances })
+
 -- the output text of an input, from a scene on, by what comes between
 abbrev pub text_from : List Chance → Scene → Input → List ℕ
-text_from chances scene input =
-    input.told ++ (lines_run 1 (raw_lines input.script) (record { scene = scene; rows = input.rows; beside = None; chances = chances })).text
+text_from chances scene input = input.told ++ (run_from chances scene input).text
 
 -- both nodes over keepers in memory without records
 abbrev pub first_scene : List Opening → Scene
@@ -79,7 +90,7 @@ fault_of_rows rows.OutOfMemory = fault.Memory
 fault_of_rows rows.Reading = fault.Read
 fault_of_rows rows.Header = fault.Csv
 
--- what a fault of reading says of the input
+-- what a fault of the sections of a text says of them
 abbrev pub Tells : BatchFault → Result Input BatchFault → Type 0
 Tells fault.Sections r = r ≡ Err fault.Sections
 Tells fault.Csv r = r ≡ Err fault.Csv
@@ -91,16 +102,22 @@ Tells fault.Write r = ⊥
 
 -- ---- what a batch leaves of what its writer holds
 
--- the text over these keepers was written
-abbrev pub WritesAll : Input → KeeperState → KeeperState → Option (List ℕ) → Option (List ℕ) → Type 0
-WritesAll input clear depot old new =
-    (w : World) × IsStarted input.openings clear depot w × ((chances : List Chance) × Appends old new (text_from chances (scene_of w) input))
+-- both keepers are as nodes in this scene give them up
+abbrev pub AreGivenUp : Scene → KeeperState → KeeperState → Type 0
+AreGivenUp scene clear depot = (w : World) × (scene_of w ≡ scene) × IsGivenUp spelling w.clear.clear.log clear × IsGivenUp dep_spelling w.depot.log depot
 
--- or a first part of it
-abbrev pub WritesPart : Input → KeeperState → KeeperState → Option (List ℕ) → Option (List ℕ) → Type 0
-WritesPart input clear depot old new =
+-- the text over these keepers was written, and they are left as the script leaves them
+abbrev pub WritesAll : Input → KeeperState → KeeperState → KeeperState → KeeperState → Option (List ℕ) → Option (List ℕ) → Type 0
+WritesAll input clear depot clear' depot' old new =
     (w : World) × IsStarted input.openings clear depot w
-    × ((chances : List Chance) × (size : ℕ) × Appends old new (take size (text_from chances (scene_of w) input)))
+    × ((chances : List Chance) × Appends old new (text_from chances (scene_of w) input) × AreGivenUp (run_from chances (scene_of w) input).course.scene clear' depot')
+
+-- a first part of that text was written, and they are left as the first so many of what occurs by the script leave them
+abbrev pub WritesPart : Input → KeeperState → KeeperState → KeeperState → KeeperState → Option (List ℕ) → Option (List ℕ) → Type 0
+WritesPart input clear depot clear' depot' old new =
+    (w : World) × IsStarted input.openings clear depot w
+    × ((chances : List Chance) × ((size : ℕ) × Appends old new (take size (text_from chances (scene_of w) input)))
+    × ((count : ℕ) × AreGivenUp (scene_at (scene_of w) (take count (run_from chances (scene_of w) input).occurred)) clear' depot'))
 
 -- an opening is refused for want of memory
 abbrev pub is_short : StartFault → Bool
@@ -115,11 +132,11 @@ IsUnopened for_memory input clear depot clear' depot' =
 
 -- what a batch over the input leaves of both keepers and of what its writer holds, by its answer
 abbrev pub RunsInput : Result (Unit {0}) BatchFault → Input → KeeperState → KeeperState → KeeperState → KeeperState → Option (List ℕ) → Option (List ℕ) → Type 0
-RunsInput (Ok _) input clear depot clear' depot' old new = WritesAll input clear depot old new
+RunsInput (Ok _) input clear depot clear' depot' old new = WritesAll input clear depot clear' depot' old new
 RunsInput (Err fault.Journal) input clear depot clear' depot' old new = IsUnopened false input clear depot clear' depot' × (new ≡ old)
 RunsInput (Err fault.Memory) input clear depot clear' depot' old new =
-    (IsUnopened true input clear depot clear' depot' × (new ≡ old)) ⊎ WritesPart input clear depot old new
-RunsInput (Err fault.Write) input clear depot clear' depot' old new = WritesPart input clear depot old new
+    (IsUnopened true input clear depot clear' depot' × (new ≡ old)) ⊎ WritesPart input clear depot clear' depot' old new
+RunsInput (Err fault.Write) input clear depot clear' depot' old new = WritesPart input clear depot clear' depot' old new
 RunsInput (Err _) input clear depot clear' depot' old new = ⊥
 
 abbrev pub fault_of_start : StartFault → BatchFault
@@ -134,9 +151,9 @@ WritesNothing _ = Unit {0}
 -- what a batch over keepers leaves, by its answer
 abbrev pub KeptLeaves : Result (Unit {0}) BatchFault → List ℕ → KeeperState → KeeperState → KeeperState → KeeperState → Option (List ℕ) → Option (List ℕ) → Type 0
 KeptLeaves (Ok _) bytes clear depot clear' depot' old new =
-    (length bytes ≤ 67108864) × ((input : Input) × (input_of bytes ≡ Ok input) × RunsInput (Ok tt) input clear depot clear' depot' old new)
+    (input : Input) × (input_of bytes ≡ Ok input) × RunsInput (Ok tt) input clear depot clear' depot' old new
 KeptLeaves (Err fault.Read) bytes clear depot clear' depot' old new = (clear' ≡ clear) × (depot' ≡ depot)
-KeptLeaves (Err fault.TooLong) bytes clear depot clear' depot' old new = (67108864 < length bytes) × (clear' ≡ clear) × (depot' ≡ depot)
+KeptLeaves (Err fault.TooLong) bytes clear depot clear' depot' old new = (input_of bytes ≡ Err fault.TooLong) × (clear' ≡ clear) × (depot' ≡ depot)
 KeptLeaves (Err fault.Sections) bytes clear depot clear' depot' old new = (input_of bytes ≡ Err fault.Sections) × (clear' ≡ clear) × (depot' ≡ depot)
 KeptLeaves (Err fault.Csv) bytes clear depot clear' depot' old new = (input_of bytes ≡ Err fault.Csv) × (clear' ≡ clear) × (depot' ≡ depot)
 KeptLeaves (Err fault.Journal) bytes clear depot clear' depot' old new =
@@ -157,9 +174,9 @@ OpensBoth bytes clear depot = (input : Input) × (input_of bytes ≡ Ok input) �
 
 -- what an answer says of the bytes and of the keepers, whatever was written
 abbrev pub SaysOf : Result (Unit {0}) BatchFault → List ℕ → KeeperState → KeeperState → Type 0
-SaysOf (Ok _) bytes clear depot = (length bytes ≤ 67108864) × OpensBoth bytes clear depot
+SaysOf (Ok _) bytes clear depot = OpensBoth bytes clear depot
 SaysOf (Err fault.Read) bytes clear depot = ⊤
-SaysOf (Err fault.TooLong) bytes clear depot = 67108864 < length bytes
+SaysOf (Err fault.TooLong) bytes clear depot = input_of bytes ≡ Err fault.TooLong
 SaysOf (Err fault.Sections) bytes clear depot = input_of bytes ≡ Err fault.Sections
 SaysOf (Err fault.Csv) bytes clear depot = input_of bytes ≡ Err fault.Csv
 SaysOf (Err fault.Journal) bytes clear depot =
@@ -176,9 +193,9 @@ WritesTextPart bytes old new = (chances : List Chance) × (text : List ℕ) × (
 
 -- what a batch over keepers in memory leaves, by its answer
 abbrev pub BatchLeaves : Result (Unit {0}) BatchFault → List ℕ → Option (List ℕ) → Option (List ℕ) → Type 0
-BatchLeaves (Ok _) bytes old new = (length bytes ≤ 67108864) × WritesText bytes old new
+BatchLeaves (Ok _) bytes old new = WritesText bytes old new
 BatchLeaves (Err fault.Read) bytes old new = ⊤
-BatchLeaves (Err fault.TooLong) bytes old new = 67108864 < length bytes
+BatchLeaves (Err fault.TooLong) bytes old new = text_of bytes ≡ Err fault.TooLong
 BatchLeaves (Err fault.Sections) bytes old new = text_of bytes ≡ Err fault.Sections
 BatchLeaves (Err fault.Csv) bytes old new = text_of bytes ≡ Err fault.Csv
 BatchLeaves (Err fault.Journal) bytes old new = ⊥

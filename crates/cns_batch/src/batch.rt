@@ -1,10 +1,12 @@
-ghost use Rattle.std.specs.Prelude.{◌≡◌, ◌+◌, ◌<◌, ◌≤◌, ◌⊎◌, [], Ok, Some, MatchResult, IfOk, IfSome, OnOk, IfErr, List, ℕ, drop, length};
+ghost use Rattle.std.specs.Prelude.{◌≡◌, ◌+◌, ◌≤◌, ◌⊎◌, [], Ok, Some, MatchResult, IfOk, OnOk, IfErr, List, ℕ, drop, length};
 ghost use Rattle.std.specs.Io.KnownBytes.{Appends, IsAtEnd};
 ghost use Rattle.cns_batch.specs.Ending.{batch_result};
+ghost use Rattle.cns_batch.specs.Memory.{IsOfBytes};
 ghost use Rattle.cns_batch.specs.Run.{lines_run};
 ghost use Rattle.cns_batch.specs.Runs.{Runs};
+ghost use Rattle.cns_input.specs.Reading.{HasGiven, IsInput};
 ghost use Rattle.cns_input.specs.Sections.{raw_lines, sections};
-ghost use Rattle.cns_batch.specs.Text.{BatchLeaves, KeptLeaves, RunsInput, Tells, WritesNothing, fault_of_rows, fault_of_start, input_of};
+ghost use Rattle.cns_batch.specs.Text.{BatchLeaves, KeptLeaves, RunsInput, Tells, WritesNothing, fault_of_rows, fault_of_start, parts_of};
 
 use crate::fault::Told;
 use crate::opening::take_openings;
@@ -72,8 +74,8 @@ pub(crate) fn start_fault(fault: StartFault) -> BatchFault
 fn read_rows(alloc: Global, openings: &[u8], trades: &[u8]) -> Result<Rows, BatchFault>
     ensures { MatchResult result
         (λ rows. (bytes script : List ℕ) → sections bytes ≡ Some (openings.now, trades.now, script)
-        → input_of bytes ≡ Ok (record { openings = rows.openings; told = rows.told; rows = rows.trades; script = script }))
-        (λ e. (bytes script : List ℕ) → sections bytes ≡ Some (openings.now, trades.now, script) → Tells e (input_of bytes)) }
+        → parts_of bytes ≡ Ok (record { openings = rows.openings; told = rows.told; rows = rows.trades; script = script }))
+        (λ e. (bytes script : List ℕ) → sections bytes ≡ Some (openings.now, trades.now, script) → Tells e (parts_of bytes)) }
 {
     let rows = match read_openings(alloc, openings) {
         Ok(rows) => rows,
@@ -95,9 +97,9 @@ fn read_rows(alloc: Global, openings: &[u8], trades: &[u8]) -> Result<Rows, Batc
 // The rows of an input text, and where its script begins, which is the last part of the text.
 fn read_front(alloc: Global, text: &[u8]) -> Result<(Rows, usize), BatchFault>
     ensures parts { MatchResult result
-        (λ front. input_of text.now
+        (λ front. parts_of text.now
         ≡ Ok (record { openings = front.0.openings; told = front.0.told; rows = front.0.trades; script = drop front.1 text.now }))
-        (λ e. Tells e (input_of text.now)) }
+        (λ e. Tells e (parts_of text.now)) }
     ensures within { IfOk result (λ front. front.1 ≤ length text.now) }
 {
     let Some(sections) = split_input(text) else {
@@ -124,9 +126,9 @@ fn cut_front(text: &mut Vec<u8>, size: usize)
 // other large blocks as they grow.
 pub(crate) fn read_parts(alloc: Global, mut text: Vec<u8>) -> Result<Parts, BatchFault>
     ensures { MatchResult result
-        (λ parts. input_of text.items
+        (λ parts. parts_of text.items
         ≡ Ok (record { openings = parts.rows.openings; told = parts.rows.told; rows = parts.rows.trades; script = parts.script.items }))
-        (λ e. Tells e (input_of text.items)) }
+        (λ e. Tells e (parts_of text.items)) }
 {
     let (rows, start) = read_front(alloc, text.as_slice())?;
     cut_front(&mut text, start);
@@ -198,9 +200,11 @@ fn run_input<C: Keeper + Drop, D: Keeper + Drop, W: Write>(
 /// its script tells of its trades.
 ///
 /// With `Read`, `TooLong`, `Sections`, `Csv` and `Journal` nothing was written, and the first four leave
-/// both keepers as they were. `Journal` comes after these, exactly where the nodes were not opened for
+/// both keepers as they were. `TooLong` comes exactly where the reader gave more than 67,108,864 bytes, and
+/// so before `Sections` and `Csv`. `Journal` comes after these, exactly where the nodes were not opened for
 /// another cause than want of memory. At `Write` and `Memory` a first part of the text was written, or
-/// none. `steps` counts the read calls, at most 67,108,866.
+/// none. Where the script ran, each keeper comes back as its node gives it up in the scene that the script
+/// left, at Ok the last one. `steps` counts the read calls, at most 67,108,866.
 pub fn run_batch_kept<R: Read, W: Write, L: Ledger, C: Keeper + Drop, D: Keeper + Drop>(
     alloc: Global,
     reader: &mut R,
@@ -209,8 +213,9 @@ pub fn run_batch_kept<R: Read, W: Write, L: Ledger, C: Keeper + Drop, D: Keeper 
     clear: C,
     depot: D,
 ) -> Kept<C, D>
-    ensures leaves { IfSome (R.remaining reader.old) (λ bytes. KeptLeaves result.result bytes (C.state clear) (D.state depot) (C.state result.clear) (D.state result.depot)
-        (W.contents writer.old) (W.contents writer.new)) }
+    ensures leaves { (bytes : List ℕ) × IsInput (R.remaining reader.old) bytes
+        × KeptLeaves result.result bytes (C.state clear) (D.state depot) (C.state result.clear) (D.state result.depot) (W.contents writer.old) (W.contents writer.new) }
+    ensures given { HasGiven result.result (R.remaining reader.old) (R.remaining reader.new) }
     ensures none { IfErr result.result (λ e. WritesNothing e → W.contents writer.new ≡ W.contents writer.old) }
     ensures end { OnOk result.result (IsAtEnd (R.remaining reader.new)) }
     ensures reads { steps.new ≤ steps.old + 67108866 }
@@ -239,16 +244,17 @@ pub fn run_batch_kept<R: Read, W: Write, L: Ledger, C: Keeper + Drop, D: Keeper 
 
 /// Reads an input text to its end, and writes what its script tells of its trades, over keepers in memory.
 ///
-/// With `Read`, `TooLong`, `Sections` and `Csv` nothing was written; `Journal` is never answered. At
-/// `Write` and `Memory` a first part of the text was written, or none. `steps` counts the read calls, at
-/// most 67,108,866.
+/// With `Read`, `TooLong`, `Sections` and `Csv` nothing was written; `Journal` is never answered. `TooLong`
+/// comes exactly where the reader gave more than 67,108,864 bytes. At `Write` and `Memory` a first part of
+/// the text was written, or none. `steps` counts the read calls, at most 67,108,866.
 pub fn run_batch<R: Read, W: Write, L: Ledger>(
     alloc: Global,
     reader: &mut R,
     writer: &mut W,
     steps: &mut Steps<L>,
 ) -> Result<(), BatchFault>
-    ensures leaves { IfSome (R.remaining reader.old) (λ bytes. BatchLeaves result bytes (W.contents writer.old) (W.contents writer.new)) }
+    ensures leaves { (bytes : List ℕ) × IsInput (R.remaining reader.old) bytes × BatchLeaves result bytes (W.contents writer.old) (W.contents writer.new) }
+    ensures given { HasGiven result (R.remaining reader.old) (R.remaining reader.new) }
     ensures none { IfErr result (λ e. WritesNothing e → W.contents writer.new ≡ W.contents writer.old) }
     ensures end { OnOk result (IsAtEnd (R.remaining reader.new)) }
     ensures reads { steps.new ≤ steps.old + 67108866 }
@@ -268,3 +274,9 @@ pub fn run_batch<R: Read, W: Write, L: Ledger>(
     drop((clear, depot));
     result
 }
+
+/// A law, by a call that does nothing: over keepers in memory, the text of an input is a function of its
+/// bytes alone, whatever comes between its events, where none of these is refused for want of memory.
+pub fn text_is_of_bytes()
+    ensures { IsOfBytes }
+{}

@@ -1,11 +1,12 @@
 //! Runs over a desk, where workers draw the tickets of the lots that a script allocates.
 
-ghost use Rattle.std.specs.Prelude.{◌≡◌, ◌+◌, ◌<◌, ◌≤◌, IfErr, IfSome, OnOk, length};
+ghost use Rattle.std.specs.Prelude.{◌≡◌, ◌+◌, ◌≤◌, ℕ, List, IfErr, OnOk, length};
 ghost use Rattle.std.specs.Arc.{arc_value};
 ghost use Rattle.std.specs.Io.KnownBytes.{IsAtEnd};
 ghost use Rattle.std.specs.Thread.{IsSync};
 ghost use Rattle.cns_pool.specs.WorkerSeat.{new_worker};
 ghost use Rattle.cns_system.specs.Lot.{planned_sum};
+ghost use Rattle.cns_input.specs.Reading.{HasGiven, IsInput};
 ghost use Rattle.cns_batch.specs.Text.{LeavesSomeKeepers, SaysOf, WritesNothing};
 
 use crate::batch::{Parts, Rows, batch_result, read_parts, run_batch_kept, start_fault};
@@ -325,9 +326,10 @@ pub fn run_desk<
     depot: D,
     gate: &G,
 ) -> Result<(), BatchFault>
-    ensures says { IfSome (I.remaining reader.old) (λ bytes. SaysOf result bytes (C.state clear) (D.state depot)) }
-    ensures plain { workers ≡ 0 → IfSome (I.remaining reader.old) (λ bytes. LeavesSomeKeepers result bytes (C.state clear) (D.state depot)
-        (W.contents writer.old) (W.contents writer.new)) }
+    ensures says { (bytes : List ℕ) × IsInput (I.remaining reader.old) bytes × SaysOf result bytes (C.state clear) (D.state depot) }
+    ensures plain { workers ≡ 0 → (bytes : List ℕ) × IsInput (I.remaining reader.old) bytes
+        × LeavesSomeKeepers result bytes (C.state clear) (D.state depot) (W.contents writer.old) (W.contents writer.new) }
+    ensures given { HasGiven result (I.remaining reader.old) (I.remaining reader.new) }
     ensures none { IfErr result (λ e. WritesNothing e → W.contents writer.new ≡ W.contents writer.old) }
     ensures end { OnOk result (IsAtEnd (I.remaining reader.new)) }
     ensures reads { steps.new ≤ steps.old + 67108866 }

@@ -2,8 +2,9 @@
 //! the script's commands tell is written.
 //!
 //! `run_batch` runs over keepers in memory, `run_batch_kept` over those that it is given, and `run_desk`
-//! lets workers serve the lots. The text that a batch writes is a function of the bytes that it reads
-//! (`text_of`). `check_cusip` says of one text whether it is a CUSIP.
+//! lets workers serve the lots. The text that a batch over keepers in memory writes is a function of the
+//! bytes that it reads (`text_of`), where no event is refused for want of memory. `check_cusip` says of
+//! one text whether it is a CUSIP.
 #![tactic(auto)]
 
 mod batch;
@@ -19,6 +20,6 @@ mod page;
 mod runner;
 mod script;
 
-pub use batch::{Kept, run_batch, run_batch_kept};
+pub use batch::{Kept, run_batch, run_batch_kept, text_is_of_bytes};
 pub use check::check_cusip;
 pub use desk::run_desk;

@@ -1,10 +1,17 @@
-use Rattle.cns_batch.proofs.TextLemmas.{run_may_write, says_ran, says_unopened}
+use Rattle.std.proofs.Common.{sym, ◌∙◌}
+use Rattle.std.proofs.lemmas.Result.{err_from_is_err_and}
+use Rattle.cns_batch.proofs.TextLemmas.{given_after, ran_other, run_may_write, says_ran, says_unopened, says_unread}
 use Rattle.cns_batch.proofs.desk.run_desk.Goals as goal
+
+pub returns-in_err-bytes-clause-says : goal.returns-in_err-bytes-clause-says
+returns-in_err-bytes-clause-says g c =
+    let p = err_from_is_err_and c.from_residual.result c.from_residual.ensures.1 in
+    rw (p.1, p.2) (says_unread c.in_err-bytes.field-0.0 _ _ _ _ c.in_err-bytes.ensures.kind c.in_err-bytes.ensures.given)
 
 pub returns-in-Err-clause-says : goal.returns-in-Err-clause-says
 returns-in-Err-clause-says g c =
     rw c.start_fault.ensures
-    (says_unopened _ c.in_ok-bytes.bytes.items _ c.in-Err.refused.fault _ _ _ _ c.in_ok-bytes.ensures.text c.in_ok-openings.ensures c.in-Err.ensures.err)
+    (says_unopened _ c.in_ok-bytes.bytes.items _ c.in-Err.refused.fault _ _ _ _ c.in_ok-bytes.ensures.text c.in_ok-bytes.ensures.size c.in_ok-openings.ensures c.in-Err.ensures.err)
 
 pub returns-clause-says : goal.returns-clause-says
 returns-clause-says g c =
@@ -14,3 +21,10 @@ returns-clause-says g c =
 
 pub returns-clause-none : goal.returns-clause-none
 returns-clause-none g c = rw c.batch_result.ensures (run_may_write _ c.run_script.result)
+
+pub returns-clause-plain : goal.returns-clause-plain
+returns-clause-plain g c = λ none. absurd (c.if-workers-eq0.false none)
+
+pub returns-clause-given : goal.returns-clause-given
+returns-clause-given g c =
+    given_after c.in_ok-bytes.bytes c.batch_result.result _ _ (λ is. ran_other c.run_script.result (sym c.batch_result.ensures ∙ is)) c.in_ok-bytes.ensures.given

@@ -9,7 +9,7 @@ abbrev all_pumped : Act (Unit {0})
 all_pumped c = each pumped (unconfirmed c.scene.shown.clear.records) c
 
 pub returns-in_err-numbers : goal.returns-in_err-numbers
-returns-in_err-numbers g c = runs_fault all_pumped c.from_residual.result _ _ c.from_residual.ensures.0 (stops_here all_pumped _ _ refl)
+returns-in_err-numbers g c = runs_fault all_pumped c.from_residual.result _ _ c.from_residual.ensures.0 (stops_here all_pumped _ _ refl refl)
 
 pub returns : goal.returns
 returns g c =
