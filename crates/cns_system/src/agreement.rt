@@ -16,7 +16,8 @@ fn is_ordered(orders: &OrderBook, entry: &DepRecord) -> bool
     let Some(known) = orders.get(order.number) else {
         return false;
     };
-    known.is_same(order) && (order.kind != MoveKind::Delivery || moved.count() == order.asked.shares())
+    known.is_same(order)
+        && (order.kind != MoveKind::Delivery || moved.count() == order.asked.shares())
 }
 
 // Whether that is so of each of them.
