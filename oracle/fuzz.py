@@ -457,6 +457,9 @@ class Maker:
 
 Input = collections.namedtuple('Input', 'words text want')
 FAULTY = (1, b'', None)
+# (a folder of the journals that is not there)
+NO_FOLDER = [b'run', b'--journal', b'4']
+JOURNAL_FAILED = (3, b'', b'cnsd: journal failed\n')
 HELP = (0, None, b'')
 HELPS = [[b'--help'], [b'-h'], [b'help'], [b'help', b'run'], [b'help', b'cusip'], [b'run', b'--help'], [b'run', b'-h'],
          [b'cusip', b'--help'], [b'cusip', b'-h'], [b'--version'], [b'-V']]
@@ -511,7 +514,7 @@ def cusip_input(rng):
 
 
 def command_line(rng):
-    """A command line that asks for no work: help, the version, or a fault."""
+    """A command line that ends at once: help, the version, a fault, or journals in a folder that is not there."""
     if rng.random() < 0.2:
         return Input(rng.choice(HELPS), b'', HELP)
     text = cusip_text(rng)
@@ -521,7 +524,8 @@ def command_line(rng):
               [b'cusip'], [b'cusip', b'--'], [b'cusip', plain, plain], [b'cusip', b'--', text, text],
               [b'cusip', option], [b'cusip', plain, option], [b'cusip', option, plain],
               [b'cusip', plain + b'\xff'], [b'cusip', b'--', b'\xc3' + plain]]
-    return Input(rng.choice(faulty), b'', FAULTY)
+    words = rng.choice(faulty)
+    return Input(words, b'', JOURNAL_FAILED if words == NO_FOLDER else FAULTY)
 
 
 def long_input(rng):
