@@ -1,7 +1,7 @@
 # The proved program, where `make build` and `make test` leave it.
 program := crates/cnsd/out/cnsd
 
-.PHONY: demo run test build fuzz bench works profile wrong crash limits stress format
+.PHONY: demo run test build fuzz bench works profile wrong crash limits stress hostile guided format
 
 # Runs the worked example, by the built program where it is up to date, else unproved: a minute or two.
 demo:
@@ -51,6 +51,14 @@ limits: build
 # Each call on the journals failed, and the program killed before and after it.
 crash: build
 	tests/crash.sh $(program)
+
+# Inputs, journals and command lines that are meant to harm it, and what runs out; SEED, COUNT and LANES may be given.
+hostile: build
+	tests/hostile.sh $(program) --seed $${SEED:-1} --count $${COUNT:-100000} --lanes $${LANES:-1}
+
+# Texts and journals that AFL++ leads by what they reach in an unproved build, FOR so many seconds each (600).
+guided: build
+	tests/guided.sh $(program) $${FOR:-600}
 
 # Threads that race at the cell, checked from outside; SEED may be given.
 stress:

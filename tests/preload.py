@@ -6,6 +6,10 @@ HERE = os.path.dirname(os.path.abspath(__file__))
 SECONDS = 20
 
 
+# A folder in memory, where there is one: no run waits there for a disk.
+IN_MEMORY = '/dev/shm' if os.access('/dev/shm', os.W_OK) else None
+
+
 class Failure(Exception):
     """What went wrong, in words."""
 
