@@ -12,6 +12,9 @@ use std::alloc::AllocError;
 use std::thread;
 use std::thread::Threads;
 
+/// The most workers that serve a plan. (This project's own limit.)
+pub const MAX_WORKERS: usize = 64;
+
 // What a worker needs for its places of a group.
 #[derive(Clone, Copy)]
 struct Needs {
@@ -22,7 +25,7 @@ struct Needs {
 impl Needs {
     // The shares are taken off the budget one by one, so their sum is known to fit.
     fn of(budget: u64, group: &[Planned], worker: usize, workers: usize) -> Needs
-        requires workers { (0 < workers) × (workers ≤ 64) }
+        requires workers { (0 < workers) × (workers ≤ MAX_WORKERS) }
         requires budget { shares_of (places_of workers worker group.now) ≤ budget }
         ensures shares { result.shares ≡ shares_of (places_of workers worker group.now) }
         ensures calls { result.calls ≡ length (places_of workers worker group.now) }
@@ -54,7 +57,7 @@ pub(crate) fn split_seats(
     requires cell { seat.old.cell ≡ cell.now }
     requires none { seats.old.items ≡ [] }
     requires room { workers ≤ vec_capacity seats.old }
-    requires workers { (0 < workers) × (workers ≤ 64) }
+    requires workers { (0 < workers) × (workers ≤ MAX_WORKERS) }
     requires budget { shares_of group.now ≤ seat.old.budget }
     requires calls { length group.now ≤ seat.old.calls }
     ensures split { HasSplit seat.old seats.new.items seat.new }
@@ -81,7 +84,7 @@ pub(crate) fn draw<G: Gate>(
     gate: &G,
 )
     requires cell { seat.old.cell ≡ cell.now }
-    requires workers { (0 < workers) × (workers ≤ 64) }
+    requires workers { (0 < workers) × (workers ≤ MAX_WORKERS) }
     requires asks { All (λ (p : Planned). 1 ≤ p.asked) group.now }
     requires budget { shares_of (places_of workers worker group.now) ≤ seat.old.budget }
     requires calls { length (places_of workers worker group.now) ≤ seat.old.calls }
@@ -109,7 +112,7 @@ pub(crate) fn draw_all<G: Gate + Sync, R: Threads + Sync>(
     gate: &G,
 )
     requires cell { All (λ (s : WorkerState). s.cell ≡ cell.now) seats.old }
-    requires workers { (0 < length seats.old) × (length seats.old ≤ 64) }
+    requires workers { (0 < length seats.old) × (length seats.old ≤ MAX_WORKERS) }
     requires asks { All (λ (p : Planned). 1 ≤ p.asked) group.now }
     requires budget { (i : ℕ) (d : WorkerState) → i < length seats.old → shares_of (places_of (length seats.old) i group.now) ≤ (slice_index_or seats.old i d).budget }
     requires calls { (i : ℕ) (d : WorkerState) → i < length seats.old → length (places_of (length seats.old) i group.now) ≤ (slice_index_or seats.old i d).calls }

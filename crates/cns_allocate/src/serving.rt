@@ -1,4 +1,4 @@
-ghost use Rattle.std.specs.Prelude.{◌≡◌, ◌↔◌, ◌⊎◌, ℕ, ◌<◌, ◌≤◌, ◌||◌, [], length, take, true, All, IfErr, IfOk, OnErr, OnOk};
+ghost use Rattle.std.specs.Prelude.{◌≡◌, ◌↔◌, ◌⊎◌, ℕ, ◌<◌, ◌≤◌, ◌||◌, [], length, min, take, true, All, IfErr, IfOk, OnErr, OnOk};
 ghost use Rattle.cns_pool.specs.WorkerSeat.{EndWithin};
 ghost use Rattle.cns_allocate.specs.Group.{rank};
 ghost use Rattle.cns_allocate.specs.Plan.{IsServable};
@@ -8,13 +8,10 @@ ghost use Rattle.cns_allocate.specs.declared.serving.ServeCause.TheVariants.{Out
 
 use crate::gate::Gate;
 use crate::planned::Planned;
-use crate::seats::{draw_all, join_seats, split_seats};
+use crate::seats::{MAX_WORKERS, draw_all, join_seats, split_seats};
 use cns_pool::{PoolCell, WorkerSeat};
 use std::alloc::{AllocError, Global};
 use std::thread::Threads;
-
-/// The most workers that serve a plan; more come later. (This project's own limit.)
-pub const MAX_WORKERS: usize = 2;
 
 /// A plan that was served.
 #[derive(Drop)]
@@ -48,9 +45,10 @@ pub struct ServeFault {
 /// The groups are served one after another. The member at the place j of its group, counted from 0, is
 /// drawn for by the worker j mod `workers`; each worker draws in a thread of its own where one can be
 /// made, with a seat that is split off the one handed in, and calls the gate before and after each
-/// reserve. Once the workers have drawn, their seats are joined in again, so the seat that comes back has
-/// all tickets, also in a fault. By start, they are those of the first members of an order of the whole
-/// plan in which no group comes after a later one; all members have one, unless a worker met the seal.
+/// reserve. A worker that has no member of the group to draw for takes no seat and no thread. Once the
+/// workers have drawn, their seats are joined in again, so the seat that comes back has all tickets, also
+/// in a fault. By start, they are those of the first members of an order of the whole plan in which no
+/// group comes after a later one; all members have one, unless a worker met the seal.
 ///
 /// The seat has no ticket yet, and budget and calls for the whole plan.
 pub fn serve<G: Gate + Sync, R: Threads + Sync>(
@@ -103,7 +101,7 @@ fn serve_groups<G: Gate + Sync, R: Threads + Sync>(
 ) -> Result<bool, AllocError>
     requires cell { seat.old.cell ≡ cell.now }
     requires none { seat.old.tickets ≡ [] }
-    requires workers { (0 < workers) × (workers ≤ 64) }
+    requires workers { (0 < workers) × (workers ≤ MAX_WORKERS) }
     requires plan { IsServable plan.now }
     requires budget { shares_of plan.now ≤ seat.old.budget }
     requires calls { length plan.now ≤ seat.old.calls }
@@ -142,7 +140,19 @@ fn group_len(planned: &[Planned]) -> usize
     len
 }
 
-// Serves one group: splits off a seat for each worker, lets them draw, and joins their seats in again.
+// How many of the workers have a member of a group to draw for: in a group of fewer members than workers
+// the member at each place is drawn for by the worker of that number.
+fn drawing_workers(workers: usize, group: &[Planned]) -> usize
+    requires workers { (0 < workers) × (workers ≤ MAX_WORKERS) }
+    requires some { 0 < length group.now }
+    ensures count { result ≡ min workers (length group.now) }
+    ensures workers { (0 < result) × (result ≤ MAX_WORKERS) }
+{
+    workers.min(group.len())
+}
+
+// Serves one group: splits off a seat for each worker that draws, lets them draw, and joins their seats in
+// again.
 fn serve_group<G: Gate + Sync, R: Threads + Sync>(
     rt: &R,
     alloc: Global,
@@ -153,7 +163,8 @@ fn serve_group<G: Gate + Sync, R: Threads + Sync>(
     gate: &G,
 ) -> Result<(), AllocError>
     requires cell { seat.old.cell ≡ cell.now }
-    requires workers { (0 < workers) × (workers ≤ 64) }
+    requires workers { (0 < workers) × (workers ≤ MAX_WORKERS) }
+    requires some { 0 < length group.now }
     requires asks { All (λ (p : Planned). 1 ≤ p.asked) group.now }
     requires budget { shares_of group.now ≤ seat.old.budget }
     requires calls { length group.now ≤ seat.old.calls }
@@ -161,8 +172,9 @@ fn serve_group<G: Gate + Sync, R: Threads + Sync>(
     ensures ends { OnOk result (EndWithin seat.old.seen.asked seat.old.tickets) }
     ensures fault { OnErr result (HasDrawn seat.old [] seat.new) }
 {
-    let mut seats = Vec::with_capacity(alloc, workers)?;
-    if let Err(fault) = split_seats(cell, seat, &mut seats, group, workers) {
+    let drawing = drawing_workers(workers, group);
+    let mut seats = Vec::with_capacity(alloc, drawing)?;
+    if let Err(fault) = split_seats(cell, seat, &mut seats, group, drawing) {
         join_seats(cell, seat, seats);
         return Err(fault);
     }

@@ -18,6 +18,7 @@ mod finish;
 mod floor;
 mod start;
 mod story;
+mod workers;
 
 // Members 2 and 3 are long of 30 each, and member 1 is short of all of them.
 #[tactic(auto, using(cns_allocate::proofs::PlanLemmas::unsettled_longs))]

@@ -9,7 +9,7 @@ use std::process::Abort;
 use std::sync::Wait;
 use std::thread::Threads;
 
-type Shared = Desk<ListKeeper, ListKeeper>;
+pub(super) type Shared = Desk<ListKeeper, ListKeeper>;
 
 // Member 1's 40 shares are free.
 const FREE: &[Happens] = &[
@@ -33,7 +33,7 @@ static ALLOCATES: [Allocates; 2] = [
     (0, 0, NONE, 2, Told::Closed(0, 0, 0), OPENED),
 ];
 
-fn take_all(rt: &(impl Abort + Wait), desk: &Shared, happens: &[Happens]) {
+pub(super) fn take_all(rt: &(impl Abort + Wait), desk: &Shared, happens: &[Happens]) {
     for (place, (deed, told)) in happens.iter().enumerate() {
         let outcome = desk.lock(rt).step(event_of(rt, deed));
         assert!(rt; is_told(&outcome, told), "event {place}");
