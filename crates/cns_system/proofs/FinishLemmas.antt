@@ -11,7 +11,7 @@ use Rattle.cns_records.specs.declared.refusal.Refusal.{Refusal}
 use Rattle.cns_records.specs.declared.refusal.Refusal.TheVariants as refusal
 use Rattle.cns_system.specs.Accord.{IsInAccord}
 use Rattle.cns_system.specs.Begin.{IsRefusal}
-use Rattle.cns_system.specs.Finish.{AreAllEntered, AreCutOff, AreEntered, FinishGives, IsClosed, IsEnded, IsFinished, IsNotEntered, IsReleased, IsSealedFirst, draws, reserves, without_busy}
+use Rattle.cns_system.specs.Finish.{AreAllEntered, AreCutOff, AreEntered, FinishGives, IsClosed, IsEnded, IsFinished, IsNotEntered, IsReleased, IsSealedFirst, draws, is_sealed, reserves, sealed_at, without_busy}
 use Rattle.cns_system.specs.Floor.{AreBusy, AreInOrder, BusyLot, FloorState, IsBusy, IsPlaceOf, NumbersRise, busy_at}
 use Rattle.cns_system.specs.Headline.{AreStrict, IsAgreed}
 use Rattle.cns_system.specs.Lot.{LotState, ticket_in, turn_in, with_ticket}
@@ -78,6 +78,20 @@ released_from f now n place items rest x sealed was same is left read shown =
       (is.0, ap (λ (bs : List BusyLot). busy_at bs n) (sym same) ∙ is.1, shown ∙ ap (λ (b : BusyLot). b.sealed) one),
       ap (λ (bs : List BusyLot). record f { busy = bs }) left,
     )
+
+-- whether the cell of the busy lot that was looked for is sealed
+pub sealed_here : (f now : FloorState) (n place : ℕ) (items : List BusyLot) (x : BusyLot) → f ≡ now → items ≡ f.busy → IsPlaceOf (busy_at items n) items (Some place)
+    → x ≡ get_or f.busy place x → x.sealed ≡ sealed_at now.busy n
+sealed_here f now n place items x was same is read =
+    let there : slice_get f.busy place ≡ Some is.0 = ap (λ (bs : List BusyLot). slice_get bs place) (sym same) ∙ is.2 in
+    let one : x ≡ is.0 = read ∙ get_or_from_slice_get f.busy place is.0 x there in
+    let here : busy_at f.busy n ≡ Some is.0 = ap (λ (bs : List BusyLot). busy_at bs n) (sym same) ∙ is.1 in
+    subst (λ (g : FloorState). x.sealed ≡ sealed_at g.busy n) was (ap (λ (b : BusyLot). b.sealed) one ∙ sym (ap is_sealed here))
+
+pub sealed_nowhere : (f now : FloorState) (n : ℕ) (items : List BusyLot) → f ≡ now → items ≡ f.busy → busy_at items n ≡ None → false ≡ sealed_at now.busy n
+sealed_nowhere f now n items was same none =
+    let here : busy_at f.busy n ≡ None = ap (λ (bs : List BusyLot). busy_at bs n) (sym same) ∙ none in
+    subst (λ (g : FloorState). false ≡ sealed_at g.busy n) was (sym (ap is_sealed here))
 
 order_without : (n : ℕ) (busy : List BusyLot) → AreInOrder busy → AreInOrder (without_busy n busy)
 order_without n [] order = tt

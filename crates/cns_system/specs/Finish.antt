@@ -26,6 +26,14 @@ use Rattle.cns_system.specs.declared.outcome.Outcome.TheVariants as outcomes
 abbrev pub without_busy : ℕ → List BusyLot → List BusyLot
 without_busy number busy = filter (λ (b : BusyLot). not (b.lot == number)) busy
 
+-- whether the floor's seat sealed the cell of a busy lot, and of that of a number
+abbrev pub is_sealed : Option BusyLot → Bool
+is_sealed None = false
+is_sealed (Some b) = b.sealed
+
+abbrev pub sealed_at : List BusyLot → ℕ → Bool
+sealed_at busy number = is_sealed (busy_at busy number)
+
 -- ---- the tickets
 
 -- the events that enter tickets, and what they come to where each member draws its ticket

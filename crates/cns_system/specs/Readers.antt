@@ -6,6 +6,7 @@ use Rattle.cns_records.specs.declared.clear_record.ClearRecord.{ClearRecord}
 use Rattle.cns_clearing.specs.Books.{orders_of}
 use Rattle.cns_clearing.specs.Node as clear
 use Rattle.cns_depository.specs.Node as depot
+use Rattle.cns_system.specs.Shown.{Shown}
 use Rattle.cns_system.specs.World.{World}
 use Rattle.cns_system.specs.declared.event.NodeName.{NodeName}
 use Rattle.cns_system.specs.declared.event.NodeName.TheVariants as node
@@ -16,9 +17,8 @@ abbrev pub unconfirmed : List ClearRecord → List ℕ
 unconfirmed c = unconfirmed_of (orders_of c).orders (orders_of c).replies
 
 -- how many orders the clearing node has, and how many packets were put on each link
-abbrev pub counts_of : World → Counts
-counts_of w =
-    record { orders = length (orders_of w.clear.clear.log.records).orders; order_packets = length w.orders; reply_packets = length w.replies }
+abbrev pub counts_of : Shown → Counts
+counts_of w = record { orders = length (orders_of w.clear.records).orders; order_packets = length w.orders; reply_packets = length w.replies }
 
 -- the next commit of a node's keeper is planned to fail, and nothing else changes
 abbrev pub PlanStep : NodeName → Bool → Result (Unit {0}) NotPlanned → World → World → Type 0

@@ -1,7 +1,7 @@
 ghost use Rattle.std.specs.Prelude.{◌≡◌, ◌+◌, ◌^◌, ◌<◌, ◌≤◌, [], Err, IfErr, IfOk, IsSome, OnOk, vec_capacity, vec_len};
 ghost use Rattle.cns_clearing.specs.Lots.{plan_in};
 ghost use Rattle.cns_system.specs.Begin.{IsBegun, IsHandedOut, IsNewCell, IsNotBegun, IsRefusal};
-ghost use Rattle.cns_system.specs.Finish.{IsReleased, IsUnserved};
+ghost use Rattle.cns_system.specs.Finish.{IsReleased, IsUnserved, sealed_at};
 ghost use Rattle.cns_system.specs.Floor.{AreInOrder, BySystem, FloorStep, IsLawfulFloor, IsPlaceOf, NamesLot, NumbersRise, PourFits, SparesBusy, UnlessBusy, busy_at, busy_with_look, busy_with_pour, busy_with_seal, is_open, served_at, with_busy};
 ghost use Rattle.cns_system.specs.Headline.{AreStrict};
 ghost use Rattle.cns_system.specs.Lot.{planned_sum};
@@ -10,6 +10,7 @@ ghost use Rattle.cns_system.specs.Numbered.{AreTied, OpenLeaves};
 ghost use Rattle.cns_system.specs.Readers.{PlanStep, counts_of, unconfirmed};
 ghost use Rattle.cns_system.specs.Run.{Occurs};
 ghost use Rattle.cns_system.specs.Scene.{Plans, scene_of};
+ghost use Rattle.cns_system.specs.Shown.{shown_of};
 ghost use Rattle.cns_system.specs.declared.event.Event.TheVariants.{LookAsked, LookPoured, LotOpen, LotPour, Seal};
 ghost use Rattle.cns_system.specs.declared.outcome.Outcome.TheVariants.{LotOpened};
 
@@ -79,6 +80,13 @@ impl Busy {
         ensures { self.new ≡ busy_with_seal self.old }
     {
         self.cell.seal(&mut self.feeder);
+    }
+
+    // Whether the cell was sealed.
+    fn is_sealed(&self) -> bool
+        ensures { result ≡ self.now.sealed }
+    {
+        self.feeder.is_sealed()
     }
 
     // The shares that were poured into the cell.
@@ -177,11 +185,25 @@ impl<C: Keeper, D: Keeper> Floor<C, D> {
         self.system.unconfirmed(alloc)
     }
 
-    /// How many orders there are, and how many packets on each link.
+    /// How many orders the clearing node has, and how many packets were put on each link so far.
     pub fn counts(&self) -> Counts
-        ensures { result ≡ counts_of self.now.system }
+        ensures { result ≡ counts_of (shown_of self.now.system) }
     {
         self.system.counts()
+    }
+
+    /// Whether the floor's seat sealed the cell of the busy lot of a number, where there is one. It is no
+    /// event. (This project's own rule.)
+    pub fn is_sealed(&self, lot: u64) -> bool
+        ensures { result ≡ sealed_at self.now.busy lot }
+    {
+        match place_of(self.busy.as_slice(), lot) {
+            Some(place) => {
+                let one = &self.busy[place];
+                one.is_sealed()
+            }
+            None => false,
+        }
     }
 
     /// Makes the next commit of a node's keeper fail, as `System::plan` does.

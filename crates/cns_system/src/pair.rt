@@ -9,6 +9,7 @@ ghost use Rattle.cns_system.specs.Headline.{IsBalanced};
 ghost use Rattle.cns_system.specs.Lots.{ArePlanned};
 ghost use Rattle.cns_system.specs.Numbered.{AreTied};
 ghost use Rattle.cns_system.specs.Readers.{PlanStep, counts_of, unconfirmed};
+ghost use Rattle.cns_system.specs.Shown.{shown_of};
 ghost use Rattle.cns_system.specs.Step.{order_at, AtClear, ByLots, ByNode, ClearRestarts, DepotRestartStep, Looks, OrderInStep, OrderRefused, OrderTaken, ReplyInStep, SendStep, Step};
 ghost use Rattle.cns_journal.specs.RecordLog.{IsGivenUp};
 ghost use Rattle.cns_system.specs.Start.{IsNotOpened, IsStarted};
@@ -163,7 +164,7 @@ impl<C: Keeper, D: Keeper> Pair<C, D> {
 
     /// How many orders and packets there are.
     pub(crate) fn counts(&self) -> Counts
-        ensures { result ≡ counts_of self.now }
+        ensures { result ≡ counts_of (shown_of self.now) }
     {
         Counts {
             orders: self.clear.node().orders().len() as u64,

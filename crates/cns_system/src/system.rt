@@ -9,6 +9,7 @@ ghost use Rattle.cns_system.specs.Run.{IsDecided, Run};
 ghost use Rattle.cns_system.specs.Readers.{PlanStep, counts_of, unconfirmed};
 ghost use Rattle.cns_system.specs.Scene.{Comes, Plans, scene_of};
 ghost use Rattle.cns_journal.specs.RecordLog.{IsGivenUp};
+ghost use Rattle.cns_system.specs.Shown.{shown_of};
 ghost use Rattle.cns_system.specs.Start.{IsNotOpened, IsStarted};
 ghost use Rattle.cns_system.specs.Step.{Step};
 
@@ -24,13 +25,14 @@ use cns_movements::MoveNo;
 use std::alloc::{AllocError, Global};
 use std::marker::Model;
 
-/// How many orders the clearing node has, and how many packets were put on each link.
+/// How many orders and packets there are. (This project's own rule.)
 #[derive(Clone, Copy, PartialEq, Eq, Debug)]
 pub struct Counts {
+    /// How many orders the clearing node has, confirmed ones among them.
     pub orders: u64,
-    /// On the link of orders.
+    /// How many packets were put on the link of orders so far.
     pub order_packets: u64,
-    /// On the link of replies.
+    /// How many packets were put on the link of replies so far.
     pub reply_packets: u64,
 }
 
@@ -131,9 +133,10 @@ impl<C: Keeper, D: Keeper> System<C, D> {
         self.pair.unconfirmed(alloc)
     }
 
-    /// How many orders there are, and how many packets on each link.
+    /// How many orders the clearing node has, and how many packets were put on each link so far. It takes no
+    /// memory. (This project's own rule.)
     pub fn counts(&self) -> Counts
-        ensures { result ≡ counts_of self.now }
+        ensures { result ≡ counts_of (shown_of self.now) }
     {
         self.pair.counts()
     }
