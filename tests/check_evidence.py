@@ -31,10 +31,22 @@ class Function:
         self.crate, self.owner, self.name, self.is_trait, self.body = crate, owner, name, is_trait, []
 
 
+def with_whole_heads(lines):
+    """The lines of a file, with the head of each impl that goes over several lines in one."""
+    head = None
+    for line in lines:
+        if head is not None or line.startswith("impl") and not line.rstrip().endswith("{"):
+            head = f"{head} {line.strip()}" if head else line
+            if not head.endswith("{"):
+                continue
+            line, head = head, None
+        yield line
+
+
 def functions_of(crate, lines):
     """The functions of a file of a crate."""
     found, owner, is_trait, current, indent, inside = [], None, False, None, "", False
-    for line in lines:
+    for line in with_whole_heads(lines):
         if line and not line[0].isspace() and line[0] not in "})/#":
             head = HEAD.match(line)
             owner, is_trait = (head[2] or head[3], bool(head[1] or head[3])) if head else (None, False)

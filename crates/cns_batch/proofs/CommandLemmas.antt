@@ -1,98 +1,119 @@
--- What the commands of a script come to, by what their events came to.
-use Rattle.std.proofs.Common.{◌≡◌, ◌<◌, ◌≤◌, ℕ, suc, zero, ◌+◌, ◌-◌, get_or, List, [], ◌∷◌, ◌++◌, length, take, drop, Option, Some, None, Result, refl, sym, ap, ◌∙◌, subst, arith}
-use Rattle.std.proofs.lemmas.List.{drop_all}
+-- What the commands of a script do, by what their events came to.
+use Rattle.std.proofs.Common.{◌≡◌, ◌<◌, ◌≤◌, ℕ, suc, zero, ◌+◌, ◌-◌, get_or, List, [], ◌∷◌, length, drop, Option, Some, None, Result, Ok, Err, refl, sym, ap, ◌∙◌, subst, arith}
+use Rattle.std.proofs.lemmas.List.{drop_all, take_all}
 use Rattle.cns_allocate.specs.declared.planned.Planned.{Planned}
 use Rattle.cns_pool.specs.declared.ticket.Ticket.{Ticket}
 use Rattle.cns_movements.specs.declared.order.Reply.{Reply}
 use Rattle.cns_records.specs.declared.refusal.Refusal.{Refusal}
 use Rattle.cns_records.specs.declared.refusal.Refusal.TheVariants as refusal
 use Rattle.cns_trades.specs.declared.row.Row.{Row}
-use Rattle.cns_trades.specs.declared.row.Row.TheVariants as row
-use Rattle.cns_system.specs.Scene.{Chance}
 use Rattle.cns_system.specs.declared.event.Event.TheVariants as event
 use Rattle.cns_system.specs.declared.numbered.Opened.{Opened}
 use Rattle.cns_system.specs.declared.outcome.Outcome.{Outcome}
 use Rattle.cns_system.specs.declared.outcome.Outcome.TheVariants as outcomes
-use Rattle.cns_batch.specs.Acts.{Act, Course, Told, ◌>>=◌, done, each, gives, happened, single}
-use Rattle.cns_batch.specs.Commands.{row_taken, served}
-use Rattle.cns_batch.specs.Runs.{Continues, IsNextRow, Place, RunState, Runs, Stops, course_at}
+use Rattle.cns_shake.specs.Shake.{Lcg, event_of, pcg32}
+use Rattle.cns_system.specs.Readers.{counts_of}
+use Rattle.cns_system.specs.Shown.{Shown}
+use Rattle.cns_batch.specs.Acts.{Act, Gives, Looks, ◌>>=◌, done, happened, single}
+use Rattle.cns_batch.specs.Commands.{all_taken, drawn, link_shaken, row_taken, rows_taken, served, shaken, taken}
+use Rattle.cns_batch.specs.Runs.{Continues, Exchange, Place, Runs, Showed, Stops, leaves}
+use Rattle.cns_batch.specs.declared.supply.Supply.{Supply}
 use Rattle.cns_batch.proofs.PrintLemmas.{first_left}
-use Rattle.cns_batch.proofs.ActLemmas.{continues_more, each_step, each_stops, followed_gives, moves, runs_after, stops_after, stops_followed}
+use Rattle.cns_batch.proofs.ActLemmas.{continues_here, continues_more, followed_gives, looks_on, stops_after, stops_followed}
 
 -- ---- rows that are taken
 
--- so many of the rows that are left
-abbrev pub taken : ℕ → Act (Unit {0})
-taken n c = each row_taken (take n c.rows) c
+abbrev pub with_rows : Supply → List Row → Supply
+with_rows s rows = record s { trades = rows }
 
--- a row that stood before those that are left is taken by this act
-pub takes_row : {E : Type 0} (r : Row) (act : Act (Unit {0})) (result : Result (Unit {0}) E) (run : RunState) (sent : Option (List ℕ)) (q : Place)
-    → ((more : List Chance) → row_taken r (course_at (record run { rows = r ∷ run.rows }) more) ≡ act (course_at run more)) → Runs act result (record { run = run; sent = sent }) q
-    → Runs (row_taken r) result (record { run = record run { rows = r ∷ run.rows }; sent = sent }) q
-takes_row r act result run sent q same runs =
-    let p : Place = record { run = record run { rows = r ∷ run.rows }; sent = sent } in
-    runs_after (row_taken r) act result p (record { run = run; sent = sent }) q (moves (row_taken r) act p (record { run = run; sent = sent }) same refl refl refl) runs
+-- so many are taken, by the first of them
+taken_first : (n i : ℕ) (r : Row) (s : Supply) (new : List Row) → i < n → s.trades ≡ r ∷ new → taken (n - i) s ≡ row_taken r >>= λ _. taken (n - (i + 1)) (with_rows s new)
+unfolding rows_taken
+taken_first n i r s new lt is = let one : n - i ≡ suc (n - (i + 1)) = omega (arith, lt) in rw (is, one) refl
 
-rows_after : (r : Row) (c : Course) → (row_taken r c).course.rows ≡ drop 1 c.rows
-unfolding ◌>>=◌ happened
-rows_after (row.Trade t) c = refl
-rows_after (row.Fault number fault) c = refl
+pub taken_next : {N : Type 0} {leads : Exchange → N → N → Type 0} (n i : ℕ) (r : Row) (all s : Supply) (new : List Row) (p q t : Place N) → i < n → s.trades ≡ r ∷ new
+    → Continues leads (taken n all) (taken (n - i) s) p q → Continues leads (row_taken r) done q t → Continues leads (taken n all) (taken (n - (i + 1)) (with_rows s new)) p t
+taken_next {N} {leads} n i r all s new p q t lt is so one =
+    let left = taken (n - (i + 1)) (with_rows s new) in
+    continues_more (taken n all) (row_taken r >>= λ _. left) left p q t (subst (λ a. Continues leads (taken n all) a p q) (taken_first n i r s new lt is) so)
+    (followed_gives (row_taken r) tt (λ _. left) q t one)
 
-rows_left : (r : Row) (rest : List Row) (p q : Place) → p.run.rows ≡ r ∷ rest → Continues (row_taken r) done p q → q.run.rows ≡ rest
-rows_left r rest p q rows one =
-    sym (ap (λ (t : Told (Unit {0})). t.course.rows) (one.act_is [])) ∙ rows_after r (course_at p.run (one.chances ++ [])) ∙ ap (drop 1) rows
+pub taken_stops : {N : Type 0} {leads : Exchange → N → N → Type 0} (n i : ℕ) (r : Row) (all s : Supply) (new : List Row) (p q t : Place N) → i < n → s.trades ≡ r ∷ new
+    → Continues leads (taken n all) (taken (n - i) s) p q → Stops leads (row_taken r) q t → Stops leads (taken n all) p t
+taken_stops {N} {leads} n i r all s new p q t lt is so stop =
+    let left = taken (n - (i + 1)) (with_rows s new) in
+    stops_after (taken n all) (row_taken r >>= λ _. left) p q t (subst (λ a. Continues leads (taken n all) a p q) (taken_first n i r s new lt is) so)
+    (stops_followed (row_taken r) (λ _. left) q t stop)
 
-one_fewer : (n i : ℕ) → i < n → n - i ≡ suc (n - (i + 1))
-one_fewer n i lt = omega (arith, lt)
-
-first_taken : (n i : ℕ) (r : Row) (rest : List Row) (p : Place) → i < n → p.run.rows ≡ r ∷ rest → Continues (taken (n - i)) (each row_taken (r ∷ take (n - (i + 1)) rest)) p p
-first_taken n i r rest p lt rows = moves (taken (n - i)) (each row_taken (r ∷ take (n - (i + 1)) rest)) p p (λ more. rw (rows, one_fewer n i lt) refl) refl refl refl
-
--- the next row is taken
-row_back : (r : Row) (old new : RunState) → IsNextRow (Some r) old new → record new { rows = r ∷ new.rows } ≡ old
-row_back r old new next = ap (λ (x : RunState). record x { rows = r ∷ x.rows }) next.1 ∙ ap (λ (rows : List Row). record old { rows = rows }) (sym next.0)
-
-pub taken_next : (n i : ℕ) (r : Row) (old new : RunState) (sent : Option (List ℕ)) (p s : Place) → i < n → IsNextRow (Some r) old new
-    → Continues (taken n) (taken (n - i)) p (record { run = old; sent = sent }) → Continues (row_taken r) done (record { run = record new { rows = r ∷ new.rows }; sent = sent }) s
-    → Continues (taken n) (taken (n - (i + 1))) p s
-taken_next n i r old new sent p s lt next so took =
-    let q : Place = record { run = old; sent = sent } in
-    let left = take (n - (i + 1)) new.rows in
-    let one = subst (λ (x : RunState). Continues (row_taken r) done (record { run = x; sent = sent }) s) (row_back r old new next) took in
-    let after = rows_left r new.rows q s next.0 one in
-    continues_more (taken n) (taken (n - i)) (taken (n - (i + 1))) p q s so
-    (continues_more (taken (n - i)) (each row_taken (r ∷ left)) (taken (n - (i + 1))) q q s (first_taken n i r new.rows q lt next.0)
-    (continues_more (each row_taken (r ∷ left)) (each row_taken left) (taken (n - (i + 1))) q s s (each_step row_taken r left q s one)
-    (moves (each row_taken left) (taken (n - (i + 1))) s s (λ more. rw after refl) refl refl refl)))
-
-pub taken_stops : (n i : ℕ) (r : Row) (old new : RunState) (sent : Option (List ℕ)) (p s : Place) → i < n → IsNextRow (Some r) old new
-    → Continues (taken n) (taken (n - i)) p (record { run = old; sent = sent }) → Stops (row_taken r) (record { run = record new { rows = r ∷ new.rows }; sent = sent }) s
-    → Stops (taken n) p s
-taken_stops n i r old new sent p s lt next so stop =
-    let q : Place = record { run = old; sent = sent } in
-    let left = take (n - (i + 1)) new.rows in
-    let here = subst (λ (x : RunState). Stops (row_taken r) (record { run = x; sent = sent }) s) (row_back r old new next) stop in
-    stops_after (taken n) (taken (n - i)) p q s so
-    (stops_after (taken (n - i)) (each row_taken (r ∷ left)) q q s (first_taken n i r new.rows q lt next.0) (each_stops row_taken r left q s here))
-
-take_none : {A : Type 0} (n : ℕ) (xs : List A) → xs ≡ [] → take n xs ≡ []
-take_none zero xs none = refl
-take_none (suc n) xs none = rw none refl
+taken_nothing : (n : ℕ) (s : Supply) → s.trades ≡ [] → taken n s ≡ Gives s
+unfolding rows_taken
+taken_nothing zero s none = refl
+taken_nothing (suc n) s none = rw none refl
 
 -- no row is left
-pub taken_none : (n k : ℕ) (old new : RunState) (sent : Option (List ℕ)) (p : Place) → IsNextRow None old new → Continues (taken n) (taken k) p (record { run = old; sent = sent })
-    → Continues (taken n) done p (record { run = new; sent = sent })
-unfolding each
-taken_none n k old new sent p next so =
-    let q : Place = record { run = old; sent = sent } in
-    subst (λ (x : RunState). Continues (taken n) done p (record { run = x; sent = sent })) (sym next.1)
-    (continues_more (taken n) (taken k) done p q q so (moves (taken k) done q q (λ more. rw (take_none k old.rows next.0) refl) refl refl refl))
+pub taken_none : {N : Type 0} {leads : Exchange → N → N → Type 0} (n k : ℕ) (all s : Supply) (new : List Row) (p q : Place N) → s.trades ≡ [] → new ≡ s.trades
+    → Continues leads (taken n all) (taken k s) p q → Continues leads (taken n all) (Gives (with_rows s new)) p q
+taken_none {N} {leads} n k all s new p q none same so =
+    subst (λ a. Continues leads (taken n all) a p q) (taken_nothing k s none ∙ ap (λ (rows : List Row). Gives (with_rows s rows)) (sym same)) so
 
 -- or so many were taken
-pub taken_done : (n i : ℕ) (p q : Place) → n ≤ i → Continues (taken n) (taken (n - i)) p q → Continues (taken n) done p q
-unfolding each
-taken_done n i p q le so =
-    let none : n - i ≡ 0 = omega (arith, le) in continues_more (taken n) (taken (n - i)) done p q q so (moves (taken (n - i)) done q q (λ more. rw none refl) refl refl refl)
+pub taken_done : {N : Type 0} {leads : Exchange → N → N → Type 0} (n i : ℕ) (all s : Supply) (p q : Place N) → n ≤ i → Continues leads (taken n all) (taken (n - i) s) p q
+    → Continues leads (taken n all) (Gives s) p q
+unfolding rows_taken
+taken_done {N} {leads} n i all s p q le so =
+    let none : n - i ≡ 0 = omega (arith, le) in subst (λ a. Continues leads (taken n all) a p q) (ap (λ k. taken k s) none) so
+
+-- all that are left
+pub all_are : (s : Supply) → taken (length s.trades) s ≡ all_taken s
+all_are s = let n = length s.trades in let all : n ≤ n = omega arith in rw (take_all n s.trades all, drop_all n s.trades all) refl
+
+-- ---- draws
+
+draw_first : (n i : ℕ) (g : Lcg) → i < n → shaken (n - i) g ≡ Looks (λ w. drawn (event_of (pcg32 g).0 (counts_of w)) >>= λ _. shaken (n - (i + 1)) (pcg32 g).1)
+unfolding shaken
+draw_first n i g lt = let one : n - i ≡ suc (n - (i + 1)) = omega (arith, lt) in rw one refl
+
+drawn_on : {N : Type 0} {leads : Exchange → N → N → Type 0} (n i : ℕ) (all g : Lcg) (w : Shown) (p q : Place N) → i < n → leads (Showed w) q.nodes q.nodes
+    → Continues leads (shaken n all) (shaken (n - i) g) p q
+    → Continues leads (shaken n all) (drawn (event_of (pcg32 g).0 (counts_of w)) >>= λ _. shaken (n - (i + 1)) (pcg32 g).1) p q
+drawn_on {N} {leads} n i all g w p q lt shows so =
+    let next = λ (w : Shown). drawn (event_of (pcg32 g).0 (counts_of w)) >>= λ _. shaken (n - (i + 1)) (pcg32 g).1 in
+    continues_more (shaken n all) (Looks next) (next w) p q q (subst (λ a. Continues leads (shaken n all) a p q) (draw_first n i g lt) so) (looks_on w next q shows)
+
+pub draw_next : {N : Type 0} {leads : Exchange → N → N → Type 0} (n i : ℕ) (all g : Lcg) (w : Shown) (p q t : Place N) → i < n → leads (Showed w) q.nodes q.nodes
+    → Continues leads (shaken n all) (shaken (n - i) g) p q → Continues leads (drawn (event_of (pcg32 g).0 (counts_of w))) done q t
+    → Continues leads (shaken n all) (shaken (n - (i + 1)) (pcg32 g).1) p t
+draw_next {N} {leads} n i all g w p q t lt shows so one =
+    let event = drawn (event_of (pcg32 g).0 (counts_of w)) in
+    let left = shaken (n - (i + 1)) (pcg32 g).1 in
+    continues_more (shaken n all) (event >>= λ _. left) left p q t (drawn_on n i all g w p q lt shows so) (followed_gives event tt (λ _. left) q t one)
+
+pub draw_stops : {N : Type 0} {leads : Exchange → N → N → Type 0} (n i : ℕ) (all g : Lcg) (w : Shown) (p q t : Place N) → i < n → leads (Showed w) q.nodes q.nodes
+    → Continues leads (shaken n all) (shaken (n - i) g) p q → Stops leads (drawn (event_of (pcg32 g).0 (counts_of w))) q t → Stops leads (shaken n all) p t
+draw_stops {N} {leads} n i all g w p q t lt shows so stop =
+    let event = drawn (event_of (pcg32 g).0 (counts_of w)) in
+    let left = shaken (n - (i + 1)) (pcg32 g).1 in
+    stops_after (shaken n all) (event >>= λ _. left) p q t (drawn_on n i all g w p q lt shows so) (stops_followed event (λ _. left) q t stop)
+
+pub draws_done : {N : Type 0} {leads : Exchange → N → N → Type 0} (n i : ℕ) (all g : Lcg) (p q : Place N) → n ≤ i → Continues leads (shaken n all) (shaken (n - i) g) p q
+    → Continues leads (shaken n all) (Gives g) p q
+unfolding shaken
+draws_done {N} {leads} n i all g p q le so =
+    let none : n - i ≡ 0 = omega (arith, le) in subst (λ a. Continues leads (shaken n all) a p q) (ap (λ k. shaken k g) none) so
+
+-- no run that is not shaken changes its generator
+unshaken_is : (s : Supply) → s.shaker ≡ None → link_shaken s ≡ Gives s
+unshaken_is s none = rw none refl
+
+pub unshaken : {N : Type 0} {leads : Exchange → N → N → Type 0} (s : Supply) (p : Place N) → s.shaker ≡ None → Continues leads (link_shaken s) (Gives s) p p
+unshaken {N} {leads} s p none = subst (λ a. Continues leads (link_shaken s) a p p) (unshaken_is s none) (continues_here (link_shaken s) p)
+
+-- the generator goes back to where it was taken from
+pub shaken_back : {E N : Type 0} (leads : Exchange → N → N → Type 0) (n : ℕ) (s : Supply) (g after : Lcg) (result : Result (Unit {0}) E) (p q : Place N)
+    → Runs leads (shaken n g) (leaves result after) p q
+    → Runs leads (shaken n g >>= λ after. Gives (record s { shaker = Some after })) (leaves result (record s { shaker = Some after })) p q
+shaken_back leads n s g after (Ok u) p q one = followed_gives (shaken n g) after (λ after. Gives (record s { shaker = Some after })) p q one
+shaken_back leads n s g after (Err e) p q stop = stops_followed (shaken n g) (λ after. Gives (record s { shaker = Some after })) p q stop
 
 -- ---- what follows the outcome of an event
 
@@ -119,9 +140,9 @@ not_sent next (outcomes.Sent packet) not = absurd (not packet refl)
 not_sent next _ not = refl
 
 abbrev pub after_open : Outcome → Act (Option Opened)
-after_open = elim [ outcomes.LotOpened lot ↦ gives (Some lot) | _ ↦ gives None ]
+after_open = elim [ outcomes.LotOpened lot ↦ Gives (Some lot) | _ ↦ Gives None ]
 
-pub not_opened : (o : Outcome) → ((lot : Opened) → o ≡ outcomes.LotOpened lot → ⊥) → after_open o ≡ gives None
+pub not_opened : (o : Outcome) → ((lot : Opened) → o ≡ outcomes.LotOpened lot → ⊥) → after_open o ≡ Gives None
 not_opened (outcomes.LotOpened lot) not = absurd (not lot refl)
 not_opened _ not = refl
 
@@ -144,22 +165,22 @@ served_left : (number : ℕ) (plan : List Planned) (i : ℕ) (x : Planned) → i
 unfolding served
 served_left number plan i x lt is = ap (served number) (first_left plan i x lt is)
 
-pub served_next : (number : ℕ) (plan : List Planned) (i : ℕ) (x : Planned) (o : Outcome) (p q r : Place) → i < length plan → x ≡ get_or plan i x
-    → Continues (served number plan) (served number (drop i plan)) p q → Continues (happened (event.Reserve number x.member)) (gives o) q r
-    → Continues (served number plan) (after_ticket number (drop (i + 1) plan) o) p r
-served_next number plan i x o p q r lt is so one =
+pub served_next : {N : Type 0} {leads : Exchange → N → N → Type 0} (number : ℕ) (plan : List Planned) (i : ℕ) (x : Planned) (o : Outcome) (p q r : Place N) → i < length plan → x ≡ get_or plan i x
+    → Continues leads (served number plan) (served number (drop i plan)) p q → Continues leads (happened (event.Reserve number x.member)) (Gives o) q r
+    → Continues leads (served number plan) (after_ticket number (drop (i + 1) plan) o) p r
+served_next {N} {leads} number plan i x o p q r lt is so one =
     let next = after_ticket number (drop (i + 1) plan) in
     continues_more (served number plan) (happened (event.Reserve number x.member) >>= next) (next o) p q r
-    (subst (λ a. Continues (served number plan) a p q) (served_left number plan i x lt is) so) (followed_gives (happened (event.Reserve number x.member)) o next q r one)
+    (subst (λ a. Continues leads (served number plan) a p q) (served_left number plan i x lt is) so) (followed_gives (happened (event.Reserve number x.member)) o next q r one)
 
-pub served_stops : (number : ℕ) (plan : List Planned) (i : ℕ) (x : Planned) (p q r : Place) → i < length plan → x ≡ get_or plan i x
-    → Continues (served number plan) (served number (drop i plan)) p q → Stops (happened (event.Reserve number x.member)) q r → Stops (served number plan) p r
-served_stops number plan i x p q r lt is so stop =
+pub served_stops : {N : Type 0} {leads : Exchange → N → N → Type 0} (number : ℕ) (plan : List Planned) (i : ℕ) (x : Planned) (p q r : Place N) → i < length plan → x ≡ get_or plan i x
+    → Continues leads (served number plan) (served number (drop i plan)) p q → Stops leads (happened (event.Reserve number x.member)) q r → Stops leads (served number plan) p r
+served_stops {N} {leads} number plan i x p q r lt is so stop =
     let next = after_ticket number (drop (i + 1) plan) in
     stops_after (served number plan) (happened (event.Reserve number x.member) >>= next) p q r
-    (subst (λ a. Continues (served number plan) a p q) (served_left number plan i x lt is) so) (stops_followed (happened (event.Reserve number x.member)) next q r stop)
+    (subst (λ a. Continues leads (served number plan) a p q) (served_left number plan i x lt is) so) (stops_followed (happened (event.Reserve number x.member)) next q r stop)
 
-pub served_done : (number : ℕ) (plan : List Planned) (i : ℕ) (p q : Place) → length plan ≤ i → Continues (served number plan) (served number (drop i plan)) p q
-    → Continues (served number plan) (single (event.LotClose number)) p q
+pub served_done : {N : Type 0} {leads : Exchange → N → N → Type 0} (number : ℕ) (plan : List Planned) (i : ℕ) (p q : Place N) → length plan ≤ i → Continues leads (served number plan) (served number (drop i plan)) p q
+    → Continues leads (served number plan) (single (event.LotClose number)) p q
 unfolding served
-served_done number plan i p q le so = subst (λ l. Continues (served number plan) (served number l) p q) (drop_all i plan le) so
+served_done {N} {leads} number plan i p q le so = subst (λ l. Continues leads (served number plan) (served number l) p q) (drop_all i plan le) so

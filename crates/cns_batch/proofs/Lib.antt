@@ -3,7 +3,10 @@ pub mod PrintLemmas
 pub mod ActLemmas
 pub mod CommandLemmas
 pub mod RunLemmas
+pub mod InTurnLemmas
 pub mod OpenedLemmas
 pub mod TextLemmas
 pub mod MemoryLemmas
 pub mod AloneLemmas
+pub mod DeskLemmas
+pub mod WorkerLemmas

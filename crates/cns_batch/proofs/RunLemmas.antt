@@ -1,90 +1,236 @@
--- A script, one line after another.
-use Rattle.std.proofs.Common.{◌≡◌, ◌≤◌, ◌<◌, ◌+◌, ℕ, true, false, List, [], ◌∷◌, length, take, drop, Result, refl, sym, ap, ◌∙◌, subst, arith, length-drop}
-use Rattle.std.specs.Prelude.{is_some}
-use Rattle.std.proofs.lemmas.List.{drop-drop, drop_all}
-use Rattle.cns_report.specs.Lines.{line_text as line_bytes}
-use Rattle.cns_report.specs.declared.line.Line.TheVariants as line
-use Rattle.cns_batch.specs.Acts.{Act, ◌>>=◌, ◌>>◌, done, tells}
-use Rattle.cns_batch.specs.Commands.{opened}
-use Rattle.cns_batch.specs.Run.{command_run, ended, line_counted, line_run, lines_run, waited}
-use Rattle.cns_batch.specs.Runs.{Continues, Place, Runs, Stops}
+-- A script, one command after another.
+use Rattle.std.proofs.Common.{◌≡◌, ◌≤◌, ◌<◌, ◌+◌, ◌-◌, ◌==◌, ℕ, Bool, true, false, suc, zero, List, [], ◌∷◌, length, take, drop, Option, Some, None, Result, Ok, Err, refl, sym, ap, ◌∙◌, subst, arith}
+use Rattle.std.proofs.lemmas.Bool.{eqb-true}
+use Rattle.std.specs.Prelude.{option_map}
+use Rattle.cns_batch.specs.declared.supply.Supply.{Supply}
+use Rattle.cns_system.specs.declared.floor.Begun.{Begun}
+use Rattle.cns_system.specs.declared.numbered.Opened.{Opened}
 use Rattle.cns_input.specs.Script.{command_of}
 use Rattle.cns_input.specs.Sections.{line_size, line_text, raw_lines}
 use Rattle.cns_input.specs.declared.command.Command.{Command}
 use Rattle.cns_input.specs.declared.command.Command.TheVariants as command
-use Rattle.cns_batch.proofs.ActLemmas.{continues_more, followed_gives, runs_as, stops_after, stops_followed}
 use Rattle.cns_input.proofs.SectionLemmas.{lines_step}
+use Rattle.cns_batch.specs.Acts.{Act, Gives, ◌>>=◌, ◌>>◌}
+use Rattle.cns_batch.specs.Commands.{command_run, opened, plain_run, served_if_open}
+use Rattle.cns_batch.specs.Run.{Numbered, all_run, commands_of, first_run, numbered, ran_beside, run_beside, script_run}
+use Rattle.cns_batch.specs.Runs.{Continues, Exchange, Place, Runs, Stops, leaves}
+use Rattle.cns_batch.proofs.ActLemmas.{continues_more, followed_gives, leaving_runs, runs_after, stops_after, stops_followed}
 
--- a line that is neither passed over nor opens a lot beside others
-pub line_plain : (n : ℕ) (c : Command) → (c ≡ command.Skip → ⊥) → ((issue lines : ℕ) → c ≡ command.Beside issue lines → ⊥)
-    → line_run n c ≡ command_run n c >> line_counted
-line_plain n command.Skip skip beside = absurd (skip refl)
-line_plain n (command.Beside issue lines) skip beside = absurd (beside issue lines refl)
-line_plain n command.TakeAll skip beside = refl
-line_plain n (command.Take rows) skip beside = refl
-line_plain n (command.Single e) skip beside = refl
-line_plain n (command.Look lot) skip beside = refl
-line_plain n (command.Allocate issue) skip beside = refl
-line_plain n (command.Fail name stands) skip beside = refl
-line_plain n command.Pump skip beside = refl
-line_plain n command.Report skip beside = refl
-line_plain n command.Bad skip beside = refl
-
--- BESIDE where a lot waits, and where none does
-pub runs_again : {E : Type 0} (n issue lines : ℕ) (result : Result (Unit {0}) E) (p q : Place) → is_some p.run.beside ≡ true
-    → Runs (tells (line_bytes (line.BadCommand n)) >> line_counted) result p q → Runs (line_run n (command.Beside issue lines)) result p q
-runs_again n issue lines result p q waits runs =
-    runs_as (line_run n (command.Beside issue lines)) (tells (line_bytes (line.BadCommand n)) >> line_counted) result p q (λ more. rw waits refl) runs
-
-pub runs_first : {E : Type 0} (n issue lines : ℕ) (result : Result (Unit {0}) E) (p q : Place) → is_some p.run.beside ≡ false
-    → Runs (opened issue >>= waited lines) result p q → Runs (line_run n (command.Beside issue lines)) result p q
-runs_first n issue lines result p q waits runs = runs_as (line_run n (command.Beside issue lines)) (opened issue >>= waited lines) result p q (λ more. rw waits refl) runs
+-- ---- the commands of lines
 
 -- lines that are not empty, by the first
-first_line : (n : ℕ) (xs : List ℕ) → 0 < length xs → lines_run n (raw_lines xs)
-    ≡ line_run n (command_of (line_text (take (line_size xs) xs))) >> lines_run (n + 1) (raw_lines (drop (line_size xs) xs))
-unfolding lines_run
+first_line : (n : ℕ) (xs : List ℕ) → 0 < length xs
+    → commands_of n (raw_lines xs) ≡ numbered n (command_of (line_text (take (line_size xs) xs))) (commands_of (n + 1) (raw_lines (drop (line_size xs) xs)))
+unfolding commands_of
 first_line n [] pos = absurd (omega (arith, pos))
-first_line n (c ∷ cs) pos = ap (lines_run n) (lines_step c cs)
+first_line n (c ∷ cs) pos = ap (commands_of n) (lines_step c cs)
 
--- the line of a script in this place
-pub record IsLine (script rest line : List ℕ) (c : Command) (at size : ℕ) : Type 0 where
-  pub rest_is : rest ≡ drop at script
-  pub some : 0 < length rest
-  pub size_is : size ≡ line_size rest
-  pub line_is : line ≡ take size rest
-  pub command_is : c ≡ command_of (line_text line)
+-- a line that holds no command is passed over
+pub line_skipped : (n size : ℕ) (xs line : List ℕ) (c : Command) → 0 < length xs → size ≡ line_size xs → line ≡ take size xs → c ≡ command_of (line_text line) → c ≡ command.Skip
+    → commands_of n (raw_lines xs) ≡ commands_of (n + 1) (raw_lines (drop size xs))
+line_skipped n size xs line c pos is front text skip =
+    let here : command_of (line_text (take (line_size xs) xs)) ≡ command.Skip = sym (text ∙ ap (λ l. command_of (line_text l)) (front ∙ ap (λ k. take k xs) is)) ∙ skip in
+    let rest = commands_of (n + 1) (raw_lines (drop (line_size xs) xs)) in
+    first_line n xs pos ∙ ap (λ k. numbered n k rest) here ∙ ap (λ k. commands_of (n + 1) (raw_lines (drop k xs))) (sym is)
 
-pub is_line : (script rest line : List ℕ) (c : Command) (at size : ℕ) → rest ≡ drop at script → at < length script → size ≡ line_size rest → line ≡ take size rest
-    → c ≡ command_of (line_text line) → IsLine script rest line c at size
-is_line script rest line c at size r more z l k =
-    record { rest_is = r; some = rw r (omega (arith, length-drop at script, more)); size_is = z; line_is = l; command_is = k }
+held : (n : ℕ) (c : Command) (rest : List Numbered) → (c ≡ command.Skip → ⊥) → numbered n c rest ≡ (n, c) ∷ rest
+held n command.Skip rest not = absurd (not refl)
+held n _ rest not = refl
 
-here : (n : ℕ) (script rest line : List ℕ) (c : Command) (at size : ℕ) → IsLine script rest line c at size
-    → lines_run n (raw_lines (drop at script)) ≡ line_run n c >> lines_run (n + 1) (raw_lines (drop (at + size) script))
-here n script rest line c at size is =
-    let text : c ≡ command_of (line_text (take (line_size rest) rest)) = is.command_is ∙ ap (λ l. command_of (line_text l)) (is.line_is ∙ ap (λ k. take k rest) is.size_is) in
-    let back : drop (line_size rest) rest ≡ drop (at + size) script = ap (λ k. drop k rest) (sym is.size_is) ∙ ap (drop size) is.rest_is ∙ drop-drop size at script in
-    ap (λ x. lines_run n (raw_lines x)) (sym is.rest_is) ∙ first_line n rest is.some
-    ∙ ap (λ k. line_run n k >> lines_run (n + 1) (raw_lines (drop (line_size rest) rest))) (sym text)
-    ∙ ap (λ x. line_run n c >> lines_run (n + 1) (raw_lines x)) back
+-- another one is the next command
+pub line_held : (n size : ℕ) (xs line : List ℕ) (c : Command) → 0 < length xs → size ≡ line_size xs → line ≡ take size xs → c ≡ command_of (line_text line) → (c ≡ command.Skip → ⊥)
+    → commands_of n (raw_lines xs) ≡ (n, c) ∷ commands_of (n + 1) (raw_lines (drop size xs))
+line_held n size xs line c pos is front text not =
+    let here : command_of (line_text (take (line_size xs) xs)) ≡ c = sym (text ∙ ap (λ l. command_of (line_text l)) (front ∙ ap (λ k. take k xs) is)) in
+    let rest = commands_of (n + 1) (raw_lines (drop (line_size xs) xs)) in
+    first_line n xs pos ∙ ap (λ k. numbered n k rest) here ∙ held n c rest not ∙ ap (λ k. (n, c) ∷ commands_of (n + 1) (raw_lines (drop k xs))) (sym is)
 
-pub script_next : (all : Act (Unit {0})) (n : ℕ) (script rest line : List ℕ) (c : Command) (at size : ℕ) (p q r : Place) → IsLine script rest line c at size
-    → Continues all (lines_run n (raw_lines (drop at script))) p q → Continues (line_run n c) done q r
-    → Continues all (lines_run (n + 1) (raw_lines (drop (at + size) script))) p r
-script_next all n script rest line c at size p q r is so one =
-    let next : Unit {0} → Act (Unit {0}) = λ _. lines_run (n + 1) (raw_lines (drop (at + size) script)) in
-    continues_more all (line_run n c >>= next) (next tt) p q r (subst (λ a. Continues all a p q) (here n script rest line c at size is) so)
-    (followed_gives (line_run n c) tt next q r one)
+-- no line is left
+pub no_lines : (n : ℕ) (xs : List ℕ) → length xs ≡ 0 → commands_of n (raw_lines xs) ≡ []
+unfolding commands_of raw_lines
+no_lines n [] none = refl
+no_lines n (x ∷ xs) none = absurd (omega (arith, none))
 
-pub script_stops : (all : Act (Unit {0})) (n : ℕ) (script rest line : List ℕ) (c : Command) (at size : ℕ) (p q r : Place) → IsLine script rest line c at size
-    → Continues all (lines_run n (raw_lines (drop at script))) p q → Stops (line_run n c) q r → Stops all p r
-script_stops all n script rest line c at size p q r is so stop =
-    let next : Unit {0} → Act (Unit {0}) = λ _. lines_run (n + 1) (raw_lines (drop (at + size) script)) in
-    stops_after all (line_run n c >>= next) p q r (subst (λ a. Continues all a p q) (here n script rest line c at size is) so)
-    (stops_followed (line_run n c) next q r stop)
+-- ---- so many of the next commands
 
-pub script_done : (all : Act (Unit {0})) (n : ℕ) (script : List ℕ) (at : ℕ) (p q : Place) → length script ≤ at → Continues all (lines_run n (raw_lines (drop at script))) p q
-    → Continues all ended p q
-unfolding lines_run raw_lines
-script_done all n script at p q le so = subst (λ l. Continues all (lines_run n (raw_lines l)) p q) (drop_all at script le) so
+abbrev pub ServesBy : Type 0
+ServesBy = Opened → Act (Unit {0})
+
+one_fewer : (n i : ℕ) → i < n → n - i ≡ suc (n - (i + 1))
+one_fewer n i lt = omega (arith, lt)
+
+next_first : (serves : ServesBy) (busy : Option ℕ) (n i : ℕ) (c : Numbered) (old new : List Numbered) (rows : Supply) → i < n → old ≡ c ∷ new
+    → all_run serves busy (take (n - i) old) rows ≡ command_run serves busy c.0 c.1 rows >>= all_run serves busy (take (n - (i + 1)) new)
+unfolding all_run
+next_first serves busy n i c old new rows lt is = rw (is, one_fewer n i lt) refl
+
+pub next_ran : {N : Type 0} {leads : Exchange → N → N → Type 0} (serves : ServesBy) (busy : Option ℕ) (n i : ℕ) (c : Numbered) (first old new : List Numbered) (rows before after : Supply)
+    (p q s : Place N) → i < n → old ≡ c ∷ new → Continues leads (all_run serves busy (take n first) rows) (all_run serves busy (take (n - i) old) before) p q
+    → Continues leads (command_run serves busy c.0 c.1 before) (Gives after) q s
+    → Continues leads (all_run serves busy (take n first) rows) (all_run serves busy (take (n - (i + 1)) new) after) p s
+next_ran {N} {leads} serves busy n i c first old new rows before after p q s lt is so one =
+    let rest = all_run serves busy (take (n - (i + 1)) new) in
+    let all = all_run serves busy (take n first) rows in
+    continues_more all (command_run serves busy c.0 c.1 before >>= rest) (rest after) p q s
+    (subst (λ a. Continues leads all a p q) (next_first serves busy n i c old new before lt is) so)
+    (followed_gives (command_run serves busy c.0 c.1 before) after rest q s one)
+
+pub next_stops : {N : Type 0} {leads : Exchange → N → N → Type 0} (serves : ServesBy) (busy : Option ℕ) (n i : ℕ) (c : Numbered) (first old new : List Numbered) (rows before : Supply)
+    (p q s : Place N) → i < n → old ≡ c ∷ new → Continues leads (all_run serves busy (take n first) rows) (all_run serves busy (take (n - i) old) before) p q
+    → Stops leads (command_run serves busy c.0 c.1 before) q s → Stops leads (all_run serves busy (take n first) rows) p s
+next_stops {N} {leads} serves busy n i c first old new rows before p q s lt is so stop =
+    let rest = all_run serves busy (take (n - (i + 1)) new) in
+    let all = all_run serves busy (take n first) rows in
+    stops_after all (command_run serves busy c.0 c.1 before >>= rest) p q s
+    (subst (λ a. Continues leads all a p q) (next_first serves busy n i c old new before lt is) so) (stops_followed (command_run serves busy c.0 c.1 before) rest q s stop)
+
+take_nothing : {A : Type 0} (n : ℕ) (xs : List A) → xs ≡ [] → take n xs ≡ []
+take_nothing zero xs none = refl
+take_nothing (suc n) xs none = rw none refl
+
+-- none is left
+pub next_none : {N : Type 0} {leads : Exchange → N → N → Type 0} (serves : ServesBy) (busy : Option ℕ) (n k : ℕ) (first old : List Numbered) (rows left : Supply) (p q : Place N) → old ≡ []
+    → Continues leads (all_run serves busy (take n first) rows) (all_run serves busy (take k old) left) p q → Continues leads (all_run serves busy (take n first) rows) (Gives left) p q
+unfolding all_run
+next_none {N} {leads} serves busy n k first old rows left p q none so =
+    subst (λ l. Continues leads (all_run serves busy (take n first) rows) (all_run serves busy l left) p q) (take_nothing k old none) so
+
+-- or so many ran
+pub next_done : {N : Type 0} {leads : Exchange → N → N → Type 0} (serves : ServesBy) (busy : Option ℕ) (n i : ℕ) (first old : List Numbered) (rows left : Supply) (p q : Place N) → n ≤ i
+    → Continues leads (all_run serves busy (take n first) rows) (all_run serves busy (take (n - i) old) left) p q → Continues leads (all_run serves busy (take n first) rows) (Gives left) p q
+unfolding all_run
+next_done {N} {leads} serves busy n i first old rows left p q le so =
+    let none : n - i ≡ 0 = omega (arith, le) in subst (λ k. Continues leads (all_run serves busy (take n first) rows) (all_run serves busy (take k old) left) p q) none so
+
+-- what is left of some commands
+pub left_next : {A : Type 0} (i : ℕ) (c : A) (first old new : List A) → old ≡ drop i first → old ≡ c ∷ new → new ≡ drop (i + 1) first
+left_next zero c first old new is next = ap (drop 1) (sym next ∙ is)
+left_next (suc i) c [] old new is next = absurd (cc (sym next ∙ is))
+left_next {A} (suc i) c (x ∷ first) old new is next = let one : suc i + 1 ≡ suc (i + 1) = omega arith in rw one (left_next i c first old new is next)
+
+drop_none : {A : Type 0} (n : ℕ) → drop {A = A} n [] ≡ []
+drop_none zero = refl
+drop_none (suc n) = refl
+
+pub left_none : {A : Type 0} (i n : ℕ) (first old new : List A) → i ≤ n → old ≡ drop i first → old ≡ [] → new ≡ [] → new ≡ drop n first
+left_none {A} zero n first old new le is none new_none = new_none ∙ sym (ap (drop n) (sym is ∙ none) ∙ drop_none n)
+left_none (suc i) zero first old new le is none new_none = absurd (omega (arith, le))
+left_none (suc i) (suc n) [] old new le is none new_none = new_none
+left_none (suc i) (suc n) (x ∷ first) old new le is none new_none = left_none i n first old new (omega (arith, le)) is none new_none
+
+-- ---- a script
+
+-- the first so many commands are passed over
+passed_over : (serves : ServesBy) (n : ℕ) (cs : List Numbered) (rows : Supply) → script_run serves n cs rows ≡ script_run serves 0 (drop n cs) rows
+unfolding script_run
+passed_over serves zero cs rows = refl
+passed_over serves (suc n) [] rows = refl
+passed_over serves (suc n) (c ∷ cs) rows = passed_over serves n cs rows
+
+script_first : (serves : ServesBy) (c : Numbered) (old new : List Numbered) (rows : Supply) → old ≡ c ∷ new
+    → script_run serves 0 old rows ≡ first_run serves c new rows >>= script_run serves (ran_beside c.1) new
+unfolding script_run
+script_first serves c old new rows is = rw is refl
+
+pub script_next : {N : Type 0} {leads : Exchange → N → N → Type 0} (serves : ServesBy) (all : Act (Supply)) (c : Numbered) (old mid new : List Numbered) (before after : Supply) (p q s : Place N)
+    → old ≡ c ∷ mid → new ≡ drop (ran_beside c.1) mid → Continues leads all (script_run serves 0 old before) p q → Continues leads (first_run serves c mid before) (Gives after) q s
+    → Continues leads all (script_run serves 0 new after) p s
+script_next {N} {leads} serves all c old mid new before after p q s is passed so one =
+    let rest = script_run serves (ran_beside c.1) mid in
+    let here : rest after ≡ script_run serves 0 new after = passed_over serves (ran_beside c.1) mid after ∙ ap (λ l. script_run serves 0 l after) (sym passed) in
+    subst (λ a. Continues leads all a p s) here
+    (continues_more all (first_run serves c mid before >>= rest) (rest after) p q s (subst (λ a. Continues leads all a p q) (script_first serves c old mid before is) so)
+    (followed_gives (first_run serves c mid before) after rest q s one))
+
+pub script_stops : {N : Type 0} {leads : Exchange → N → N → Type 0} (serves : ServesBy) (all : Act (Supply)) (c : Numbered) (old mid : List Numbered) (before : Supply) (p q s : Place N)
+    → old ≡ c ∷ mid → Continues leads all (script_run serves 0 old before) p q → Stops leads (first_run serves c mid before) q s → Stops leads all p s
+script_stops {N} {leads} serves all c old mid before p q s is so stop =
+    let rest = script_run serves (ran_beside c.1) mid in
+    stops_after all (first_run serves c mid before >>= rest) p q s (subst (λ a. Continues leads all a p q) (script_first serves c old mid before is) so)
+    (stops_followed (first_run serves c mid before) rest q s stop)
+
+pub script_done : {N : Type 0} {leads : Exchange → N → N → Type 0} (serves : ServesBy) (all : Act (Supply)) (old : List Numbered) (rows : Supply) (p q : Place N) → old ≡ []
+    → Continues leads all (script_run serves 0 old rows) p q → Continues leads all (Gives rows) p q
+unfolding script_run
+script_done {N} {leads} serves all old rows p q none so = subst (λ l. Continues leads all (script_run serves 0 l rows) p q) none so
+
+-- a command that serves no lot
+pub plain_is : (serves : ServesBy) (busy : Option ℕ) (n : ℕ) (c : Command) (s : Supply) → ((issue : ℕ) → c ≡ command.Allocate issue → ⊥) → command_run serves busy n c s ≡ plain_run busy n c s
+plain_is serves busy n (command.Allocate issue) s not = absurd (not issue refl)
+plain_is serves busy n _ s not = refl
+
+-- a command that begins no lot beside others
+pub first_plain : (serves : ServesBy) (n : ℕ) (c : Command) (cs : List Numbered) (rows : Supply) → ((issue lines : ℕ) → c ≡ command.Beside issue lines → ⊥)
+    → first_run serves (n, c) cs rows ≡ command_run serves None n c rows
+first_plain serves n (command.Beside issue lines) cs rows not = absurd (not issue lines refl)
+first_plain serves n _ cs rows not = refl
+
+pub beside_none : (c : Command) → ((issue lines : ℕ) → c ≡ command.Beside issue lines → ⊥) → ran_beside c ≡ 0
+beside_none (command.Beside issue lines) not = absurd (not issue lines refl)
+beside_none _ not = refl
+
+-- so many commands have run
+pub left_done : {A : Type 0} (i n : ℕ) (first old : List A) → i ≤ n → n ≤ i → old ≡ drop i first → old ≡ drop n first
+left_done i n first old le ge is = let same : i ≡ n = omega (arith, le, ge) in is ∙ ap (λ k. drop k first) same
+
+-- ---- a lot beside commands
+
+abbrev after_ran : ServesBy → Option Opened → Supply → Act Supply
+after_ran serves lot left = served_if_open serves lot >> Gives left
+
+abbrev number_in : Option Opened → Option ℕ
+number_in = option_map (λ (lot : Opened). lot.number)
+
+abbrev after_opened : ServesBy → List Numbered → Supply → Option Opened → Act Supply
+after_opened serves cs s lot = all_run serves (number_in lot) cs s >>= after_ran serves lot
+
+opened_then : {N : Type 0} {leads : Exchange → N → N → Type 0} (serves : ServesBy) (issue : ℕ) (cs : List Numbered) (s : Supply) (lot : Option Opened) (p q : Place N)
+    → Continues leads (opened issue) (Gives lot) p q → Continues leads (run_beside serves issue cs s) (after_opened serves cs s lot) p q
+unfolding run_beside
+opened_then serves issue cs s lot p q one = followed_gives (opened issue) lot (after_opened serves cs s) p q one
+
+ran_then : {N : Type 0} {leads : Exchange → N → N → Type 0} (serves : ServesBy) (issue : ℕ) (cs : List Numbered) (s left : Supply) (lot : Option Opened) (p q r : Place N)
+    → Continues leads (opened issue) (Gives lot) p q → Continues leads (all_run serves (number_in lot) cs s) (Gives left) q r
+    → Continues leads (run_beside serves issue cs s) (after_ran serves lot left) p r
+ran_then serves issue cs s left lot p q r one two =
+    continues_more (run_beside serves issue cs s) (after_opened serves cs s lot) (after_ran serves lot left) p q r (opened_then serves issue cs s lot p q one)
+    (followed_gives (all_run serves (number_in lot) cs s) left (after_ran serves lot) q r two)
+
+pub beside_runs : {E N : Type 0} (leads : Exchange → N → N → Type 0) (serves : ServesBy) (issue : ℕ) (cs : List Numbered) (s left : Supply) (lot : Option Opened) (result : Result (Unit {0}) E)
+    (p q r t : Place N) → Continues leads (opened issue) (Gives lot) p q → Continues leads (all_run serves (number_in lot) cs s) (Gives left) q r
+    → Runs leads (served_if_open serves lot) result r t → Runs leads (run_beside serves issue cs s) (leaves result left) p t
+beside_runs leads serves issue cs s left lot result p q r t one two three =
+    runs_after leads (run_beside serves issue cs s) (after_ran serves lot left) (leaves result left) p r t (ran_then serves issue cs s left lot p q r one two)
+    (leaving_runs leads (served_if_open serves lot) left result r t three)
+
+-- the lot is not opened, for a fault
+pub beside_stops_first : {N : Type 0} {leads : Exchange → N → N → Type 0} (serves : ServesBy) (issue : ℕ) (cs : List Numbered) (s : Supply) (p q : Place N) → Stops leads (opened issue) p q
+    → Stops leads (run_beside serves issue cs s) p q
+unfolding run_beside
+beside_stops_first serves issue cs s p q stop = stops_followed (opened issue) (after_opened serves cs s) p q stop
+
+-- the commands end in a fault
+pub beside_stops : {N : Type 0} {leads : Exchange → N → N → Type 0} (serves : ServesBy) (issue : ℕ) (cs : List Numbered) (s : Supply) (lot : Option Opened) (p q r : Place N)
+    → Continues leads (opened issue) (Gives lot) p q → Stops leads (all_run serves (number_in lot) cs s) q r → Stops leads (run_beside serves issue cs s) p r
+beside_stops serves issue cs s lot p q r one stop =
+    stops_after (run_beside serves issue cs s) (after_opened serves cs s lot) p q r (opened_then serves issue cs s lot p q one)
+    (stops_followed (all_run serves (number_in lot) cs s) (after_ran serves lot) q r stop)
+
+-- no lot was opened
+pub beside_none_runs : {E N : Type 0} (leads : Exchange → N → N → Type 0) (serves : ServesBy) (issue : ℕ) (cs : List Numbered) (s left : Supply) (result : Result (Unit {0}) E) (p q r : Place N)
+    → Continues leads (opened issue) (Gives None) p q → Runs leads (all_run serves None cs s) (leaves result left) q r → Runs leads (run_beside serves issue cs s) (leaves result left) p r
+unfolding ◌>>=◌
+beside_none_runs leads serves issue cs s left (Ok u) p q r one two = ran_then serves issue cs s left None p q r one two
+beside_none_runs leads serves issue cs s left (Err e) p q r one stop = beside_stops serves issue cs s None p q r one stop
+
+-- whether a line is left
+pub some_left : (xs : List ℕ) (empty : Bool) → empty ≡ (length xs == 0) → empty ≡ false → 0 < length xs
+some_left [] empty is not = absurd (cc (sym is ∙ not))
+some_left (x ∷ xs) empty is not = omega arith
+
+pub none_left : (xs : List ℕ) (empty : Bool) → empty ≡ (length xs == 0) → empty ≡ true → length xs ≡ 0
+none_left xs empty is none = eqb-true (length xs) 0 (sym is ∙ none)
+
+pub not_begun : (found : Option Begun) → ((begun : Begun) → found ≡ Some begun → ⊥) → found ≡ None
+not_begun None not = refl
+not_begun (Some begun) not = absurd (not begun refl)

@@ -1,5 +1,5 @@
 -- What a run of a script writes of an input's text.
-use Rattle.std.proofs.Common.{◌≡◌, ◌≤◌, ◌<◌, ℕ, Bool, false, true, length, List, [], ◌++◌, take, Option, None, Some, Result, Ok, Err, refl, sym, ap, ◌∙◌, subst, inl, inr, arith, length-append}
+use Rattle.std.proofs.Common.{◌≡◌, ◌≤◌, ◌<◌, ℕ, Bool, false, true, length, List, [], ◌++◌, take, Option, None, Some, Result, Ok, Err, refl, sym, ap, ◌∙◌, subst, inl, inr, arith, append_assoc, ◌+◌, length-append}
 use Rattle.std.specs.Prelude.{IfErr, OnOk, if◌then◌else◌}
 use Rattle.std.proofs.lemmas.List.{append-nil}
 use Rattle.std.proofs.lemmas.Bool.{le-leb, lt-leb}
@@ -13,70 +13,74 @@ use Rattle.cns_system.specs.Scene.{Chance, Scene, scene_of}
 use Rattle.cns_system.specs.Start.{IsNotOpened, IsStarted}
 use Rattle.cns_system.specs.World.{World}
 use Rattle.cns_system.specs.declared.fault.StartFault.{StartFault}
-use Rattle.cns_batch.specs.Acts.{Told, done, scene_at}
+use Rattle.cns_batch.specs.declared.supply.Supply.{Supply}
+use Rattle.cns_batch.specs.Acts.{Gives}
+use Rattle.cns_batch.specs.Commands.{served_in_turn}
+use Rattle.cns_batch.specs.InTurn.{LeadsInTurn, Told, in_turn, scene_at}
 use Rattle.cns_batch.specs.Ending.{batch_result}
-use Rattle.cns_batch.specs.Run.{lines_run}
-use Rattle.cns_batch.specs.Runs.{Continues, Place, RunState, Runs, Stops, course_at}
+use Rattle.cns_batch.specs.Runs.{Continues, Place, Runs, Stops, leaves, text_said}
 use Rattle.cns_input.specs.Reading.{HasGiven, IsInput, IsReadFault}
-use Rattle.cns_input.specs.Sections.{raw_lines}
-use Rattle.cns_batch.specs.Text.{BatchLeaves, Input, KeptLeaves, OpensBoth, RunsInput, SaysOf, Tells, WritesAll, WritesNothing, WritesPart, WritesTextPart, fault_of_start, input_of, is_short, new_keeper, first_scene, parts_of, run_from, text_by, text_from}
+use Rattle.cns_batch.specs.Text.{BatchLeaves, Input, KeptLeaves, OpensBoth, RunsInput, SaysOf, Tells, WritesAll, WritesNothing, WritesPart, WritesTextPart, fault_of_start, input_of, is_short, new_keeper, first_scene, parts_of, run_from, script_of, text_by, text_from}
 use Rattle.cns_input.specs.declared.fault.BatchFault.{BatchFault}
 use Rattle.cns_input.specs.declared.fault.BatchFault.TheVariants as fault
 use Rattle.cns_batch.specs.declared.fault.OutputFault.{OutputFault}
 use Rattle.cns_batch.specs.declared.fault.OutputFault.TheVariants as output
+use Rattle.cns_batch.proofs.InTurnLemmas.{all_in_turn, course}
 use Rattle.cns_batch.proofs.OpenedLemmas.{none_unopened, started_first}
-
--- a script at its start
-abbrev pub IsAtStart : Input → World → Place → Type 0
-IsAtStart input w p = p.run ≡ record { world = w; rows = input.rows; beside = None; held = input.told }
+use Rattle.cns_batch.proofs.PrintLemmas.{take_front, take_past}
 
 -- both keepers of a place that was come to are as its nodes give them up
-abbrev pub AreOf : Place → KeeperState → KeeperState → Type 0
-AreOf q clear depot = IsGivenUp spelling q.run.world.clear.clear.log clear × IsGivenUp dep_spelling q.run.world.depot.log depot
+abbrev pub AreOf : Place World → KeeperState → KeeperState → Type 0
+AreOf q clear depot = IsGivenUp spelling q.nodes.clear.clear.log clear × IsGivenUp dep_spelling q.nodes.depot.log depot
 
-wrote_all : (input : Input) (clear depot clear' depot' : KeeperState) (w : World) (p q : Place) → IsStarted input.openings clear depot w → IsAtStart input w p
-    → Continues (lines_run 1 (raw_lines input.script)) done p q → q.run.held ≡ [] → AreOf q clear' depot' → WritesAll input clear depot clear' depot' p.sent q.sent
-wrote_all input clear depot clear' depot' w p q started start one none left =
-    let act = lines_run 1 (raw_lines input.script) in
-    let chances = one.chances ++ [] in
+-- a script at its start
+abbrev pub start : {N : Type 0} → Input → N → Option (List ℕ) → Place N
+start input nodes sent = record { nodes = nodes; held = input.told; sent = sent }
+
+wrote_all : (shake : Option ℕ) (input : Input) (clear depot clear' depot' : KeeperState) (w : World) (last_left : Supply) (sent : Option (List ℕ)) (q : Place World) → IsStarted input.openings clear depot w
+    → Continues LeadsInTurn (script_of served_in_turn shake input) (Gives last_left) (start input w sent) q → q.held ≡ [] → AreOf q clear' depot'
+    → WritesAll shake input clear depot clear' depot' sent q.sent
+unfolding in_turn
+wrote_all shake input clear depot clear' depot' w last_left sent q started one none left =
+    let run = all_in_turn one.said (script_of served_in_turn shake input) (Gives last_left) w q.nodes one.follows one.led in
+    let chances = run.chances ++ [] in
+    let text = text_said one.said in
     let part = one.writes.0 in
-    let written : part ≡ p.run.held ++ one.text = sym (append-nil part) ∙ ap (λ l. part ++ l) (sym none) ∙ one.writes.2 in
-    let told : (act (course_at p.run chances)).text ≡ one.text = ap (λ (t : Told (Unit {0})). t.text) (one.act_is []) ∙ append-nil one.text in
-    let here : text_from chances (scene_of w) input ≡ part =
-    sym (ap (λ (r : RunState). r.held ++ (act (course_at r chances)).text) start) ∙ ap (λ l. p.run.held ++ l) told ∙ sym written in
-    let last : scene_of q.run.world ≡ (run_from chances (scene_of w) input).course.scene =
-    sym (ap (λ (t : Told (Unit {0})). t.course.scene) (one.act_is [])) ∙ ap (λ (r : RunState). (act (course_at r chances)).course.scene) start in
-    (w, started, (chances, subst (λ t. Appends p.sent q.sent t) (sym here) one.writes.1, (q.run.world, last, left.0, left.1)))
+    let written : part ≡ input.told ++ text = sym (append-nil part) ∙ ap (λ l. part ++ l) (sym none) ∙ one.writes.2 in
+    let told : (run_from shake chances (scene_of w) input).text ≡ text = ap (λ (t : Told (Supply)). t.text) (run.act_is []) ∙ append-nil text in
+    let here : text_from shake chances (scene_of w) input ≡ part = ap (λ l. input.told ++ l) told ∙ sym written in
+    let last : scene_of q.nodes ≡ (run_from shake chances (scene_of w) input).course.scene = sym (ap (λ (t : Told (Supply)). t.course.scene) (run.act_is [])) in
+    (w, started, (chances, subst (λ t. Appends sent q.sent t) (sym here) one.writes.1, (q.nodes, last, left.0, left.1)))
 
-wrote_part : (input : Input) (clear depot clear' depot' : KeeperState) (w : World) (p q : Place) → IsStarted input.openings clear depot w → IsAtStart input w p
-    → Stops (lines_run 1 (raw_lines input.script)) p q → AreOf q clear' depot' → WritesPart input clear depot clear' depot' p.sent q.sent
-wrote_part input clear depot clear' depot' w p q started start stop left =
-    let act = lines_run 1 (raw_lines input.script) in
-    let here : text_from stop.chances (scene_of w) input ≡ p.run.held ++ (act (course_at p.run stop.chances)).text =
-    sym (ap (λ (r : RunState). r.held ++ (act (course_at r stop.chances)).text) start) in
-    let last : scene_of q.run.world ≡ scene_at (scene_of w) (take stop.count (run_from stop.chances (scene_of w) input).occurred) =
-    stop.scene ∙ ap (λ (r : RunState). scene_at (scene_of r.world) (take stop.count (act (course_at r stop.chances)).occurred)) start in (
-      w,
-      started,
-      (
-        stop.chances,
-        (stop.size, subst (λ t. Appends p.sent q.sent (take stop.size t)) (sym here) stop.writes),
-        (stop.count, (q.run.world, last, left.0, left.1)),
-      ),
-    )
+wrote_part : (shake : Option ℕ) (input : Input) (clear depot clear' depot' : KeeperState) (w : World) (sent : Option (List ℕ)) (q : Place World) → IsStarted input.openings clear depot w
+    → Stops LeadsInTurn (script_of served_in_turn shake input) (start input w sent) q → AreOf q clear' depot' → WritesPart shake input clear depot clear' depot' sent q.sent
+wrote_part shake input clear depot clear' depot' w sent q started stop left =
+    let run = all_in_turn stop.said (script_of served_in_turn shake input) stop.left w q.nodes stop.follows stop.led in
+    let chances = run.chances ++ [] in
+    let text = text_said stop.said in
+    let rest = in_turn stop.left (course q.nodes []) in
+    let told : text_from shake chances (scene_of w) input ≡ (input.told ++ text) ++ rest.text =
+    ap (λ (t : Told (Supply)). input.told ++ t.text) (run.act_is []) ∙ sym (append_assoc input.told text rest.text) in
+    let (size, same) = take_front stop.writes.0 (input.told ++ text) rest.text in
+    let here : take size (text_from shake chances (scene_of w) input) ≡ take stop.writes.0 (input.told ++ text) = ap (take size) told ∙ same in
+    let all : (run_from shake chances (scene_of w) input).occurred ≡ run.occurred ++ rest.occurred = ap (λ (t : Told (Supply)). t.occurred) (run.act_is []) in
+    let first : take (length run.occurred + 0) (run_from shake chances (scene_of w) input).occurred ≡ run.occurred =
+    ap (take (length run.occurred + 0)) all ∙ take_past 0 run.occurred rest.occurred ∙ append-nil run.occurred in
+    let last : scene_of q.nodes ≡ scene_at (scene_of w) (take (length run.occurred + 0) (run_from shake chances (scene_of w) input).occurred) =
+    run.scene ∙ ap (scene_at (scene_of w)) (sym first) in
+    (w, started, (chances, (size, subst (λ t. Appends sent q.sent t) (sym here) stop.writes.1), (length run.occurred + 0, (q.nodes, last, left.0, left.1))))
 
-pub runs_input : (ran : Result (Unit {0}) OutputFault) (input : Input) (clear depot clear' depot' : KeeperState) (w : World) (p q : Place) → IsStarted input.openings clear depot w
-    → IsAtStart input w p → Runs (lines_run 1 (raw_lines input.script)) ran p q → OnOk ran (q.run.held ≡ []) → AreOf q clear' depot'
-    → RunsInput (batch_result ran) input clear depot clear' depot' p.sent q.sent
-runs_input (Ok u) input clear depot clear' depot' w p q started start one none left = wrote_all input clear depot clear' depot' w p q started start one none left
-runs_input (Err output.Memory) input clear depot clear' depot' w p q started start stop none left =
-    inr (wrote_part input clear depot clear' depot' w p q started start stop left)
-runs_input (Err output.Write) input clear depot clear' depot' w p q started start stop none left = wrote_part input clear depot clear' depot' w p q started start stop left
+pub runs_input : (ran : Result (Unit {0}) OutputFault) (shake : Option ℕ) (input : Input) (clear depot clear' depot' : KeeperState) (w : World) (last_left : Supply) (sent : Option (List ℕ)) (q : Place World)
+    → IsStarted input.openings clear depot w → Runs LeadsInTurn (script_of served_in_turn shake input) (leaves ran last_left) (start input w sent) q → OnOk ran (q.held ≡ []) → AreOf q clear' depot'
+    → RunsInput (batch_result ran) shake input clear depot clear' depot' sent q.sent
+runs_input (Ok u) shake input clear depot clear' depot' w last_left sent q started one none left = wrote_all shake input clear depot clear' depot' w last_left sent q started one none left
+runs_input (Err output.Memory) shake input clear depot clear' depot' w last_left sent q started stop none left = inr (wrote_part shake input clear depot clear' depot' w sent q started stop left)
+runs_input (Err output.Write) shake input clear depot clear' depot' w last_left sent q started stop none left = wrote_part shake input clear depot clear' depot' w sent q started stop left
 
 -- ---- the bytes of an input, and their size
 
 -- bytes that are no more than may be read
-within : (bytes : List ℕ) → length bytes ≤ 67108864 → input_of bytes ≡ parts_of bytes
+pub within : (bytes : List ℕ) → length bytes ≤ 67108864 → input_of bytes ≡ parts_of bytes
 within bytes le = rw (le-leb (length bytes) 67108864 le) refl
 
 -- and bytes that are more
@@ -84,7 +88,7 @@ pub too_long : (bytes : List ℕ) → 67108864 < length bytes → input_of bytes
 too_long bytes more = rw (lt-leb (length bytes) 67108864 more) refl
 
 -- there are bytes that are those that are known, where some are
-some_input : (known : Option (List ℕ)) → (bytes : List ℕ) × IsInput known bytes
+pub some_input : (known : Option (List ℕ)) → (bytes : List ℕ) × IsInput known bytes
 some_input None = ([], tt)
 some_input (Some all) = (all, refl)
 
@@ -104,43 +108,43 @@ given_refused e old new (given, took, long) = (given, took, (λ is. long.0 (cc i
 
 -- ---- what a batch over keepers leaves
 
-kept_by : (result : Result (Unit {0}) BatchFault) (bytes : List ℕ) (input : Input) (c d c' d' : KeeperState) (old new : Option (List ℕ)) → input_of bytes ≡ Ok input
-    → RunsInput result input c d c' d' old new → KeptLeaves result bytes c d c' d' old new
-kept_by (Ok u) bytes input c d c' d' old new is runs = (input, is, runs)
-kept_by (Err fault.Journal) bytes input c d c' d' old new is runs = (input, is, runs)
-kept_by (Err fault.Memory) bytes input c d c' d' old new is runs = inr (input, is, runs)
-kept_by (Err fault.Write) bytes input c d c' d' old new is runs = (input, is, runs)
-kept_by (Err _) bytes input c d c' d' old new is runs = absurd runs
+kept_by : (result : Result (Unit {0}) BatchFault) (shake : Option ℕ) (bytes : List ℕ) (input : Input) (c d c' d' : KeeperState) (old new : Option (List ℕ)) → input_of bytes ≡ Ok input
+    → RunsInput result shake input c d c' d' old new → KeptLeaves result shake bytes c d c' d' old new
+kept_by (Ok u) shake bytes input c d c' d' old new is runs = (input, is, runs)
+kept_by (Err fault.Journal) shake bytes input c d c' d' old new is runs = (input, is, runs)
+kept_by (Err fault.Memory) shake bytes input c d c' d' old new is runs = inr (input, is, runs)
+kept_by (Err fault.Write) shake bytes input c d c' d' old new is runs = (input, is, runs)
+kept_by (Err _) shake bytes input c d c' d' old new is runs = absurd runs
 
 -- the input was read
-pub kept_ran : (known : Option (List ℕ)) (bytes : List ℕ) (input : Input) (result : Result (Unit {0}) BatchFault) (c d c' d' : KeeperState) (old new : Option (List ℕ))
-    → IsInput known bytes → length bytes ≤ 67108864 → parts_of bytes ≡ Ok input → RunsInput result input c d c' d' old new
-    → (bytes : List ℕ) × IsInput known bytes × KeptLeaves result bytes c d c' d' old new
-kept_ran known bytes input result c d c' d' old new all le is runs = (bytes, all, kept_by result bytes input c d c' d' old new (within bytes le ∙ is) runs)
+pub kept_ran : (shake : Option ℕ) (known : Option (List ℕ)) (bytes : List ℕ) (input : Input) (result : Result (Unit {0}) BatchFault) (c d c' d' : KeeperState) (old new : Option (List ℕ))
+    → IsInput known bytes → length bytes ≤ 67108864 → parts_of bytes ≡ Ok input → RunsInput result shake input c d c' d' old new
+    → (bytes : List ℕ) × IsInput known bytes × KeptLeaves result shake bytes c d c' d' old new
+kept_ran shake known bytes input result c d c' d' old new all le is runs = (bytes, all, kept_by result shake bytes input c d c' d' old new (within bytes le ∙ is) runs)
 
 -- and another answer than that it is too long follows
-pub runs_other : (result : Result (Unit {0}) BatchFault) (input : Input) (c d c' d' : KeeperState) (old new : Option (List ℕ)) → RunsInput result input c d c' d' old new
+pub runs_other : (result : Result (Unit {0}) BatchFault) (shake : Option ℕ) (input : Input) (c d c' d' : KeeperState) (old new : Option (List ℕ)) → RunsInput result shake input c d c' d' old new
     → result ≡ Err fault.TooLong → ⊥
-runs_other (Ok u) input c d c' d' old new runs is = absurd (cc is)
-runs_other (Err fault.TooLong) input c d c' d' old new runs is = runs
-runs_other (Err fault.Journal) input c d c' d' old new runs is = absurd (cc is)
-runs_other (Err fault.Memory) input c d c' d' old new runs is = absurd (cc is)
-runs_other (Err fault.Write) input c d c' d' old new runs is = absurd (cc is)
-runs_other (Err fault.Read) input c d c' d' old new runs is = runs
-runs_other (Err fault.Sections) input c d c' d' old new runs is = runs
-runs_other (Err fault.Csv) input c d c' d' old new runs is = runs
+runs_other (Ok u) shake input c d c' d' old new runs is = absurd (cc is)
+runs_other (Err fault.TooLong) shake input c d c' d' old new runs is = runs
+runs_other (Err fault.Journal) shake input c d c' d' old new runs is = absurd (cc is)
+runs_other (Err fault.Memory) shake input c d c' d' old new runs is = absurd (cc is)
+runs_other (Err fault.Write) shake input c d c' d' old new runs is = absurd (cc is)
+runs_other (Err fault.Read) shake input c d c' d' old new runs is = runs
+runs_other (Err fault.Sections) shake input c d c' d' old new runs is = runs
+runs_other (Err fault.Csv) shake input c d c' d' old new runs is = runs
 
-refused_by : (e : BatchFault) (bytes : List ℕ) (c d : KeeperState) (old : Option (List ℕ)) → length bytes ≤ 67108864 → Tells e (parts_of bytes) → KeptLeaves (Err e) bytes c d c d old old
-refused_by fault.Read bytes c d old le told = (refl, refl)
-refused_by fault.Sections bytes c d old le told = (within bytes le ∙ told, refl, refl)
-refused_by fault.Csv bytes c d old le told = (within bytes le ∙ told, refl, refl)
-refused_by fault.Memory bytes c d old le told = inl (refl, refl, refl)
-refused_by _ bytes c d old le told = absurd told
+refused_by : (e : BatchFault) (shake : Option ℕ) (bytes : List ℕ) (c d : KeeperState) (old : Option (List ℕ)) → length bytes ≤ 67108864 → Tells e (parts_of bytes) → KeptLeaves (Err e) shake bytes c d c d old old
+refused_by fault.Read shake bytes c d old le told = (refl, refl)
+refused_by fault.Sections shake bytes c d old le told = (within bytes le ∙ told, refl, refl)
+refused_by fault.Csv shake bytes c d old le told = (within bytes le ∙ told, refl, refl)
+refused_by fault.Memory shake bytes c d old le told = inl (refl, refl, refl)
+refused_by _ shake bytes c d old le told = absurd told
 
 -- the input was read, and is refused
-pub kept_refused : (known : Option (List ℕ)) (bytes : List ℕ) (e : BatchFault) (c d : KeeperState) (old : Option (List ℕ)) → IsInput known bytes → length bytes ≤ 67108864
-    → Tells e (parts_of bytes) → (bytes : List ℕ) × IsInput known bytes × KeptLeaves (Err e) bytes c d c d old old
-kept_refused known bytes e c d old all le told = (bytes, all, refused_by e bytes c d old le told)
+pub kept_refused : (shake : Option ℕ) (known : Option (List ℕ)) (bytes : List ℕ) (e : BatchFault) (c d : KeeperState) (old : Option (List ℕ)) → IsInput known bytes → length bytes ≤ 67108864
+    → Tells e (parts_of bytes) → (bytes : List ℕ) × IsInput known bytes × KeptLeaves (Err e) shake bytes c d c d old old
+kept_refused shake known bytes e c d old all le told = (bytes, all, refused_by e shake bytes c d old le told)
 
 pub refuses_other : (e : BatchFault) (r : Result Input BatchFault) → Tells e r → e ≡ fault.TooLong → ⊥
 refuses_other fault.TooLong r told is = told
@@ -152,41 +156,41 @@ refuses_other fault.Journal r told is = told
 refuses_other fault.Write r told is = told
 
 -- the input was not read to its end
-pub kept_unread : {A : Type 0} (e : BatchFault) (known left : Option (List ℕ)) (c d : KeeperState) (old : Option (List ℕ)) → IsReadFault e → HasGiven {A = A} (Err e) known left
-    → (bytes : List ℕ) × IsInput known bytes × KeptLeaves (Err e) bytes c d c d old old
-kept_unread fault.Read known left c d old kind gave = let (bytes, all) = some_input known in (bytes, all, (refl, refl))
-kept_unread fault.Memory known left c d old kind gave = let (bytes, all) = some_input known in (bytes, all, inl (refl, refl, refl))
-kept_unread fault.TooLong known left c d old kind (given, took, long) =
+pub kept_unread : {A : Type 0} (e : BatchFault) (shake : Option ℕ) (known left : Option (List ℕ)) (c d : KeeperState) (old : Option (List ℕ)) → IsReadFault e → HasGiven {A = A} (Err e) known left
+    → (bytes : List ℕ) × IsInput known bytes × KeptLeaves (Err e) shake bytes c d c d old old
+kept_unread fault.Read shake known left c d old kind gave = let (bytes, all) = some_input known in (bytes, all, (refl, refl))
+kept_unread fault.Memory shake known left c d old kind gave = let (bytes, all) = some_input known in (bytes, all, inl (refl, refl, refl))
+kept_unread fault.TooLong shake known left c d old kind (given, took, long) =
     let (bytes, all, more) = long_input known left given took (long.0 refl) in (bytes, all, (too_long bytes more, refl, refl))
-kept_unread fault.Sections known left c d old kind gave = absurd kind
-kept_unread fault.Csv known left c d old kind gave = absurd kind
-kept_unread fault.Journal known left c d old kind gave = absurd kind
-kept_unread fault.Write known left c d old kind gave = absurd kind
+kept_unread fault.Sections shake known left c d old kind gave = absurd kind
+kept_unread fault.Csv shake known left c d old kind gave = absurd kind
+kept_unread fault.Journal shake known left c d old kind gave = absurd kind
+kept_unread fault.Write shake known left c d old kind gave = absurd kind
 
 -- ---- over keepers in memory
 
-abbrev pub text_in : List Chance → Result Input BatchFault → Result (List ℕ) BatchFault
-text_in chances read = read >>= λ input. Ok (text_from chances (first_scene input.openings) input)
+abbrev pub text_in : Option ℕ → List Chance → Result Input BatchFault → Result (List ℕ) BatchFault
+text_in shake chances read = read >>= λ input. Ok (text_from shake chances (first_scene input.openings) input)
 
-text_here : (chances : List Chance) (bytes : List ℕ) (input : Input) (w : World) → input_of bytes ≡ Ok input → IsStarted input.openings new_keeper new_keeper w
-    → text_by chances bytes ≡ Ok (text_from chances (scene_of w) input)
-text_here chances bytes input w is started =
-    let text_over : Scene → Result (List ℕ) BatchFault = λ s. Ok (text_from chances s input) in
-    ap (text_in chances) is ∙ ap text_over (sym (started_first input.openings w started))
+text_here : (shake : Option ℕ) (chances : List Chance) (bytes : List ℕ) (input : Input) (w : World) → input_of bytes ≡ Ok input → IsStarted input.openings new_keeper new_keeper w
+    → text_by shake chances bytes ≡ Ok (text_from shake chances (scene_of w) input)
+text_here shake chances bytes input w is started =
+    let text_over : Scene → Result (List ℕ) BatchFault = λ s. Ok (text_from shake chances s input) in
+    ap (text_in shake chances) is ∙ ap text_over (sym (started_first input.openings w started))
 
-part_here : (bytes : List ℕ) (input : Input) (c' d' : KeeperState) (old new : Option (List ℕ)) → input_of bytes ≡ Ok input → WritesPart input new_keeper new_keeper c' d' old new
+part_here : (bytes : List ℕ) (input : Input) (c' d' : KeeperState) (old new : Option (List ℕ)) → input_of bytes ≡ Ok input → WritesPart None input new_keeper new_keeper c' d' old new
     → WritesTextPart bytes old new
 part_here bytes input c' d' old new is (w, started, (chances, (size, written), left)) =
-    (chances, text_from chances (scene_of w) input, size, text_here chances bytes input w is started, written)
+    (chances, text_from None chances (scene_of w) input, size, text_here None chances bytes input w is started, written)
 
-batch_by : (result : Result (Unit {0}) BatchFault) (bytes : List ℕ) (c' d' : KeeperState) (old new : Option (List ℕ)) → KeptLeaves result bytes new_keeper new_keeper c' d' old new
+batch_by : (result : Result (Unit {0}) BatchFault) (bytes : List ℕ) (c' d' : KeeperState) (old new : Option (List ℕ)) → KeptLeaves result None bytes new_keeper new_keeper c' d' old new
     → BatchLeaves result bytes old new
 batch_by (Ok u) bytes c' d' old new (input, is, (w, started, (chances, written, left))) =
-    (chances, text_from chances (scene_of w) input, text_here chances bytes input w is started, written)
+    (chances, text_from None chances (scene_of w) input, text_here None chances bytes input w is started, written)
 batch_by (Err fault.Read) bytes c' d' old new left = tt
-batch_by (Err fault.TooLong) bytes c' d' old new left = ap (text_in []) left.0
-batch_by (Err fault.Sections) bytes c' d' old new left = ap (text_in []) left.0
-batch_by (Err fault.Csv) bytes c' d' old new left = ap (text_in []) left.0
+batch_by (Err fault.TooLong) bytes c' d' old new left = ap (text_in None []) left.0
+batch_by (Err fault.Sections) bytes c' d' old new left = ap (text_in None []) left.0
+batch_by (Err fault.Csv) bytes c' d' old new left = ap (text_in None []) left.0
 batch_by (Err fault.Journal) bytes c' d' old new (input, is, (unopened, same)) = absurd (none_unopened input c' d' unopened)
 batch_by (Err fault.Memory) bytes c' d' old new (inl left) = inl left.0
 batch_by (Err fault.Memory) bytes c' d' old new (inr (input, is, inl unopened)) = inl unopened.1
@@ -194,11 +198,11 @@ batch_by (Err fault.Memory) bytes c' d' old new (inr (input, is, inr part)) = in
 batch_by (Err fault.Write) bytes c' d' old new (input, is, part) = part_here bytes input c' d' old new is part
 
 pub batch_leaves : (known : Option (List ℕ)) (result : Result (Unit {0}) BatchFault) (c d c' d' : KeeperState) (old new : Option (List ℕ)) → c ≡ new_keeper → d ≡ new_keeper
-    → (bytes : List ℕ) × IsInput known bytes × KeptLeaves result bytes c d c' d' old new → (bytes : List ℕ) × IsInput known bytes × BatchLeaves result bytes old new
+    → (bytes : List ℕ) × IsInput known bytes × KeptLeaves result None bytes c d c' d' old new → (bytes : List ℕ) × IsInput known bytes × BatchLeaves result bytes old new
 batch_leaves known result c d c' d' old new is_c is_d (bytes, all, kept) = (
   bytes,
   all,
-  batch_by result bytes c' d' old new (subst (λ c. KeptLeaves result bytes c new_keeper c' d' old new) is_c (subst (λ d. KeptLeaves result bytes c d c' d' old new) is_d kept)),
+  batch_by result bytes c' d' old new (subst (λ c. KeptLeaves result None bytes c new_keeper c' d' old new) is_c (subst (λ d. KeptLeaves result None bytes c d c' d' old new) is_d kept)),
 )
 
 -- ---- what an answer says of the input, whatever was written

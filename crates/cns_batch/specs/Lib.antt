@@ -1,8 +1,10 @@
 pub mod Ending
 pub mod Acts
 pub mod Commands
-pub mod Runs
 pub mod Run
+pub mod Runs
+pub mod InTurn
+pub mod ByWorkers
 pub mod Opened
 pub mod Text
 pub mod Memory

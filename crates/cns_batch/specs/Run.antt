@@ -1,53 +1,59 @@
--- What a script tells, line by line.
-use Rattle.std.specs.Prelude.{ℕ, ◌+◌, ◌-◌, ◌==◌, List, [], ◌∷◌, Option, Some, None, is_some, take, if◌then◌else◌}
-use Rattle.std.specs.Option.{option_and_then}
-use Rattle.cns_report.specs.Lines.{line_text as line_bytes}
-use Rattle.cns_report.specs.declared.line.Line.TheVariants as line
-use Rattle.cns_movements.specs.Order.{unconfirmed_of}
-use Rattle.cns_system.specs.Happens.{book}
+-- What a script does, command by command.
+use Rattle.std.specs.Prelude.{◌≡◌, ℕ, zero, suc, ◌+◌, List, [], ◌∷◌, Option, None, Some, option_map, take}
+use Rattle.cns_batch.specs.declared.supply.Supply.{Supply}
 use Rattle.cns_system.specs.declared.numbered.Opened.{Opened}
-use Rattle.cns_batch.specs.Acts.{Act, ◌>>=◌, ◌>>◌, done, each, tells}
-use Rattle.cns_batch.specs.Commands.{event_run, failed, looked, opened, pumped, report_text, row_taken, served_if_open}
 use Rattle.cns_input.specs.Script.{command_of}
-use Rattle.cns_input.specs.Sections.{line_text}
+use Rattle.cns_input.specs.Sections.{line_text, raw_lines}
 use Rattle.cns_input.specs.declared.command.Command.{Command}
 use Rattle.cns_input.specs.declared.command.Command.TheVariants as command
-use Rattle.cns_batch.specs.declared.runner.Beside.{Beside}
+use Rattle.cns_batch.specs.Acts.{Act, Gives, ◌>>=◌, ◌>>◌}
+use Rattle.cns_batch.specs.declared.lines.Commands.{Commands}
+use Rattle.cns_batch.specs.Commands.{command_run, opened, served_if_open}
 
--- a command, in the line of this number. TAKE takes so many rows, or fewer where fewer are left; ALLOCATE opens a lot and serves it; PUMP
--- takes the orders that are unconfirmed at its start, by number; and a line that begins another lot beside lines is bad (`line_run` takes
--- those that begin one, and those that hold no command)
-abbrev pub command_run : ℕ → Command → Act (Unit {0})
-command_run n command.TakeAll = λ c. each row_taken c.rows c
-command_run n (command.Take rows) = λ c. each row_taken (take rows c.rows) c
-command_run n (command.Single e) = event_run e
-command_run n (command.Look lot) = looked lot
-command_run n (command.Allocate issue) = opened issue >>= served_if_open
-command_run n (command.Fail name stands) = failed name stands
-command_run n command.Pump = λ c. let b = (book c.scene.shown).orders in each pumped (unconfirmed_of b.orders b.replies) c
-command_run n command.Report = λ c. tells (report_text c.scene.shown) c
-command_run n _ = tells (line_bytes (line.BadCommand n))
+-- the number of a line, and its command
+abbrev pub Numbered : Type 0
+Numbered = ℕ × Command
 
--- the lot waits for so many lines, and is served where none are left
-unfoldable pub waited : ℕ → Option Opened → Act (Unit {0})
-waited lines lot c = if lines == 0 then served_if_open lot c else done (record c { beside = Some (record { lot = lot; lines = lines }) })
+-- the commands of lines, which are numbered from n on; a line that holds none is passed over
+abbrev pub numbered : ℕ → Command → List Numbered → List Numbered
+numbered n command.Skip rest = rest
+numbered n c rest = (n, c) ∷ rest
 
--- a line has run beside the lot that waits
-unfoldable pub line_counted : Act (Unit {0})
-line_counted c = elim c.beside [ None ↦ done c | Some beside ↦ waited (beside.lines - 1) beside.lot (record c { beside = None }) ]
+unfoldable pub commands_of : ℕ → List (List ℕ) → List Numbered
+commands_of n [] = []
+commands_of n (l ∷ ls) = numbered n (command_of (line_text l)) (commands_of (n + 1) ls)
 
--- the line of this number; BESIDE opens a lot beside the next lines, where none waits yet
-abbrev pub line_run : ℕ → Command → Act (Unit {0})
-line_run n command.Skip = done
-line_run n (command.Beside issue lines) = λ c.
-    if is_some c.beside then (tells (line_bytes (line.BadCommand n)) >> line_counted) c else (opened issue >>= waited lines) c
-line_run n c = command_run n c >> line_counted
+-- the commands of a script that are left to run
+abbrev pub left_of : Commands → List Numbered
+left_of c = commands_of c.number (raw_lines c.rest.now)
 
--- at the end of the script, the lot that still waits is served
-unfoldable pub ended : Act (Unit {0})
-ended c = served_if_open (option_and_then (λ (b : Beside). b.lot) c.beside) (record c { beside = None })
+-- commands one after another beside the lot of a number, where one is served beside them
+unfoldable pub all_run : (Opened → Act (Unit {0})) → Option ℕ → List Numbered → Supply → Act Supply
+all_run serves busy [] s = Gives s
+all_run serves busy (c ∷ cs) s = command_run serves busy c.0 c.1 s >>= all_run serves busy cs
 
--- lines one after another, numbered from n on
-unfoldable pub lines_run : ℕ → List (List ℕ) → Act (Unit {0})
-lines_run n [] = ended
-lines_run n (l ∷ ls) = line_run n (command_of (line_text l)) >> lines_run (n + 1) ls
+-- BESIDE: a lot is opened, these commands run, and it is served where it was opened
+unfoldable pub run_beside : (Opened → Act (Unit {0})) → ℕ → List Numbered → Supply → Act Supply
+run_beside serves issue cs s = do
+  lot ← opened issue
+  left ← all_run serves (option_map (λ (lot : Opened). lot.number) lot) cs s
+  served_if_open serves lot >> Gives left
+
+-- a command of a script, before these others, and how many of them it runs: BESIDE runs some
+abbrev pub first_run : (Opened → Act (Unit {0})) → Numbered → List Numbered → Supply → Act Supply
+first_run serves c cs s = elim c.1 [ command.Beside issue count ↦ run_beside serves issue (take count cs) s | k ↦ command_run serves None c.0 k s ]
+
+abbrev pub ran_beside : Command → ℕ
+ran_beside (command.Beside issue count) = count
+ran_beside _ = 0
+
+-- the commands of a script one after another, but for the first so many, which ran beside a lot
+unfoldable pub script_run : (Opened → Act (Unit {0})) → ℕ → List Numbered → Supply → Act Supply
+script_run serves passed [] s = Gives s
+script_run serves (suc passed) (c ∷ cs) s = script_run serves passed cs s
+script_run serves zero (c ∷ cs) s = first_run serves c cs s >>= script_run serves (ran_beside c.1) cs
+
+-- the next of some commands, where one is left, and those that are left after it
+abbrev pub IsNextOf : Option Numbered → List Numbered → List Numbered → Type 0
+IsNextOf None old new = (old ≡ []) × (new ≡ [])
+IsNextOf (Some c) old new = old ≡ c ∷ new

@@ -1,12 +1,15 @@
--- What the calls that run a script do: so much of an act as came to pass, and what was written of its text.
-use Rattle.std.specs.Prelude.{◌≡◌, ℕ, Bool, true, false, List, [], ◌∷◌, ◌++◌, Option, Some, None, Result, Ok, Err, take}
+-- What the calls that run a script do: a way through an act, by what came of each thing that it asked, and what was written of its text.
+use Rattle.std.specs.Prelude.{◌≡◌, ℕ, Bool, List, [], ◌∷◌, ◌++◌, Option, Result, Ok, Err, take}
 use Rattle.std.specs.Io.KnownBytes.{Appends}
-use Rattle.cns_trades.specs.declared.row.Row.{Row}
-use Rattle.cns_system.specs.Scene.{Chance, is_planner, planned, scene_of}
+use Rattle.std.specs.List.{flat_map}
+use Rattle.cns_system.specs.Shown.{Shown}
+use Rattle.cns_system.specs.declared.event.Event.{Event}
 use Rattle.cns_system.specs.declared.event.NodeName.{NodeName}
-use Rattle.cns_system.specs.World.{World}
-use Rattle.cns_batch.specs.Acts.{Act, Course, Occurrence, Told, gives, scene_at}
-use Rattle.cns_batch.specs.declared.runner.Beside.{Beside}
+use Rattle.cns_system.specs.declared.outcome.Outcome.{Outcome}
+use Rattle.cns_batch.specs.Acts.{Act, Draws, Gives, Haul, Lets, Looks, Plans, Tells}
+use Rattle.cns_batch.specs.declared.runner.Runner.{Runner}
+
+-- ---- what is written
 
 -- what was told and is not yet written, and what its writer holds
 pub record Output : Type 0 where
@@ -26,59 +29,84 @@ abbrev pub Prints : {E : Type 0} → List ℕ → Result (Unit {0}) E → Output
 Prints text (Ok _) old new = Writes text old new
 Prints text (Err e) old new = BreaksOff text old new.sent
 
--- both nodes and the link, the rows that are not taken, the lot that waits to be served, and what was told and is not yet written
-pub record RunState : Type 0 where
-  pub world : World
-  pub rows : List Row
-  pub beside : Option Beside
-  pub held : List ℕ
+-- ---- a way through an act
 
--- the same, and what its writer holds
-pub record Place : Type 0 where
-  pub run : RunState
+-- what passes between a run and both nodes: a text is told; an event comes to an outcome; a failure is planned, or is not; both nodes show
+-- something; workers drew something of a lot, or the lot was not busy
+pub data Exchange : Type 0 where
+  Told : List ℕ → Exchange
+  Came : Event → Outcome → Exchange
+  Planned : NodeName → Bool → Bool → Exchange
+  Showed : Shown → Exchange
+  Drew : ℕ → Option Haul → Exchange
+
+-- the text that is told by it
+abbrev pub text_in : Exchange → List ℕ
+text_in (Told text) = text
+text_in _ = []
+
+abbrev pub text_said : List Exchange → List ℕ
+text_said said = flat_map text_in said
+
+-- an exchange is the next one of an act, and this is left of the act
+abbrev pub IsNext : {A : Type 0} → Exchange → Act A → Act A → Type 0
+IsNext x (Gives a) left = ⊥
+IsNext x (Tells text next) left = (x ≡ Told text) × (left ≡ next)
+IsNext x (Lets e next) left = (o : Outcome) × (x ≡ Came e o) × (left ≡ next o)
+IsNext x (Plans name stands next) left = (planned : Bool) × (x ≡ Planned name stands planned) × (left ≡ next planned)
+IsNext x (Looks next) left = (w : Shown) × (x ≡ Showed w) × (left ≡ next w)
+IsNext x (Draws lot next) left = (haul : Option Haul) × (x ≡ Drew lot haul) × (left ≡ next haul)
+
+-- exchanges are the first ones of an act, and this is left of the act
+abbrev pub Follows : {A : Type 0} → Act A → List Exchange → Act A → Type 0
+Follows act [] left = left ≡ act
+Follows {A} act (x ∷ said) left = (next : Act A) × IsNext x act next × Follows next said left
+
+-- an exchange leads from what both nodes were to what they are; a text that is told leaves them
+abbrev pub Leads : {N : Type 0} → (Exchange → N → N → Type 0) → Exchange → N → N → Type 0
+Leads leads (Told text) old new = new ≡ old
+Leads leads x old new = leads x old new
+
+abbrev pub IsLed : {N : Type 0} → (Exchange → N → N → Type 0) → List Exchange → N → N → Type 0
+IsLed leads [] old new = new ≡ old
+IsLed {N} leads (x ∷ said) old new = (between : N) × Leads leads x old between × IsLed leads said between new
+
+-- ---- the calls
+
+-- both nodes, what was told and is not yet written, and what the writer holds
+pub record Place (N : Type 0) : Type 0 where
+  pub nodes : N
+  pub held : List ℕ
   pub sent : Option (List ℕ)
 
--- a script that has come so far, with what comes between from now on
-abbrev pub course_at : RunState → List Chance → Course
-course_at r chances = record { scene = scene_of r.world; rows = r.rows; beside = r.beside; chances = chances }
+abbrev pub output_at : {N : Type 0} → Place N → Output
+output_at p = record { held = p.held; sent = p.sent }
 
-abbrev pub output_at : Place → Output
-output_at p = record { held = p.run.held; sent = p.sent }
+-- the place of a runner, whose writer holds this
+abbrev pub at : {N : Type 0} → Runner N → Option (List ℕ) → Place N
+at run sent = record { nodes = run.nodes; held = run.page; sent = sent }
 
--- a text before what is told, and what occurred before
-abbrev pub after_all : {A : Type 0} → List ℕ → List Occurrence → Told A → Told A
-after_all text occurred told = record told { text = text ++ told.text; occurred = occurred ++ told.occurred }
+-- an act has come so far that another one is left of it
+pub record Continues {A N : Type 0} (leads : Exchange → N → N → Type 0) (act left : Act A) (old new : Place N) : Type 0 where
+  pub said : List Exchange
+  pub follows : Follows act said left
+  pub led : IsLed leads said old.nodes new.nodes
+  pub writes : Writes (text_said said) (output_at old) (output_at new)
 
--- an act has come so far that another one is left of it, and both nodes are as what occurred leaves them
-pub record Continues {A : Type 0} (act left : Act A) (old new : Place) : Type 0 where
-  pub chances : List Chance
-  pub text : List ℕ
-  pub occurred : List Occurrence
-  pub act_is : (more : List Chance) → act (course_at old.run (chances ++ more)) ≡ after_all text occurred (left (course_at new.run more))
-  pub writes : Writes text (output_at old) (output_at new)
-  pub scene : scene_of new.run.world ≡ scene_at (scene_of old.run.world) occurred
-
--- a first part of what is held and of what an act tells was written, and both nodes are as the first so many of what occurs by it leave them
-pub record Stops {A : Type 0} (act : Act A) (old new : Place) : Type 0 where
-  pub chances : List Chance
-  pub size : ℕ
-  pub writes : Appends old.sent new.sent (take size (old.run.held ++ (act (course_at old.run chances)).text))
-  pub count : ℕ
-  pub scene : scene_of new.run.world ≡ scene_at (scene_of old.run.world) (take count (act (course_at old.run chances)).occurred)
+-- an act has come so far, and a first part of what was held and of what it told was written
+pub record Stops {A N : Type 0} (leads : Exchange → N → N → Type 0) (act : Act A) (old new : Place N) : Type 0 where
+  pub said : List Exchange
+  pub left : Act A
+  pub follows : Follows act said left
+  pub led : IsLed leads said old.nodes new.nodes
+  pub writes : BreaksOff (text_said said) (output_at old) new.sent
 
 -- a call does an act, or stops in it
-abbrev pub Runs : {A E : Type 0} → Act A → Result A E → Place → Place → Type 0
-Runs act (Ok a) old new = Continues act (gives a) old new
-Runs act (Err e) old new = Stops act old new
+abbrev pub Runs : {A E N : Type 0} → (Exchange → N → N → Type 0) → Act A → Result A E → Place N → Place N → Type 0
+Runs leads act (Ok a) old new = Continues leads act (Gives a) old new
+Runs leads act (Err e) old new = Stops leads act old new
 
--- the next row is taken, where one is left
-abbrev pub IsNextRow : Option Row → RunState → RunState → Type 0
-IsNextRow None old new = (old.rows ≡ []) × (new ≡ old)
-IsNextRow (Some r) old new = (old.rows ≡ r ∷ new.rows) × (new ≡ record old { rows = new.rows })
-
--- the next commit of a node is planned to fail, and whether it is
-abbrev pub IsPlanned : NodeName → Bool → Bool → RunState → RunState → Type 0
-IsPlanned name stands true old new =
-    (is_planner name (scene_of old.world) ≡ true) × (scene_of new.world ≡ planned name stands (scene_of old.world)) × (new ≡ record old { world = new.world })
-IsPlanned name stands false old new =
-    (is_planner name (scene_of old.world) ≡ false) × (scene_of new.world ≡ scene_of old.world) × (new ≡ record old { world = new.world })
+-- a call that leaves this
+abbrev pub leaves : {A E : Type 0} → Result (Unit {0}) E → A → Result A E
+leaves (Ok _) a = Ok a
+leaves (Err e) a = Err e

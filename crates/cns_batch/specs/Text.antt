@@ -1,5 +1,5 @@
 -- The output text of a whole input, and what a fault says of it.
-use Rattle.std.specs.Prelude.{◌≡◌, ◌⊎◌, ⊤, ℕ, Bool, nat_le, true, false, List, [], ◌++◌, length, take, Option, None, Result, Ok, Err, if◌then◌else◌}
+use Rattle.std.specs.Prelude.{◌≡◌, ◌⊎◌, All, ⊤, ℕ, Bool, nat_le, true, false, List, [], ◌++◌, length, take, Option, None, Result, Ok, Err, option_map, if◌then◌else◌}
 use Rattle.std.specs.Io.KnownBytes.{Appends}
 use Rattle.std.specs.List.{enumerate_from, fold}
 use Rattle.std.specs.Option.{ok_or}
@@ -23,9 +23,16 @@ use Rattle.cns_system.specs.Start.{IsNotOpened, IsStarted}
 use Rattle.cns_system.specs.declared.fault.StartFault.{StartFault}
 use Rattle.cns_system.specs.declared.fault.StartFault.TheVariants as start
 use Rattle.cns_system.specs.World.{World}
-use Rattle.cns_batch.specs.Acts.{Told, scene_at}
+use Rattle.cns_system.specs.declared.numbered.Opened.{Opened}
+use Rattle.cns_shake.specs.Shake.{generator_of}
+use Rattle.cns_batch.specs.declared.supply.Supply.{Supply}
+use Rattle.cns_batch.specs.Acts.{Act, Gives}
+use Rattle.cns_batch.specs.ByWorkers.{ComesToPass, served_by_workers}
+use Rattle.cns_batch.specs.Commands.{served_in_turn}
+use Rattle.cns_batch.specs.InTurn.{Told, in_turn, scene_at}
+use Rattle.cns_batch.specs.Runs.{Exchange, Follows, text_said}
 use Rattle.cns_batch.specs.Opened.{told_opening}
-use Rattle.cns_batch.specs.Run.{lines_run}
+use Rattle.cns_batch.specs.Run.{commands_of, script_run}
 use Rattle.cns_input.specs.Sections.{raw_lines, sections}
 use Rattle.cns_input.specs.declared.fault.BatchFault.{BatchFault}
 use Rattle.cns_input.specs.declared.fault.BatchFault.TheVariants as fault
@@ -50,13 +57,21 @@ parts_of bytes = do
 abbrev pub input_of : List ℕ → Result Input BatchFault
 input_of bytes = need (nat_le (length bytes) 67108864) fault.TooLong >> parts_of bytes
 
--- what the script of an input comes to, from a scene on, by what comes between
-abbrev pub run_from : List Chance → Scene → Input → Told (Unit {0})
-run_from chances scene input = lines_run 1 (raw_lines input.script) (record { scene = scene; rows = input.rows; beside = None; chances = chances })
+-- what the commands of an input's script take from, in a run that is shaken by a number, or not
+abbrev pub supply_of : Option ℕ → Input → Supply
+supply_of shake input = record { trades = input.rows; shaker = option_map generator_of shake }
+
+-- what the script does, where lots are served so
+abbrev pub script_of : (Opened → Act (Unit {0})) → Option ℕ → Input → Act Supply
+script_of serves shake input = script_run serves 0 (commands_of 1 (raw_lines input.script)) (supply_of shake input)
+
+-- what it comes to in turn, from a scene on, by what comes between
+abbrev pub run_from : Option ℕ → List Chance → Scene → Input → Told Supply
+run_from shake chances scene input = in_turn (script_of served_in_turn shake input) (record { scene = scene; chances = chances })
 
 -- the output text of an input, from a scene on, by what comes between
-abbrev pub text_from : List Chance → Scene → Input → List ℕ
-text_from chances scene input = input.told ++ (run_from chances scene input).text
+abbrev pub text_from : Option ℕ → List Chance → Scene → Input → List ℕ
+text_from shake chances scene input = input.told ++ (run_from shake chances scene input).text
 
 -- both nodes over keepers in memory without records
 abbrev pub first_scene : List Opening → Scene
@@ -68,12 +83,12 @@ first_scene openings =
     record { shown = shown; clear = sight; depot = sight }
 
 -- the output text of an input's bytes over keepers in memory, by what comes between, or the fault of the bytes
-abbrev pub text_by : List Chance → List ℕ → Result (List ℕ) BatchFault
-text_by chances bytes = input_of bytes >>= λ input. Ok (text_from chances (first_scene input.openings) input)
+abbrev pub text_by : Option ℕ → List Chance → List ℕ → Result (List ℕ) BatchFault
+text_by shake chances bytes = input_of bytes >>= λ input. Ok (text_from shake chances (first_scene input.openings) input)
 
--- and where nothing comes between
+-- and where nothing comes between, and the run is not shaken
 abbrev pub text_of : List ℕ → Result (List ℕ) BatchFault
-text_of bytes = text_by [] bytes
+text_of bytes = text_by None [] bytes
 
 -- a keeper in memory without records
 abbrev pub new_keeper : KeeperState
@@ -107,17 +122,17 @@ abbrev pub AreGivenUp : Scene → KeeperState → KeeperState → Type 0
 AreGivenUp scene clear depot = (w : World) × (scene_of w ≡ scene) × IsGivenUp spelling w.clear.clear.log clear × IsGivenUp dep_spelling w.depot.log depot
 
 -- the text over these keepers was written, and they are left as the script leaves them
-abbrev pub WritesAll : Input → KeeperState → KeeperState → KeeperState → KeeperState → Option (List ℕ) → Option (List ℕ) → Type 0
-WritesAll input clear depot clear' depot' old new =
+abbrev pub WritesAll : Option ℕ → Input → KeeperState → KeeperState → KeeperState → KeeperState → Option (List ℕ) → Option (List ℕ) → Type 0
+WritesAll shake input clear depot clear' depot' old new =
     (w : World) × IsStarted input.openings clear depot w
-    × ((chances : List Chance) × Appends old new (text_from chances (scene_of w) input) × AreGivenUp (run_from chances (scene_of w) input).course.scene clear' depot')
+    × ((chances : List Chance) × Appends old new (text_from shake chances (scene_of w) input) × AreGivenUp (run_from shake chances (scene_of w) input).course.scene clear' depot')
 
 -- a first part of that text was written, and they are left as the first so many of what occurs by the script leave them
-abbrev pub WritesPart : Input → KeeperState → KeeperState → KeeperState → KeeperState → Option (List ℕ) → Option (List ℕ) → Type 0
-WritesPart input clear depot clear' depot' old new =
+abbrev pub WritesPart : Option ℕ → Input → KeeperState → KeeperState → KeeperState → KeeperState → Option (List ℕ) → Option (List ℕ) → Type 0
+WritesPart shake input clear depot clear' depot' old new =
     (w : World) × IsStarted input.openings clear depot w
-    × ((chances : List Chance) × ((size : ℕ) × Appends old new (take size (text_from chances (scene_of w) input)))
-    × ((count : ℕ) × AreGivenUp (scene_at (scene_of w) (take count (run_from chances (scene_of w) input).occurred)) clear' depot'))
+    × ((chances : List Chance) × ((size : ℕ) × Appends old new (take size (text_from shake chances (scene_of w) input)))
+    × ((count : ℕ) × AreGivenUp (scene_at (scene_of w) (take count (run_from shake chances (scene_of w) input).occurred)) clear' depot'))
 
 -- an opening is refused for want of memory
 abbrev pub is_short : StartFault → Bool
@@ -131,13 +146,13 @@ IsUnopened for_memory input clear depot clear' depot' =
     (why : StartFault) × (is_short why ≡ for_memory) × IsNotOpened input.openings why clear depot clear' depot'
 
 -- what a batch over the input leaves of both keepers and of what its writer holds, by its answer
-abbrev pub RunsInput : Result (Unit {0}) BatchFault → Input → KeeperState → KeeperState → KeeperState → KeeperState → Option (List ℕ) → Option (List ℕ) → Type 0
-RunsInput (Ok _) input clear depot clear' depot' old new = WritesAll input clear depot clear' depot' old new
-RunsInput (Err fault.Journal) input clear depot clear' depot' old new = IsUnopened false input clear depot clear' depot' × (new ≡ old)
-RunsInput (Err fault.Memory) input clear depot clear' depot' old new =
-    (IsUnopened true input clear depot clear' depot' × (new ≡ old)) ⊎ WritesPart input clear depot clear' depot' old new
-RunsInput (Err fault.Write) input clear depot clear' depot' old new = WritesPart input clear depot clear' depot' old new
-RunsInput (Err _) input clear depot clear' depot' old new = ⊥
+abbrev pub RunsInput : Result (Unit {0}) BatchFault → Option ℕ → Input → KeeperState → KeeperState → KeeperState → KeeperState → Option (List ℕ) → Option (List ℕ) → Type 0
+RunsInput (Ok _) shake input clear depot clear' depot' old new = WritesAll shake input clear depot clear' depot' old new
+RunsInput (Err fault.Journal) shake input clear depot clear' depot' old new = IsUnopened false input clear depot clear' depot' × (new ≡ old)
+RunsInput (Err fault.Memory) shake input clear depot clear' depot' old new =
+    (IsUnopened true input clear depot clear' depot' × (new ≡ old)) ⊎ WritesPart shake input clear depot clear' depot' old new
+RunsInput (Err fault.Write) shake input clear depot clear' depot' old new = WritesPart shake input clear depot clear' depot' old new
+RunsInput (Err _) shake input clear depot clear' depot' old new = ⊥
 
 abbrev pub fault_of_start : StartFault → BatchFault
 fault_of_start why = if is_short why then fault.Memory else fault.Journal
@@ -149,24 +164,24 @@ WritesNothing fault.Write = ⊥
 WritesNothing _ = Unit {0}
 
 -- what a batch over keepers leaves, by its answer
-abbrev pub KeptLeaves : Result (Unit {0}) BatchFault → List ℕ → KeeperState → KeeperState → KeeperState → KeeperState → Option (List ℕ) → Option (List ℕ) → Type 0
-KeptLeaves (Ok _) bytes clear depot clear' depot' old new =
-    (input : Input) × (input_of bytes ≡ Ok input) × RunsInput (Ok tt) input clear depot clear' depot' old new
-KeptLeaves (Err fault.Read) bytes clear depot clear' depot' old new = (clear' ≡ clear) × (depot' ≡ depot)
-KeptLeaves (Err fault.TooLong) bytes clear depot clear' depot' old new = (input_of bytes ≡ Err fault.TooLong) × (clear' ≡ clear) × (depot' ≡ depot)
-KeptLeaves (Err fault.Sections) bytes clear depot clear' depot' old new = (input_of bytes ≡ Err fault.Sections) × (clear' ≡ clear) × (depot' ≡ depot)
-KeptLeaves (Err fault.Csv) bytes clear depot clear' depot' old new = (input_of bytes ≡ Err fault.Csv) × (clear' ≡ clear) × (depot' ≡ depot)
-KeptLeaves (Err fault.Journal) bytes clear depot clear' depot' old new =
-    (input : Input) × (input_of bytes ≡ Ok input) × RunsInput (Err fault.Journal) input clear depot clear' depot' old new
-KeptLeaves (Err fault.Memory) bytes clear depot clear' depot' old new =
+abbrev pub KeptLeaves : Result (Unit {0}) BatchFault → Option ℕ → List ℕ → KeeperState → KeeperState → KeeperState → KeeperState → Option (List ℕ) → Option (List ℕ) → Type 0
+KeptLeaves (Ok _) shake bytes clear depot clear' depot' old new =
+    (input : Input) × (input_of bytes ≡ Ok input) × RunsInput (Ok tt) shake input clear depot clear' depot' old new
+KeptLeaves (Err fault.Read) shake bytes clear depot clear' depot' old new = (clear' ≡ clear) × (depot' ≡ depot)
+KeptLeaves (Err fault.TooLong) shake bytes clear depot clear' depot' old new = (input_of bytes ≡ Err fault.TooLong) × (clear' ≡ clear) × (depot' ≡ depot)
+KeptLeaves (Err fault.Sections) shake bytes clear depot clear' depot' old new = (input_of bytes ≡ Err fault.Sections) × (clear' ≡ clear) × (depot' ≡ depot)
+KeptLeaves (Err fault.Csv) shake bytes clear depot clear' depot' old new = (input_of bytes ≡ Err fault.Csv) × (clear' ≡ clear) × (depot' ≡ depot)
+KeptLeaves (Err fault.Journal) shake bytes clear depot clear' depot' old new =
+    (input : Input) × (input_of bytes ≡ Ok input) × RunsInput (Err fault.Journal) shake input clear depot clear' depot' old new
+KeptLeaves (Err fault.Memory) shake bytes clear depot clear' depot' old new =
     ((new ≡ old) × (clear' ≡ clear) × (depot' ≡ depot))
-    ⊎ ((input : Input) × (input_of bytes ≡ Ok input) × RunsInput (Err fault.Memory) input clear depot clear' depot' old new)
-KeptLeaves (Err fault.Write) bytes clear depot clear' depot' old new =
-    (input : Input) × (input_of bytes ≡ Ok input) × RunsInput (Err fault.Write) input clear depot clear' depot' old new
+    ⊎ ((input : Input) × (input_of bytes ≡ Ok input) × RunsInput (Err fault.Memory) shake input clear depot clear' depot' old new)
+KeptLeaves (Err fault.Write) shake bytes clear depot clear' depot' old new =
+    (input : Input) × (input_of bytes ≡ Ok input) × RunsInput (Err fault.Write) shake input clear depot clear' depot' old new
 
 -- the same, where nothing is said of what becomes of the keepers
-abbrev pub LeavesSomeKeepers : Result (Unit {0}) BatchFault → List ℕ → KeeperState → KeeperState → Option (List ℕ) → Option (List ℕ) → Type 0
-LeavesSomeKeepers result bytes clear depot old new = (clear' : KeeperState) × (depot' : KeeperState) × KeptLeaves result bytes clear depot clear' depot' old new
+abbrev pub LeavesSomeKeepers : Result (Unit {0}) BatchFault → Option ℕ → List ℕ → KeeperState → KeeperState → Option (List ℕ) → Option (List ℕ) → Type 0
+LeavesSomeKeepers result shake bytes clear depot old new = (clear' : KeeperState) × (depot' : KeeperState) × KeptLeaves result shake bytes clear depot clear' depot' old new
 
 -- both nodes are opened over these keepers with the openings of the bytes
 abbrev pub OpensBoth : List ℕ → KeeperState → KeeperState → Type 0
@@ -186,10 +201,10 @@ SaysOf (Err fault.Write) bytes clear depot = OpensBoth bytes clear depot
 
 -- the text over keepers in memory was written, or a first part of it
 abbrev pub WritesText : List ℕ → Option (List ℕ) → Option (List ℕ) → Type 0
-WritesText bytes old new = (chances : List Chance) × (text : List ℕ) × (text_by chances bytes ≡ Ok text) × Appends old new text
+WritesText bytes old new = (chances : List Chance) × (text : List ℕ) × (text_by None chances bytes ≡ Ok text) × Appends old new text
 
 abbrev pub WritesTextPart : List ℕ → Option (List ℕ) → Option (List ℕ) → Type 0
-WritesTextPart bytes old new = (chances : List Chance) × (text : List ℕ) × (size : ℕ) × (text_by chances bytes ≡ Ok text) × Appends old new (take size text)
+WritesTextPart bytes old new = (chances : List Chance) × (text : List ℕ) × (size : ℕ) × (text_by None chances bytes ≡ Ok text) × Appends old new (take size text)
 
 -- what a batch over keepers in memory leaves, by its answer
 abbrev pub BatchLeaves : Result (Unit {0}) BatchFault → List ℕ → Option (List ℕ) → Option (List ℕ) → Type 0
@@ -201,3 +216,27 @@ BatchLeaves (Err fault.Csv) bytes old new = text_of bytes ≡ Err fault.Csv
 BatchLeaves (Err fault.Journal) bytes old new = ⊥
 BatchLeaves (Err fault.Memory) bytes old new = (new ≡ old) ⊎ WritesTextPart bytes old new
 BatchLeaves (Err fault.Write) bytes old new = WritesTextPart bytes old new
+
+-- ---- what a batch whose lots workers serve leaves of what its writer holds
+
+-- the text of a way through the script was written: the lines of events that came to pass at a desk, in their order, and of what is no
+-- event; all of the script was run
+abbrev pub WritesWhole : Option ℕ → List ℕ → Option (List ℕ) → Option (List ℕ) → Type 0
+WritesWhole shake bytes old new =
+    (input : Input) × (input_of bytes ≡ Ok input)
+    × ((said : List Exchange) × (left : Supply) × Follows (script_of served_by_workers shake input) said (Gives left) × All ComesToPass said
+    × Appends old new (input.told ++ text_said said))
+
+-- so much of it was run, and a first part of the text was written
+abbrev pub WritesFront : Option ℕ → List ℕ → Option (List ℕ) → Option (List ℕ) → Type 0
+WritesFront shake bytes old new =
+    (input : Input) × (input_of bytes ≡ Ok input)
+    × ((said : List Exchange) × (left : Act Supply) × (size : ℕ) × Follows (script_of served_by_workers shake input) said left × All ComesToPass said
+    × Appends old new (take size (input.told ++ text_said said)))
+
+-- what is written, by the answer
+abbrev pub WritesByWorkers : Result (Unit {0}) BatchFault → Option ℕ → List ℕ → Option (List ℕ) → Option (List ℕ) → Type 0
+WritesByWorkers (Ok _) shake bytes old new = WritesWhole shake bytes old new
+WritesByWorkers (Err fault.Write) shake bytes old new = WritesFront shake bytes old new
+WritesByWorkers (Err fault.Memory) shake bytes old new = (new ≡ old) ⊎ WritesFront shake bytes old new
+WritesByWorkers (Err _) shake bytes old new = new ≡ old

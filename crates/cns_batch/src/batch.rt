@@ -1,21 +1,23 @@
-ghost use Rattle.std.specs.Prelude.{◌≡◌, ◌+◌, ◌≤◌, ◌⊎◌, [], Ok, Some, MatchResult, IfOk, OnOk, IfErr, List, ℕ, drop, length};
+ghost use Rattle.std.specs.Prelude.{◌≡◌, ◌+◌, ◌≤◌, ◌⊎◌, [], Ok, Some, MatchResult, IfOk, OnOk, IfErr, List, None, ℕ, drop, length, option_map};
 ghost use Rattle.std.specs.Io.KnownBytes.{Appends, IsAtEnd};
 ghost use Rattle.cns_batch.specs.Ending.{batch_result};
 ghost use Rattle.cns_batch.specs.Memory.{IsOfBytes};
-ghost use Rattle.cns_batch.specs.Run.{lines_run};
-ghost use Rattle.cns_batch.specs.Runs.{Runs};
 ghost use Rattle.cns_input.specs.Reading.{HasGiven, IsInput};
-ghost use Rattle.cns_input.specs.Sections.{raw_lines, sections};
+ghost use Rattle.cns_shake.specs.Shake.{generator_of};
+ghost use Rattle.cns_input.specs.Sections.{sections};
 ghost use Rattle.cns_batch.specs.Text.{BatchLeaves, KeptLeaves, RunsInput, Tells, WritesNothing, fault_of_rows, fault_of_start, parts_of};
 
 use crate::fault::Told;
+use crate::in_turn;
 use crate::opening::take_openings;
 use crate::page::Page;
 use crate::runner::Runner;
+use crate::supply::Supply;
 use cns_depository::Openings;
 use cns_input::{BatchFault, Steps, read_input, split_input};
 use cns_journal::{Keeper, ListKeeper, ReplayFault};
 use cns_report::Text;
+use cns_shake::Shaker;
 use cns_system::{StartFault, System};
 use cns_trades::{CsvFault, TradeRows, read_openings};
 use std::alloc::Global;
@@ -145,17 +147,14 @@ pub(crate) fn batch_result(ran: Told) -> Result<(), BatchFault>
     }
 }
 
-// Runs a script, and writes all that is told.
-fn run_whole<C: Keeper, D: Keeper, W: Write>(
-    runner: &mut Runner<C, D>,
-    script: &[u8],
-    writer: &mut W,
-) -> Told
-    ensures runs { Runs (lines_run 1 (raw_lines script.now)) result (record { run = runner.old; sent = W.contents writer.old }) (record { run = runner.new; sent = W.contents writer.new }) }
-    ensures none { OnOk result (runner.new.held ≡ []) }
+// What the commands of a script take from, in a run that is shaken by a number, or not.
+pub(crate) fn supply_of(trades: TradeRows, shake: Option<u64>) -> Supply
+    ensures { result ≡ record { trades = trades; shaker = option_map generator_of shake } }
 {
-    runner.run_script(script, writer)?;
-    runner.flush(writer)
+    Supply {
+        trades,
+        shaker: shake.map(Shaker::new),
+    }
 }
 
 // Opens both nodes, runs the script, and writes what all that tells.
@@ -163,11 +162,12 @@ fn run_input<C: Keeper + Drop, D: Keeper + Drop, W: Write>(
     alloc: Global,
     rows: Rows,
     script: &[u8],
+    shake: Option<u64>,
     clear: C,
     depot: D,
     writer: &mut W,
 ) -> Kept<C, D>
-    ensures { RunsInput result.result
+    ensures { RunsInput result.result shake
         (record { openings = rows.openings; told = rows.told; rows = rows.trades; script = script.now }) (C.state clear) (D.state depot) (C.state result.clear) (D.state result.depot)
         (W.contents writer.old) (W.contents writer.new) }
 {
@@ -186,13 +186,57 @@ fn run_input<C: Keeper + Drop, D: Keeper + Drop, W: Write>(
             };
         }
     };
-    let mut runner = Runner::new(alloc, system, trades, Page::new(told));
-    let ran = run_whole(&mut runner, script, writer);
-    let (clear, depot) = runner.into_keepers();
+    let mut supply = supply_of(trades, shake);
+    let mut runner = Runner {
+        nodes: system,
+        page: Page::new(told),
+        alloc,
+    };
+    let ran = in_turn::run_script(&mut runner, script, &mut supply, writer);
+    let (clear, depot) = runner.nodes.into_keepers();
     Kept {
         result: batch_result(ran),
         clear,
         depot,
+    }
+}
+
+// Does what `run_batch_kept` says, with the link shaken before each pump where a number is given.
+pub(crate) fn run_shaken<R: Read, W: Write, L: Ledger, C: Keeper + Drop, D: Keeper + Drop>(
+    alloc: Global,
+    reader: &mut R,
+    writer: &mut W,
+    steps: &mut Steps<L>,
+    shake: Option<u64>,
+    clear: C,
+    depot: D,
+) -> Kept<C, D>
+    ensures leaves { (bytes : List ℕ) × IsInput (R.remaining reader.old) bytes
+        × KeptLeaves result.result shake bytes (C.state clear) (D.state depot) (C.state result.clear) (D.state result.depot) (W.contents writer.old) (W.contents writer.new) }
+    ensures given { HasGiven result.result (R.remaining reader.old) (R.remaining reader.new) }
+    ensures none { IfErr result.result (λ e. WritesNothing e → W.contents writer.new ≡ W.contents writer.old) }
+    ensures end { OnOk result.result (IsAtEnd (R.remaining reader.new)) }
+    ensures reads { steps.new ≤ steps.old + 67108866 }
+{
+    let bytes = match read_input(alloc, reader, steps) {
+        Ok(bytes) => bytes,
+        Err(fault) => {
+            return Kept {
+                result: Err(fault),
+                clear,
+                depot,
+            };
+        }
+    };
+    match read_parts(alloc, bytes) {
+        Ok(Parts { rows, script }) => {
+            run_input(alloc, rows, script.as_slice(), shake, clear, depot, writer)
+        }
+        Err(fault) => Kept {
+            result: Err(fault),
+            clear,
+            depot,
+        },
     }
 }
 
@@ -214,32 +258,13 @@ pub fn run_batch_kept<R: Read, W: Write, L: Ledger, C: Keeper + Drop, D: Keeper 
     depot: D,
 ) -> Kept<C, D>
     ensures leaves { (bytes : List ℕ) × IsInput (R.remaining reader.old) bytes
-        × KeptLeaves result.result bytes (C.state clear) (D.state depot) (C.state result.clear) (D.state result.depot) (W.contents writer.old) (W.contents writer.new) }
+        × KeptLeaves result.result None bytes (C.state clear) (D.state depot) (C.state result.clear) (D.state result.depot) (W.contents writer.old) (W.contents writer.new) }
     ensures given { HasGiven result.result (R.remaining reader.old) (R.remaining reader.new) }
     ensures none { IfErr result.result (λ e. WritesNothing e → W.contents writer.new ≡ W.contents writer.old) }
     ensures end { OnOk result.result (IsAtEnd (R.remaining reader.new)) }
     ensures reads { steps.new ≤ steps.old + 67108866 }
 {
-    let bytes = match read_input(alloc, reader, steps) {
-        Ok(bytes) => bytes,
-        Err(fault) => {
-            return Kept {
-                result: Err(fault),
-                clear,
-                depot,
-            };
-        }
-    };
-    match read_parts(alloc, bytes) {
-        Ok(Parts { rows, script }) => {
-            run_input(alloc, rows, script.as_slice(), clear, depot, writer)
-        }
-        Err(fault) => Kept {
-            result: Err(fault),
-            clear,
-            depot,
-        },
-    }
+    run_shaken(alloc, reader, writer, steps, None, clear, depot)
 }
 
 /// Reads an input text to its end, and writes what its script tells of its trades, over keepers in memory.

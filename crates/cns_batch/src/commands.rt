@@ -1,48 +1,52 @@
-// The commands that are several events, or none.
+// The commands of a script.
 
-ghost use Rattle.std.specs.Prelude.{◌≡◌, ◌∷◌, take};
+ghost use Rattle.std.specs.Prelude.{◌≡◌, Option, ℕ};
 ghost use Rattle.cns_records.specs.declared.refusal.Refusal.TheVariants as refusals;
-ghost use Rattle.cns_system.specs.Readers.{unconfirmed};
 ghost use Rattle.cns_system.specs.declared.event.Event.TheVariants as event;
-ghost use Rattle.cns_batch.specs.Acts.{done, each, single};
-ghost use Rattle.cns_batch.specs.Commands.{delivered, event_run, failed, is_busy as is_busy_of, looked, names_busy as names_busy_of, opened, pumped, row_taken, served, served_if_open};
-ghost use Rattle.cns_batch.specs.Runs.{Runs};
+ghost use Rattle.cns_report.specs.Lines.{line_text};
+ghost use Rattle.cns_report.specs.declared.line.Line.TheVariants as line;
+ghost use Rattle.cns_batch.specs.Acts.{done, each, single, tells};
+ghost use Rattle.cns_batch.specs.Commands.{all_pumped, all_taken, delivered, drawn, event_run, failed, looked, names_busy as names_busy_of, is_busy as is_busy_of, link_shaken, opened, plain_run, pumped, pumped_shaken, row_taken, shaken, taken};
+ghost use Rattle.cns_batch.specs.Runs.{Runs, at, leaves};
 
 use crate::fault::Told;
-use crate::runner::{Beside, Runner};
+use crate::nodes::Nodes;
+use crate::runner::Runner;
+use crate::supply::Supply;
 use cns_ids::Cusip;
-use cns_journal::Keeper;
+use cns_input::Command;
 use cns_movements::MoveNo;
 use cns_records::Refusal;
 use cns_report::Line;
+use cns_shake::{DRAWS, Shaker};
 use cns_system::{Event, NodeName, Opened, Outcome};
 use cns_trades::Row;
 use std::io::Write;
 
-// Whether this is the number of the lot that waits to be served.
-fn is_busy(beside: &Option<Beside>, number: u64) -> bool
-    ensures { result ≡ is_busy_of beside.now number }
+// Whether this is the number of the lot that is served beside lines.
+fn is_busy(busy: Option<u64>, number: u64) -> bool
+    ensures { result ≡ is_busy_of busy number }
 {
-    match beside {
-        Some(Beside { lot: Some(lot), .. }) => lot.number == number,
-        _ => false,
+    match busy {
+        Some(lot) => lot == number,
+        None => false,
     }
 }
 
-// Whether an event draws a ticket of the lot that waits to be served, or closes it.
-fn names_busy(beside: &Option<Beside>, event: &Event) -> bool
-    ensures { result ≡ names_busy_of beside.now event.now }
+// Whether an event draws a ticket of the lot that is served beside lines, or closes it.
+fn names_busy(busy: Option<u64>, event: &Event) -> bool
+    ensures { result ≡ names_busy_of busy event.now }
 {
     match *event {
-        Event::Reserve { lot, .. } | Event::LotClose { lot } => is_busy(beside, lot),
+        Event::Reserve { lot, .. } | Event::LotClose { lot } => is_busy(busy, lot),
         _ => false,
     }
 }
 
-impl<C: Keeper, D: Keeper> Runner<C, D> {
-    // Takes this row, which stood before those that are left.
+impl<N: Nodes> Runner<N> {
+    // Takes a row.
     fn take_row<W: Write>(&mut self, row: &Row, writer: &mut W) -> Told
-        ensures { Runs (row_taken row.now) result (record { run = record self.old { rows = row.now ∷ self.old.rows }; sent = W.contents writer.old }) (record { run = self.new; sent = W.contents writer.new }) }
+        ensures { Runs N.leads (row_taken row.now) result (at self.old (W.contents writer.old)) (at self.new (W.contents writer.new)) }
     {
         match *row {
             Row::Trade(trade) => self.single(Event::Trade(trade), writer),
@@ -50,12 +54,12 @@ impl<C: Keeper, D: Keeper> Runner<C, D> {
         }
     }
 
-    /// Takes so many of the rows that are left, or all where fewer are.
-    pub(crate) fn take<W: Write>(&mut self, rows: u64, writer: &mut W) -> Told
-        ensures { Runs (λ c. each row_taken (take rows c.rows) c) result (record { run = self.old; sent = W.contents writer.old }) (record { run = self.new; sent = W.contents writer.new }) }
+    // Takes so many of the rows that are left, or all where fewer are.
+    fn take<W: Write>(&mut self, rows: u64, supply: &mut Supply, writer: &mut W) -> Told
+        ensures { Runs N.leads (taken rows supply.old) (leaves result supply.new) (at self.old (W.contents writer.old)) (at self.new (W.contents writer.new)) }
     {
         for _turn in 0..rows {
-            let Some(row) = self.next_row() else {
+            let Some(row) = supply.trades.next() else {
                 return Ok(());
             };
             self.take_row(&row, writer)?;
@@ -63,17 +67,17 @@ impl<C: Keeper, D: Keeper> Runner<C, D> {
         Ok(())
     }
 
-    /// Takes all the rows that are left.
-    pub(crate) fn take_all<W: Write>(&mut self, writer: &mut W) -> Told
-        ensures { Runs (λ c. each row_taken c.rows c) result (record { run = self.old; sent = W.contents writer.old }) (record { run = self.new; sent = W.contents writer.new }) }
+    // Takes all the rows that are left.
+    fn take_all<W: Write>(&mut self, supply: &mut Supply, writer: &mut W) -> Told
+        ensures { Runs N.leads (all_taken supply.old) (leaves result supply.new) (at self.old (W.contents writer.old)) (at self.new (W.contents writer.new)) }
     {
-        let left = self.rows_left() as u64;
-        self.take(left, writer)
+        let left = supply.trades.len() as u64;
+        self.take(left, supply, writer)
     }
 
-    /// Looks at what was poured into a lot and at what its tickets ask for, in one line.
-    pub(crate) fn look<W: Write>(&mut self, lot: u64, writer: &mut W) -> Told
-        ensures { Runs (looked lot) result (record { run = self.old; sent = W.contents writer.old }) (record { run = self.new; sent = W.contents writer.new }) }
+    // Looks at what was poured into a lot and at what its tickets ask for, in one line.
+    fn look<W: Write>(&mut self, lot: u64, writer: &mut W) -> Told
+        ensures { Runs N.leads (looked lot) result (at self.old (W.contents writer.old)) (at self.new (W.contents writer.new)) }
     {
         if let Outcome::Refused(_) = self.event(Event::LookPoured { lot }, writer)? {
             return Ok(());
@@ -83,7 +87,7 @@ impl<C: Keeper, D: Keeper> Runner<C, D> {
 
     // Lets the packet of an order arrive, and then that of its reply where it was executed.
     fn deliver<W: Write>(&mut self, packet: u64, writer: &mut W) -> Told
-        ensures { Runs (delivered packet) result (record { run = self.old; sent = W.contents writer.old }) (record { run = self.new; sent = W.contents writer.new }) }
+        ensures { Runs N.leads (delivered packet) result (at self.old (W.contents writer.old)) (at self.new (W.contents writer.new)) }
     {
         match self.event(Event::OrderIn { packet }, writer)? {
             Outcome::Executed { packet, .. } => {
@@ -99,7 +103,7 @@ impl<C: Keeper, D: Keeper> Runner<C, D> {
 
     // Sends an order, and lets its packet and that of the reply arrive; a refusal ends this.
     fn pump_one<W: Write>(&mut self, number: MoveNo, writer: &mut W) -> Told
-        ensures { Runs (pumped number) result (record { run = self.old; sent = W.contents writer.old }) (record { run = self.new; sent = W.contents writer.new }) }
+        ensures { Runs N.leads (pumped number) result (at self.old (W.contents writer.old)) (at self.new (W.contents writer.new)) }
     {
         let number = number.number();
         let Outcome::Sent { packet } = self.event(Event::Send { number }, writer)? else {
@@ -110,7 +114,7 @@ impl<C: Keeper, D: Keeper> Runner<C, D> {
 
     // Does so with these orders, one after another.
     fn pump_each<W: Write>(&mut self, numbers: &[MoveNo], writer: &mut W) -> Told
-        ensures { Runs (each pumped numbers.now) result (record { run = self.old; sent = W.contents writer.old }) (record { run = self.new; sent = W.contents writer.new }) }
+        ensures { Runs N.leads (each pumped numbers.now) result (at self.old (W.contents writer.old)) (at self.new (W.contents writer.new)) }
     {
         for number in numbers {
             self.pump_one(*number, writer)?;
@@ -118,12 +122,51 @@ impl<C: Keeper, D: Keeper> Runner<C, D> {
         Ok(())
     }
 
-    /// Sends each order that is unconfirmed at the start, by number, and lets its packets arrive.
-    pub(crate) fn pump<W: Write>(&mut self, writer: &mut W) -> Told
-        ensures { Runs (λ c. each pumped (unconfirmed c.scene.shown.clear.records) c) result (record { run = self.old; sent = W.contents writer.old }) (record { run = self.new; sent = W.contents writer.new }) }
+    // Sends each order that is unconfirmed at the start, by number, and lets its packets arrive.
+    fn pump_all<W: Write>(&mut self, writer: &mut W) -> Told
+        ensures { Runs N.leads all_pumped result (at self.old (W.contents writer.old)) (at self.new (W.contents writer.new)) }
     {
-        let numbers = self.system.unconfirmed(self.alloc)?;
+        let numbers = self.nodes.unconfirmed(self.alloc)?;
         self.pump_each(numbers.as_slice(), writer)
+    }
+
+    // Lets the event happen that a draw names, where it names one.
+    fn draw<W: Write>(&mut self, event: Option<Event>, writer: &mut W) -> Told
+        ensures { Runs N.leads (drawn event) result (at self.old (W.contents writer.old)) (at self.new (W.contents writer.new)) }
+    {
+        match event {
+            Some(event) => self.single(event, writer),
+            None => Ok(()),
+        }
+    }
+
+    // Lets the events of so many draws happen. Each draw sees the counts after the one before it.
+    fn shake<W: Write>(&mut self, shaker: &mut Shaker, writer: &mut W) -> Told
+        ensures { Runs N.leads (shaken DRAWS shaker.old) (leaves result shaker.new) (at self.old (W.contents writer.old)) (at self.new (W.contents writer.new)) }
+    {
+        for _draw in 0..DRAWS {
+            let event = shaker.draw(&self.nodes.counts());
+            self.draw(event, writer)?;
+        }
+        Ok(())
+    }
+
+    // Shakes the link, where the run is shaken.
+    fn shake_link<W: Write>(&mut self, supply: &mut Supply, writer: &mut W) -> Told
+        ensures { Runs N.leads (link_shaken supply.old) (leaves result supply.new) (at self.old (W.contents writer.old)) (at self.new (W.contents writer.new)) }
+    {
+        match &mut supply.shaker {
+            Some(shaker) => self.shake(shaker, writer),
+            None => Ok(()),
+        }
+    }
+
+    // Shakes the link, where the run is shaken, and then pumps.
+    fn pump<W: Write>(&mut self, supply: &mut Supply, writer: &mut W) -> Told
+        ensures { Runs N.leads (pumped_shaken supply.old) (leaves result supply.new) (at self.old (W.contents writer.old)) (at self.new (W.contents writer.new)) }
+    {
+        self.shake_link(supply, writer)?;
+        self.pump_all(writer)
     }
 
     /// Opens a lot of an issue, and answers it where it was opened.
@@ -132,7 +175,7 @@ impl<C: Keeper, D: Keeper> Runner<C, D> {
         issue: Cusip,
         writer: &mut W,
     ) -> Told<Option<Opened>>
-        ensures { Runs (opened issue) result (record { run = self.old; sent = W.contents writer.old }) (record { run = self.new; sent = W.contents writer.new }) }
+        ensures { Runs N.leads (opened issue) result (at self.old (W.contents writer.old)) (at self.new (W.contents writer.new)) }
     {
         let Outcome::LotOpened(lot) = self.event(Event::LotOpen { issue }, writer)? else {
             return Ok(None);
@@ -140,61 +183,59 @@ impl<C: Keeper, D: Keeper> Runner<C, D> {
         Ok(Some(lot))
     }
 
-    // Closes a lot of which no ticket was drawn for this cause, where that is its seal.
-    fn close_sealed<W: Write>(&mut self, lot: u64, refusal: Refusal, writer: &mut W) -> Told
-        ensures { Runs (elim refusal [ refusals.Sealed ↦ single (event.LotClose lot) | _ ↦ done ]) result (record { run = self.old; sent = W.contents writer.old }) (record { run = self.new; sent = W.contents writer.new }) }
+    // Lets the event of a command happen. A ticket or a close of the lot that is served beside lines is
+    // refused.
+    fn run_event<W: Write>(&mut self, busy: Option<u64>, event: Event, writer: &mut W) -> Told
+        ensures { Runs N.leads (event_run busy event) result (at self.old (W.contents writer.old)) (at self.new (W.contents writer.new)) }
     {
-        match refusal {
-            Refusal::Sealed => self.single(Event::LotClose { lot }, writer),
-            _ => Ok(()),
-        }
-    }
-
-    /// Draws a ticket for each member of an opened lot, and closes it.
-    ///
-    /// A sealed lot is closed with the tickets that it has. Another refusal ends this.
-    pub(crate) fn serve<W: Write>(&mut self, lot: &Opened, writer: &mut W) -> Told
-        ensures { Runs (served lot.now.number lot.now.plan) result (record { run = self.old; sent = W.contents writer.old }) (record { run = self.new; sent = W.contents writer.new }) }
-    {
-        let (number, plan) = (lot.number, lot.plan.as_slice());
-        for planned in plan {
-            let (lot, member) = (number, planned.member);
-            match self.event(Event::Reserve { lot, member }, writer)? {
-                Outcome::Drawn(_) => {}
-                Outcome::Refused(refusal) => return self.close_sealed(number, refusal, writer),
-                _ => return Ok(()),
-            }
-        }
-        self.single(Event::LotClose { lot: number }, writer)
-    }
-
-    /// Serves a lot, where it was opened.
-    pub(crate) fn serve_if_open<W: Write>(&mut self, lot: Option<Opened>, writer: &mut W) -> Told
-        ensures { Runs (served_if_open lot) result (record { run = self.old; sent = W.contents writer.old }) (record { run = self.new; sent = W.contents writer.new }) }
-    {
-        match lot {
-            Some(lot) => self.serve(&lot, writer),
-            None => Ok(()),
-        }
-    }
-
-    /// Lets the event of a command happen. A ticket or a close of the lot that waits is refused.
-    pub(crate) fn run_event<W: Write>(&mut self, event: Event, writer: &mut W) -> Told
-        ensures { Runs (event_run event) result (record { run = self.old; sent = W.contents writer.old }) (record { run = self.new; sent = W.contents writer.new }) }
-    {
-        if names_busy(&self.beside, &event) {
+        if names_busy(busy, &event) {
             return self.refuse(&event, Refusal::LotBusy, writer);
         }
         self.single(event, writer)
     }
 
-    /// Makes the next commit of a node fail, where its keeper plans failures.
-    pub(crate) fn fail<W: Write>(&mut self, node: NodeName, stands: bool, writer: &mut W) -> Told
-        ensures { Runs (failed node stands) result (record { run = self.old; sent = W.contents writer.old }) (record { run = self.new; sent = W.contents writer.new }) }
+    // Tells that the line of this number holds no command that may run there.
+    fn refuse_line<W: Write>(&mut self, number: u64, writer: &mut W) -> Told
+        ensures { Runs N.leads (tells (line_text (line.BadCommand number))) result (at self.old (W.contents writer.old)) (at self.new (W.contents writer.new)) }
     {
-        if self.plan(node, stands) {
+        self.tell(Line::BadCommand { line: number }, writer)
+    }
+
+    // Makes the next commit of a node fail, where its keeper plans failures.
+    fn fail<W: Write>(&mut self, node: NodeName, stands: bool, writer: &mut W) -> Told
+        ensures { Runs N.leads (failed node stands) result (at self.old (W.contents writer.old)) (at self.new (W.contents writer.new)) }
+    {
+        if self.nodes.plan(node, stands) {
             return self.tell(Line::FailurePlanned, writer);
         }
         self.tell(Line::FailureNotPlanned, writer)
+    }
+
+    /// Runs a command that serves no lot, in the line of this number, beside the lot of a number where one is
+    /// served beside lines. Any other command is bad here.
+    pub(crate) fn run_plain<W: Write>(
+        &mut self,
+        busy: Option<u64>,
+        number: u64,
+        command: &Command,
+        supply: &mut Supply,
+        writer: &mut W,
+    ) -> Told
+        ensures { Runs N.leads (plain_run busy number command.now supply.old) (leaves result supply.new)
+            (at self.old (W.contents writer.old)) (at self.new (W.contents writer.new)) }
+    {
+        match *command {
+            Command::TakeAll => self.take_all(supply, writer),
+            Command::Take(rows) => self.take(rows, supply, writer),
+            Command::Single(event) => self.run_event(busy, event, writer),
+            Command::Look(lot) => self.look(lot, writer),
+            Command::Fail { node, stands } => self.fail(node, stands, writer),
+            Command::Pump => self.pump(supply, writer),
+            Command::Report => self.report(writer),
+            Command::Skip => self.refuse_line(number, writer),
+            Command::Allocate(_) => self.refuse_line(number, writer),
+            Command::Beside { .. } => self.refuse_line(number, writer),
+            Command::Bad => self.refuse_line(number, writer),
+        }
     }
 }

@@ -7,18 +7,21 @@
 //! one text whether it is a CUSIP.
 #![tactic(auto)]
 
+mod at_desk;
 mod batch;
 mod check;
 mod commands;
 mod desk;
 mod fault;
-mod line;
+mod in_turn;
 mod lines;
+mod nodes;
 mod opening;
 mod output;
 mod page;
 mod runner;
 mod script;
+mod supply;
 
 pub use batch::{Kept, run_batch, run_batch_kept, text_is_of_bytes};
 pub use check::check_cusip;

@@ -1,6 +1,6 @@
 //! What a run told and has not yet written.
 
-ghost use Rattle.std.specs.Prelude.{◌≡◌, [], OnOk};
+ghost use Rattle.std.specs.Prelude.{◌≡◌, [], OnOk, length};
 ghost use Rattle.std.specs.List.{flat_map};
 ghost use Rattle.cns_report.specs.Lines.{line_text};
 ghost use Rattle.cns_report.specs.Outcomes.{outcome_line};
@@ -10,6 +10,7 @@ ghost use Rattle.cns_clearing.specs.Pools.{rows_of as pools_of};
 ghost use Rattle.cns_depository.specs.Balances.{balance_rows};
 ghost use Rattle.cns_netting.specs.Rows.{rows_of};
 ghost use Rattle.cns_system.specs.Shown.{shown_of};
+ghost use Rattle.cns_batch.specs.ByWorkers.{closed_text, cut_text, end_text, lot_line, not_drawn, refusal_of as refusal_of_cut, ticket_line};
 ghost use Rattle.cns_batch.specs.Commands.{report_text};
 ghost use Rattle.cns_batch.specs.Runs.{Prints};
 
@@ -23,8 +24,8 @@ use cns_records::Refusal;
 use cns_report::{
     EventLine, Line, LotLine, Put, RefusedLine, ReportEnd, ReportHead, Text, orders_of,
 };
-use cns_system::{Allocated, Cut, Drawn, Event, Outcome, System};
-use std::alloc::{AllocError, Global};
+use cns_system::{Cut, Drawn, Event, Outcome, System};
+use std::alloc::Global;
 use std::io::Write;
 use std::marker::Model;
 
@@ -32,7 +33,9 @@ use std::marker::Model;
 const FULL: usize = 65_536;
 
 // The refusal that tells what cut workers off.
-fn refusal_of(cut: Cut) -> Refusal {
+fn refusal_of(cut: Cut) -> Refusal
+    ensures { result ≡ refusal_of_cut cut }
+{
     match cut {
         Cut::Sealed => Refusal::Sealed,
         Cut::Fault(_) => Refusal::OutOfMemory,
@@ -110,16 +113,6 @@ impl Page {
         self.told(&line, writer)
     }
 
-    /// Tells whether a failure is planned.
-    pub(crate) fn plan<W: Write>(&mut self, is_planned: bool, writer: &mut W) -> Told {
-        let line = if is_planned {
-            Line::FailurePlanned
-        } else {
-            Line::FailureNotPlanned
-        };
-        self.tell(line, writer)
-    }
-
     // Tells the lines of rows, one by one.
     #[inline(never)]
     fn each<R: Put, W: Write>(&mut self, rows: &[R], writer: &mut W) -> Told
@@ -188,25 +181,36 @@ impl Page {
         self.told(&ReportEnd, writer)
     }
 
-    /// Tells that a lot was opened, by its number, the shares that were poured into it and its longs; it is
-    /// not yet written.
-    pub(crate) fn lot(&mut self, number: u64, poured: u64, longs: usize) -> Result<(), AllocError> {
+    /// Tells that a lot was opened, by its number, the shares that were poured into it and its longs.
+    pub(crate) fn lot<W: Write>(
+        &mut self,
+        number: u64,
+        poured: u64,
+        longs: usize,
+        writer: &mut W,
+    ) -> Told
+        ensures { Prints (lot_line number poured longs) result (record { held = self.old; sent = W.contents writer.old }) (record { held = self.new; sent = W.contents writer.new }) }
+    {
         let opened = LotLine {
             number,
             poured,
             longs,
         };
-        self.text.tell(&opened)
+        self.told(&opened, writer)
     }
 
     // Tells that no ticket was drawn.
-    fn not_drawn<W: Write>(&mut self, refusal: Refusal, writer: &mut W) -> Told {
+    fn not_drawn<W: Write>(&mut self, refusal: Refusal, writer: &mut W) -> Told
+        ensures { Prints (not_drawn refusal) result (record { held = self.old; sent = W.contents writer.old }) (record { held = self.new; sent = W.contents writer.new }) }
+    {
         let word = "reserve";
         self.told(&RefusedLine { word, refusal }, writer)
     }
 
     // Tells what entering a ticket of a lot came to.
-    fn ticket<W: Write>(&mut self, lot: u64, outcome: &Outcome, writer: &mut W) -> Told {
+    fn ticket<W: Write>(&mut self, lot: u64, outcome: &Outcome, writer: &mut W) -> Told
+        ensures { Prints (ticket_line lot outcome.now) result (record { held = self.old; sent = W.contents writer.old }) (record { held = self.new; sent = W.contents writer.new }) }
+    {
         match outcome {
             Outcome::Drawn(ticket) => {
                 let member = ticket.member;
@@ -218,43 +222,33 @@ impl Page {
     }
 
     // Tells what entering tickets of a lot came to.
-    fn tickets<W: Write>(&mut self, lot: u64, entered: &[Outcome], writer: &mut W) -> Told {
+    fn tickets<W: Write>(&mut self, lot: u64, entered: &[Outcome], writer: &mut W) -> Told
+        ensures { Prints (flat_map (ticket_line lot) entered.now) result (record { held = self.old; sent = W.contents writer.old }) (record { held = self.new; sent = W.contents writer.new }) }
+    {
         for outcome in entered {
             self.ticket(lot, outcome, writer)?;
         }
         Ok(())
     }
 
-    // Tells what an event came to that ends a lot. A seal is not told unless it is refused.
-    fn ended<W: Write>(&mut self, event: &Event, outcome: &Outcome, writer: &mut W) -> Told {
-        match outcome {
-            Outcome::Done => Ok(()),
-            _ => self.outcome(event, outcome, writer),
+    // Tells what the close of a lot came to, after a seal where there was one. A seal is not told unless it
+    // is refused.
+    fn close<W: Write>(&mut self, lot: u64, sealed: bool, last: &[Outcome], writer: &mut W) -> Told
+        ensures { Prints (closed_text lot sealed last.now) result (record { held = self.old; sent = W.contents writer.old }) (record { held = self.new; sent = W.contents writer.new }) }
+    {
+        match (sealed, last) {
+            (_, []) | (true, [Outcome::Done]) => Ok(()),
+            (false, [closed, ..]) | (true, [Outcome::Done, closed, ..]) => {
+                self.outcome(&Event::LotClose { lot }, closed, writer)
+            }
+            (true, [refused, ..]) => self.outcome(&Event::Seal { lot }, refused, writer),
         }
-    }
-
-    // Tells what the close of a lot came to, after a seal where there was one.
-    fn close<W: Write>(
-        &mut self,
-        lot: u64,
-        sealed: bool,
-        entered: &[Outcome],
-        writer: &mut W,
-    ) -> Told {
-        let mut event = if sealed {
-            Event::Seal { lot }
-        } else {
-            Event::LotClose { lot }
-        };
-        for outcome in entered {
-            self.ended(&event, outcome, writer)?;
-            event = Event::LotClose { lot };
-        }
-        Ok(())
     }
 
     // Tells what cut workers off, where something did.
-    fn cut<W: Write>(&mut self, cut: Option<Cut>, writer: &mut W) -> Told {
+    fn cut<W: Write>(&mut self, cut: Option<Cut>, writer: &mut W) -> Told
+        ensures { Prints (cut_text cut) result (record { held = self.old; sent = W.contents writer.old }) (record { held = self.new; sent = W.contents writer.new }) }
+    {
         match cut {
             Some(cut) => self.not_drawn(refusal_of(cut), writer),
             None => Ok(()),
@@ -270,7 +264,9 @@ impl Page {
         sealed: bool,
         entered: &[Outcome],
         writer: &mut W,
-    ) -> Told {
+    ) -> Told
+        ensures { Prints (end_text lot (length drawn.now.seat.tickets) drawn.now.cut sealed entered.now) result (record { held = self.old; sent = W.contents writer.old }) (record { held = self.new; sent = W.contents writer.new }) }
+    {
         let tickets = drawn.seat.tickets().len();
         if entered.len() <= tickets {
             return self.tickets(lot, entered, writer);
@@ -279,20 +275,5 @@ impl Page {
         self.tickets(lot, tickets, writer)?;
         self.cut(drawn.cut, writer)?;
         self.close(lot, sealed, last, writer)
-    }
-
-    /// Tells what opening a lot of an issue came to that workers served, and what its end came to.
-    pub(crate) fn allocated<W: Write>(
-        &mut self,
-        issue: Cusip,
-        all: &Allocated,
-        writer: &mut W,
-    ) -> Told {
-        self.outcome(&Event::LotOpen { issue }, &all.opened, writer)?;
-        let (Outcome::LotOpened(opened), Some(drawn)) = (&all.opened, &all.drawn) else {
-            return Ok(());
-        };
-        let (lot, sealed) = (opened.number, drawn.cut.is_some());
-        self.end(lot, drawn, sealed, all.entered.as_slice(), writer)
     }
 }

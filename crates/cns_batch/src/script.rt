@@ -1,29 +1,38 @@
-ghost use Rattle.std.specs.Prelude.{◌≡◌};
-ghost use Rattle.cns_batch.specs.Run.{lines_run};
-ghost use Rattle.cns_batch.specs.Runs.{Runs};
+//! Scripts, command by command.
+
+ghost use Rattle.std.specs.Prelude.{◌≡◌, ◌+◌, ◌<◌, length};
 ghost use Rattle.cns_input.specs.Sections.{raw_lines};
+ghost use Rattle.cns_batch.specs.Run.{IsNextOf, commands_of, left_of};
 
-use crate::fault::Told;
-use crate::runner::Runner;
-use cns_input::{command_of, line_size, line_text};
-use cns_journal::Keeper;
-use std::io::Write;
+use crate::lines::Commands;
+use cns_input::{Command, command_of, line_size, line_text};
 
-impl<C: Keeper, D: Keeper> Runner<C, D> {
-    /// Runs the lines of a script, and then serves the lot that still waits.
-    pub(crate) fn run_script<W: Write>(&mut self, script: &[u8], writer: &mut W) -> Told
-        ensures { Runs (lines_run 1 (raw_lines script.now)) result (record { run = self.old; sent = W.contents writer.old }) (record { run = self.new; sent = W.contents writer.new }) }
+impl<'a> Commands<'a> {
+    /// All commands of a script, whose lines are numbered from 1.
+    pub(crate) fn of(script: &'a [u8]) -> Commands<'a>
+        ensures { left_of result ≡ commands_of 1 (raw_lines script.now) }
     {
-        let mut number = 1;
-        let mut at = 0;
-        while at < script.len() {
-            let (_, rest) = script.split_at(at);
-            let size = line_size(rest);
-            let (line, _) = rest.split_at(size);
-            self.run_line(number, &command_of(line_text(line)), writer)?;
-            number += 1;
-            at += size;
+        Commands {
+            rest: script,
+            number: 1,
         }
-        self.end(writer)
+    }
+
+    /// The number of the next command's line and the command, where one is left. Lines without one are passed
+    /// over.
+    pub(crate) fn next_command(&mut self) -> Option<(u64, Command)>
+        ensures { IsNextOf result (left_of self.old) (left_of self.new) }
+    {
+        while !self.rest.is_empty() {
+            let (line, rest) = self.rest.split_at(line_size(self.rest));
+            let number = self.number;
+            self.rest = rest;
+            self.number += 1;
+            match command_of(line_text(line)) {
+                Command::Skip => {}
+                command => return Some((number, command)),
+            }
+        }
+        None
     }
 }

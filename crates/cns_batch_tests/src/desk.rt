@@ -48,7 +48,7 @@ static SERVED: [(usize, &[u8]); 2] = [
         2,
         b"ticket 0003 start 0 asked 30\nticket 0002 start 30 asked 30\nclose granted 40\norder 2 DELIVERY 0003 037833100 30\norder 3 DELIVERY 0002 037833100 10\n",
     ),
-    (3, b"reserve refused OutOfMemory\nclose granted 0\n"),
+    (65, b"reserve refused OutOfMemory\nclose granted 0\n"),
 ];
 
 // Holds the first worker's first reserve until the second one's was answered.
@@ -99,6 +99,7 @@ fn desk<L: Ledger, G: Gate + Sync, H: Threads + Wait + Sync>(
         out,
         &mut Steps::<L>::new(blank),
         workers,
+        None,
         clear,
         depot,
         gate,

@@ -8,16 +8,16 @@ use Rattle.cns_batch.proofs.runner.Runner.deliver.Goals as goal
 pub returns-in_err-packet : goal.returns-in_err-packet
 unfolding delivered
 returns-in_err-packet g c =
-    runs_fault (delivered c.args.packet) c.from_residual.result _ _ c.from_residual.ensures.0 (stops_followed (happened (event.OrderIn c.args.packet)) after_reply _ _ c.in_err-packet.ensures)
+    runs_fault _ (delivered c.args.packet) c.from_residual.result _ _ c.from_residual.ensures.0 (stops_followed (happened (event.OrderIn c.args.packet)) after_reply _ _ c.in_err-packet.ensures)
 
 pub returns-in-Executed : goal.returns-in-Executed
 unfolding delivered
-returns-in-Executed g c = runs_followed (happened (event.OrderIn c.args.packet)) _ after_reply _ _ _ _ (rw c.in-Executed.is at c.in_ok-packet.ensures) c.single.ensures
+returns-in-Executed g c = runs_followed _ (happened (event.OrderIn c.args.packet)) _ after_reply _ _ _ _ (rw c.in-Executed.is at c.in_ok-packet.ensures) c.single.ensures
 
 pub returns-in-ExecutedAgain : goal.returns-in-ExecutedAgain
 unfolding delivered
 returns-in-ExecutedAgain g c =
-    runs_followed (happened (event.OrderIn c.args.packet)) _ after_reply _ _ _ _ (rw c.in-ExecutedAgain.is at c.in_ok-packet.ensures) c.single-in-ExecutedAgain.ensures
+    runs_followed _ (happened (event.OrderIn c.args.packet)) _ after_reply _ _ _ _ (rw c.in-ExecutedAgain.is at c.in_ok-packet.ensures) c.single-in-ExecutedAgain.ensures
 
 pub returns : goal.returns
 unfolding delivered

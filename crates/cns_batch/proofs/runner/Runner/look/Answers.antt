@@ -8,7 +8,7 @@ use Rattle.cns_batch.proofs.runner.Runner.look.Goals as goal
 pub returns-in_err-event : goal.returns-in_err-event
 unfolding looked
 returns-in_err-event g c =
-    runs_fault (looked c.args.lot) c.from_residual.result _ _ c.from_residual.ensures.0 (stops_followed (happened (event.LookPoured c.args.lot)) (after_look c.args.lot) _ _ c.in_err-event.ensures)
+    runs_fault _ (looked c.args.lot) c.from_residual.result _ _ c.from_residual.ensures.0 (stops_followed (happened (event.LookPoured c.args.lot)) (after_look c.args.lot) _ _ c.in_err-event.ensures)
 
 pub returns-in-Refused : goal.returns-in-Refused
 unfolding looked
@@ -17,4 +17,4 @@ returns-in-Refused g c = followed_gives (happened (event.LookPoured c.args.lot))
 pub returns : goal.returns
 unfolding looked
 returns g c =
-    runs_followed (happened (event.LookPoured c.args.lot)) _ (after_look c.args.lot) _ _ _ _ c.in_ok-event.ensures (rw (looks_further c.args.lot _ c.in_default.not-Refused) c.single.ensures)
+    runs_followed _ (happened (event.LookPoured c.args.lot)) _ (after_look c.args.lot) _ _ _ _ c.in_ok-event.ensures (rw (looks_further c.args.lot _ c.in_default.not-Refused) c.single.ensures)

@@ -8,7 +8,7 @@ use Rattle.cns_batch.proofs.runner.Runner.open_lot.Goals as goal
 pub returns-in_err-lot : goal.returns-in_err-lot
 unfolding opened
 returns-in_err-lot g c =
-    runs_fault (opened c.args.issue) c.from_residual.result _ _ c.from_residual.ensures.0 (stops_followed (happened (event.LotOpen c.args.issue)) after_open _ _ c.in_err-lot.ensures)
+    runs_fault _ (opened c.args.issue) c.from_residual.result _ _ c.from_residual.ensures.0 (stops_followed (happened (event.LotOpen c.args.issue)) after_open _ _ c.in_err-lot.ensures)
 
 pub returns-in_default : goal.returns-in_default
 unfolding opened

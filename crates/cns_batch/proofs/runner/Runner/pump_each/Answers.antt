@@ -8,7 +8,7 @@ loop-number-init g c = continues_here (each pumped c.args.numbers.now) _
 
 pub returns-in_err-pump_one : goal.returns-in_err-pump_one
 returns-in_err-pump_one g c =
-    runs_fault (each pumped c.args.numbers.now) c.from_residual.result _ _ c.from_residual.ensures.0
+    runs_fault _ (each pumped c.args.numbers.now) c.from_residual.result _ _ c.from_residual.ensures.0
     (each_ends pumped c.args.numbers.now c.loop-number.number-index c.number-item.result _ _ _ c.loop-number-test.true c.number-item.is c.loop-number.invariant c.in_err-pump_one.ensures)
 
 pub loop-number-preserved : goal.loop-number-preserved

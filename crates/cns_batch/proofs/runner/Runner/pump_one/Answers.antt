@@ -8,7 +8,7 @@ use Rattle.cns_batch.proofs.runner.Runner.pump_one.Goals as goal
 pub returns-in_err-packet : goal.returns-in_err-packet
 unfolding pumped
 returns-in_err-packet g c =
-    runs_fault (pumped c.args.number) c.from_residual.result _ _ c.from_residual.ensures.0
+    runs_fault _ (pumped c.args.number) c.from_residual.result _ _ c.from_residual.ensures.0
     (stops_followed (happened (event.Send c.args.number)) (after_send delivered) _ _ (rw c.number-number.ensures.value at c.in_err-packet.ensures))
 
 pub returns-in_default : goal.returns-in_default
@@ -21,4 +21,4 @@ returns-in_default g c =
 pub returns : goal.returns
 unfolding pumped
 returns g c =
-    runs_followed (happened (event.Send c.args.number)) _ (after_send delivered) _ _ _ _ (rw (c.number-number.ensures.value, c.in-Sent.is) at c.in_ok-packet.ensures) c.deliver.ensures
+    runs_followed _ (happened (event.Send c.args.number)) _ (after_send delivered) _ _ _ _ (rw (c.number-number.ensures.value, c.in-Sent.is) at c.in_ok-packet.ensures) c.deliver.ensures

@@ -5,5 +5,4 @@ use Rattle.cns_batch.proofs.ActLemmas.{prints_runs}
 use Rattle.cns_batch.proofs.runner.Runner.refuse.Goals as goal
 
 pub returns : goal.returns
-returns g c =
-    prints_runs (outcome_line c.args.event.now (outcomes.Refused c.args.refusal)) c.outcome.result _ _ (rw (← c.self.view_is) c.outcome.ensures) (rw (← c.self.view_is) refl)
+returns g c = prints_runs _ (outcome_line c.args.event.now (outcomes.Refused c.args.refusal)) c.outcome.result _ _ c.outcome.ensures refl

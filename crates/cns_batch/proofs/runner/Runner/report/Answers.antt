@@ -1,11 +1,12 @@
 use Rattle.std.proofs.Common.{refl}
-use Rattle.cns_system.specs.Shown.{shown_of}
-use Rattle.cns_batch.specs.Acts.{Course, tells}
-use Rattle.cns_batch.specs.Commands.{report_text}
-use Rattle.cns_batch.proofs.ActLemmas.{prints_runs, runs_as}
+use Rattle.cns_system.specs.Shown.{Shown}
+use Rattle.cns_batch.specs.Acts.{tells}
+use Rattle.cns_batch.specs.Commands.{report_text, reported}
+use Rattle.cns_batch.proofs.ActLemmas.{looks_on, prints_runs, runs_after}
 use Rattle.cns_batch.proofs.runner.Runner.report.Goals as goal
 
 pub returns : goal.returns
 returns g c =
-    runs_as (λ (s : Course). tells (report_text s.scene.shown) s) (tells (report_text (shown_of c.args.self.now.world))) _ _ _ (λ more. refl)
-    (prints_runs (report_text (shown_of c.args.self.now.world)) c.report.result _ _ (rw (← c.self.view_is) c.report.ensures) (rw (← c.self.view_is) refl))
+    let (w, shows, prints) = c.report.ensures in
+    runs_after _ reported (tells (report_text w)) c.report.result _ _ _ (looks_on w (λ (w : Shown). tells (report_text w)) _ shows)
+    (prints_runs _ (report_text w) c.report.result _ _ prints refl)

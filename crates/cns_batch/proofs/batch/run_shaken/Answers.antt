@@ -1,0 +1,26 @@
+use Rattle.cns_batch.proofs.TextLemmas.{given_after, given_refused, kept_ran, kept_refused, kept_unread, refuses_other, runs_other}
+use Rattle.cns_batch.proofs.batch.run_shaken.Goals as goal
+
+pub returns-in-Err-clause-leaves : goal.returns-in-Err-clause-leaves
+returns-in-Err-clause-leaves g c = kept_unread c.in-Err.fault c.args.shake _ _ _ _ _ c.in-Err.ensures.kind c.in-Err.ensures.given
+
+pub returns-in-Err-clause-given : goal.returns-in-Err-clause-given
+returns-in-Err-clause-given g c = given_refused c.in-Err.fault _ _ c.in-Err.ensures.given
+
+pub returns-in-Ok-read_parts-clause-leaves : goal.returns-in-Ok-read_parts-clause-leaves
+returns-in-Ok-read_parts-clause-leaves g c =
+    let script = c.as_slice.ensures.value in
+    let ran = rw script at c.run_input.ensures in
+    kept_ran c.args.shake _ c.in-Ok.bytes.items _ _ _ _ _ _ _ _ c.in-Ok.ensures.text c.in-Ok.ensures.size c.in-Ok-read_parts.ensures ran
+
+pub returns-in-Ok-read_parts-clause-given : goal.returns-in-Ok-read_parts-clause-given
+returns-in-Ok-read_parts-clause-given g c =
+    given_after c.in-Ok.bytes c.run_input.result.result _ _ (runs_other _ _ _ _ _ _ _ _ _ c.run_input.ensures) c.in-Ok.ensures.given
+
+pub returns-in-Err-read_parts-clause-leaves : goal.returns-in-Err-read_parts-clause-leaves
+returns-in-Err-read_parts-clause-leaves g c =
+    kept_refused c.args.shake _ c.in-Ok.bytes.items c.in-Err-read_parts.fault _ _ _ c.in-Ok.ensures.text c.in-Ok.ensures.size c.in-Err-read_parts.ensures
+
+pub returns-in-Err-read_parts-clause-given : goal.returns-in-Err-read_parts-clause-given
+returns-in-Err-read_parts-clause-given g c =
+    given_after c.in-Ok.bytes _ _ _ (λ is. refuses_other c.in-Err-read_parts.fault _ c.in-Err-read_parts.ensures (cc is)) c.in-Ok.ensures.given
