@@ -2,6 +2,7 @@
 """A second, slow reading of the rules, to compare the program with.
 
     cnsd_oracle.py [run] < input
+    cnsd_oracle.py run --shake NUMBER < input
     cnsd_oracle.py cusip TEXT
     cnsd_oracle.py cusip -- TEXT
 
@@ -9,7 +10,7 @@ It keeps the two nodes' records as lists, oldest first, and everything else is a
 over a whole list. Most sums are computed anew at each question; a plan and what is
 available are kept until the next record, and orders, accepted trades and open lots as
 they come, so that a million of each can be asked for. It knows `run` without workers,
-without shaking and without journal files, with ample memory.
+with ample memory, and of journal files what a first run over them tells.
 """
 import functools
 import os
@@ -20,6 +21,8 @@ INPUT_LIMIT = 67108864
 SHARES_LIMIT = 10 ** 18
 NUMBER_LIMIT = 1000000
 COUNT_LIMIT = 10 ** 9
+SHAKE_LIMIT = 2 ** 64 - 1
+DRAWS = 16                    # before each pump of a run that is shaken
 NIGHT, DAY = 0, 1
 KINDS = {b'NIGHT': NIGHT, b'DAY': DAY}
 KIND_NAMES = ['NIGHT', 'DAY']
@@ -347,6 +350,44 @@ def parties(order):
     return (order.member, 0) if order.kind == 'COVER' else (0, order.member)
 
 
+# ---------------------------------------------------------------- the words that shake a run
+
+PCG_MULTIPLIER = 6364136223846793005
+SEED_INCREMENT = 11634580027462260723
+
+
+def pcg_word(state):
+    """The word of 32 bits that PCG (XSH RR 64/32) gives for a state of 64."""
+    folded = ((state ^ (state >> 18)) >> 27) % 2 ** 32
+    turned = state >> 59
+    return ((folded >> turned) | (folded << (32 - turned))) % 2 ** 32
+
+
+class Words:
+    """The words of the PCG generator that a number starts.
+
+    Its seed are four words of a PCG generator whose state is that number, each taken after a step: the lower and
+    the higher half of a state, and those of an increment, which is made odd.
+    """
+
+    def __init__(self, number):
+        seed = []
+        for _ in range(4):
+            number = (number * PCG_MULTIPLIER + SEED_INCREMENT) % 2 ** 64
+            seed.append(pcg_word(number))
+        self.increment = (seed[2] + seed[3] * 2 ** 32) | 1
+        self.state = seed[0] + seed[1] * 2 ** 32 + self.increment
+        self.step()
+
+    def step(self):
+        self.state = (self.state * PCG_MULTIPLIER + self.increment) % 2 ** 64
+
+    def next(self):
+        word = pcg_word(self.state)
+        self.step()
+        return word
+
+
 # ---------------------------------------------------------------- the two nodes and the links
 
 class Node:
@@ -659,9 +700,14 @@ def read_command(line):
 
 
 class Run:
-    """One run of a script: the lines that it prints are in `out`."""
+    """One run of a script: the lines that it prints are in `out`.
 
-    def __init__(self, rows, openings, script):
+    It is shaken by a number where there is one. Over journal files no commit can be planned to fail.
+    """
+
+    def __init__(self, rows, openings, script, shake=None, journal=False):
+        self.words = None if shake is None else Words(shake)
+        self.journal = journal
         self.rows = rows
         self.taken = 0
         self.book = Book(openings)
@@ -751,7 +797,21 @@ class Run:
         if done:
             self.say('confirm %d moved %d %s', *done)
 
+    def draw_event(self):
+        """Lets happen what the next word names, of the things that there are."""
+        word = self.words.next()
+        kind, place = word % 4, word // 4
+        if kind == 3:
+            return
+        book = self.book
+        things, act = [(book.orders(), self.SEND), (book.order_packets, self.ORDER),
+                       (book.reply_packets, self.REPLY)][kind]
+        if things:
+            act(place % len(things) + 1)
+
     def PUMP(self):
+        for _ in range(DRAWS if self.words else 0):
+            self.draw_event()
         known = confirmed(self.book.clear.records)
         for number in [order.number for order in self.book.orders() if order.number not in known]:
             sent = self.SEND(number)
@@ -760,6 +820,9 @@ class Run:
                 self.REPLY(answered)
 
     def FAIL(self, side, stands):
+        if self.journal:
+            self.say('fail refused NotPlanned')
+            return
         node = self.book.clear if side == 'CLEAR' else self.book.depot
         node.planned = stands
         self.say('fail ok')
@@ -894,8 +957,11 @@ def good_openings(rows, say):
     return openings
 
 
-def answer(text):
-    """(exit status, standard output, standard error) of a run with this input."""
+def answer(text, shake=None, journal=False):
+    """(exit status, standard output, standard error) of a run with this input.
+
+    With a number it is shaken; with `journal` it is over journal files that are empty.
+    """
     try:
         if len(text) > INPUT_LIMIT:
             raise BadInput('input too long')
@@ -905,7 +971,7 @@ def answer(text):
     except BadInput as fault:
         return 2, b'', b'cnsd: %s\n' % str(fault).encode()
     lines = []
-    run = Run(rows, good_openings(opening_rows, lines.append), script)
+    run = Run(rows, good_openings(opening_rows, lines.append), script, shake, journal)
     run.out = lines
     run.run()
     return 0, ''.join(line + '\n' for line in lines).encode(), b''
@@ -920,15 +986,24 @@ def answer_cusip(text):
     return 0, b'ok\n', b''
 
 
+def is_shake(text):
+    try:
+        return read_number(text, 0, SHAKE_LIMIT) >= 0
+    except Fault:
+        return False
+
+
 def main(words):
     if words in ([], [b'run']):
         status, out, err = answer(sys.stdin.buffer.read())
+    elif words[:2] == [b'run', b'--shake'] and len(words) == 3 and is_shake(words[2]):
+        status, out, err = answer(sys.stdin.buffer.read(), int(words[2]))
     elif words[:2] == [b'cusip', b'--'] and len(words) == 3:
         status, out, err = answer_cusip(words[2])
     elif words[:1] == [b'cusip'] and len(words) == 2 and not words[1].startswith(b'-'):
         status, out, err = answer_cusip(words[1])
     else:
-        status, out, err = 1, b'', b'cnsd_oracle: only `run`, `cusip TEXT` and `cusip -- TEXT`\n'
+        status, out, err = 1, b'', b'cnsd_oracle: only `run`, `run --shake NUMBER`, `cusip TEXT` and `cusip -- TEXT`\n'
     sys.stdout.buffer.write(out)
     sys.stdout.buffer.flush()
     sys.stderr.buffer.write(err)

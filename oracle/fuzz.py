@@ -1,11 +1,14 @@
 #!/usr/bin/env python3
 """Compares a program with the oracle on random inputs.
 
-    fuzz.py PROGRAM --seed N --count K [--from F] [--no-shrink]
+    fuzz.py PROGRAM --seed N --count K [--from F] [--no-shrink] [--no-shaken]
     fuzz.py PROGRAM --seed N --limits
 
 Most inputs are texts for `run`; one in twelve is a text for `cusip`, one in twenty another
-command line, and one in two hundred has about as many bytes as an input may have. Input
+command line, and one in two hundred has about as many bytes as an input may have. Two in
+five of the texts for `run` are run with `--shake` and a random number, and one in five over
+journal files in a new folder; with `--no-shaken` none is shaken, for a program that has no
+`--shake` yet, and all other inputs are the same. Input
 number i of a seed is always the same, so a difference is found again with `--seed N
 --from i --count 1`. At the first difference the input is told in full, then with as many
 lines left out as still make a difference; that smaller one is left in the file
@@ -26,6 +29,7 @@ import random
 import shutil
 import subprocess
 import sys
+import tempfile
 import time
 
 sys.path.insert(0, os.path.dirname(os.path.abspath(__file__)))
@@ -48,13 +52,16 @@ MARK = b'\xef\xbb\xbf'
 SECONDS = 60                # that a run may take
 LIMIT_SECONDS = 600         # the same, at the limits
 LONGEST_TOLD = 1000000      # bytes of a text that is told in full
+SHAKEN = True               # whether inputs are shaken, where the command line does not say
+FOLDER = b'{journal}'       # a word of a command line that stands for a new folder
 
 
 class Maker:
-    """Makes one input."""
+    """Makes one input, which is shaken by this number where there is one, and run over journal files or not."""
 
-    def __init__(self, rng):
+    def __init__(self, rng, shake=None, journal=False):
         self.rng = rng
+        self.shake, self.journal = shake, journal
         self.members = rng.sample([1, 2, 3, 4, 12, 345, 9999], rng.randint(2, 5))
         self.issues = rng.sample(ISSUES, rng.choice([1, 1, 1, 2, 3, 6]))
         self.row_fault = rng.choice([0, 0, 0, 0.02, 0.1, 0.4])  # how often a field or row is made bad
@@ -193,7 +200,7 @@ class Maker:
     # far, so that most commands have something to do.
 
     def look_at(self, lines):
-        run = cnsd_oracle.Run(self.trade_rows, dict(self.openings), lines)
+        run = cnsd_oracle.Run(self.trade_rows, dict(self.openings), lines, self.shake, self.journal)
         run.run()
         self.book = run.book
 
@@ -455,7 +462,7 @@ class Maker:
 # Command lines. What is wanted of a run is its exit status, standard output and standard error;
 # None for a text that is not told here, and must not be empty.
 
-Input = collections.namedtuple('Input', 'words text want')
+Input = collections.namedtuple('Input', 'words text want shake journal', defaults=(None, False))
 FAULTY = (1, b'', None)
 # (a folder of the journals that is not there)
 NO_FOLDER = [b'run', b'--journal', b'4']
@@ -466,9 +473,14 @@ HELPS = [[b'--help'], [b'-h'], [b'help'], [b'help', b'run'], [b'help', b'cusip']
 NO_COMMANDS = [b'ru', b'RUN', b'Run', b'runs', b'run ', b' run', b'cusi', b'CUSIP', b'cusips', b'cusip=037833100',
                b'', b' ', b'-', b'x', b'037833100', b'r\xc3\xbcn', b'\xff', b'run\xff', b'version', b'start', b'\n',
                b'run\n', b'[openings]', b'plain.in']
-NO_OPTIONS = [b'--run', b'-r', b'-x', b'--stage', b'--stage=5', b'--workers', b'--workers=4', b'--journal',
-              b'--shake', b'--quiet', b'-q', b'-1', b'---', b'--=', b'--\xff', b'-\xc3\xa9', b'--versio', b'--hel',
+NO_OPTIONS = [b'--run', b'-r', b'-x', b'--stage', b'--stage=5', b'--workers=65', b'--workers=x', b'--journal',
+              b'--shake=x', b'--shake=-1', b'--shake=18446744073709551616', b'--shake=', b'--shaken',
+              b'--quiet', b'-q', b'-1', b'---', b'--=', b'--\xff', b'-\xc3\xa9', b'--versio', b'--hel',
               b'--cusip=037833100', b'--text=037833100']
+NO_VALUES = [[b'--workers'], [b'--shake'], [b'--shake', b'-1'], [b'--shake', b'x'], [b'--shake', b''],
+             [b'--shake', b'18446744073709551616'], [b'--shake', b'1', b'--shake', b'1'],
+             [b'--workers', b'1', b'--workers', b'1'], [b'--workers', b'65'], [b'--workers', b'-1'],
+             [b'--journal', b'4', b'--journal', b'4']]
 FOREIGN = ['\u00e9', '\u03a9', '\u0663', '\u4e2d', '\U0001f600', '\u00df', '\u0130', '\ufeff', '\u200b', 'e\u0301',
            '\uff11']
 
@@ -521,6 +533,7 @@ def command_line(rng):
     plain, word, option = b'x' + text, rng.choice(NO_COMMANDS), rng.choice(NO_OPTIONS)
     faulty = [[], [word], [option], [word] * 50, [word, b'run'], [option, b'run'],
               [b'run', word], [b'run', option], [b'run', b'run'], [b'run', b'--', plain], [b'run', option, b'4'],
+              [b'run'] + rng.choice(NO_VALUES), [b'run'] + rng.choice(NO_VALUES),
               [b'cusip'], [b'cusip', b'--'], [b'cusip', plain, plain], [b'cusip', b'--', text, text],
               [b'cusip', option], [b'cusip', plain, option], [b'cusip', option, plain],
               [b'cusip', plain + b'\xff'], [b'cusip', b'--', b'\xc3' + plain]]
@@ -528,15 +541,31 @@ def command_line(rng):
     return Input(words, b'', JOURNAL_FAILED if words == NO_FOLDER else FAULTY)
 
 
+def batch(text, shake=None, journal=False):
+    """A text for `run`, shaken by this number, over journal files or not."""
+    words = [b'run']
+    if shake is not None:
+        words += [b'--shake', b'%d' % shake]
+    if journal:
+        words += [b'--journal', FOLDER]
+    return Input(words, text, cnsd_oracle.answer(text, shake, journal), shake, journal)
+
+
+def shake_number(rng):
+    """A number that may shake a run."""
+    most = cnsd_oracle.SHAKE_LIMIT
+    return rng.choice([0, 1, rng.randint(0, 99), rng.randint(0, 2 ** 32), rng.randint(0, most), most - 1, most])
+
+
 def long_input(rng):
     """A text with about as many bytes as an input may have."""
     text = Maker(rng).text() + b'\n#'
     size = cnsd_oracle.INPUT_LIMIT + rng.choice([-1, 0, 1, 1, 1, 2, 100000])
     text += rng.choice([b'#', b' ', b'x', b'\xff']) * (size - len(text))
-    return Input([b'run'], text, cnsd_oracle.answer(text))
+    return batch(text)
 
 
-def input_number(seed, number):
+def input_number(seed, number, shaken):
     kind = random.Random('%d/%d/kind' % (seed, number)).random()
     rng = random.Random('%d/%d' % (seed, number))
     if kind < 0.08:
@@ -545,8 +574,11 @@ def input_number(seed, number):
         return command_line(rng)
     if kind < 0.135:
         return long_input(rng)
-    text = Maker(rng).text()
-    return Input([b'run'], text, cnsd_oracle.answer(text))
+    how = random.Random('%d/%d/how' % (seed, number))
+    shake, journal = shake_number(how), how.random() < 0.2
+    if not (how.random() < 0.4 and shaken):
+        shake = None
+    return batch(Maker(rng, shake, journal).text(), shake, journal)
 
 
 # Inputs at the limits: what fills the program up to some places, and random lines behind it.
@@ -640,7 +672,7 @@ def limit_inputs(seed):
                                                            b'trade,settle,buyer,seller,cusip,quantity'], [b'[script]']
         text = b'\n'.join(heads[0] + openings + heads[1] + rows + heads[2] + lines + [b''])
         began = time.monotonic()
-        one = Input([b'run'], text, cnsd_oracle.answer(text))
+        one = batch(text)
         spent = time.monotonic() - began
         print('%s: %d lines in %d bytes, the oracle took %.1f seconds' % (make.__name__, text.count(b'\n'), len(text),
                                                                           spent))
@@ -652,7 +684,9 @@ def limit_inputs(seed):
 def run_program(program, one, seconds=SECONDS):
     """(exit status, standard output, standard error)."""
     try:
-        done = subprocess.run([program] + one.words, input=one.text, capture_output=True, timeout=seconds)
+        with tempfile.TemporaryDirectory() as folder:
+            words = [os.fsencode(folder) if word == FOLDER else word for word in one.words]
+            done = subprocess.run([program] + words, input=one.text, capture_output=True, timeout=seconds)
     except subprocess.TimeoutExpired:
         return 'no end within %d seconds' % seconds, b'', b''
     except OSError as error:
@@ -664,25 +698,29 @@ def agree(want, got):
     return all(len(written) > 0 if wanted is None else wanted == written for wanted, written in zip(want, got))
 
 
-def differs(program, text):
-    one = Input([b'run'], text, cnsd_oracle.answer(text))
+def with_text(one, text):
+    """The same with another text for `run`."""
+    return batch(text, one.shake, one.journal)
+
+
+def differs(program, one):
     return not agree(one.want, run_program(program, one))
 
 
-def smaller(program, text):
-    """The text with as many lines left out as still makes a difference."""
-    lines = text.splitlines(True)
+def smaller(program, one):
+    """The same with as many lines of the text left out as still make a difference."""
+    lines = one.text.splitlines(True)
     size = max(1, len(lines) // 2)
     while True:
         place, changed = 0, False
         while place < len(lines):
             fewer = lines[:place] + lines[place + size:]
-            if differs(program, b''.join(fewer)):
+            if differs(program, with_text(one, b''.join(fewer))):
                 lines, changed = fewer, True
             else:
                 place += size
         if size == 1 and not changed:
-            return b''.join(lines)
+            return with_text(one, b''.join(lines))
         size = max(1, size // 2)
 
 
@@ -728,7 +766,8 @@ def kinds(one):
     if one.words[0] == b'cusip':
         return ['cusip: %s' % line.split(' ')[0] for line in lines]
     ended = 'exit status %d %s' % (one.want[0], one.want[2].decode('ascii'))
-    return [ended.strip()] + [kind_of(line) for line in lines]
+    how = ['run: shaken'] * (one.shake is not None) + ['run: over journal files'] * one.journal
+    return [ended.strip()] + how + [kind_of(line) for line in lines]
 
 
 def input_arguments(description):
@@ -738,6 +777,7 @@ def input_arguments(description):
     parser.add_argument('--seed', type=int, default=1)
     parser.add_argument('--count', type=int, default=1000)
     parser.add_argument('--from', type=int, default=0, dest='first')
+    parser.add_argument('--shaken', action=argparse.BooleanOptionalAction, default=SHAKEN)
     return parser
 
 
@@ -761,7 +801,8 @@ def main():
         return 1
     met, passed = collections.Counter(), 0
     numbers = range(given.first, given.first + given.count)
-    inputs = limit_inputs(given.seed) if given.limits else (input_number(given.seed, number) for number in numbers)
+    inputs = limit_inputs(given.seed) if given.limits else (input_number(given.seed, number, given.shaken)
+                                                              for number in numbers)
     for one in inputs:
         got = run_program(program, one, LIMIT_SECONDS if given.limits else SECONDS)
         if agree(one.want, got):
@@ -770,17 +811,17 @@ def main():
             continue
         print('input %d of seed %d: program and oracle differ' % (given.first + passed, given.seed))
         tell(one, got)
-        if one.words == [b'run'] and len(one.text) <= LONGEST_TOLD and not given.no_shrink:
-            text = smaller(program, one.text)
-            one = Input([b'run'], text, cnsd_oracle.answer(text))
+        if one.text and len(one.text) <= LONGEST_TOLD and not given.no_shrink:
+            one = smaller(program, one)
             print('==== the same difference, or another one, with fewer lines')
             tell(one, run_program(program, one))
         with open('fuzz-difference.in', 'wb') as out:
             out.write(one.text)
         print('left in %s' % os.path.abspath('fuzz-difference.in'))
-        print('again: fuzz.py %s --seed %d %s' % (given.program, given.seed,
-                                                  '--limits'
-                                                  if given.limits else '--from %d --count 1' % (given.first + passed)))
+        print('again: fuzz.py %s --seed %d %s%s' % (given.program, given.seed,
+                                                    '--limits' if given.limits
+                                                    else '--from %d --count 1' % (given.first + passed),
+                                                    '' if given.shaken else ' --no-shaken'))
         print('%d passed, 1 failed' % passed)
         return 1
     for kind, count in sorted(met.items()):

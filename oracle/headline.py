@@ -1,13 +1,15 @@
 #!/usr/bin/env python3
 """Checks the headline on what a program tells: both books agree, whatever was lost, repeated or restarted.
 
-    headline.py PROGRAM --seed N --count K [--from F]
+    headline.py PROGRAM --seed N --count K [--from F] [--no-shaken]
 
 Makes lawful inputs for `run` with lost, repeated and reordered packets, failures, restarts and lots, and a
 REPORT after each line of the script. Of each input it reads the outcome lines and the reports alone, and
 reckons by sums of its own what they have to be: which movements both nodes hold, each packet, each balance,
 each position, and the pool of each issue. The inputs are made as fuzz.py makes them, so that they have something
-to do; what is checked has no rule of cnsd_oracle.py. Input number i of a seed is always the same.
+to do; what is checked has no rule of cnsd_oracle.py. Two in five are run with `--shake` and a random number: of
+those cnsd_oracle.py gives the words, which say what is sent or arrives before a pump. With `--no-shaken` none is.
+Input number i of a seed is always the same.
 
 At the end it is told what was met. The last line is `N passed, M failed`, where N are the inputs of which
 all was as it has to be; the exit status is 0 where M is 0 and N is not.
@@ -22,7 +24,7 @@ import sys
 
 sys.path.insert(0, os.path.dirname(os.path.abspath(__file__)))
 import cnsd_oracle  # noqa: E402
-from fuzz import Maker, found_program, input_arguments  # noqa: E402
+from fuzz import Maker, found_program, input_arguments, shake_number  # noqa: E402
 
 SECONDS = 60                # that a run may take
 CNS = 0                     # the CNS account, through which each movement goes
@@ -44,9 +46,9 @@ def hold(part, claim, *seen):
 
 # ---- Inputs.
 
-def calm(rng):
+def calm(rng, shake):
     """A maker of lawful rows and commands, where all rows can be read as they stand."""
-    maker = Maker(rng)
+    maker = Maker(rng, shake)
     maker.row_fault = maker.line_fault = maker.fault = maker.odd = 0
     return maker
 
@@ -92,16 +94,20 @@ def with_losses(rng, lines):
 HEADS = [b'account,cusip,shares', b'trade,settle,buyer,seller,cusip,quantity']
 
 
-def make_input(seed, number):
-    """The text of an input, its rows of openings and of trades, and the line that each report follows."""
-    maker = calm(random.Random('headline/%d/%d' % (seed, number)))
+def make_input(seed, number, shaken):
+    """What shakes an input, its text, its rows of openings and of trades, and the line that each report follows."""
+    how = random.Random('headline/%d/%d/how' % (seed, number))
+    shake = shake_number(how)
+    if not (how.random() < 0.4 and shaken):
+        shake = None
+    maker = calm(random.Random('headline/%d/%d' % (seed, number)), shake)
     openings = maker.section(HEADS[0], maker.opening, maker.rng.choice([2, 5, 10]))
     trades = maker.section(HEADS[1], maker.trade, maker.rng.choice([5, 12, 25]))
     maker.trade_rows = cnsd_oracle.rows_under(HEADS[1], trades)
     maker.openings = cnsd_oracle.good_openings(cnsd_oracle.rows_under(HEADS[0], openings), lambda line: None)
     lines, follows = with_reports(with_losses(maker.rng, maker.lines()))
     text = b'[openings]\n' + openings + b'[trades]\n' + trades + b'[script]\n' + b''.join(line + b'\n' for line in lines)
-    return text, rows_of(openings), rows_of(trades), follows
+    return shake, text, rows_of(openings), rows_of(trades), follows
 
 
 def rows_of(section):
@@ -280,8 +286,9 @@ class Books:
 class Reader:
     """Reads the lines that one line of the script tells, and changes the books by them."""
 
-    def __init__(self, books):
+    def __init__(self, books, shake):
         self.books = books
+        self.words = None if shake is None else cnsd_oracle.Words(shake)
         self.command = []
         self.packet = 0                                       # of a pump: the last one that was put on a link
         self.drawn = {}                                       # the lot of an allocation, by the command's name
@@ -303,9 +310,26 @@ class Reader:
         for name, packets in (('ORDER', self.books.order_packets), ('REPLY', self.books.reply_packets)):
             self.books.met['packets lost'] += len(packets) - len(set(self.arrived[name]))
 
+    def drawn_command(self):
+        """The command that stands for the next draw, or None."""
+        word = self.words.next()
+        name, things = [('SEND', self.books.orders), ('ORDER', self.books.order_packets),
+                        ('REPLY', self.books.reply_packets), ('', [])][word % 4]
+        return [name, str(word // 4 % len(things) + 1)] if things else None
+
     def read(self, command, lines):
-        self.command = command
+        """Reads what a command told; before a pump each draw that comes to an event told a line."""
         lines = collections.deque(lines)
+        for _ in range(cnsd_oracle.DRAWS if command[0] == 'PUMP' and self.words else 0):
+            drawn = self.drawn_command()
+            if drawn:
+                hold('link', lines, 'no line of the draw', drawn)
+                self.read_lines(drawn, collections.deque([lines.popleft()]))
+                self.met('draws that come to an event')
+        self.read_lines(command, lines)
+
+    def read_lines(self, command, lines):
+        self.command = command
         while lines:
             words = lines.popleft().split(' ')
             orders = []
@@ -466,10 +490,10 @@ class Reader:
 
 # ---- Runs.
 
-def check(out, openings, trades, follows):
+def check(out, openings, trades, follows, shake):
     """Reads all that a run tells, and answers what was met."""
     books = Books(openings, trades)
-    reader = Reader(books)
+    reader = Reader(books, shake)
     lines = collections.deque(out.decode('ascii').splitlines())
     for command in follows:
         told, report = [], []
@@ -485,15 +509,17 @@ def check(out, openings, trades, follows):
     return books.met
 
 
-def try_input(program, seed, number):
+def try_input(program, seed, number, shaken):
     """What was met in an input, or None where a part of the headline does not hold of it."""
-    text, openings, trades, follows = make_input(seed, number)
-    run = subprocess.run([program, 'run'], input=text, capture_output=True, timeout=SECONDS)
+    shake, text, openings, trades, follows = make_input(seed, number, shaken)
+    words = ['run'] if shake is None else ['run', '--shake', str(shake)]
+    run = subprocess.run([program] + words, input=text, capture_output=True, timeout=SECONDS)
     try:
         hold('status', run.returncode == 0, run.returncode, run.stderr)
-        return check(run.stdout, openings, trades, follows)
+        return check(run.stdout, openings, trades, follows, shake)
     except Exception as broken:
-        print('FAIL input %d of seed %d: %s: %s' % (number, seed, type(broken).__name__, broken))
+        print('FAIL input %d of seed %d, by `%s`: %s: %s' % (number, seed, ' '.join(words), type(broken).__name__,
+                                                             broken))
         print(text.decode('latin-1'))
         print(run.stdout.decode('latin-1'), flush=True)
         return None
@@ -506,7 +532,7 @@ def main():
         return 1
     passed, failed, met = 0, 0, collections.Counter()
     for number in range(asked.first, asked.first + asked.count):
-        found = try_input(program, asked.seed, number)
+        found = try_input(program, asked.seed, number, asked.shaken)
         if found is None:
             failed += 1
         else:

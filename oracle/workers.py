@@ -1,8 +1,8 @@
 #!/usr/bin/env python3
 """Compares a program that allocates by workers with an oracle that is guided by what the program tells.
 
-    workers.py PROGRAM --seed N --count K [--from F] [--workers 1,2] [--times T]
-    workers.py PROGRAM --seed N --count K [--from F] --plain
+    workers.py PROGRAM --seed N --count K [--from F] [--workers 1,2,3-64] [--times T] [--no-shaken]
+    workers.py PROGRAM --seed N --count K [--from F] --plain [--no-shaken]
 
 Three things are left open where workers draw tickets: the order of the members within a group of a plan; how
 many members of it had a ticket when a line sealed the lot; and how much of what the plan asks a look at the lot
@@ -10,8 +10,10 @@ saw meanwhile. There the oracle reads the program's next line, tests that it is 
 other line, the exit status and standard error have to be the oracle's own, to the byte.
 
 Some inputs are made as fuzz.py makes texts for `run`, some have more lines beside allocations that name their
-lot, and some have up to 2,000 members in a plan, so that workers and lines meet. Input number i of a seed is
-always the same; what the workers make of it is not, so each is run T times (1) with each number of workers. A
+lot, and some have up to 2,000 members in a plan, so that workers and lines meet. Two in five are run with
+`--shake` and a random number; with `--no-shaken` none is. Input number i of a seed is
+always the same; what the workers make of it is not, so each is run T times (1) with each number of workers, where
+3-64 stands for one of these numbers, another one for each input. A
 run that has not ended after 60 seconds is a difference. At the first difference the input is told, and left in
 the file workers-difference.in of the working folder. Without one it is told how often each thing that is left
 open was met.
@@ -34,6 +36,7 @@ import fuzz  # noqa: E402
 OPENINGS, TRADES = b'account,cusip,shares', b'trade,settle,buyer,seller,cusip,quantity'
 TICKET = re.compile(r'ticket ([0-9]{4}) ')
 LOOK = re.compile(r'look poured [0-9]+ asked ([0-9]{1,30}) ')
+WORKERS = '1,2,3-64'        # how many workers there are, where the command line does not say
 LAWFUL_TOLD = 8             # how many lawful lines are told at a difference
 AROUND = 12                 # how many lines before it
 
@@ -51,8 +54,8 @@ class Differs(Exception):
 class Guided(cnsd_oracle.Run):
     """A run that reads what is left open from the lines that a program told."""
 
-    def __init__(self, rows, openings, script, told, workers):
-        super().__init__(rows, openings, script)
+    def __init__(self, rows, openings, script, told, workers, shake):
+        super().__init__(rows, openings, script, shake)
         self.told = told
         self.workers = workers
         self.seen = {}                                        # the shares asked that were seen last, by busy lot
@@ -166,7 +169,7 @@ def turns(plan, order, workers):
     return max(changes.values(), default=0)
 
 
-def guided(text, told, workers):
+def guided(text, told, workers, shake):
     """The oracle's exit status, standard output and standard error, guided by these lines; and what it met."""
     try:
         opening_text, trade_text, script = cnsd_oracle.split_sections(text)
@@ -176,19 +179,19 @@ def guided(text, told, workers):
         return cnsd_oracle.answer(text), collections.Counter({'input that is none': 1})
     faults = []
     openings = cnsd_oracle.good_openings(opening_rows, faults.append)
-    run = Guided(rows, openings, script, told, workers)
+    run = Guided(rows, openings, script, told, workers, shake)
     for line in faults:
         run.say('%s', line)
     run.run()
     return (0, ''.join(line + '\n' for line in run.out).encode('latin-1'), b''), run.met
 
 
-def judge(text, got, workers):
+def judge(text, got, workers, shake=None):
     """What was met in a run, where all of it is lawful."""
     if not isinstance(got[0], int):                           # it did not end, or did not begin
         raise Differs(got[0], None, [])
     told = got[1].decode('latin-1').split('\n')
-    want, met = guided(text, told[:-1], workers)
+    want, met = guided(text, told[:-1], workers, shake)
     for what, wanted, written in zip(('exit status', 'standard output', 'standard error'), want, got):
         if wanted != written:
             place = wanted.count(b'\n') if what == 'standard output' else None
@@ -201,8 +204,8 @@ def judge(text, got, workers):
 class Beside(fuzz.Maker):
     """Makes an input as fuzz.py does, with more lines beside allocations, most of which name the lot."""
 
-    def __init__(self, rng):
-        super().__init__(rng)
+    def __init__(self, rng, shake=None):
+        super().__init__(rng, shake)
         self.market = True
         self.members = rng.sample([1, 2, 3, 4, 5, 6, 7, 8, 12, 99, 345, 2000, 9998, 9999], rng.randint(4, 12))
         self.sellers = self.members[:rng.choice([1, 1, 2])]
@@ -320,9 +323,16 @@ class Crowd:
         return b'\n'.join(parts + [b'REPORT', b''])
 
 
-def make_text(seed, number):
+def make_input(seed, number, shaken):
+    """A text, and the number that shakes its run or None."""
+    how = random.Random('workers/%d/%d/how' % (seed, number))
+    shake = fuzz.shake_number(how)
+    if not (how.random() < 0.4 and shaken):
+        shake = None
     rng = random.Random('workers/%d/%d' % (seed, number))
-    return rng.choice([fuzz.Maker, fuzz.Maker, Beside, Beside, Crowd])(rng).text()
+    make = rng.choice([fuzz.Maker, fuzz.Maker, Beside, Beside, Crowd])
+    maker = Crowd(rng) if make is Crowd else make(rng, shake)
+    return maker.text(), shake
 
 
 # ---- Runs.
@@ -350,35 +360,49 @@ def tell(text, got, differs):
 
 def try_input(program, given, number, met):
     """Runs an input with each number of workers, and counts what was met; answers whether all was lawful."""
-    text = make_text(given.seed, number)
-    for workers in [0] if given.plain else given.workers:
+    text, shake = make_input(given.seed, number, given.shaken)
+    how_many = random.Random('workers/%d/%d/how many' % (given.seed, number))
+    for name, least, most in PLAIN if given.plain else given.workers:
+        workers = how_many.randint(least, most)
         words = [b'run'] if given.plain else [b'run', b'--workers', b'%d' % workers]
+        words += [] if shake is None else [b'--shake', b'%d' % shake]
         for _ in range(given.times):
             got = fuzz.run_program(program, fuzz.Input(words, text, None))
             try:
-                found = judge(text, got, workers)
+                found = judge(text, got, workers, shake)
             except Differs as differs:
                 print('input %d of seed %d, by `%s`: program and oracle differ'
                       % (number, given.seed, b' '.join(words).decode()))
                 tell(text, got, differs)
-                print('again: workers.py %s --seed %d --from %d --count 1 --times 100%s'
-                      % (given.program, given.seed, number, ' --plain' if given.plain else ''))
+                print('again: workers.py %s --seed %d --from %d --count 1 --times 100%s%s'
+                      % (given.program, given.seed, number, ' --plain' if given.plain else '',
+                         '' if given.shaken else ' --no-shaken'))
                 return False
+            met['run that is shaken', name] += shake is not None
             for what, times in found.items():
-                met[what, workers] += times
+                met[what, name] += times
     return True
 
 
 def tell_met(met, columns):
     """A column of counts for each number of workers."""
-    print(' '.join('%9s' % ('%d workers' % workers) for workers in columns))
+    print(' '.join('%12s' % (name + ' workers') for name in columns))
     for what in sorted({what for what, _ in met}):
-        print(' '.join('%9d' % met[what, workers] for workers in columns) + '  ' + what)
+        print(' '.join('%12d' % met[what, name] for name in columns) + '  ' + what)
+
+
+def read_workers(text):
+    """Of each word its own text, and the least and the most workers that it stands for."""
+    ends = [(word, word.split('-')) for word in text.split(',')]
+    return [(word, int(end[0]), int(end[-1])) for word, end in ends]
+
+
+PLAIN = read_workers('0')
 
 
 def main():
     parser = fuzz.input_arguments(__doc__)
-    parser.add_argument('--workers', type=lambda text: [int(word) for word in text.split(',')], default=[1, 2])
+    parser.add_argument('--workers', type=read_workers, default=WORKERS)
     parser.add_argument('--times', type=int, default=1)
     parser.add_argument('--plain', action='store_true')
     given = parser.parse_args()
@@ -390,7 +414,7 @@ def main():
         if not try_input(program, given, number, met):
             print('%d passed, 1 failed' % passed)
             return 1
-    tell_met(met, [0] if given.plain else given.workers)
+    tell_met(met, [name for name, _, _ in (PLAIN if given.plain else given.workers)])
     print('%d passed, 0 failed' % given.count)
     return 0 if given.count > 0 else 1
 

@@ -9,15 +9,18 @@ use Rattle.clap.specs.declared.builder.value_parser.ValueParser.TheVariants as v
 use Rattle.cnsd.specs.declared.arguments.Request.{Request}
 use Rattle.cnsd.specs.declared.arguments.Request.TheVariants as request
 
--- run [--workers N] [--journal DIR]
+-- run [--workers N] [--shake NUMBER] [--journal DIR]
 abbrev pub workers_rule : Rule
-workers_rule = record (new_rule (codes "workers")) { long = Some (codes "workers"); action = Some Set; value_names = 1; parser = Some (vp.Unsigned 0 2) }
+workers_rule = record (new_rule (codes "workers")) { long = Some (codes "workers"); action = Some Set; value_names = 1; parser = Some (vp.Unsigned 0 64) }
+
+abbrev pub shake_rule : Rule
+shake_rule = record (new_rule (codes "shake")) { long = Some (codes "shake"); action = Some Set; value_names = 1; parser = Some (vp.Unsigned 0 18446744073709551615) }
 
 abbrev pub journal_rule : Rule
 journal_rule = record (new_rule (codes "journal")) { long = Some (codes "journal"); action = Some Set; value_names = 1 }
 
 abbrev pub run_app : App
-run_app = with_rule (with_rule (new_app (codes "run")) workers_rule) journal_rule
+run_app = with_rule (with_rule (with_rule (new_app (codes "run")) workers_rule) shake_rule) journal_rule
 
 -- cusip TEXT
 abbrev pub text_rule : Rule
@@ -45,12 +48,18 @@ abbrev pub IsCountIn : Option Text → ℕ → Type 0
 IsCountIn None n = n ≡ 0
 IsCountIn (Some t) n = (IsNumber t × (n ≡ digits_value 10 (without_leading_plus t))) ⊎ ((IsNumber t → ⊥) × (n ≡ 0))
 
--- what is asked for: whether a text is a CUSIP, where the words give one, and else a batch, by so many workers and over the journals
--- in a folder where they give one
+-- the same where there is a text, and none where there is none
+abbrev pub IsShakeIn : Option Text → Option ℕ → Type 0
+IsShakeIn None shake = shake ≡ None
+IsShakeIn (Some t) shake = (n : ℕ) × (shake ≡ Some n) × IsCountIn (Some t) n
+
+-- what is asked for: whether a text is a CUSIP, where the words give one, and else a batch, by so many workers, shaken by a number where
+-- they give one, and over the journals in a folder where they give one
 abbrev pub AsksFor : Option (Text × List Row) → Request → Type 0
-AsksFor used (request.Run folder workers) = (value_in (codes "cusip") (codes "text") used ≡ None)
+AsksFor used (request.Run folder workers shake) = (value_in (codes "cusip") (codes "text") used ≡ None)
     × (option_map string_bytes folder ≡ value_in (codes "run") (codes "journal") used)
     × IsCountIn (value_in (codes "run") (codes "workers") used) workers
+    × IsShakeIn (value_in (codes "run") (codes "shake") used) shake
 AsksFor used (request.Cusip text) = value_in (codes "cusip") (codes "text") used ≡ Some (string_bytes text)
 AsksFor used request.Told = ⊥
 AsksFor used request.Faulty = ⊥

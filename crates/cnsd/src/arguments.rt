@@ -1,6 +1,6 @@
 ghost use Rattle.std.specs.Prelude.{◌≡◌, false, IfOk, codes, map, option_map};
 ghost use Rattle.clap.specs.Words.{FailsBy, app_of, fault_of, rule_of, subcommand_of, subcommand_rows_of};
-ghost use Rattle.cnsd.specs.CommandLine.{AsksFor, IsCountIn, cnsd_app, journal_rule, text_rule, value_in, workers_rule};
+ghost use Rattle.cnsd.specs.CommandLine.{AsksFor, IsCountIn, IsShakeIn, cnsd_app, journal_rule, shake_rule, text_rule, value_in, workers_rule};
 
 use crate::help;
 use clap::builder::ValueParser;
@@ -17,10 +17,11 @@ use std::{env, io};
 pub(crate) enum Request {
     /// `cnsd run`: one batch from standard input to standard output, over the journals in this folder
     /// where one is given, and else over keepers in memory. So many workers serve its lots; where there
-    /// are none, its single events do.
+    /// are none, its single events do. It is shaken by this number where one is given.
     Run {
         journal: Option<String>,
         workers: usize,
+        shake: Option<u64>,
     },
     /// `cnsd cusip TEXT`: whether this text is a CUSIP.
     Cusip(String),
@@ -50,8 +51,21 @@ fn workers_option<'a>(alloc: Global) -> Arg<'a>
     Arg::new(alloc, "workers")
         .long("workers")
         .value_name("N")
-        .help("Let N workers draw the tickets of each lot, 0 to 2; none if left out")
+        .help("Let N workers draw the tickets of each lot, 0 to 64; none if left out")
         .value_parser(ValueParser::Unsigned(0, MAX_WORKERS as u64))
+        .action(ArgAction::Set)
+}
+
+// The option of `run` for the number that shakes it.
+fn shake_option<'a>(alloc: Global) -> Arg<'a>
+    ensures rule { rule_of result ≡ shake_rule }
+    ensures local { result.global ≡ false }
+{
+    Arg::new(alloc, "shake")
+        .long("shake")
+        .value_name("NUMBER")
+        .help("Before each PUMP draw 16 times what is sent or arrives; NUMBER starts the draws")
+        .value_parser(ValueParser::Unsigned(0, u64::MAX))
         .action(ArgAction::Set)
 }
 
@@ -77,6 +91,7 @@ fn command<'a>(alloc: Global) -> Result<Command<'a>, AllocError>
         )
         .after_help(help::RUN)
         .arg(workers_option(alloc))?
+        .arg(shake_option(alloc))?
         .arg(journal_option(alloc))?;
     let cusip = Command::new(alloc, "cusip")
         .about("Reads a text as a CUSIP, and writes `ok` or its first fault")
@@ -97,13 +112,23 @@ fn value_in<'a>(matches: &ArgMatches<'a>, subcommand: &str, id: &str) -> Option<
     matches.subcommand_matches(subcommand)?.get_str(id)
 }
 
-// How many workers the words ask for. The library lets no text through that is no number but `-0`.
+// How many workers the words ask for. The library lets no text through that is no number.
 fn workers_in(matches: &ArgMatches) -> usize
     ensures { IsCountIn (value_in (codes "run") (codes "workers") (subcommand_rows_of matches.now)) result }
 {
     match value_in(matches, "run", "workers") {
         Some(text) => text.parse::<usize>().unwrap_or(0),
         None => 0,
+    }
+}
+
+// The number by which the words ask that a run be shaken.
+fn shake_in(matches: &ArgMatches) -> Option<u64>
+    ensures { IsShakeIn (value_in (codes "run") (codes "shake") (subcommand_rows_of matches.now)) result }
+{
+    match value_in(matches, "run", "shake") {
+        Some(text) => Some(text.parse::<u64>().unwrap_or(0)),
+        None => None,
     }
 }
 
@@ -115,11 +140,16 @@ fn request_of(alloc: Global, matches: &ArgMatches) -> Result<Request, AllocError
         return Ok(Request::Cusip(String::from_str(alloc, text)?));
     }
     let workers = workers_in(matches);
+    let shake = shake_in(matches);
     let journal = match value_in(matches, "run", "journal") {
         Some(folder) => Some(String::from_str(alloc, folder)?),
         None => None,
     };
-    Ok(Request::Run { journal, workers })
+    Ok(Request::Run {
+        journal,
+        workers,
+        shake,
+    })
 }
 
 // Reads words as a command line; help, the version and faults come as the library's own errors.

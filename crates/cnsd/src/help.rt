@@ -38,9 +38,13 @@ Commands of a script, one a line; blank lines and lines that begin with # are sk
   RESTART CLEAR|DEPOT           Let a node read its journal again
   REPORT                        Tell positions, pools and balances
 
-With --workers 1 or 2, threads draw the tickets of the lots that ALLOCATE and BESIDE open, one group of
+With --workers 1 to 64, threads draw the tickets of the lots that ALLOCATE and BESIDE open, one group of
 members after another, and the k lines of BESIDE run in the meantime. In which order the members of one
 group draw, and which of them draw before a SEAL, may then differ from run to run; with 0 it never does.
+
+With --shake NUMBER each PUMP is preceded by 16 draws of a random generator that the number starts. Each
+draws an order, and sends it; or a packet of either link, and lets it arrive; or nothing. So packets come
+again and out of turn. One NUMBER gives one run; the draws print lines as SEND, ORDER and REPLY do.
 
 Exit status:
   0  all was read, run and written

@@ -55,12 +55,14 @@ fn run_over<L: Ledger>(
     run_batch_kept(rt.alloc(), &mut reader, &mut writer, steps, clear, depot).result
 }
 
-// One batch from standard input to standard output, over these keepers, by workers in threads.
+// One batch from standard input to standard output, over these keepers, by workers in threads where there
+// are any, and shaken where a number is given.
 fn run_beside<H: Threads + Wait + Sync, L: Ledger, C: Keeper + Drop, D: Keeper + Drop>(
     rt: &HostRuntime,
     threads: &H,
     steps: &mut Steps<L>,
     workers: usize,
+    shake: Option<u64>,
     clear: C,
     depot: D,
 ) -> Result<(), BatchFault> {
@@ -73,25 +75,27 @@ fn run_beside<H: Threads + Wait + Sync, L: Ledger, C: Keeper + Drop, D: Keeper +
         &mut writer,
         steps,
         workers,
+        shake,
         clear,
         depot,
         &OpenGate,
     )
 }
 
-// One batch over keepers in memory, by so many workers.
+// One batch over keepers in memory, by so many workers, and shaken where a number is given.
 fn run_in_memory<H: Threads + Wait + Sync, L: Ledger>(
     rt: &HostRuntime,
     threads: &H,
     steps: &mut Steps<L>,
     workers: usize,
+    shake: Option<u64>,
 ) -> Result<(), BatchFault> {
-    if workers == 0 {
+    if workers == 0 && shake.is_none() {
         return run(rt, steps);
     }
     let alloc = rt.alloc();
     let (clear, depot) = (ListKeeper::new(alloc), ListKeeper::new(alloc));
-    run_beside(rt, threads, steps, workers, clear, depot)
+    run_beside(rt, threads, steps, workers, shake, clear, depot)
 }
 
 // The same over the journals in a folder.
@@ -100,13 +104,14 @@ fn run_in_folder<H: Threads + Wait + Sync, L: Ledger>(
     threads: &H,
     steps: &mut Steps<L>,
     workers: usize,
+    shake: Option<u64>,
     folder: &str,
 ) -> Result<(), BatchFault> {
-    if workers == 0 {
+    if workers == 0 && shake.is_none() {
         return run_over(rt, folder, steps);
     }
     let Journals { clear, depot } = open_journals(rt, folder)?;
-    run_beside(rt, threads, steps, workers, clear, depot)
+    run_beside(rt, threads, steps, workers, shake, clear, depot)
 }
 
 // One batch, over the journals in a folder where one is given. Nobody asks how many reads it makes.
@@ -115,6 +120,7 @@ fn run_batch_over<H: Threads + Wait + Sync, L: Ledger>(
     threads: &H,
     blank: Blank,
     workers: usize,
+    shake: Option<u64>,
     folder: Option<String>,
 ) -> Result<(), BatchFault>
     requires name { blank.name ≡ L.name }
@@ -123,8 +129,8 @@ fn run_batch_over<H: Threads + Wait + Sync, L: Ledger>(
 {
     let mut steps = Steps::<L>::new(blank);
     match folder {
-        Some(folder) => run_in_folder(rt, threads, &mut steps, workers, folder.as_str()),
-        None => run_in_memory(rt, threads, &mut steps, workers),
+        Some(folder) => run_in_folder(rt, threads, &mut steps, workers, shake, folder.as_str()),
+        None => run_in_memory(rt, threads, &mut steps, workers, shake),
     }
 }
 
@@ -140,8 +146,21 @@ fn cusip(rt: &HostRuntime, text: &[u8]) -> ExitCode {
 
 fn main(rt: HostRuntime) -> ExitCode {
     match read_request(&rt) {
-        Ok(Request::Run { journal, workers }) => {
-            let ended = run_batch_over::<_, Brand>(&rt, &rt, Blank::new(1), workers, journal);
+        Ok(
+            Request::Run {
+                journal,
+                workers,
+                shake,
+            },
+        ) => {
+            let ended = run_batch_over::<_, Brand>(
+                &rt,
+                &rt,
+                Blank::new(1),
+                workers,
+                shake,
+                journal,
+            );
             exit_status(&rt, ended)
         }
         Ok(Request::Cusip(text)) => cusip(&rt, text.as_bytes()),
