@@ -6,11 +6,12 @@
 # Proves and builds tests/stress in a temporary folder, beside copies of the crates that it stands on: a
 # first run takes some minutes. Then four threads draw from a cell while a fifth pours into it and, in
 # about half of the cells, seals it, all at random moments; cell after cell, on all processors, on one
-# and on two. tests/stress/check.py tests by counting that the tickets stand end to end from 0, that
+# and on two; then 64 threads draw, on all processors. Another number of threads than 1 to 64 must be
+# refused. tests/stress/check.py tests by counting that the tickets stand end to end from 0, that
 # each seat's own starts rise, that none was drawn by a seat that had seen the seal, and what was asked,
 # poured and sealed in the end; and that there were races. It is tested itself first, by broken outputs.
 # The threads take turns as the system lets them, so a seed does not give the same run again.
-# STRESS_CELLS (100 where it is not set) is how many cells there are each time.
+# STRESS_CELLS (100 where it is not set) is how many cells there are each time; of 64 threads a fifth.
 # The last line is `N passed, M failed`; the exit status is 0 where M is 0 and N is not.
 
 set -u
@@ -40,22 +41,35 @@ take_check() {
     fi
 }
 
-# check_output: checks the output of a run.
+# check_output CELLS WORKERS: checks the output of a run.
 check_output() {
-    "$here/stress/check.py" "$cells" <"$work/out"
+    "$here/stress/check.py" "$1" "$2" <"$work/out"
 }
 
-# race NAME COMMAND..: one run of the program, by the command before its name.
+# race NAME CELLS WORKERS COMMAND..: one run of the program, by the command before its name.
 race() {
-    local name=$1 status
-    shift
-    timeout 300 "$@" "$program" "$seed" "$cells" >"$work/out" 2>"$work/err"
+    local name=$1 cells=$2 workers=$3 status
+    shift 3
+    timeout 300 "$@" "$program" "$seed" "$cells" "$workers" >"$work/out" 2>"$work/err"
     status=$?
     if ((status != 0)); then
         fail "$name: exit status $status: $(head -c 200 "$work/err" | tr '\0\n' '??')"
         return
     fi
-    take_check "$name" check_output
+    take_check "$name" check_output "$cells" "$workers"
+}
+
+# refuse WORKERS: one run of the program on a number of workers that it must refuse.
+refuse() {
+    local workers=$1 status
+    timeout 300 "$program" "$seed" 1 "$workers" >"$work/out" 2>"$work/err"
+    status=$?
+    if ((status == 1)) && [[ ! -s $work/out ]] && grep -q "^Error: $workers workers, not 1 to 64$" "$work/err"; then
+        passed=$((passed + 1))
+        printf '== %s workers are refused\n' "$workers"
+    else
+        fail "$workers workers" "exit status $status: $(head -c 200 "$work/err" | tr '\0\n' '??')"
+    fi
 }
 
 if [[ ! $seed =~ ^[0-9]{1,19}$ || ! $cells =~ ^[1-9][0-9]{0,6}$ ]]; then
@@ -65,7 +79,7 @@ fi
 printf 'seed %s\n' "$seed"
 take_check 'self-test of check.py' "$here/stress/check.py" --self-test
 if ! "$here/../bench/build_beside.py" "$work" "$here/stress" cell_stress \
-    cns_pool cns_ids anyhow rand_pcg rand_core -- 1 1; then
+    cns_pool cns_ids anyhow rand_pcg rand_core -- 1 1 4; then
     fail 'tests/stress is not built'
     say_end
 fi
@@ -73,11 +87,14 @@ program=$work/crates/cell_stress/out/cell_stress
 
 # The processors that this process may run on.
 read -r -a processors < <(python3 -c 'import os; print(*sorted(os.sched_getaffinity(0)))')
-race "${#processors[@]} processors" env
-race 'one processor' taskset -c "${processors[0]}"
+race "${#processors[@]} processors" "$cells" 4 env
+race 'one processor' "$cells" 4 taskset -c "${processors[0]}"
 if ((${#processors[@]} > 1)); then
-    race 'two processors' taskset -c "${processors[0]},${processors[1]}"
+    race 'two processors' "$cells" 4 taskset -c "${processors[0]},${processors[1]}"
 else
     printf 'no second processor: not run on two\n'
 fi
+race "64 workers, ${#processors[@]} processors" "$(((cells + 4) / 5))" 64 env
+refuse 0
+refuse 65
 say_end

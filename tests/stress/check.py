@@ -1,8 +1,8 @@
 #!/usr/bin/env python3
 """Checks what the program of this folder wrote of its cells, by counting alone.
 
-    check.py CELLS <OUTPUT      checks each cell
-    check.py --self-test        breaks right outputs in many ways, each of which must be refused
+    check.py CELLS WORKERS <OUTPUT      checks each cell, of so many workers
+    check.py --self-test                breaks right outputs in many ways, each of which must be refused
 
 Of each cell the output has `cell N`; for each worker `worker M` and what it did and saw, in its order;
 `feeder` and the same; `left SUM SEALED`, what was asked in the end; a line `ticket M START ASKED` for
@@ -15,7 +15,11 @@ import copy
 import random
 import sys
 
-WORKERS = [1, 2, 3, 4]
+# The most workers of a cell.
+MOST_WORKERS = 64
+
+# How many workers the cells of the self-test have, where it does not say another number.
+WORKERS = 4
 
 # From how many cells on some must have raced.
 LEAST_TO_RACE = 20
@@ -30,6 +34,9 @@ EVENTS = {
     "seal": (0, False),
 }
 LOOKS = ("asked", "poured")
+
+# How many turns the seats of a cell of the self-test take.
+TURNS = 300
 
 
 class Unreadable(Exception):
@@ -124,6 +131,11 @@ def read(lines):
     if not ended:
         raise Unreadable("the output was cut off")
     return cells
+
+
+def members_of(workers):
+    """The members for whom so many workers draw."""
+    return list(range(1, workers + 1))
 
 
 def faults_of_worker(member, events):
@@ -222,11 +234,11 @@ def faults_of_looks(cell):
                 yield "a look at a sealed cell shows a sum that it never had"
 
 
-def faults_of(cell, number):
-    """All that is wrong with a cell, each thing once."""
+def faults_of(cell, number, workers):
+    """All that is wrong with a cell of so many workers, each thing once."""
     if cell.closed is None:
         return ["the cell was not closed"]
-    if cell.number != number or [member for member, _ in cell.seats] != WORKERS:
+    if cell.number != number or [member for member, _ in cell.seats] != members_of(workers):
         return ["it is another cell, or other workers"]
     found = [fault for member, events in cell.seats for fault in faults_of_worker(member, events)]
     found += faults_of_feeder(cell.feeder)
@@ -235,12 +247,12 @@ def faults_of(cell, number):
     return list(dict.fromkeys(found))
 
 
-def races_of(cells):
+def races_of(cells, workers):
     """What must have happened at least once in many cells, each with how often it did."""
     handed, cut, sealed = 0, 0, 0
     for cell in cells:
         members = [ticket[0] for ticket in sorted(cell.drawn(), key=lambda ticket: ticket[1])]
-        handed += sum(one != other for one, other in zip(members, members[1:])) >= len(WORKERS)
+        handed += sum(one != other for one, other in zip(members, members[1:])) >= workers
         cut += any({"drew", "refused"} <= {event[0] for event in events} for _, events in cell.seats)
         sealed += cell.closed[1]
     return {
@@ -251,7 +263,7 @@ def races_of(cells):
     }
 
 
-def judge(lines, wanted):
+def judge(lines, wanted, workers):
     """How many cells and races are right, and what is wrong with the others."""
     try:
         cells = read(lines)
@@ -259,26 +271,28 @@ def judge(lines, wanted):
         return 0, [f"the output cannot be read: {fault}"], {}
     wrong, passed = [], 0
     for number, cell in enumerate(cells):
-        found = faults_of(cell, number)
+        found = faults_of(cell, number, workers)
         wrong += [f"cell {number}: {fault}" for fault in found]
         passed += not found
     if len(cells) != wanted:
         wrong.append(f"{len(cells)} cells, not {wanted}")
-    races = {} if wrong else races_of(cells)
+    races = {} if wrong else races_of(cells, workers)
     if wanted >= LEAST_TO_RACE:
         wrong += [f"in no cell: {race}" for race, times in races.items() if times == 0]
         passed += sum(times > 0 for times in races.values())
     return passed, wrong, races
 
 
-def simulated(number, chance):
-    """A right cell, by one thread that lets the seats take turns at random; every other one is sealed."""
+def simulated(number, chance, workers=WORKERS, racing=True):
+    """A right cell, by one thread that lets the seats take turns at random; every other one is sealed.
+
+    Where they do not race, each seat takes all its turns before the next one."""
     cell = Cell(number)
-    cell.seats, cell.feeder = [(member, []) for member in WORKERS], []
+    cell.seats, cell.feeder = [(member, []) for member in members_of(workers)], []
     asked, poured, sealed, seal_at = 0, 0, False, chance.randrange(100, 200) if number % 2 else 1000
-    for turn in range(300):
-        seat = chance.randrange(len(WORKERS) + 1)
-        if seat == len(WORKERS):
+    for turn in range(TURNS):
+        seat = chance.randrange(workers + 1) if racing else turn * (workers + 1) // TURNS
+        if seat == workers:
             if turn >= seal_at and not sealed:
                 sealed = True
                 cell.feeder.append(("seal",))
@@ -426,9 +440,9 @@ def self_test():
     def say(cells):
         return [line for cell in cells for line in cell.lines()] + ["end"]
 
-    def expect(what, told, lines, wanted=len(right)):
+    def expect(what, told, lines, wanted=len(right), workers=WORKERS):
         nonlocal passed
-        _, found, _ = judge(lines, wanted)
+        _, found, _ = judge(lines, wanted, workers)
         fits = any(told in fault for fault in found) if told else not found
         passed += fits
         if not fits:
@@ -445,6 +459,19 @@ def self_test():
     expect("no seal at all", "in no cell", say(renumbered(right, False)), LEAST_TO_RACE)
     expect("seals alone", "in no cell", say(renumbered(right, True)), LEAST_TO_RACE)
     expect("two right cells", None, say(right[:2]), 2)
+    for workers in (WORKERS - 1, WORKERS + 1, MOST_WORKERS):
+        expect(f"cells of {WORKERS} workers, not {workers}", "other workers", say(right[:2]), 2, workers)
+    for workers in (1, 2, MOST_WORKERS):
+        cells = [simulated(number, chance, workers) for number in range(2)]
+        expect(f"right cells of {workers} workers", None, say(cells), 2, workers)
+        expect(f"cells of {workers} workers, not {workers + 1}", "other workers", say(cells), 2, workers + 1)
+        cells[0].seats[-1] = (workers + 1, cells[0].seats[-1][1])
+        expect(f"another member among {workers}", "other workers", say(cells), 2, workers)
+    many = [simulated(number, chance, MOST_WORKERS) for number in range(LEAST_TO_RACE)]
+    expect("many cells of many workers", None, say(many), LEAST_TO_RACE, MOST_WORKERS)
+    for workers in (WORKERS, MOST_WORKERS):
+        calm = [simulated(number, chance, workers, racing=False) for number in range(LEAST_TO_RACE)]
+        expect(f"{workers} workers one after another", "in no cell: tickets", say(calm), LEAST_TO_RACE, workers)
     for at, (place, breaks, told) in enumerate(BREAKS):
         cells = copy.deepcopy(right[:2])
         breaks(cells[place])
@@ -466,10 +493,14 @@ def renumbered(cells, sealed):
 def main():
     if sys.argv[1:] == ["--self-test"]:
         return self_test()
-    if len(sys.argv) != 2 or not sys.argv[1].isdigit():
-        print("usage: check.py CELLS <OUTPUT, or check.py --self-test", file=sys.stderr)
+    if len(sys.argv) != 3 or not all(word.isascii() and word.isdigit() for word in sys.argv[1:]):
+        print("usage: check.py CELLS WORKERS <OUTPUT, or check.py --self-test", file=sys.stderr)
         return 2
-    passed, wrong, races = judge(sys.stdin.read().splitlines(), int(sys.argv[1]))
+    cells, workers = int(sys.argv[1]), int(sys.argv[2])
+    if not 1 <= workers <= MOST_WORKERS:
+        print(f"{workers} workers, not 1 to {MOST_WORKERS}", file=sys.stderr)
+        return 2
+    passed, wrong, races = judge(sys.stdin.read().splitlines(), cells, workers)
     for race, times in races.items():
         print(f"  {times} cells: {race}")
     for fault in wrong[:40]:
