@@ -19,7 +19,8 @@ Its last report must be that of the run that is refused nothing. All else must b
 that are refused: not where the line is `PUMP`, which goes on with the next order and gives packets other numbers; where
 `BESIDE` opened no lot, as its lines then run before it; or where others draw after workers. A row that stands once more
 may move the number of the request a little; where workers run it may move in each run: then the runs that refuse the
-same event are looked for among the requests beside it.
+same event are looked for among the requests beside it. The threads of workers need not meet it again: such an event is told as not met, and
+of an input more must be met than not.
 
 The last line is `N passed, M failed`, where N are the events that were given once more; the exit status is 0 where M is 0 and N is
 not.
@@ -39,6 +40,9 @@ BAD = re.compile(rb'line (\d+) bad command')
 TOLD_ROW = re.compile(rb'(?m)^row \d+ ')
 LOT = re.compile(rb'(?m)^lot (\d+) poured')
 NEAR = [0] + [step * sign for step in range(1, 13) for sign in (1, -1)]
+
+# What came of an event that found no memory: there was none; it was given once more; or the threads of workers did not meet it again.
+NONE, GIVEN, MISSED = 'none', 'given', 'missed'
 
 # Of which line a part of the output is: its place in the script, in the lines of the `BESIDE` there (None: no such line), and
 # whether it is what `BESIDE` writes of its lot when it is opened or when it is served.
@@ -227,13 +231,13 @@ class Script:
         return b'\n'.join(lines[:place + 1] + [lines[place]] + lines[place + 1:])
 
     def judge(self, number):
-        """Whether an event was refused and given once more, and None or what is wrong."""
+        """NONE where no event was refused, GIVEN or MISSED where one was, and None or what is wrong."""
         (status, out, err), *_ = self.example.refuse(number)
         if status != 0 or err:
-            return False, None                    # refuse_memory.py looks at how it ended
+            return NONE, None                     # refuse_memory.py looks at how it ended
         found = self.refused_at(out)
         if found is None:
-            return False, None
+            return NONE, None
         owner, line, _ = found
         head, items, exact = self.repeated(*found)
         text = self.text(head, items)
@@ -241,8 +245,10 @@ class Script:
         for near in NEAR * tries:
             (status, out, err), *_ = self.example.refuse(number + near, text)
             if status == 0 and not err and self.is_same_event(out, items, owner, line):
-                return True, self.look(out, items, exact)
-        return True, 'no request near %d refuses the same event where its line stands once more' % number
+                return GIVEN, self.look(out, items, exact)
+        if self.has_workers:
+            return MISSED, None
+        return GIVEN, 'no request near %d refuses the same event where its line stands once more' % number
 
     def is_same_event(self, out, items, owner, line):
         """Whether the first line that found no memory is this one of this owner, and there is no other."""
@@ -287,18 +293,21 @@ def main(words):
                 print('FAIL %s: %s' % (name, failure))
                 failed += 1
                 continue
-            right = again = 0
+            right, met = 0, collections.Counter()
             numbers = range(1, script.example.requests + 1)
-            for number, (is_given, wrong) in zip(numbers, pool.map(script.judge, numbers)):
-                again += is_given
+            for number, (how, wrong) in zip(numbers, pool.map(script.judge, numbers)):
+                met[how] += 1
                 if wrong:
                     print('FAIL %s: request %d of %d refused: %s' % (name, number, script.example.requests, wrong))
                     failed += 1
-                elif is_given:
+                elif how == GIVEN:
                     right += 1
             passed += right
-            print('%s: %d requests, %d events given once more, %d of them as they should be'
-                  % (name, script.example.requests, again, right))
+            print('%s: %d requests, %d events given once more, %d of them as they should be, %d not met again'
+                  % (name, script.example.requests, met[GIVEN], right, met[MISSED]))
+            if met[MISSED] > met[GIVEN]:
+                print('FAIL %s: more events were not met again than met' % name)
+                failed += 1
     return say_end(passed, failed)
 
 
