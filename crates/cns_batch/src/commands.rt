@@ -213,6 +213,7 @@ impl<N: Nodes> Runner<N> {
 
     /// Runs a command that serves no lot, in the line of this number, beside the lot of a number where one is
     /// served beside lines. Any other command is bad here.
+    #[inline(always)]
     pub(crate) fn run_plain<W: Write>(
         &mut self,
         busy: Option<u64>,

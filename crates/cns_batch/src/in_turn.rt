@@ -125,6 +125,7 @@ fn allocate<C: Keeper, D: Keeper, W: Write>(
 }
 
 // Runs a command, in the line of this number, beside the lot of a number where one is served beside lines.
+#[inline(always)]
 fn run_command<C: Keeper, D: Keeper, W: Write>(
     run: &mut Runner<System<C, D>>,
     busy: Option<u64>,
@@ -184,6 +185,7 @@ fn beside<C: Keeper, D: Keeper, W: Write>(
 }
 
 // Runs a command of a script, in the line of this number, which may run some of the next ones.
+#[inline(always)]
 fn run_first<C: Keeper, D: Keeper, W: Write>(
     run: &mut Runner<System<C, D>>,
     number: u64,

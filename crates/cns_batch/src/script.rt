@@ -20,6 +20,7 @@ impl<'a> Commands<'a> {
 
     /// The number of the next command's line and the command, where one is left. Lines without one are passed
     /// over.
+    #[inline(always)]
     pub(crate) fn next_command(&mut self) -> Option<(u64, Command)>
         ensures { IsNextOf result (left_of self.old) (left_of self.new) }
     {
