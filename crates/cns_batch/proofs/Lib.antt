@@ -1,3 +1,4 @@
+pub mod FileLemmas
 pub mod WriteLemmas
 pub mod PrintLemmas
 pub mod ActLemmas

@@ -8,13 +8,16 @@ use Rattle.cns_pool.specs.declared.ticket.Ticket.{Ticket}
 use Rattle.cns_records.specs.declared.refusal.Refusal.{Refusal}
 use Rattle.cns_records.specs.declared.refusal.Refusal.TheVariants as refusal
 use Rattle.cns_pool.specs.WorkerSeat.{new_worker}
+use Rattle.cns_system.specs.Accord.{IsInAccord}
 use Rattle.cns_system.specs.Begin.{opened_of}
+use Rattle.cns_system.specs.Headline.{IsAgreed}
 use Rattle.cns_system.specs.Lot.{planned_sum}
 use Rattle.cns_system.specs.declared.desk.Cut.{Cut}
 use Rattle.cns_system.specs.declared.desk.Cut.TheVariants as cut
 use Rattle.cns_system.specs.declared.floor.Begun.{Begun}
-use Rattle.cns_system.specs.Floor.{FloorState, FloorStep, IsLawfulFloor}
+use Rattle.cns_system.specs.Floor.{FloorState, FloorStep, IsLawfulFloor, busy_at}
 use Rattle.cns_system.specs.Run.{Occurs}
+use Rattle.cns_system.specs.Scene.{is_planner, scene_of}
 use Rattle.cns_system.specs.Shown.{shown_of}
 use Rattle.cns_system.specs.World.{World}
 use Rattle.cns_system.specs.declared.event.Event.{Event}
@@ -66,19 +69,28 @@ served_by_workers lot = Draws lot.number (hauled lot.number)
 
 -- ---- what comes to pass
 
--- an event came to an outcome: in a hold of the lock, at a floor that was lawful before it and after it; or among those that enter what
--- workers drew, one after another in one hold, where a ticket that its lot would not draw is refused, and is no event
+-- an event came to an outcome: in a hold of the lock, at a floor that was lawful before it and after it; or among those that open a lot or
+-- enter what workers drew, one after another in one hold, of nodes in accord and as the headline has them, where a ticket that its lot would
+-- not draw is refused, and is no event
 abbrev pub HasCome : Event → Outcome → Type 0
 HasCome e outcome =
     ((old : FloorState) × (new : FloorState) × IsLawfulFloor old × IsLawfulFloor new × FloorStep e outcome old new)
-    ⊎ (((old : World) × (new : World) × Occurs e outcome old new) ⊎ (outcome ≡ outcomes.Refused refusal.BadTickets))
+    ⊎ (((old : World) × (new : World) × IsInAccord old × IsAgreed old × Occurs e outcome old new)
+    ⊎ ((lot : ℕ) × (member : ℕ) × (e ≡ event.Reserve lot member) × (outcome ≡ outcomes.Refused refusal.BadTickets)))
 
--- an exchange with a desk came to pass: what is shown is shown by a lawful floor, and tickets stand by start
+-- this is so of a floor that is lawful
+abbrev pub AtSomeFloor : (FloorState → Type 0) → Type 0
+AtSomeFloor p = (floor : FloorState) × IsLawfulFloor floor × p floor
+
+-- an exchange with a desk came to pass: a failure is planned where a node's keeper plans failures, what is shown is shown by a floor, tickets
+-- stand by start, and nothing is drawn of a lot that is not busy
 abbrev pub ComesToPass : Exchange → Type 0
+ComesToPass (x.Told text) = ⊤
 ComesToPass (x.Came e outcome) = HasCome e outcome
-ComesToPass (x.Showed w) = (floor : FloorState) × IsLawfulFloor floor × (w ≡ shown_of floor.system)
+ComesToPass (x.Planned name stands planned) = AtSomeFloor (λ floor. planned ≡ is_planner name (scene_of floor.system))
+ComesToPass (x.Showed w) = AtSomeFloor (λ floor. w ≡ shown_of floor.system)
+ComesToPass (x.Drew lot None) = AtSomeFloor (λ floor. busy_at floor.busy lot ≡ None)
 ComesToPass (x.Drew lot (Some haul)) = IsNonDecreasingBy (λ (t : Ticket). t.start) haul.tickets
-ComesToPass _ = ⊤
 
 -- so it leads from any nodes to any
 abbrev pub LeadsAtDesk : {N : Type 0} → Exchange → N → N → Type 0

@@ -1,6 +1,7 @@
 pub mod Ending
 pub mod Acts
 pub mod Commands
+pub mod Files
 pub mod Run
 pub mod Runs
 pub mod InTurn

@@ -1,6 +1,7 @@
 ghost use Rattle.std.specs.Prelude.{◌≡◌, ◌+◌, ◌≤◌, ◌⊎◌, [], Ok, Some, MatchResult, IfOk, OnOk, IfErr, List, None, ℕ, drop, length, option_map};
 ghost use Rattle.std.specs.Io.KnownBytes.{Appends, IsAtEnd};
 ghost use Rattle.cns_batch.specs.Ending.{batch_result};
+ghost use Rattle.cns_batch.specs.Files.{FilesMayBeCut};
 ghost use Rattle.cns_batch.specs.Memory.{IsOfBytes};
 ghost use Rattle.cns_input.specs.Reading.{HasGiven, IsInput};
 ghost use Rattle.cns_shake.specs.Shake.{generator_of};
@@ -304,4 +305,10 @@ pub fn run_batch<R: Read, W: Write, L: Ledger>(
 /// bytes alone, whatever comes between its events, where none of these is refused for want of memory.
 pub fn text_is_of_bytes()
     ensures { IsOfBytes }
+{}
+
+/// A law, by a call that does nothing: the file of a journal that is cut at any byte has a first part of its
+/// records, and a node that takes those of the whole file takes these too.
+pub fn files_may_be_cut()
+    ensures { FilesMayBeCut }
 {}

@@ -102,6 +102,7 @@ impl<N: Nodes> Runner<N> {
     }
 
     // Sends an order, and lets its packet and that of the reply arrive; a refusal ends this.
+    #[inline(never)]
     fn pump_one<W: Write>(&mut self, number: MoveNo, writer: &mut W) -> Told
         ensures { Runs N.leads (pumped number) result (at self.old (W.contents writer.old)) (at self.new (W.contents writer.new)) }
     {
@@ -113,6 +114,7 @@ impl<N: Nodes> Runner<N> {
     }
 
     // Does so with these orders, one after another.
+    #[inline(always)]
     fn pump_each<W: Write>(&mut self, numbers: &[MoveNo], writer: &mut W) -> Told
         ensures { Runs N.leads (each pumped numbers.now) result (at self.old (W.contents writer.old)) (at self.new (W.contents writer.new)) }
     {
@@ -123,6 +125,7 @@ impl<N: Nodes> Runner<N> {
     }
 
     // Sends each order that is unconfirmed at the start, by number, and lets its packets arrive.
+    #[inline(always)]
     fn pump_all<W: Write>(&mut self, writer: &mut W) -> Told
         ensures { Runs N.leads all_pumped result (at self.old (W.contents writer.old)) (at self.new (W.contents writer.new)) }
     {
@@ -141,6 +144,7 @@ impl<N: Nodes> Runner<N> {
     }
 
     // Lets the events of so many draws happen. Each draw sees the counts after the one before it.
+    #[inline(never)]
     fn shake<W: Write>(&mut self, shaker: &mut Shaker, writer: &mut W) -> Told
         ensures { Runs N.leads (shaken DRAWS shaker.old) (leaves result shaker.new) (at self.old (W.contents writer.old)) (at self.new (W.contents writer.new)) }
     {
@@ -152,6 +156,7 @@ impl<N: Nodes> Runner<N> {
     }
 
     // Shakes the link, where the run is shaken.
+    #[inline(always)]
     fn shake_link<W: Write>(&mut self, supply: &mut Supply, writer: &mut W) -> Told
         ensures { Runs N.leads (link_shaken supply.old) (leaves result supply.new) (at self.old (W.contents writer.old)) (at self.new (W.contents writer.new)) }
     {
@@ -162,6 +167,7 @@ impl<N: Nodes> Runner<N> {
     }
 
     // Shakes the link, where the run is shaken, and then pumps.
+    #[inline(always)]
     fn pump<W: Write>(&mut self, supply: &mut Supply, writer: &mut W) -> Told
         ensures { Runs N.leads (pumped_shaken supply.old) (leaves result supply.new) (at self.old (W.contents writer.old)) (at self.new (W.contents writer.new)) }
     {

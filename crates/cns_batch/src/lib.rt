@@ -23,6 +23,6 @@ mod runner;
 mod script;
 mod supply;
 
-pub use batch::{Kept, run_batch, run_batch_kept, text_is_of_bytes};
+pub use batch::{Kept, files_may_be_cut, run_batch, run_batch_kept, text_is_of_bytes};
 pub use check::check_cusip;
 pub use desk::run_desk;

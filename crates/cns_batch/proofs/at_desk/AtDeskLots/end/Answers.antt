@@ -12,6 +12,7 @@ returns-in_err-entered g c =
 pub returns : goal.returns
 returns g c =
     end_runs c.args.lot c.args.drawn.now.seat.tickets c.args.drawn.now.cut c.is_sealed-sealed.result c.in_ok-entered.entered.items c.end-told.result c.deref_mut.result.now c.finish-entered.new.self.system _ _
+    (rw c.deref_mut.ensures.value c.lock-floor.ensures)
     (rw (c.deref_mut.ensures.value, ← c.deref.ensures, ← c.is_some-cut.ensures) c.is_sealed-sealed.ensures)
     (rw (c.tickets.ensures, c.is_some-cut.ensures) at c.in_ok-entered.ensures.ok)
     (rw c.as_slice.ensures.value at c.end-told.ensures)
