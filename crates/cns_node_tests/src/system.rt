@@ -13,6 +13,7 @@ use std::alloc::{AllocError, Global};
 use std::process::Abort;
 
 mod both;
+mod cut_off;
 mod desk;
 mod finish;
 mod floor;

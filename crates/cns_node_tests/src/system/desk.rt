@@ -12,7 +12,7 @@ use std::thread::Threads;
 pub(super) type Shared = Desk<ListKeeper, ListKeeper>;
 
 // Member 1's 40 shares are free.
-const FREE: &[Happens] = &[
+pub(super) const FREE: &[Happens] = &[
     (Deed::Send(1), Told::Sent(1)),
     (Deed::OrderIn(1), Told::Executed(1, 40, 1)),
     (Deed::ReplyIn(1), Told::Confirmed(1, 40)),
