@@ -3,14 +3,14 @@ program := crates/cnsd/out/cnsd
 
 .PHONY: demo run test build fuzz bench works profile wrong crash limits stress hostile guided format
 
-# Runs the worked example, by the built program where it is up to date, else unproved: a minute or two.
+# Runs the worked example by the program at hand, out/cnsd: the proved one where it is up to date, else an unproved build, made in a minute or two.
 demo:
 	@tests/demo.sh $(program)
 
-# Runs an input of your own, as `make run INPUT=FILE`, by the built program or unproved as well.
+# Runs an input of your own by the program at hand, as `make run INPUT=FILE ARGS='--journal FOLDER'`.
 export INPUT
 run:
-	@if [ -z "$$INPUT" ]; then echo 'usage: make run INPUT=FILE' >&2; exit 2; fi; tests/run.sh $(program) "$$INPUT"
+	@if [ -z "$$INPUT" ]; then echo "usage: make run INPUT=FILE [ARGS='--workers N ..']" >&2; exit 2; fi; tests/run.sh $(program) "$$INPUT" $(ARGS)
 
 # Everything: each proof from nothing, the edits that must fail, the tests, the folders of cases.
 test:
