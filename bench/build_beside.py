@@ -1,13 +1,13 @@
 #!/usr/bin/env python3
 """Proves and builds a program that is no crate of the gate, in a folder of its own.
 
-    build_beside.py FOLDER SOURCE NAME DEPENDENCY.. [-- ARGUMENT..]
+    build_beside.py [--only-copied] FOLDER SOURCE NAME DEPENDENCY.. [-- ARGUMENT..]
 
 SOURCE has the program's files, each with `.txt` after its name. They become the crate NAME in FOLDER,
 beside copies of the crates of this repository that it stands on. `rt run` proves and builds it there,
 over what checks of these crates on this machine left, and runs it once on the arguments. The built
 program is FOLDER/crates/NAME/out/NAME. A first build takes some minutes. What rt says is printed only
-where it fails; then the exit status is 1.
+where it fails; then the exit status is 1. With --only-copied nothing is proved and built.
 """
 import os
 import shutil
@@ -49,6 +49,8 @@ def copy_source(source, crate):
 
 def main():
     words, arguments = sys.argv[1:], []
+    is_copied = words[:1] == ["--only-copied"]
+    words = words[is_copied:]
     if "--" in words:
         at = words.index("--")
         words, arguments = words[:at], words[at + 1:]
@@ -63,6 +65,8 @@ def main():
         out.writelines(line_of(one) for one in copied)
         out.write(f"{name}: {' '.join(dependencies)}\n")
     copy_source(source, f"{folder}/crates/{name}")
+    if is_copied:
+        return
     done = subprocess.run(["rt", "run", "--", *arguments], cwd=f"{folder}/crates/{name}", stdin=subprocess.DEVNULL,
                           stdout=subprocess.PIPE, stderr=subprocess.STDOUT, text=True, errors="replace", check=False)
     if done.returncode or not os.path.isfile(f"{folder}/crates/{name}/out/{name}"):

@@ -32,7 +32,7 @@ put_at_hand() {
 build_unproved() {
     local folder status=0
     folder=$(mktemp -d) || return 1
-    make_module "$folder" && compile_module "$folder" -O1 && link_program "$folder" "$folder/cnsd" && put_at_hand "$folder/cnsd" 'a build that proves nothing' || {
+    make_module "$folder" crates/cnsd --version && compile_module "$folder" -O1 && link_program "$folder" "$folder/cnsd" && put_at_hand "$folder/cnsd" 'a build that proves nothing' || {
         tail -n 20 "$folder/said" >&2
         status=1
     }
