@@ -1,7 +1,7 @@
 # The proved program, where `make build` and `make test` leave it.
 program := crates/cnsd/out/cnsd
 
-.PHONY: demo run test build fuzz bench works profile wrong crash limits stress hostile guided format
+.PHONY: demo run test build fuzz bench works profile wrong crash limits stress calls hostile guided format
 
 # Runs the worked example by the program at hand, out/cnsd: the proved one where it is up to date, else an unproved build, made in a minute or two.
 demo:
@@ -63,6 +63,10 @@ guided: build
 # Threads that race at the cell, checked from outside; SEED may be given.
 stress:
 	tests/stress.sh $${SEED:-}
+
+# Calls of the nodes, of the keepers and of batches whose requests for memory are refused one by one, each given once more.
+calls:
+	tests/refuse_calls.sh
 
 # Lays out all source, definitions and proofs.
 format:

@@ -1,10 +1,11 @@
 /*
- * Preloaded into a program, counts its requests for memory and refuses one of them.
+ * Preloaded into a program, counts its requests for memory and refuses one of them, or some in a row.
  *
  *     cc -shared -fPIC -O1 -o refuse_memory.so tests/refuse_memory.c
  *     REFUSE_AT=7 REFUSE_COUNTS=FILE LD_PRELOAD=./refuse_memory.so PROGRAM ..
  *
  * REFUSE_AT    the number, from 1, of the request that gets no memory; 0 or none: no request
+ * REFUSE_HOW_MANY  how many from that one on get none; 1 where it is not set
  * REFUSE_COUNTS  a file that holds two numbers of 64 bits, in the machine's own order, which
  *              stand at each moment: how many requests there were, and how many were refused
  *
@@ -28,13 +29,17 @@ extern void *__libc_memalign(size_t alignment, size_t size);
 static uint64_t here[2];
 static uint64_t *counts; /* none until the shared objects are loaded */
 static uint64_t refused_at;
+static uint64_t how_many = 1;
 
 __attribute__((constructor)) static void begin(void) {
     const char *at = getenv("REFUSE_AT");
+    const char *many = getenv("REFUSE_HOW_MANY");
     const char *file = getenv("REFUSE_COUNTS");
     uint64_t *shared = here;
     if (at != NULL)
         refused_at = strtoull(at, NULL, 10);
+    if (many != NULL)
+        how_many = strtoull(many, NULL, 10);
     if (file != NULL) {
         int descriptor = open(file, O_RDWR | O_CREAT | O_CLOEXEC, 0600);
         void *mapped = MAP_FAILED;
@@ -50,9 +55,11 @@ __attribute__((constructor)) static void begin(void) {
 
 /* Whether this request is to get no memory. */
 static int is_refused(void) {
+    uint64_t number;
     if (counts == NULL)
         return 0;
-    if (__atomic_add_fetch(&counts[0], 1, __ATOMIC_RELAXED) != refused_at)
+    number = __atomic_add_fetch(&counts[0], 1, __ATOMIC_RELAXED);
+    if (refused_at == 0 || number < refused_at || number - refused_at >= how_many)
         return 0;
     __atomic_add_fetch(&counts[1], 1, __ATOMIC_RELAXED);
     errno = ENOMEM;
