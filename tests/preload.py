@@ -1,6 +1,8 @@
 """What the scripts share that run a program with a few lines of C preloaded."""
+import concurrent.futures
 import os
 import subprocess
+import tempfile
 
 HERE = os.path.dirname(os.path.abspath(__file__))
 SECONDS = 20
@@ -39,6 +41,22 @@ def library(name, folder):
 def is_program(words):
     """Whether the first word is a program that can be run."""
     return bool(words) and os.access(words[0], os.X_OK) and not os.path.isdir(words[0])
+
+
+def refuse_each(words, judge):
+    """Lets `judge` refuse a program its requests for memory; answers the exit status.
+
+    The first of the words is the program. `judge` gets the library that is preloaded (refuse_memory.c), a folder in memory and a pool of
+    threads with the program and the other words, and answers how many passed and how many failed.
+    """
+    if not is_program(words):
+        return say_end(0, 1, 'no program %s' % (words[0] if words else ''))
+    with tempfile.TemporaryDirectory(dir=IN_MEMORY) as folder, concurrent.futures.ThreadPoolExecutor(os.cpu_count() or 1) as pool:
+        try:
+            preloaded = library('refuse_memory', folder)
+        except Failure as failure:
+            return say_end(0, 1, 'FAIL %s' % failure)
+        return say_end(*judge(os.path.abspath(words[0]), words[1:], preloaded, folder, pool))
 
 
 def say_end(passed, failed, *said):

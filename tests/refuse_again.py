@@ -26,13 +26,10 @@ The last line is `N passed, M failed`, where N are the events that were given on
 not.
 """
 import collections
-import concurrent.futures
-import os
 import re
 import sys
-import tempfile
 
-from preload import IN_MEMORY, Failure, is_program, library, say_end
+from preload import Failure, refuse_each
 from refuse_memory import REFUSED, TRIES_OF_WORKERS, Example, inputs_of, last_report
 
 MARK = b'-'
@@ -275,41 +272,34 @@ class Script:
         return [TOLD_ROW.sub(b'row ', line) for line in lines]
 
 
-def main(words):
+def judge_all(program, words, preloaded, folder, pool):
+    """Of the inputs or scenarios that the words name, how many refusals came to what they should, and how many did not."""
     passed = failed = 0
-    if not is_program(words):
-        return say_end(0, 1, 'no program %s' % (words[0] if words else ''))
-    program = os.path.abspath(words[0])
-    with tempfile.TemporaryDirectory(dir=IN_MEMORY) as folder, concurrent.futures.ThreadPoolExecutor(os.cpu_count() or 1) as pool:
+    for name, arguments, path in inputs_of(words):
         try:
-            preloaded = library('refuse_memory', folder)
-        except Failure as failure:
-            return say_end(0, 1, 'FAIL %s' % failure)
-        for name, arguments, path in inputs_of(words[1:]):
-            try:
-                with open(path, 'rb') as file:
-                    script = Script(name, [program] + arguments, file.read(), preloaded, folder)
-            except (Failure, OSError) as failure:
-                print('FAIL %s: %s' % (name, failure))
+            with open(path, 'rb') as file:
+                script = Script(name, [program] + arguments, file.read(), preloaded, folder)
+        except (Failure, OSError) as failure:
+            print('FAIL %s: %s' % (name, failure))
+            failed += 1
+            continue
+        right, met = 0, collections.Counter()
+        numbers = range(1, script.example.requests + 1)
+        for number, (how, wrong) in zip(numbers, pool.map(script.judge, numbers)):
+            met[how] += 1
+            if wrong:
+                print('FAIL %s: request %d of %d refused: %s' % (name, number, script.example.requests, wrong))
                 failed += 1
-                continue
-            right, met = 0, collections.Counter()
-            numbers = range(1, script.example.requests + 1)
-            for number, (how, wrong) in zip(numbers, pool.map(script.judge, numbers)):
-                met[how] += 1
-                if wrong:
-                    print('FAIL %s: request %d of %d refused: %s' % (name, number, script.example.requests, wrong))
-                    failed += 1
-                elif how == GIVEN:
-                    right += 1
-            passed += right
-            print('%s: %d requests, %d events given once more, %d of them as they should be, %d not met again'
-                  % (name, script.example.requests, met[GIVEN], right, met[MISSED]))
-            if met[MISSED] > met[GIVEN]:
-                print('FAIL %s: more events were not met again than met' % name)
-                failed += 1
-    return say_end(passed, failed)
+            elif how == GIVEN:
+                right += 1
+        passed += right
+        print('%s: %d requests, %d events given once more, %d of them as they should be, %d not met again'
+              % (name, script.example.requests, met[GIVEN], right, met[MISSED]))
+        if met[MISSED] > met[GIVEN]:
+            print('FAIL %s: more events were not met again than met' % name)
+            failed += 1
+    return passed, failed
 
 
 if __name__ == '__main__':
-    sys.exit(main(sys.argv[1:]))
+    sys.exit(refuse_each(sys.argv[1:], judge_all))

@@ -23,14 +23,12 @@ The last line is `N passed, M failed`, where N are the requests that were refuse
 is not.
 """
 import collections
-import concurrent.futures
-import os
 import re
 import struct
 import sys
 import tempfile
 
-from preload import IN_MEMORY, SECONDS, Failure, is_program, library, run, say_end
+from preload import SECONDS, Failure, refuse_each, run
 from refuse_memory import TRIES_OF_WORKERS
 
 # The scenarios, each with the calls that take memory in it. Each of these must be given once more at some refusal; the other
@@ -252,40 +250,33 @@ def tell(scenario, judged):
     return wrong + ['%s takes memory' % name for name in sorted(given) if requests[name] and name not in takes_memory]
 
 
-def main(words):
+def judge_all(program, words, preloaded, folder, pool):
+    """Of the inputs or scenarios that the words name, how many refusals came to what they should, and how many did not."""
     passed = failed = 0
-    if not is_program(words):
-        return say_end(0, 1, 'no program %s' % (words[0] if words else ''))
-    program = os.path.abspath(words[0])
-    with tempfile.TemporaryDirectory(dir=IN_MEMORY) as folder, concurrent.futures.ThreadPoolExecutor(os.cpu_count() or 1) as pool:
+    for name in words or SCENARIOS:
+        if name not in SCENARIOS:
+            print('FAIL no scenario %s' % name)
+            failed += 1
+            continue
         try:
-            preloaded = library('refuse_memory', folder)
+            scenario = Scenario(name, program, preloaded, folder)
         except Failure as failure:
-            return say_end(0, 1, 'FAIL %s' % failure)
-        for name in words[1:] or SCENARIOS:
-            if name not in SCENARIOS:
-                print('FAIL no scenario %s' % name)
+            print('FAIL %s: %s' % (name, failure))
+            failed += 1
+            continue
+        judged = list(pool.map(scenario.judge, range(1, scenario.requests + 1)))
+        for wrong in tell(scenario, judged):
+            print('FAIL %s: %s' % (name, wrong))
+            failed += 1
+        for number, one in enumerate(judged, 1):
+            if one.wrong:
+                print('FAIL %s: request %d of %d, of %s, refused: %s'
+                      % (name, number, scenario.requests, one.name or 'no call', one.wrong))
                 failed += 1
-                continue
-            try:
-                scenario = Scenario(name, program, preloaded, folder)
-            except Failure as failure:
-                print('FAIL %s: %s' % (name, failure))
-                failed += 1
-                continue
-            judged = list(pool.map(scenario.judge, range(1, scenario.requests + 1)))
-            for wrong in tell(scenario, judged):
-                print('FAIL %s: %s' % (name, wrong))
-                failed += 1
-            for number, one in enumerate(judged, 1):
-                if one.wrong:
-                    print('FAIL %s: request %d of %d, of %s, refused: %s'
-                          % (name, number, scenario.requests, one.name or 'no call', one.wrong))
-                    failed += 1
-                else:
-                    passed += 1
-    return say_end(passed, failed)
+            else:
+                passed += 1
+    return passed, failed
 
 
 if __name__ == '__main__':
-    sys.exit(main(sys.argv[1:]))
+    sys.exit(refuse_each(sys.argv[1:], judge_all))

@@ -20,11 +20,12 @@ end as the whole one. One with journals in files has a new folder of them; a run
 must open what is left there, and where the first one ended by status 0 with a report it tells that report, with what
 open lots were lent among the free shares.
 
+Of the inputs in ENDS some run must end with the lines that stand there.
+
 Every other end is told. The last line is `N passed, M failed`; the exit status is 0 where M is 0
 and N is not.
 """
 import collections
-import concurrent.futures
 import glob
 import os
 import re
@@ -33,13 +34,23 @@ import struct
 import sys
 import tempfile
 
-from preload import IN_MEMORY, SECONDS, Failure, is_program, library, run, say_end
+from preload import SECONDS, Failure, refuse_each, run
 
 HERE = os.path.dirname(os.path.abspath(__file__))
 EXAMPLES = os.path.join(HERE, '..', 'examples')
 CASES = ['two-trades-netted', 'cover-moved-in-part', 'earlier-longs-first', 'cycle-failed-and-kept', 'cycle-failed-and-dropped',
-         'execution-failed-and-kept']
-OVER_JOURNALS = ['cover-in-part', 'planned-failures', 'restarts-keep', 'lot-poured-twice']
+         'execution-failed-and-kept', 'restart-before-a-close', 'workers-before-a-report']
+OVER_JOURNALS = [os.path.join(EXAMPLES, name) for name in ['cover-in-part', 'planned-failures', 'restarts-keep', 'lot-poured-twice']]
+OVER_JOURNALS += [os.path.join(HERE, 'cases', name) for name in ['cover-moved-in-part', 'execution-failed-and-kept']]
+# A restart without memory leaves the node down, its lots ended and its records there; workers that find no memory before their first
+# ticket leave a lot that is closed with none.
+ENDS = {
+    'restart-before-a-close.in': b'restart refused OutOfMemory\nclose refused StaleLot\nsend refused Down\nrestart CLEAR records 6 kept no\n',
+    'workers-before-a-report.in': b'lot 1 poured 40 longs 2\nreserve refused OutOfMemory\nclose granted 0\nREPORT cycle 2025-03-04 NIGHT\n'
+                                  b'POS 037833100 0001                  -20\nPOS 037833100 0002                   30\n'
+                                  b'POS 037833100 0003                   30\nPOOL 037833100 free 40 lent 0 out 0\n'
+                                  b'BAL 037833100 0000                   40\nEND\n',
+}
 JOURNAL = '{journal}'
 TRIES_OF_WORKERS = 4
 CUSIP = '037833100'
@@ -65,7 +76,7 @@ def inputs_of(paths):
         return [(os.path.basename(path), words_of(path), path) for path in paths]
     found = sorted(glob.glob(os.path.join(EXAMPLES, '*.in')))
     found += [os.path.join(HERE, 'cases', name + '.in') for name in CASES]
-    over = [os.path.join(EXAMPLES, name + '.in') for name in OVER_JOURNALS]
+    over = [path + '.in' for path in OVER_JOURNALS]
     return inputs_of(found) + [(os.path.basename(path) + ' over journals', ['run', '--journal', JOURNAL], path) for path in over]
 
 
@@ -96,6 +107,8 @@ class Example:
         self.name, self.command, self.text = name, command, text
         self.library, self.folder = library, folder
         self.is_over_journals = JOURNAL in command
+        # How some run must end, and whether one did.
+        self.end, self.has_ended_so = ENDS.get(name), False
         self.has_workers = '--workers' in command
         self.whole = self.run(text, {})[0]
         counted, _, self.requests, _ = self.refuse(0)
@@ -145,6 +158,8 @@ class Example:
     def judge(self, number):
         """None, or what is wrong with the run whose request of this number is refused."""
         (status, out, err), after, _, refused = self.refuse_once(number)
+        if self.end and status == 0 and out.endswith(self.end):
+            self.has_ended_so = True
         if status is None:
             return 'no end within %d seconds' % SECONDS
         if refused == 0 and self.has_workers:
@@ -191,38 +206,34 @@ class Example:
         return '\n'.join('    ' + line for line in told)
 
 
-def main(words):
+def judge_all(program, words, preloaded, folder, pool):
+    """Of the inputs or scenarios that the words name, how many refusals came to what they should, and how many did not."""
     passed = failed = 0
-    if not is_program(words):
-        return say_end(0, 1, 'no program %s' % (words[0] if words else ''))
-    program = os.path.abspath(words[0])
-    inputs = inputs_of(words[1:])
+    inputs = inputs_of(words)
     inputs.append(('cusip %s' % CUSIP, ['cusip', CUSIP], os.devnull))
-    with tempfile.TemporaryDirectory(dir=IN_MEMORY) as folder, concurrent.futures.ThreadPoolExecutor(os.cpu_count() or 1) as pool:
+    for name, arguments, path in inputs:
         try:
-            preloaded = library('refuse_memory', folder)
-        except Failure as failure:
-            return say_end(0, 1, 'FAIL %s' % failure)
-        for name, arguments, path in inputs:
-            try:
-                with open(path, 'rb') as file:
-                    example = Example(name, [program] + arguments, file.read(), preloaded, folder)
-            except (Failure, OSError) as failure:
-                print('FAIL %s: %s' % (name, failure))
+            with open(path, 'rb') as file:
+                example = Example(name, [program] + arguments, file.read(), preloaded, folder)
+        except (Failure, OSError) as failure:
+            print('FAIL %s: %s' % (name, failure))
+            failed += 1
+            continue
+        right = 0
+        numbers = range(1, example.requests + 1)
+        for number, wrong in zip(numbers, pool.map(example.judge, numbers)):
+            if wrong:
+                print('FAIL %s: request %d of %d refused: %s' % (name, number, example.requests, wrong))
                 failed += 1
-                continue
-            right = 0
-            numbers = range(1, example.requests + 1)
-            for number, wrong in zip(numbers, pool.map(example.judge, numbers)):
-                if wrong:
-                    print('FAIL %s: request %d of %d refused: %s' % (name, number, example.requests, wrong))
-                    failed += 1
-                else:
-                    right += 1
-            passed += right
-            print('%s: %d requests, %d of their refusals as they should be' % (name, example.requests, right))
-    return say_end(passed, failed)
+            else:
+                right += 1
+        passed += right
+        print('%s: %d requests, %d of their refusals as they should be' % (name, example.requests, right))
+        if example.end and not example.has_ended_so:
+            print('FAIL %s: no run ended with %r' % (name, example.end[:160]))
+            failed += 1
+    return passed, failed
 
 
 if __name__ == '__main__':
-    sys.exit(main(sys.argv[1:]))
+    sys.exit(refuse_each(sys.argv[1:], judge_all))
