@@ -60,15 +60,15 @@ SettingLeaves r (Err _) old new = ⊥
 abbrev pub covers_in : List ClearRecord → ℕ → List Ask
 covers_in c day = covers_on (books_of c) day
 
--- how many trades a cycle made due, and the orders of its covers, the next ones
-pub record IsCycled (c : List ClearRecord) (day : ℕ) (done : Cycled) : Type 0 where
-  pub due : done.due ≡ becoming_due (history_of c) day
-  pub orders : done.orders ≡ next_orders (orders_of c) (covers_in c day)
+-- how many trades a cycle made due, and the orders of its covers, the next ones, which are of this cycle
+pub record IsCycled (c : List ClearRecord) (id : CycleId) (done : Cycled) : Type 0 where
+  pub due : done.due ≡ becoming_due (history_of c) id.day
+  pub orders : done.orders ≡ next_orders (orders_of c) (Some id) (covers_in c id.day)
 
 -- what a cycle leaves, by its answer
 abbrev pub CycleLeaves : CycleId → Result Cycled Refusal → ClearNode → ClearNode → Type 0
 CycleLeaves id (Ok done) old new =
-    IsAllowed old.log.records (entry.Cycle id) × (old.lots ≡ []) × IsCycled old.log.records id.day done × Added (entry.Cycle id) old new
+    IsAllowed old.log.records (entry.Cycle id) × (old.lots ≡ []) × IsCycled old.log.records id done × Added (entry.Cycle id) old new
 CycleLeaves id (Err refusal.Down) old new = (old.log.down ≡ true) × (new ≡ old)
 CycleLeaves id (Err refusal.CycleOrder) old new = (old.log.down ≡ false) × (is_later (latest_of old.log.records) id ≡ false) × (new ≡ old)
 CycleLeaves id (Err refusal.LotsOpen) old new = (old.log.down ≡ false) × (is_later (latest_of old.log.records) id ≡ true) × (old.lots ≢ []) × (new ≡ old)
@@ -133,11 +133,11 @@ CloseRefused issue tickets sealed refusal.NumbersSpent node =
     (a : Allocation) × MayClose node issue tickets sealed a × (are_spent (orders_of node.log.records) (length (deliveries_in a)) ≡ true)
 CloseRefused issue tickets sealed _ node = ⊥
 
--- how many shares a close granted, which its orders ask for in all, and these orders, the next ones
+-- how many shares a close granted, which its orders ask for in all, and these orders, the next ones, which are of the latest cycle
 pub record IsClosed (c : List ClearRecord) (tickets : List Ticket) (a : Allocation) (done : Closed) : Type 0 where
   pub granted : done.granted ≡ min a.poured (asked_sum tickets)
   pub sum : sum_by (λ (x : Ask). x.asked) (deliveries_in a) ≡ done.granted
-  pub orders : done.orders ≡ next_orders (orders_of c) (deliveries_in a)
+  pub orders : done.orders ≡ next_orders (orders_of c) (latest_of c) (deliveries_in a)
 
 -- what the close of a lot leaves, by its answer
 abbrev pub LotCloseLeaves : ℕ → List Ticket → Bool → Result Closed Refusal → ClearNode → ClearNode → Type 0

@@ -63,15 +63,15 @@ deliveries_in a = deliveries_of a.issue a.poured (tickets_of a.drawn)
 abbrev pub settled_by : Option Order → ℕ → List NetEntry → List NetEntry
 settled_by order moved h = elim order [ None ↦ h | Some o ↦ Settled o.member o.issue (amount_of o.kind moved) ∷ h ]
 
--- what one more record makes of the books
+-- what one more record makes of the books. The orders that it makes are of the latest cycle, which is the record itself where that is one
 abbrev pub with_record : ClearRecord → Books → Books
 with_record (Accept t) b = record b { history = Accepted t ∷ b.history }
 with_record (Exempt m i s) b = record b { exemptions = record { member = m; issue = i; shares = s } ∷ b.exemptions }
 with_record (Priority m i is_on) b = record b { priorities = record { member = m; issue = i; on = is_on } ∷ b.priorities }
 with_record (Cycle id) b =
     let h = Netted id.day ∷ b.history in
-    record b { history = h; orders = with_asks b.orders (covers_on b id.day); latest = Some id; recent = rows_of h; previous = b.recent }
-with_record (Allocate a) b = record b { orders = with_asks b.orders (deliveries_in a) }
+    record b { history = h; orders = with_asks b.orders (Some id) (covers_on b id.day); latest = Some id; recent = rows_of h; previous = b.recent }
+with_record (Allocate a) b = record b { orders = with_asks b.orders b.latest (deliveries_in a) }
 with_record (Confirm r) b = record b { history = settled_by (order_of b.orders.orders r.number) r.moved b.history; orders = with_reply b.orders r }
 
 -- the books of these records

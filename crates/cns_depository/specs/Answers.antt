@@ -1,6 +1,6 @@
 -- What each call of a depository answers, and what it leaves (this project's own rules).
 use Rattle.std.specs.Prelude.{◌≡◌, ℕ, true, false, Option, Some, None, Result, Ok, Err}
-use Rattle.cns_movements.specs.Order.{IsSameOrder}
+use Rattle.cns_movements.specs.Order.{AgreesWith}
 use Rattle.cns_movements.specs.declared.order.Order.{Order}
 use Rattle.cns_movements.specs.declared.order.Reply.{Reply}
 use Rattle.cns_journal.specs.declared.record_log.CommitFault.{CommitFault}
@@ -43,20 +43,20 @@ next_record node o = execution (next_movement node o)
 abbrev pub reply_to : Movement → Reply
 reply_to m = record { number = m.order.number; moved = m.moved }
 
+-- what an order is answered under whose number this movement was executed: the reply that was kept, where the executed order agrees with it
+abbrev pub IsKnownAnswer : Order → Movement → Result Answer DepFault → Type 0
+IsKnownAnswer o known (Ok (Again r)) = AgreesWith known.order o × (r ≡ reply_to known)
+IsKnownAnswer o known (Err Conflict) = AgreesWith known.order o → ⊥
+IsKnownAnswer o known _ = ⊥
+
 -- what an order leaves, by its answer: a new number is executed, and nothing else adds a record
 abbrev pub OrderLeaves : Order → Result Answer DepFault → DepNode → DepNode → Type 0
 OrderLeaves o (Ok (Done r)) old new =
     (known_at old o.number ≡ None) × (r ≡ reply_to (next_movement old o)) × Added (next_record old o) old new
 OrderLeaves o (Ok (Again r)) old new =
-    (old.log.down ≡ false) × (known_at old o.number ≡ Some (record { order = o; moved = r.moved })) × (r.number ≡ o.number) × (new ≡ old)
+    (old.log.down ≡ false) × ((known : Movement) × (known_at old o.number ≡ Some known) × AgreesWith known.order o × (r ≡ reply_to known)) × (new ≡ old)
 OrderLeaves o (Err Down) old new = (old.log.down ≡ true) × (new ≡ old)
 OrderLeaves o (Err Conflict) old new =
-    (old.log.down ≡ false) × ((other : Movement) × (known_at old o.number ≡ Some other) × (IsSameOrder other.order o → ⊥)) × (new ≡ old)
+    (old.log.down ≡ false) × ((known : Movement) × (known_at old o.number ≡ Some known) × (AgreesWith known.order o → ⊥)) × (new ≡ old)
 OrderLeaves o (Err OutOfMemory) old new = (old.log.down ≡ false) × (known_at old o.number ≡ None) × (new ≡ old)
 OrderLeaves o (Err Device) old new = (known_at old o.number ≡ None) × Failed (next_record old o) old new
-
--- what an order is answered under whose number this movement was executed
-abbrev pub IsKnownAnswer : Order → Movement → Result Answer DepFault → Type 0
-IsKnownAnswer o known (Ok (Again r)) = IsSameOrder known.order o × (r ≡ reply_to known)
-IsKnownAnswer o known (Err Conflict) = IsSameOrder known.order o → ⊥
-IsKnownAnswer o known _ = ⊥

@@ -1,5 +1,6 @@
 -- What contracts see of an order book.
 use Rattle.std.specs.Prelude.{◌≡◌, ℕ, ◌+◌, ◌<◌, ◌≤◌, List, ◌∷◌, ◌++◌, length, map, slice_index_or, IsSome, Option, None}
+use Rattle.cns_ids.specs.declared.cycle.CycleId.{CycleId}
 use Rattle.cns_movements.specs.declared.order.Ask.{Ask}
 use Rattle.cns_movements.specs.declared.order.Order.{Order}
 use Rattle.cns_movements.specs.declared.order.Reply.{Reply}
@@ -16,13 +17,13 @@ pub record OrderRoom : Type 0 where
   pub order_room : ℕ
   pub reply_room : ℕ
 
--- the next orders of a book: these asks under the numbers after those of its orders
-abbrev pub next_orders : Orders → List Ask → List Order
-next_orders book asks = numbered (length book.orders + 1) asks
+-- the next orders of a book: these asks, of this cycle, under the numbers after those of its orders
+abbrev pub next_orders : Orders → Option CycleId → List Ask → List Order
+next_orders book cycle asks = numbered (length book.orders + 1) cycle asks
 
 -- the book with these asks as its next orders
-abbrev pub with_asks : Orders → List Ask → Orders
-with_asks book asks = record book { orders = book.orders ++ next_orders book asks }
+abbrev pub with_asks : Orders → Option CycleId → List Ask → Orders
+with_asks book cycle asks = record book { orders = book.orders ++ next_orders book cycle asks }
 
 -- the book with one more confirmation
 abbrev pub with_reply : Orders → Reply → Orders

@@ -2,6 +2,8 @@
 -- Confirmations stand newest first.
 use Rattle.std.specs.Prelude.{◌≡◌, ℕ, suc, ◌≤◌, Bool, true, false, ◌&&◌, ◌==◌, List, [], ◌∷◌, Option, Some, None, is_some, unwrap_or, option_map, find, sum_by, codes, if◌then◌else◌}
 use Rattle.std.specs.List.{filter_map}
+use Rattle.cns_ids.specs.Cycle.{rank}
+use Rattle.cns_ids.specs.declared.cycle.CycleId.{CycleId}
 use Rattle.cns_movements.specs.declared.order.MoveKind.{MoveKind}
 use Rattle.cns_movements.specs.declared.order.MoveKind.TheVariants.{Cover, Delivery}
 use Rattle.cns_movements.specs.declared.order.Ask.{Ask}
@@ -58,22 +60,37 @@ moved_sum orders replies kind member issue = sum_by (λ o. if is_of kind member 
 abbrev pub unconfirmed_of : List Order → List Reply → List ℕ
 unconfirmed_of orders replies = filter_map (λ o. if is_some (moved_of replies o.number) then None else Some o.number) orders
 
--- the order that has this number and asks for what the ask does
-abbrev pub order_from : ℕ → Ask → Order
-order_from n a = record { number = n; kind = a.kind; member = a.member; issue = a.issue; asked = a.asked }
+-- the order that has this number and cycle and asks for what the ask does
+abbrev pub order_from : ℕ → Option CycleId → Ask → Order
+order_from n cycle a = record { number = n; cycle = cycle; kind = a.kind; member = a.member; issue = a.issue; asked = a.asked }
 
--- when two orders are the same order: all that one says the other says too
-abbrev pub IsSameOrder : Order → Order → Type 0
-IsSameOrder a b = a ≡ b
+-- an order without its cycle
+abbrev pub without_cycle : Order → Order
+without_cycle o = record o { cycle = None }
+
+-- when two orders agree: all else that one says the other says too, and where both have a cycle, it is the same.
+-- An order without a cycle agrees with two that have different ones, so that an order agrees with each of two tells nothing of these.
+pub record AgreesWith (a b : Order) : Type 0 where
+  pub same : without_cycle a ≡ without_cycle b
+  pub cycles : (x y : CycleId) → a.cycle ≡ Some x → b.cycle ≡ Some y → x ≡ y
 
 -- the test of that: field by field
-abbrev pub same_order : Order → Order → Bool
-same_order a b = (a.number == b.number) && (same_kind a.kind b.kind && ((a.member == b.member) && ((a.issue == b.issue) && (a.asked == b.asked))))
+abbrev pub same_cycle : CycleId → CycleId → Bool
+same_cycle x y = (x.day == y.day) && (rank x.kind == rank y.kind)
 
--- the asks as orders with the numbers n, n + 1, and so on
-abbrev pub numbered : ℕ → List Ask → List Order
-numbered n [] = []
-numbered n (a ∷ asks) = order_from n a ∷ numbered (suc n) asks
+abbrev pub cycles_agree : Option CycleId → Option CycleId → Bool
+cycles_agree (Some x) (Some y) = same_cycle x y
+cycles_agree (Some x) None = true
+cycles_agree None y = true
+
+abbrev pub agrees_with : Order → Order → Bool
+agrees_with a b =
+    (a.number == b.number) && (same_kind a.kind b.kind && ((a.member == b.member) && ((a.issue == b.issue) && ((a.asked == b.asked) && cycles_agree a.cycle b.cycle))))
+
+-- the asks as orders of this cycle with the numbers n, n + 1, and so on
+abbrev pub numbered : ℕ → Option CycleId → List Ask → List Order
+numbered n cycle [] = []
+numbered n cycle (a ∷ asks) = order_from n cycle a ∷ numbered (suc n) cycle asks
 
 -- the orders have the numbers n, n + 1, and so on
 abbrev pub IsNumbered : ℕ → List Order → Type 0

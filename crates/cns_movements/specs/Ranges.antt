@@ -1,5 +1,7 @@
 -- What the types of an order's fields, and of a reply's, promise.
+use Rattle.std.specs.Prelude.{IfSome}
 use Rattle.cns_ids.specs.Cusip.{IsCusip}
+use Rattle.cns_ids.specs.Day.{IsDayNumber}
 use Rattle.cns_ids.specs.Member.{IsMember}
 use Rattle.cns_ids.specs.Shares.{IsShares}
 use Rattle.cns_movements.specs.Asked.{IsAsked}
@@ -10,6 +12,7 @@ use Rattle.cns_movements.specs.declared.order.Reply.{Reply}
 -- an order's fields are in their ranges
 pub record IsOrderInRange (o : Order) : Type 0 where
   pub number : IsMoveNo o.number
+  pub cycle : IfSome o.cycle (λ id. IsDayNumber id.day)
   pub member : IsMember o.member
   pub issue : IsCusip o.issue
   pub asked : IsAsked o.asked

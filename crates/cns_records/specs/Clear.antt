@@ -5,12 +5,14 @@ use Rattle.cns_ids.specs.Cusip.{IsCusip, cusip_text}
 use Rattle.cns_ids.specs.Day.{IsDayNumber}
 use Rattle.cns_ids.specs.Member.{IsMember}
 use Rattle.cns_ids.specs.Shares.{IsShares, IsQuantity}
-use Rattle.cns_movements.specs.Fields.{reply_bytes}
+use Rattle.cns_movements.specs.Fields.{cycle_bytes, day_bytes, reply_bytes}
 use Rattle.cns_movements.specs.Ranges.{IsReplyInRange}
+use Rattle.cns_movements.specs.declared.version.Version.{Version}
+use Rattle.cns_movements.specs.declared.version.Version.TheVariants.{One, Two}
 use Rattle.cns_trades.specs.TradeId.{IsId}
 use Rattle.cns_trades.specs.declared.trade.Trade.{Trade}
 use Rattle.cns_ids.specs.Steps.{◌>>=◌}
-use Rattle.cns_records.specs.Fields.{bad, Reader, ◌&◌, made, tested_at, whole_at, payload_as, number_at, id_bytes, id_at, day_bytes, day_at, member_at, issue_at, quantity_at, shares_at, flag_bytes, flag_at, cycle_kind_bytes, cycle_kind_at, reply_at}
+use Rattle.cns_records.specs.Fields.{bad, Reader, ◌&◌, made, tested_at, whole_at, payload_as, number_at, id_bytes, id_at, day_at, cycle_at, member_at, issue_at, quantity_at, shares_at, flag_bytes, flag_at, reply_at}
 use Rattle.cns_records.specs.Drawn.{AreDrawn, IsByStart, drawn_bytes, drawn_of}
 use Rattle.cns_records.specs.declared.allocation.Allocation.{Allocation}
 use Rattle.cns_records.specs.declared.bad_record.BadRecord.{BadRecord}
@@ -26,7 +28,7 @@ spelling (Accept t) =
     1 ∷ 1 ∷ (id_bytes t.id ++ (day_bytes t.settle ++ (to_be_bytes w16 t.buyer ++ (to_be_bytes w16 t.seller ++ (cusip_text t.issue ++ to_be_bytes w64 t.quantity)))))
 spelling (Exempt member issue shares) = 1 ∷ 2 ∷ (to_be_bytes w16 member ++ (cusip_text issue ++ to_be_bytes w64 shares))
 spelling (Priority member issue on) = 1 ∷ 3 ∷ (to_be_bytes w16 member ++ (cusip_text issue ++ flag_bytes on))
-spelling (Cycle id) = 1 ∷ 4 ∷ (day_bytes id.day ++ cycle_kind_bytes id.kind)
+spelling (Cycle id) = 1 ∷ 4 ∷ cycle_bytes id
 spelling (Allocate a) =
     1 ∷ 5 ∷ (cusip_text a.issue ++ (to_be_bytes w64 a.opened ++ (to_be_bytes w64 a.upto ++ (to_be_bytes w64 a.poured ++ (flag_bytes a.sealed ++ drawn_bytes a.drawn)))))
 spelling (Confirm r) = 1 ∷ 6 ∷ reply_bytes r
@@ -90,7 +92,7 @@ entry_at kind bytes =
     if kind == 1 then made trade_at (λ t. Accept t) bytes
     else if kind == 2 then made (member_at & issue_at & shares_at) (λ x. Exempt x.0 x.1.0 x.1.1) bytes
     else if kind == 3 then made (member_at & issue_at & flag_at) (λ x. Priority x.0 x.1.0 x.1.1) bytes
-    else if kind == 4 then made (day_at & cycle_kind_at) (λ id. Cycle (record { day = id.0; kind = id.1 })) bytes
+    else if kind == 4 then made cycle_at (λ id. Cycle id) bytes
     else if kind == 6 then made reply_at (λ r. Confirm r) bytes
     else bad
 
@@ -110,9 +112,10 @@ allocate_of bytes = do
   allocation ← allocation_of bytes
   Ok (Allocate allocation)
 
--- the record of this kind that the bytes after version and kind are
-abbrev pub of_kind : ℕ → List ℕ → Result ClearRecord BadRecord
-of_kind kind fields = if kind == 5 then allocate_of fields else whole_at (entry_at kind) fields
+-- the record of this version and kind that the bytes after them are: all are of the first version
+abbrev pub of_kind : Version → ℕ → List ℕ → Result ClearRecord BadRecord
+of_kind One kind fields = if kind == 5 then allocate_of fields else whole_at (entry_at kind) fields
+of_kind Two kind fields = bad
 
 -- the record that a payload is
 unfoldable pub read_clear_of : List ℕ → Result ClearRecord BadRecord

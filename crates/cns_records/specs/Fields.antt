@@ -1,21 +1,20 @@
 -- The fields of a payload, and how each is read from the front of the bytes (this project's own format).
-use Rattle.std.specs.Prelude.{◌≡◌, ℕ, ◌/◌, ◌%◌, Bool, true, false, ◌==◌, nat_lt, List, [], ◌∷◌, ◌++◌, length, take, drop, Option, Result, Ok, Err, if◌then◌else◌}
+use Rattle.std.specs.Prelude.{◌≡◌, ℕ, Bool, true, false, ◌==◌, nat_lt, List, [], ◌∷◌, length, take, drop, Option, Some, None, Result, Ok, Err, if◌then◌else◌}
 use Rattle.std.specs.Option.{ok_or}
-use Rattle.std.specs.Int.{Width, w16, w64, byte_len, from_be_bytes, to_be_bytes}
+use Rattle.std.specs.Int.{Width, w16, w64, byte_len, from_be_bytes}
 use Rattle.cns_ids.specs.Cusip.{read_cusip}
-use Rattle.cns_ids.specs.Day.{is_real_day, number_of_day}
 use Rattle.cns_ids.specs.Member.{is_member}
 use Rattle.cns_ids.specs.Shares.{is_shares, is_quantity}
 use Rattle.cns_ids.specs.Steps.{◌>>=◌}
 use Rattle.cns_ids.specs.declared.cusip.CusipFault.{CusipFault}
-use Rattle.cns_ids.specs.declared.cycle.CycleKind.{CycleKind}
-use Rattle.cns_ids.specs.declared.cycle.CycleKind.TheVariants.{Night, Day}
+use Rattle.cns_ids.specs.declared.cycle.CycleId.{CycleId}
 use Rattle.cns_movements.specs.Asked.{is_asked}
-use Rattle.cns_movements.specs.Fields.{read_order, read_reply}
+use Rattle.cns_movements.specs.Fields.{order_size, read_cycle, read_day, read_order, read_reply, version_of_byte}
 use Rattle.cns_movements.specs.declared.order.MoveKind.{MoveKind}
 use Rattle.cns_movements.specs.declared.order.MoveKind.TheVariants.{Cover, Delivery}
 use Rattle.cns_movements.specs.declared.order.Order.{Order}
 use Rattle.cns_movements.specs.declared.order.Reply.{Reply}
+use Rattle.cns_movements.specs.declared.version.Version.{Version}
 use Rattle.cns_trades.specs.TradeId.{is_id_text}
 use Rattle.cns_records.specs.declared.bad_record.BadRecord.{BadRecord}
 
@@ -66,9 +65,13 @@ whole_at read bytes = do
   x ← read bytes
   whole x.1 x.0
 
--- the record that a payload is: after the version 1 and its kind, what the bytes of that kind are
-abbrev pub payload_as : {R : Type 0} → (ℕ → List ℕ → Result R BadRecord) → List ℕ → Result R BadRecord
-payload_as of_kind (version ∷ kind ∷ fields) = if version == 1 then of_kind kind fields else bad
+-- the record that a payload is: after its version and its kind, what the bytes of these are
+abbrev pub of_version : {R : Type 0} → (Version → ℕ → List ℕ → Result R BadRecord) → Option Version → ℕ → List ℕ → Result R BadRecord
+of_version of_kind (Some version) kind fields = of_kind version kind fields
+of_version of_kind None kind fields = bad
+
+abbrev pub payload_as : {R : Type 0} → (Version → ℕ → List ℕ → Result R BadRecord) → List ℕ → Result R BadRecord
+payload_as of_kind (version ∷ kind ∷ fields) = of_version of_kind (version_of_byte version) kind fields
 payload_as of_kind _ = bad
 
 -- ---- the fields
@@ -107,14 +110,6 @@ id_at bytes = do
   len ← byte_at bytes
   tested_at (text_at len.0) is_id_text len.1
 
--- a date, of the number yyyymmdd: the year, the month and the day
-abbrev pub day_bytes : ℕ → List ℕ
-day_bytes n = to_be_bytes w16 (n / 10000) ++ (n / 100 % 100) ∷ (n % 100) ∷ []
-
-unfoldable pub day_at : Reader ℕ
-day_at bytes =
-    made (tested_at (number_at w16 & byte_at & byte_at) (λ day. is_real_day day.0 day.1.0 day.1.1)) (λ day. number_of_day day.0 day.1.0 day.1.1) bytes
-
 -- an issue: the nine characters of its CUSIP
 abbrev pub issue_from : Result ℕ CusipFault → List ℕ → Result (ℕ × List ℕ) BadRecord
 issue_from (Ok issue) rest = Ok (issue, rest)
@@ -140,14 +135,6 @@ flag_bytes true = 1 ∷ []
 unfoldable pub flag_at : Reader Bool
 flag_at bytes = one_of_at 0 false 1 true bytes
 
--- a cycle's kind: 0 at night, 1 by day
-abbrev pub cycle_kind_bytes : CycleKind → List ℕ
-cycle_kind_bytes Night = 0 ∷ []
-cycle_kind_bytes Day = 1 ∷ []
-
-unfoldable pub cycle_kind_at : Reader CycleKind
-cycle_kind_at bytes = one_of_at 0 Night 1 Day bytes
-
 -- an order's kind: 1 for a cover, 2 for a delivery
 abbrev pub move_kind_bytes : MoveKind → List ℕ
 move_kind_bytes Cover = 1 ∷ []
@@ -163,11 +150,18 @@ value_at size read bytes = do
   value ← ok_or (read text.0) (record {})
   Ok (value, text.1)
 
--- an order: its kind, and its other fields
-unfoldable pub order_at : Reader Order
-order_at bytes = do
+-- a date, and a cycle
+unfoldable pub day_at : Reader ℕ
+day_at bytes = value_at 4 read_day bytes
+
+unfoldable pub cycle_at : Reader CycleId
+cycle_at bytes = value_at 5 read_cycle bytes
+
+-- an order of this version: its kind, and its other fields
+unfoldable pub order_at : Version → Reader Order
+order_at version bytes = do
   kind ← move_kind_at bytes
-  value_at 27 (read_order kind.0) kind.1
+  value_at (order_size version) (read_order version kind.0) kind.1
 
 -- a reply: its fields
 unfoldable pub reply_at : Reader Reply

@@ -19,8 +19,8 @@ use Rattle.cns_system.specs.declared.outcome.Outcome.{Outcome}
 use Rattle.cns_system.specs.declared.outcome.Outcome.TheVariants as outcomes
 use Rattle.cns_records.specs.declared.refusal.Refusal.TheVariants as refusal
 
--- an executed movement is that of the order of its number, so its member, issue, kind and quantity asked for are the same in both
--- nodes; a delivery moved all of that quantity, and a cover no more than it
+-- an executed movement is that of the order of its number: they agree, so its member, issue, kind and quantity asked for are the same in
+-- both nodes, and its cycle, where both have one; a delivery moved all of that quantity, and a cover no more than it
 abbrev pub IsKnown : List Order → Movement → Type 0
 IsKnown orders m = IsOrdered orders m × (m.moved ≤ m.order.asked)
 

@@ -1,6 +1,6 @@
 -- When the records of the two nodes agree (this project's own rule).
 use Rattle.std.specs.Prelude.{◌≡◌, List, All, Some}
-use Rattle.cns_movements.specs.Order.{order_of}
+use Rattle.cns_movements.specs.Order.{AgreesWith, order_of}
 use Rattle.cns_movements.specs.declared.order.MoveKind.TheVariants.{Delivery}
 use Rattle.cns_movements.specs.declared.order.Order.{Order}
 use Rattle.cns_movements.specs.declared.order.Reply.{Reply}
@@ -10,9 +10,10 @@ use Rattle.cns_clearing.specs.Books.{orders_of}
 use Rattle.cns_depository.specs.declared.movement.Movement.{Movement}
 use Rattle.cns_depository.specs.Stock.{executed_of, movement_of}
 
--- an executed movement is that of the order of its number, and a delivery moved all that it asks for
+-- an executed movement is that of the order of its number: they agree; and a delivery moved all that it asks for
 abbrev pub IsOrdered : List Order → Movement → Type 0
-IsOrdered orders m = (order_of orders m.order.number ≡ Some m.order) × (m.order.kind ≡ Delivery → m.moved ≡ m.order.asked)
+IsOrdered orders m =
+    ((o : Order) × (order_of orders m.order.number ≡ Some o) × AgreesWith m.order o) × (m.order.kind ≡ Delivery → m.moved ≡ m.order.asked)
 
 -- a confirmed movement was executed, and moved so much
 abbrev pub IsExecuted : List Movement → Reply → Type 0

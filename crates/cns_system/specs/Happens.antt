@@ -9,7 +9,7 @@ use Rattle.cns_trades.specs.Verdicts.{verdict}
 use Rattle.cns_netting.specs.History.{accepted, becoming_due}
 use Rattle.cns_movements.specs.Book.{next_orders}
 use Rattle.cns_movements.specs.Confirm.{confirm_answer}
-use Rattle.cns_movements.specs.Order.{order_of, same_order}
+use Rattle.cns_movements.specs.Order.{agrees_with, order_of}
 use Rattle.cns_movements.specs.declared.book.Confirm.TheVariants as answers
 use Rattle.cns_movements.specs.declared.order.Reply.{Reply}
 use Rattle.cns_wire.specs.Packet.{at_number}
@@ -97,7 +97,7 @@ judged d (event.Cycle id) w = do
   need (length w.open_lots == 0) refusal.LotsOpen
   let asks = covers_on (book w) id.day
   need (not (are_spent (book w).orders (length asks))) refusal.NumbersSpent
-  clear_commits d (entry.Cycle id) (outcomes.Cycled (record { due = becoming_due (book w).history id.day; orders = next_orders (book w).orders asks })) w
+  clear_commits d (entry.Cycle id) (outcomes.Cycled (record { due = becoming_due (book w).history id.day; orders = next_orders (book w).orders (Some id) asks })) w
 judged d (event.LotOpen issue) w = do
   clear_up w
   need (is_none (lot_of w.open_lots issue)) refusal.LotAlready
@@ -124,7 +124,7 @@ judged d (event.LotClose number) w = do
   twin ← ok_or (lot_of w.open_lots lot.issue) refusal.NoLot
   let a = allocation_of twin lot.tickets lot.sealed
   need (not (are_spent (book w).orders (length (deliveries_in a)))) refusal.NumbersSpent
-  let told = outcomes.Closed (record { granted = min a.poured (asked_sum lot.tickets); orders = next_orders (book w).orders (deliveries_in a) })
+  let told = outcomes.Closed (record { granted = min a.poured (asked_sum lot.tickets); orders = next_orders (book w).orders (book w).latest (deliveries_in a) })
   commits d (told, with_lot number (with_end lot) (clear_added (entry.Allocate a) w)) (clear_failed (entry.Allocate a) w)
 judged d (event.Send number) w = do
   clear_up w
@@ -137,7 +137,7 @@ judged d (event.OrderIn packet) w = do
   let e = execution m
   elim (movement_of (executed_of w.depot.records) o.number) [
     | None ↦ commits d (outcomes.Executed (reply_to m) (length w.replies + 1), with_reply (reply_to m) (depot_added e w)) (depot_failed e w)
-    | Some known ↦ need (same_order known.order o) refusal.Conflict >> grows d (outcomes.ExecutedAgain (reply_to known) (length w.replies + 1), with_reply (reply_to known) w)
+    | Some known ↦ need (agrees_with known.order o) refusal.Conflict >> grows d (outcomes.ExecutedAgain (reply_to known) (length w.replies + 1), with_reply (reply_to known) w)
   ]
 judged d (event.ReplyIn packet) w = do
   r ← ok_or (option_flatten (at_number w.replies packet)) refusal.NoPacket

@@ -46,8 +46,9 @@ pool_of c lots issue = free_of (orders_of c) lots issue + lent_of lots issue + o
 -- the clearing node's records and its open lots, the depository's openings and records, and the packets that were put on the link of
 -- orders and on that of replies
 pub record Headline (c : List ClearRecord) (lots : List Lot) (openings : List Opening) (p : List DepRecord) (orders replies : List (List ℕ)) : Type 0 where
-  -- Same: each executed movement is the order of its number at the clearing node, so it has its kind, member, issue and quantity; a
-  -- delivery moved all that it asks for, and a cover no more than it. Each confirmed movement was executed, and moved so much.
+  -- Same: each executed movement agrees with the order of its number at the clearing node, so it has its kind, member, issue and quantity,
+  -- and its cycle, where both have one; a delivery moved all that it asks for, and a cover no more than it. Each confirmed movement was
+  -- executed, and moved so much.
   pub executed : All (IsKnown (orders_of c).orders) (executed_of p)
   pub confirmed : All (IsExecuted (executed_of p)) (confirmed_of c)
   -- Link: each packet of an order is the frame of the order of its number, and each packet of a reply that of an executed movement.

@@ -1,5 +1,5 @@
 -- What the opening of both nodes gives (this project's own rule).
-use Rattle.std.specs.Prelude.{◌≡◌, ℕ, true, false, List, []}
+use Rattle.std.specs.Prelude.{◌≡◌, List, []}
 use Rattle.cns_trades.specs.declared.opening.Opening.{Opening}
 use Rattle.cns_journal.specs.RecordLog.{IsGivenUp}
 use Rattle.cns_journal.specs.Keeper.{KeeperState}

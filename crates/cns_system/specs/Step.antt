@@ -1,7 +1,7 @@
 -- What each event comes to, and what it leaves of the nodes and the link (this project's own rules). A node's call tells what it
 -- answers and leaves; here that is its outcome, and nothing else changes.
 use Rattle.std.specs.Prelude.{◌≡◌, ◌≢◌, ◌⊎◌, ℕ, ◌+◌, true, false, List, [], ◌∷◌, ◌++◌, length, map, Option, Some, None, Result, Ok, Err}
-use Rattle.cns_movements.specs.Order.{order_of}
+use Rattle.cns_movements.specs.Order.{AgreesWith, order_of}
 use Rattle.cns_movements.specs.declared.order.Order.{Order}
 use Rattle.cns_movements.specs.declared.order.Reply.{Reply}
 use Rattle.cns_records.specs.declared.clear_record.ClearRecord.TheVariants as entry
@@ -97,9 +97,9 @@ Puts (Ok (answer.Done r)) old new = IsPut r old new
 Puts (Ok (answer.Again r)) old new = IsPut r old new
 Puts (Err fault) old new = new.replies ≡ old.replies
 
--- no other order was executed under the number of an order
+-- what was executed under the number of an order agrees with it
 abbrev pub IsItsOwn : Order → List Movement → Type 0
-IsItsOwn o movements = (m : Movement) → movement_of movements o.number ≡ Some m → m.order ≡ o
+IsItsOwn o movements = (m : Movement) → movement_of movements o.number ≡ Some m → AgreesWith m.order o
 
 -- an order that came to the depository: its answer, and the packet of its reply; or there was no memory for that packet, where
 -- nothing else refuses the order
