@@ -1,9 +1,10 @@
 -- What new orders ask for, by kind, member and issue, and what they leave open.
 use Rattle.std.proofs.Common.{◌≡◌, ℕ, suc, ◌+◌, Bool, true, false, List, [], ◌∷◌, ◌++◌, length, sym, refl, ◌∙◌, arith}
-use Rattle.std.specs.Prelude.{◌&&◌, ◌==◌, All, sum_by, if◌then◌else◌}
+use Rattle.std.specs.Prelude.{◌&&◌, ◌==◌, All, Option, sum_by, if◌then◌else◌}
 use Rattle.std.proofs.lemmas.Bool.{eq-eqb, eqb-true, false_from_ne_true}
 use Rattle.std.proofs.lemmas.List.Elements.{All-head, All-tail}
 use Rattle.std.proofs.lemmas.List.Sums.{sum_by-cons}
+use Rattle.cns_ids.specs.declared.cycle.CycleId.{CycleId}
 use Rattle.cns_movements.specs.Book.{IsOrderBook, Orders, with_asks}
 use Rattle.cns_movements.specs.OpenShares.{asked_by}
 use Rattle.cns_movements.specs.Order.{is_of, numbered, open_sum, order_from, same_kind}
@@ -14,26 +15,26 @@ use Rattle.cns_movements.specs.declared.order.Order.{Order}
 use Rattle.cns_movements.proofs.ReplyLemmas.{moved_of_above, open_sum-append, open_sum_new}
 
 -- numbered as orders they ask for the same
-pub asked_by-numbered : (kind : MoveKind) (m i n : ℕ) (asks : List Ask)
-    → sum_by (λ (o : Order). if is_of kind m i o then o.asked else 0) (numbered n asks) ≡ asked_by kind m i asks
+pub asked_by-numbered : (kind : MoveKind) (m i n : ℕ) (cycle : Option CycleId) (asks : List Ask)
+    → sum_by (λ (o : Order). if is_of kind m i o then o.asked else 0) (numbered n cycle asks) ≡ asked_by kind m i asks
 unfolding asked_by
-asked_by-numbered kind m i n [] = refl
-asked_by-numbered kind m i n (a ∷ asks) =
-    let o : Order = order_from n a in
-    omega (arith, sum_by-cons (λ (o : Order). if is_of kind m i o then o.asked else 0) o (numbered (suc n) asks), asked_by-numbered kind m i (suc n) asks)
+asked_by-numbered kind m i n cycle [] = refl
+asked_by-numbered kind m i n cycle (a ∷ asks) =
+    let o : Order = order_from n cycle a in
+    omega (arith, sum_by-cons (λ (o : Order). if is_of kind m i o then o.asked else 0) o (numbered (suc n) cycle asks), asked_by-numbered kind m i (suc n) cycle asks)
 
 -- a book with more asks has open what it had open before and all that they ask for
-pub open_sum_asked : (book : Orders) (asks : List Ask) (kind : MoveKind) (m i : ℕ) → IsOrderBook book
-    → open_sum (book.orders ++ numbered (length book.orders + 1) asks) book.replies kind m i ≡ open_sum book.orders book.replies kind m i + asked_by kind m i asks
-open_sum_asked book asks kind m i lawful =
+pub open_sum_asked : (book : Orders) (cycle : Option CycleId) (asks : List Ask) (kind : MoveKind) (m i : ℕ) → IsOrderBook book
+    → open_sum (book.orders ++ numbered (length book.orders + 1) cycle asks) book.replies kind m i ≡ open_sum book.orders book.replies kind m i + asked_by kind m i asks
+open_sum_asked book cycle asks kind m i lawful =
     let os = book.orders in
     let rs = book.replies in
     let next : ℕ = length os + 1 in
     omega (
       arith,
-      open_sum-append os (numbered next asks) rs kind m i,
-      open_sum_new next asks rs kind m i (λ j le. moved_of_above os rs j lawful.numbered lawful.known (omega arith)),
-      asked_by-numbered kind m i next asks,
+      open_sum-append os (numbered next cycle asks) rs kind m i,
+      open_sum_new next cycle asks rs kind m i (λ j le. moved_of_above os rs j lawful.numbered lawful.known (omega arith)),
+      asked_by-numbered kind m i next cycle asks,
     )
 
 -- ---- another kind
@@ -47,14 +48,14 @@ asked_by-other_kind kind other m i (a ∷ asks) differ all =
     rw (All-head (λ (b : Ask). b.kind ≡ other) a asks all, differ) (omega (arith, rest))
 
 -- new deliveries change no open covers
-pub deliveries_leave_covers : (book : Orders) (asks : List Ask) (m i : ℕ) → IsOrderBook book → All (λ (a : Ask). a.kind ≡ Delivery) asks
-    → open_sum (with_asks book asks).orders book.replies Cover m i ≡ open_sum book.orders book.replies Cover m i
-deliveries_leave_covers book asks m i lawful all = omega (arith, open_sum_asked book asks Cover m i lawful, asked_by-other_kind Cover Delivery m i asks refl all)
+pub deliveries_leave_covers : (book : Orders) (cycle : Option CycleId) (asks : List Ask) (m i : ℕ) → IsOrderBook book → All (λ (a : Ask). a.kind ≡ Delivery) asks
+    → open_sum (with_asks book cycle asks).orders book.replies Cover m i ≡ open_sum book.orders book.replies Cover m i
+deliveries_leave_covers book cycle asks m i lawful all = omega (arith, open_sum_asked book cycle asks Cover m i lawful, asked_by-other_kind Cover Delivery m i asks refl all)
 
 -- and new covers no open deliveries
-pub covers_leave_deliveries : (book : Orders) (asks : List Ask) (m i : ℕ) → IsOrderBook book → All (λ (a : Ask). a.kind ≡ Cover) asks
-    → open_sum (with_asks book asks).orders book.replies Delivery m i ≡ open_sum book.orders book.replies Delivery m i
-covers_leave_deliveries book asks m i lawful all = omega (arith, open_sum_asked book asks Delivery m i lawful, asked_by-other_kind Delivery Cover m i asks refl all)
+pub covers_leave_deliveries : (book : Orders) (cycle : Option CycleId) (asks : List Ask) (m i : ℕ) → IsOrderBook book → All (λ (a : Ask). a.kind ≡ Cover) asks
+    → open_sum (with_asks book cycle asks).orders book.replies Delivery m i ≡ open_sum book.orders book.replies Delivery m i
+covers_leave_deliveries book cycle asks m i lawful all = omega (arith, open_sum_asked book cycle asks Delivery m i lawful, asked_by-other_kind Delivery Cover m i asks refl all)
 
 -- ---- another issue
 
@@ -77,7 +78,7 @@ asked_by-other_issue kind m i other (a ∷ asks) differ all =
     by false here its e = refl
 
 -- so new orders of another issue change nothing that is open in this one
-pub others_leave_open : (book : Orders) (asks : List Ask) (kind : MoveKind) (m i other : ℕ) → IsOrderBook book → (i == other) ≡ false → All (λ (a : Ask). a.issue ≡ other) asks
-    → open_sum (with_asks book asks).orders book.replies kind m i ≡ open_sum book.orders book.replies kind m i
-others_leave_open book asks kind m i other lawful differ all =
-    omega (arith, open_sum_asked book asks kind m i lawful, asked_by-other_issue kind m i other asks differ all)
+pub others_leave_open : (book : Orders) (cycle : Option CycleId) (asks : List Ask) (kind : MoveKind) (m i other : ℕ) → IsOrderBook book → (i == other) ≡ false → All (λ (a : Ask). a.issue ≡ other) asks
+    → open_sum (with_asks book cycle asks).orders book.replies kind m i ≡ open_sum book.orders book.replies kind m i
+others_leave_open book cycle asks kind m i other lawful differ all =
+    omega (arith, open_sum_asked book cycle asks kind m i lawful, asked_by-other_issue kind m i other asks differ all)

@@ -6,6 +6,7 @@ use Rattle.std.specs.List.{cons_option}
 use Rattle.std.specs.Option.{option_flatten}
 use Rattle.std.proofs.lemmas.Option.{slice_get-map}
 use Rattle.std.proofs.lemmas.List.{map-append, length-map, length-set}
+use Rattle.cns_ids.specs.declared.cycle.CycleId.{CycleId}
 use Rattle.cns_movements.specs.declared.order.Order.{Order}
 use Rattle.cns_movements.specs.declared.order.Ask.{Ask}
 use Rattle.cns_movements.specs.declared.order.Reply.{Reply}
@@ -57,12 +58,12 @@ moves_set (x ∷ xs) rs r k (suc i) h e =
     ∙ ap (λ (l : List (Option ℕ)). moved_of (r ∷ rs) x.number ∷ l) (moves_set xs rs r (suc k) i h.1 (omega arith))
 
 -- nothing is confirmed of new numbers
-moves_none : (asks : List Ask) (rs : List Reply) (k : ℕ) → ((n : ℕ) → k ≤ n → moved_of rs n ≡ None)
-    → map (λ (o : Order). moved_of rs o.number) (numbered k asks) ≡ replicate (length asks) None
-moves_none [] rs k new = refl
-moves_none (a ∷ asks) rs k new =
-    ap (λ (m : Option ℕ). m ∷ map (λ (o : Order). moved_of rs o.number) (numbered (suc k) asks)) (new k (omega arith))
-    ∙ ap (λ (l : List (Option ℕ)). None ∷ l) (moves_none asks rs (suc k) (λ n le. new n (omega arith)))
+moves_none : (cycle : Option CycleId) (asks : List Ask) (rs : List Reply) (k : ℕ) → ((n : ℕ) → k ≤ n → moved_of rs n ≡ None)
+    → map (λ (o : Order). moved_of rs o.number) (numbered k cycle asks) ≡ replicate (length asks) None
+moves_none cycle [] rs k new = refl
+moves_none cycle (a ∷ asks) rs k new =
+    ap (λ (m : Option ℕ). m ∷ map (λ (o : Order). moved_of rs o.number) (numbered (suc k) cycle asks)) (new k (omega arith))
+    ∙ ap (λ (l : List (Option ℕ)). None ∷ l) (moves_none cycle asks rs (suc k) (λ n le. new n (omega arith)))
 
 -- a first confirmation of an order, not above what that asked for, keeps a book in order
 pub with_reply_lawful : (book : Orders) (r : Reply) (o : Order) → IsOrderBook book
@@ -75,13 +76,13 @@ with_reply_lawful book r o lawful found first within = record {
 }
 
 -- more orders under the next numbers keep a book in order
-pub with_asks_lawful : (book : Orders) (asks : List Ask) → IsOrderBook book → length book.orders + length asks ≤ 1000000 → IsOrderBook (with_asks book asks)
-with_asks_lawful book asks lawful fits =
+pub with_asks_lawful : (book : Orders) (cycle : Option CycleId) (asks : List Ask) → IsOrderBook book → length book.orders + length asks ≤ 1000000 → IsOrderBook (with_asks book cycle asks)
+with_asks_lawful book cycle asks lawful fits =
     let os = book.orders in
     record {
-      numbered = IsNumbered-append os (numbered (length os + 1) asks) 1 (length os + 1) (omega arith) lawful.numbered (IsNumbered-numbered _ _);
+      numbered = IsNumbered-append os (numbered (length os + 1) cycle asks) 1 (length os + 1) (omega arith) lawful.numbered (IsNumbered-numbered _ _ _);
       few = simp (length-append, length-numbered) fits;
-      known = AreKnown-append os (numbered (length os + 1) asks) book.replies lawful.known;
+      known = AreKnown-append os (numbered (length os + 1) cycle asks) book.replies lawful.known;
       once = lawful.once;
     }
 
@@ -95,20 +96,20 @@ stored_reply book ms r o i stored e found first within = record {
       ∙ moves_set book.orders book.replies r 1 i stored.lawful.numbered (omega arith);
 }
 
-pub stored_asks : (book : Orders) (ms : List (Option ℕ)) (asks : List Ask) → IsStored book ms → length book.orders + length asks ≤ 1000000
-    → IsStored (with_asks book asks) (ms ++ replicate (length asks) None)
-stored_asks book ms asks stored fits =
+pub stored_asks : (book : Orders) (ms : List (Option ℕ)) (cycle : Option CycleId) (asks : List Ask) → IsStored book ms → length book.orders + length asks ≤ 1000000
+    → IsStored (with_asks book cycle asks) (ms ++ replicate (length asks) None)
+stored_asks book ms cycle asks stored fits =
     let os = book.orders in
     let rs = book.replies in
     let lawful = stored.lawful in
-    let new : map (λ (o : Order). moved_of rs o.number) (numbered (length os + 1) asks) ≡ replicate (length asks) None =
-    moves_none asks rs (length os + 1) (λ n le. moved_of_above os rs n lawful.numbered lawful.known (omega arith)) in
+    let new : map (λ (o : Order). moved_of rs o.number) (numbered (length os + 1) cycle asks) ≡ replicate (length asks) None =
+    moves_none cycle asks rs (length os + 1) (λ n le. moved_of_above os rs n lawful.numbered lawful.known (omega arith)) in
     record {
-      lawful = with_asks_lawful book asks lawful fits;
+      lawful = with_asks_lawful book cycle asks lawful fits;
       moves =
           ap (λ (l : List (Option ℕ)). l ++ replicate (length asks) None) stored.moves
           ∙ ap (λ (l : List (Option ℕ)). map (λ (o : Order). moved_of rs o.number) os ++ l) (sym new)
-          ∙ sym (map-append (λ (o : Order). moved_of rs o.number) os (numbered (length os + 1) asks));
+          ∙ sym (map-append (λ (o : Order). moved_of rs o.number) os (numbered (length os + 1) cycle asks));
     }
 
 -- ---- the first orders, which are all confirmed

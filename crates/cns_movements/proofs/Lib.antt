@@ -1,6 +1,6 @@
 pub mod BytesLemmas
 pub mod OrderLemmas
-pub mod SameOrderLemmas
+pub mod AgreeLemmas
 pub mod FieldLemmas
 pub mod ReplyLemmas
 pub mod AskLemmas

@@ -4,6 +4,7 @@ use Rattle.std.specs.Prelude.{◌&&◌, ◌==◌, sum_by, if◌then◌else◌}
 use Rattle.std.proofs.lemmas.Bool.{eq-eqb}
 use Rattle.std.proofs.lemmas.List.Sums.{sum_by-append, sum_by-cons}
 use Rattle.cns_ids.specs.Holding.{holding_at}
+use Rattle.cns_ids.specs.declared.cycle.CycleId.{CycleId}
 use Rattle.cns_ids.specs.declared.holding.Holding.{Holding}
 use Rattle.cns_ids.proofs.HoldingLemmas.{Puts, put-adds, put-takes}
 use Rattle.cns_movements.specs.Book.{IsOrderBook, Orders, with_asks, with_reply}
@@ -18,7 +19,7 @@ use Rattle.cns_movements.specs.declared.order.Reply.{Reply}
 use Rattle.cns_movements.proofs.AskLemmas.{open_sum_asked}
 use Rattle.cns_movements.proofs.OrderLemmas.{length-numbered, sum_le_found}
 use Rattle.cns_movements.proofs.ReplyLemmas.{open_sum-with_reply, parts_le_asked}
-use Rattle.cns_movements.proofs.SameOrderLemmas.{same_kind-refl}
+use Rattle.cns_movements.proofs.AgreeLemmas.{same_kind-refl}
 
 -- ---- look-ups
 
@@ -92,27 +93,27 @@ pub open_kept : (old new : MoveKind → ℕ → ℕ → ℕ) (book : Orders) →
 open_kept old new book are same = record { sums = λ k m i. same k m i ∙ are.sums k m i; most = are.most }
 
 -- new orders ask for what their asks do
-pub numbered_asked : (n : ℕ) (asks : List Ask) → sum_by (λ (o : Order). o.asked) (numbered n asks) ≡ sum_by (λ (a : Ask). a.asked) asks
-numbered_asked n [] = refl
-numbered_asked n (a ∷ asks) =
-    let o : Order = order_from n a in
-    omega (arith, sum_by-cons (λ (x : Order). x.asked) o (numbered (suc n) asks), sum_by-cons (λ (x : Ask). x.asked) a asks, numbered_asked (suc n) asks)
+pub numbered_asked : (n : ℕ) (cycle : Option CycleId) (asks : List Ask) → sum_by (λ (o : Order). o.asked) (numbered n cycle asks) ≡ sum_by (λ (a : Ask). a.asked) asks
+numbered_asked n cycle [] = refl
+numbered_asked n cycle (a ∷ asks) =
+    let o : Order = order_from n cycle a in
+    omega (arith, sum_by-cons (λ (x : Order). x.asked) o (numbered (suc n) cycle asks), sum_by-cons (λ (x : Ask). x.asked) a asks, numbered_asked (suc n) cycle asks)
 
-pub open_ordered : (old new : MoveKind → ℕ → ℕ → ℕ) (book : Orders) (asks : List Ask) → IsOrderBook book → AreOpenIn old book
+pub open_ordered : (old new : MoveKind → ℕ → ℕ → ℕ) (book : Orders) (cycle : Option CycleId) (asks : List Ask) → IsOrderBook book → AreOpenIn old book
     → ((k : MoveKind) (m i : ℕ) → new k m i ≡ old k m i + asked_by k m i asks) → sum_by (λ (a : Ask). a.asked) asks ≤ 10 ^ 18 * length asks
-    → AreOpenIn new (with_asks book asks)
-open_ordered old new book asks lawful are adds most =
+    → AreOpenIn new (with_asks book cycle asks)
+open_ordered old new book cycle asks lawful are adds most =
     let next : ℕ = length book.orders + 1 in
     record {
-      sums = λ k m i. omega (arith, adds k m i, are.sums k m i, open_sum_asked book asks k m i lawful);
+      sums = λ k m i. omega (arith, adds k m i, are.sums k m i, open_sum_asked book cycle asks k m i lawful);
       most = omega (
         arith,
         are.most,
         most,
-        sum_by-append (λ (o : Order). o.asked) book.orders (numbered next asks),
-        numbered_asked next asks,
-        length-append book.orders (numbered next asks),
-        length-numbered next asks,
+        sum_by-append (λ (o : Order). o.asked) book.orders (numbered next cycle asks),
+        numbered_asked next cycle asks,
+        length-append book.orders (numbered next cycle asks),
+        length-numbered next cycle asks,
       );
     }
 

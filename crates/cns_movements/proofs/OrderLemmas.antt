@@ -1,10 +1,11 @@
 -- Orders that are numbered in turn: look-ups by number, and sums over the orders.
 use Rattle.std.proofs.Common.{◌≡◌, ℕ, suc, zero, ◌+◌, ◌<◌, ◌≤◌, eqb, List, [], ◌∷◌, ◌++◌, length, Some, None, sym, refl, ap, ◌∙◌, subst, arith, length-take, inl, inr, get_or, take, append_assoc}
-use Rattle.std.specs.Prelude.{sum_by, slice_get}
+use Rattle.std.specs.Prelude.{Option, sum_by, slice_get}
 use Rattle.std.proofs.lemmas.Bool.{cases_eq, eq-eqb, ne_eqb, cond-true, cond-false}
 use Rattle.std.proofs.lemmas.Option.{none-some, same_Some, slice_get_within}
 use Rattle.std.proofs.lemmas.List.{take_more}
 use Rattle.std.proofs.lemmas.List.Sums.{sum_by-cons}
+use Rattle.cns_ids.specs.declared.cycle.CycleId.{CycleId}
 use Rattle.cns_movements.specs.declared.order.Order.{Order}
 use Rattle.cns_movements.specs.declared.order.Ask.{Ask}
 use Rattle.cns_movements.specs.Order.{order_from, order_of, numbered, IsNumbered}
@@ -72,9 +73,9 @@ pub place_of_found : (os : List Order) (n i : ℕ) (o : Order) → IsNumbered 1 
 place_of_found os n i o h e found = slice_get_within os i o (order_at os n i h e ∙ found)
 
 -- asks that are numbered from k on have the numbers from k on
-pub IsNumbered-numbered : (k : ℕ) (asks : List Ask) → IsNumbered k (numbered k asks)
-IsNumbered-numbered k [] = tt
-IsNumbered-numbered k (a ∷ asks) = (refl, IsNumbered-numbered (suc k) asks)
+pub IsNumbered-numbered : (k : ℕ) (cycle : Option CycleId) (asks : List Ask) → IsNumbered k (numbered k cycle asks)
+IsNumbered-numbered k cycle [] = tt
+IsNumbered-numbered k cycle (a ∷ asks) = (refl, IsNumbered-numbered (suc k) cycle asks)
 
 -- orders that go on with the next number are numbered as one list
 pub IsNumbered-append : (os more : List Order) (k n : ℕ) → n ≡ k + length os → IsNumbered k os → IsNumbered n more → IsNumbered k (os ++ more)
@@ -82,33 +83,33 @@ IsNumbered-append [] more k n e h m = let same : n ≡ k = omega arith in subst 
 IsNumbered-append (x ∷ xs) more k n e h m = (h.0, IsNumbered-append xs more (suc k) n (omega arith) h.1 m)
 
 -- there are as many orders as asks
-pub length-numbered : (n : ℕ) (asks : List Ask) → length (numbered n asks) ≡ length asks
-length-numbered n [] = refl
-length-numbered n (a ∷ asks) = ap suc (length-numbered (suc n) asks)
+pub length-numbered : (n : ℕ) (cycle : Option CycleId) (asks : List Ask) → length (numbered n cycle asks) ≡ length asks
+length-numbered n cycle [] = refl
+length-numbered n cycle (a ∷ asks) = ap suc (length-numbered (suc n) cycle asks)
 
 -- asks in a row are numbered in a row
-pub numbered-append : (n : ℕ) (xs ys : List Ask) → numbered n (xs ++ ys) ≡ numbered n xs ++ numbered (n + length xs) ys
-numbered-append n [] ys = let e : n ≡ n + 0 = omega arith in ap (λ (k : ℕ). numbered k ys) e
-numbered-append n (x ∷ xs) ys =
-    let o : Order = order_from n x in
+pub numbered-append : (n : ℕ) (cycle : Option CycleId) (xs ys : List Ask) → numbered n cycle (xs ++ ys) ≡ numbered n cycle xs ++ numbered (n + length xs) cycle ys
+numbered-append n cycle [] ys = let e : n ≡ n + 0 = omega arith in ap (λ (k : ℕ). numbered k cycle ys) e
+numbered-append n cycle (x ∷ xs) ys =
+    let o : Order = order_from n cycle x in
     let e : suc n + length xs ≡ n + suc (length xs) = omega arith in
-    ap (λ (l : List Order). o ∷ l) (numbered-append (suc n) xs ys ∙ ap (λ (k : ℕ). numbered (suc n) xs ++ numbered k ys) e)
+    ap (λ (l : List Order). o ∷ l) (numbered-append (suc n) cycle xs ys ∙ ap (λ (k : ℕ). numbered (suc n) cycle xs ++ numbered k cycle ys) e)
 
 -- one more ask, as a loop that numbers asks takes them
-pub numbered_more : (asks : List Ask) (k i n : ℕ) (x : Ask) → i < length asks → x ≡ get_or asks i x → n ≡ k + i
-    → numbered k (take i asks) ++ (order_from n x ∷ []) ≡ numbered k (take (i + 1) asks)
-numbered_more asks k i n x within is e =
+pub numbered_more : (cycle : Option CycleId) (asks : List Ask) (k i n : ℕ) (x : Ask) → i < length asks → x ≡ get_or asks i x → n ≡ k + i
+    → numbered k cycle (take i asks) ++ (order_from n cycle x ∷ []) ≡ numbered k cycle (take (i + 1) asks)
+numbered_more cycle asks k i n x within is e =
     let number : k + length (take i asks) ≡ n = omega (arith, length-take i asks) in
     let next : take (i + 1) asks ≡ take i asks ++ x ∷ [] = take_more asks i x within ∙ ap (λ (y : Ask). take i asks ++ y ∷ []) (sym is) in
-    sym (ap (numbered k) next ∙ numbered-append k (take i asks) (x ∷ []) ∙ ap (λ (j : ℕ). numbered k (take i asks) ++ numbered j (x ∷ [])) number)
+    sym (ap (numbered k cycle) next ∙ numbered-append k cycle (take i asks) (x ∷ []) ∙ ap (λ (j : ℕ). numbered k cycle (take i asks) ++ numbered j cycle (x ∷ [])) number)
 
 -- the same behind orders that stand already
-pub numbered_push : (os : List Order) (asks : List Ask) (i : ℕ) (x : Ask) (n : ℕ) → i < length asks → x ≡ get_or asks i x → n ≡ length os + i + 1
-    → (os ++ numbered (length os + 1) (take i asks)) ++ (order_from n x ∷ [])
-    ≡ os ++ numbered (length os + 1) (take (i + 1) asks)
-numbered_push os asks i x n within is e =
-    append_assoc os (numbered (length os + 1) (take i asks)) (order_from n x ∷ [])
-    ∙ ap (λ (l : List Order). os ++ l) (numbered_more asks (length os + 1) i n x within is (omega arith))
+pub numbered_push : (os : List Order) (cycle : Option CycleId) (asks : List Ask) (i : ℕ) (x : Ask) (n : ℕ) → i < length asks → x ≡ get_or asks i x → n ≡ length os + i + 1
+    → (os ++ numbered (length os + 1) cycle (take i asks)) ++ (order_from n cycle x ∷ [])
+    ≡ os ++ numbered (length os + 1) cycle (take (i + 1) asks)
+numbered_push os cycle asks i x n within is e =
+    append_assoc os (numbered (length os + 1) cycle (take i asks)) (order_from n cycle x ∷ [])
+    ∙ ap (λ (l : List Order). os ++ l) (numbered_more cycle asks (length os + 1) i n x within is (omega arith))
 
 -- two sums over numbered orders are equal where the terms of the numbers from k on are
 pub sum_same_from : (f g : Order → ℕ) (os : List Order) (k : ℕ) → IsNumbered k os → ((o : Order) → k ≤ o.number → f o ≡ g o) → sum_by f os ≡ sum_by g os

@@ -4,6 +4,7 @@ use Rattle.std.specs.Prelude.{find, option_map, is_some, unwrap_or, sum_by, if�
 use Rattle.std.proofs.lemmas.Bool.{cases_eq, eq-eqb, ne_eqb, cond-true, cond-false}
 use Rattle.std.proofs.lemmas.Option.{none-some, same_Some}
 use Rattle.std.proofs.lemmas.List.Sums.{sum_by-append, sum_by-cons}
+use Rattle.cns_ids.specs.declared.cycle.CycleId.{CycleId}
 use Rattle.cns_movements.specs.declared.order.MoveKind.{MoveKind}
 use Rattle.cns_movements.specs.declared.order.Order.{Order}
 use Rattle.cns_movements.specs.declared.order.Ask.{Ask}
@@ -120,28 +121,28 @@ unfolding moved_sum
 moved_sum-append os more rs kind member issue = sum_by-append (λ (o : Order). if is_of kind member issue o then moved_part rs o else 0) os more
 
 -- new orders are open with all that they ask for, whichever of them are counted
-pub open_new : (counted : Order → Bool) (n : ℕ) (asks : List Ask) (rs : List Reply) → ((j : ℕ) → n ≤ j → moved_of rs j ≡ None)
-    → sum_by (λ (o : Order). if counted o then open_part rs o else 0) (numbered n asks) ≡ sum_by (λ (o : Order). if counted o then o.asked else 0) (numbered n asks)
-open_new counted n asks rs new =
+pub open_new : (counted : Order → Bool) (n : ℕ) (cycle : Option CycleId) (asks : List Ask) (rs : List Reply) → ((j : ℕ) → n ≤ j → moved_of rs j ≡ None)
+    → sum_by (λ (o : Order). if counted o then open_part rs o else 0) (numbered n cycle asks) ≡ sum_by (λ (o : Order). if counted o then o.asked else 0) (numbered n cycle asks)
+open_new counted n cycle asks rs new =
     sum_same_from (λ (o : Order). if counted o then open_part rs o else 0) (λ (o : Order). if counted o then o.asked else 0)
-    (numbered n asks) n (IsNumbered-numbered n asks)
+    (numbered n cycle asks) n (IsNumbered-numbered n cycle asks)
     (λ o le. ap (λ (m : Option ℕ). term (counted o) (if is_some m then 0 else o.asked)) (new o.number le))
 
-pub open_sum_new : (n : ℕ) (asks : List Ask) (rs : List Reply) (kind : MoveKind) (member issue : ℕ) → ((j : ℕ) → n ≤ j → moved_of rs j ≡ None)
-    → open_sum (numbered n asks) rs kind member issue ≡ sum_by (λ (o : Order). if is_of kind member issue o then o.asked else 0) (numbered n asks)
+pub open_sum_new : (n : ℕ) (cycle : Option CycleId) (asks : List Ask) (rs : List Reply) (kind : MoveKind) (member issue : ℕ) → ((j : ℕ) → n ≤ j → moved_of rs j ≡ None)
+    → open_sum (numbered n cycle asks) rs kind member issue ≡ sum_by (λ (o : Order). if is_of kind member issue o then o.asked else 0) (numbered n cycle asks)
 unfolding open_sum
-open_sum_new n asks rs kind member issue new = open_new (is_of kind member issue) n asks rs new
+open_sum_new n cycle asks rs kind member issue new = open_new (is_of kind member issue) n cycle asks rs new
 
 -- and moved nothing, whichever of them are counted
-pub moved_new : (counted : Order → Bool) (n : ℕ) (asks : List Ask) (rs : List Reply) → ((j : ℕ) → n ≤ j → moved_of rs j ≡ None)
-    → sum_by (λ (o : Order). if counted o then moved_part rs o else 0) (numbered n asks) ≡ 0
-moved_new counted n [] rs none = refl
-moved_new counted n (a ∷ asks) rs none =
-    let o : Order = order_from n a in
-    let rest = moved_new counted (suc n) asks rs (λ j le. none j (omega arith)) in
+pub moved_new : (counted : Order → Bool) (n : ℕ) (cycle : Option CycleId) (asks : List Ask) (rs : List Reply) → ((j : ℕ) → n ≤ j → moved_of rs j ≡ None)
+    → sum_by (λ (o : Order). if counted o then moved_part rs o else 0) (numbered n cycle asks) ≡ 0
+moved_new counted n cycle [] rs none = refl
+moved_new counted n cycle (a ∷ asks) rs none =
+    let o : Order = order_from n cycle a in
+    let rest = moved_new counted (suc n) cycle asks rs (λ j le. none j (omega arith)) in
     let part : moved_part rs o ≡ 0 = rw (none n (omega arith)) refl in
     let here = nothing_either (counted o) (moved_part rs o) part in
-    omega (arith, sum_by-cons (λ (x : Order). if counted x then moved_part rs x else 0) o (numbered (suc n) asks), rest, here)
+    omega (arith, sum_by-cons (λ (x : Order). if counted x then moved_part rs x else 0) o (numbered (suc n) cycle asks), rest, here)
 
 -- a confirmed order moved, and an unconfirmed one asks for, no more than it asked for
 pub parts_le_asked : (os : List Order) (rs : List Reply) (o : Order) → AreKnown os rs → order_of os o.number ≡ Some o

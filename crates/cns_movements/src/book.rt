@@ -10,7 +10,7 @@ ghost use Rattle.cns_movements.specs.IssueFault.{NumbersSuffice, IsIssueRefused}
 use crate::number::MoveNo;
 use crate::open_shares::{OpenShares, ask_all, open_shares, settle};
 use crate::order::{Ask, MoveKind, Order, Reply};
-use cns_ids::{Cusip, Holding, MemberNo, Shares};
+use cns_ids::{Cusip, CycleId, Holding, MemberNo, Shares};
 use std::alloc::{AllocError, Global};
 use std::collections::HashMap;
 use std::marker::Model;
@@ -97,15 +97,15 @@ impl OrderBook {
         }
     }
 
-    /// Issues the orders that are asked for, all under the next numbers in turn or none, and
-    /// answers the first of these numbers. With no asks it answers the next number and issues
+    /// Issues the orders that are asked for, all of this cycle and under the next numbers in turn or
+    /// none, and answers the first of these numbers. With no asks it answers the next number and issues
     /// nothing.
     ///
     /// Refuses `NumbersSpent` where fewer numbers are left than asks, or none is left. (This
     /// project's own rule.)
-    pub fn issue(&mut self, asks: &[Ask]) -> Result<MoveNo, IssueFault>
+    pub fn issue(&mut self, cycle: Option<CycleId>, asks: &[Ask]) -> Result<MoveNo, IssueFault>
         ensures first { IfOk result (λ first. first ≡ length self.old.book.orders + 1) }
-        ensures issued { OnOk result (self.new.book ≡ with_asks self.old.book asks.now) }
+        ensures issued { OnOk result (self.new.book ≡ with_asks self.old.book cycle asks.now) }
         ensures fits { OnOk result (NumbersSuffice self.old.book (length asks.now)) }
 
         // Refused only with this cause, and then the book stays.
@@ -131,13 +131,13 @@ impl OrderBook {
             return Err(IssueFault::OutOfMemory);
         }
         let first = MoveNo::of_place(self.orders.len());
-        append(&mut self.orders, &mut self.moved, asks);
+        append(&mut self.orders, &mut self.moved, &cycle, asks);
         ask_all(&mut self.sums, asks);
         Ok(first)
     }
 
-    /// Takes the memory that `issue` of these asks needs.
-    pub fn issue_room(&mut self, asks: &[Ask]) -> Result<(), AllocError>
+    /// Takes the memory that `issue` of these asks needs, which is the same for each cycle.
+    pub fn issue_room(&mut self, _cycle: Option<CycleId>, asks: &[Ask]) -> Result<(), AllocError>
         ensures same { self.new.book ≡ self.old.book }
         ensures room { OnOk result (length asks.now ≤ self.new.order_room) }
         ensures err { OnErr result (self.old.order_room < length asks.now) }
@@ -331,20 +331,25 @@ fn make_room(
     sums.reserve(count)
 }
 
-// Appends the asks as orders under the next numbers, none of them confirmed.
-fn append(orders: &mut Vec<Order>, moved: &mut Vec<Option<Shares>>, asks: &[Ask])
+// Appends the asks as orders of this cycle under the next numbers, none of them confirmed.
+fn append(
+    orders: &mut Vec<Order>,
+    moved: &mut Vec<Option<Shares>>,
+    cycle: &Option<CycleId>,
+    asks: &[Ask],
+)
     requires limit { length orders.old.items + length asks.now ≤ 1000000 }
     requires orders_room { length orders.old.items + length asks.now ≤ vec_capacity orders.old }
     requires moved_room { length moved.old.items + length asks.now ≤ vec_capacity moved.old }
     ensures orders { let next = length orders.old.items + 1 in
-        orders.new.items ≡ orders.old.items ++ numbered next asks.now }
+        orders.new.items ≡ orders.old.items ++ numbered next cycle.now asks.now }
     ensures moved { moved.new.items ≡ moved.old.items ++ replicate (length asks.now) None }
     ensures orders_capacity { vec_capacity orders.new ≡ vec_capacity orders.old }
     ensures moved_capacity { vec_capacity moved.new ≡ vec_capacity moved.old }
 {
     for ask in asks {
         let number = MoveNo::of_place(orders.len());
-        orders.push_reserved(Order::from_ask(number, ask));
+        orders.push_reserved(Order::from_ask(number, *cycle, ask));
         moved.push_reserved(None);
     }
 }

@@ -11,9 +11,14 @@ mod fields;
 mod number;
 mod open_shares;
 mod order;
+mod version;
 
 pub use asked::Asked;
 pub use book::{Confirm, IssueFault, OrderBook};
-pub use fields::{ORDER_FIELDS_SIZE, REPLY_FIELDS_SIZE};
+pub use fields::{
+    CYCLE_SIZE, DAY_SIZE, MAX_ORDER_SIZE, MIN_ORDER_SIZE, REPLY_SIZE, cycle_bytes, day_bytes,
+    read_cycle, read_day,
+};
 pub use number::MoveNo;
 pub use order::{Ask, MoveKind, Order, Reply};
+pub use version::Version;

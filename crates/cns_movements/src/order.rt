@@ -1,9 +1,11 @@
 ghost use Rattle.std.specs.Prelude.{◌≡◌, ◌↔◌, IsTrue, Some};
-ghost use Rattle.cns_movements.specs.Order.{kind_text, order_from, same_order, IsSameOrder};
+ghost use Rattle.cns_movements.specs.Order.{kind_text, order_from, agrees_with, cycles_agree, AgreesWith};
+ghost use Rattle.cns_movements.specs.Fields.{version_of};
 
 use crate::asked::Asked;
 use crate::number::MoveNo;
-use cns_ids::{Cusip, MemberNo, Shares};
+use crate::version::Version;
+use cns_ids::{Cusip, CycleId, MemberNo, Shares};
 use std::fmt;
 
 /// Which way the shares of a movement go. (This project's own rule.)
@@ -44,23 +46,36 @@ pub struct Ask {
     pub asked: Asked,
 }
 
-/// A movement order.
+/// A movement order. Its cycle is the last one that the clearing node had run as it made the order;
+/// the orders that it made before orders had cycles have none.
 #[derive(Clone, Copy, PartialEq, Eq, Debug)]
 pub struct Order {
     pub number: MoveNo,
+    pub cycle: Option<CycleId>,
     pub kind: MoveKind,
     pub member: MemberNo,
     pub issue: Cusip,
     pub asked: Asked,
 }
 
+// Whether two orders' cycles are the same, or one of them is missing.
+fn cycles_agree(a: Option<CycleId>, b: Option<CycleId>) -> bool
+    ensures { result ≡ cycles_agree a b }
+{
+    match (a, b) {
+        (Some(a), Some(b)) => a == b,
+        _ => true,
+    }
+}
+
 impl Order {
-    /// The order that has this number and asks for what the ask does.
-    pub fn from_ask(number: MoveNo, ask: &Ask) -> Order
-        ensures { result ≡ order_from number ask.now }
+    /// The order that has this number and cycle and asks for what the ask does.
+    pub fn from_ask(number: MoveNo, cycle: Option<CycleId>, ask: &Ask) -> Order
+        ensures { result ≡ order_from number cycle ask.now }
     {
         Order {
             number,
+            cycle,
             kind: ask.kind,
             member: ask.member,
             issue: ask.issue,
@@ -68,13 +83,31 @@ impl Order {
         }
     }
 
-    /// Whether both are the same order: all that one says the other says too. (This project's own
-    /// rule.)
-    pub fn is_same(&self, other: &Order) -> bool
-        ensures test { result ≡ same_order self.now other.now }
-        ensures same { IsTrue result ↔ IsSameOrder self.now other.now }
+    /// Whether the orders agree: all other fields are the same, and so are their cycles, or one of
+    /// them has none. (This project's own rule.)
+    ///
+    /// An order without a cycle agrees with two that have different ones.
+    pub fn agrees_with(&self, other: &Order) -> bool
+        ensures test { result ≡ agrees_with self.now other.now }
+        ensures agrees { IsTrue result ↔ AgreesWith self.now other.now }
     {
-        self == other
+        self.number == other.number
+            && self.kind == other.kind
+            && self.member == other.member
+            && self.issue == other.issue
+            && self.asked == other.asked
+            && cycles_agree(self.cycle, other.cycle)
+    }
+
+    /// The version that it is written in: the second where it has a cycle, else the first. (This
+    /// project's own format.)
+    pub fn version(&self) -> Version
+        ensures { result ≡ version_of self.now }
+    {
+        match self.cycle {
+            None => Version::One,
+            Some(_) => Version::Two,
+        }
     }
 }
 

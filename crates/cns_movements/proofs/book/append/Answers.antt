@@ -8,7 +8,7 @@ loop-ask-preserved c =
     let within : c.loop-ask.ask-index < length c.args.asks.now = omega arith in
     record {
       orders = rw (c.push_reserved.ensures.items, c.from_ask.ensures, c.loop-ask.invariant.orders)
-          (numbered_push c.args.orders.now.items c.args.asks.now c.loop-ask.ask-index c.ask-item.result c.of_place-number.result within c.ask-item.is (omega arith));
+          (numbered_push c.args.orders.now.items c.args.cycle.now c.args.asks.now c.loop-ask.ask-index c.ask-item.result c.of_place-number.result within c.ask-item.is (omega arith));
       moved = rw (c.push_reserved-in-loop-ask.ensures.items, c.loop-ask.invariant.moved)
           (append_assoc c.args.moved.now.items _ _ ∙ ap (λ l. c.args.moved.now.items ++ l) (replicate_more c.loop-ask.ask-index None));
       orders_capacity = grind arith;

@@ -19,9 +19,9 @@ invariant_of-self-2 c =
     let adds = λ (k : MoveKind) (m i : ℕ). c.ask_all.ensures.shares k m i ∙ ap (λ n. n + asked_by k m i c.args.asks.now) (room.shares k m i) in
     rw (c.append.ensures.orders, c.append.ensures.moved, room.orders, room.moved)
     (record {
-      stored = stored_asks _ c.self.inside.moved.items c.args.asks.now stored (omega arith);
+      stored = stored_asks _ c.self.inside.moved.items c.args.cycle c.args.asks.now stored (omega arith);
       settled_first = settled_by_asks _ _ _ c.self.invariant.settled_first;
-      summed = open_ordered (open_in c.self.inside.sums) (open_in c.ask_all.new.sums) _ c.args.asks.now stored.lawful c.self.invariant.summed adds c.ask_all.ensures.most;
+      summed = open_ordered (open_in c.self.inside.sums) (open_in c.ask_all.new.sums) _ c.args.cycle c.args.asks.now stored.lawful c.self.invariant.summed adds c.ask_all.ensures.most;
     })
 
 pub returns-clause-order_room : goal.returns-clause-order_room

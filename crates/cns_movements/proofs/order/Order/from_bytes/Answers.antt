@@ -1,12 +1,33 @@
-use Rattle.std.proofs.Common.{◌≡◌, Some, rules}
-use Rattle.cns_movements.specs.Fields.{read_order}
+use Rattle.std.proofs.Common.{◌≡◌, ℕ, List, Option, Some, None, arith}
+use Rattle.std.specs.Prelude.{IfSome}
+use Rattle.cns_movements.specs.Fields.{order_bytes, version_of}
+use Rattle.cns_movements.specs.Ranges.{IsOrderInRange}
+use Rattle.cns_movements.specs.declared.order.MoveKind.{MoveKind}
 use Rattle.cns_movements.specs.declared.order.Order.{Order}
-use Rattle.cns_movements.proofs.FieldLemmas.{read_order-spelled}
+use Rattle.cns_movements.specs.declared.version.Version.{Version}
+use Rattle.cns_movements.proofs.FieldLemmas.{IsOrderIn, order_spelled}
 use Rattle.cns_movements.proofs.order.Order.from_bytes.Goals as goal
 
+text_of : (version : Version) (kind : MoveKind) (bytes : List ℕ) (r : Option Order) → IfSome r (IsOrderIn version kind bytes) → IfSome r (λ o. order_bytes o ≡ bytes)
+text_of version kind bytes None is = tt
+text_of version kind bytes (Some o) is = is.text
+
+its_version : (version : Version) (kind : MoveKind) (bytes : List ℕ) (r : Option Order) → IfSome r (IsOrderIn version kind bytes) → IfSome r (λ o. version_of o ≡ version)
+its_version version kind bytes None is = tt
+its_version version kind bytes (Some o) is = is.version_is
+
+ranges_of : (version : Version) (kind : MoveKind) (bytes : List ℕ) (r : Option Order) → IfSome r (IsOrderIn version kind bytes) → IfSome r IsOrderInRange
+ranges_of version kind bytes None is = tt
+ranges_of version kind bytes (Some o) is = is.in_range
+
 pub returns-clause-spelled : goal.returns-clause-spelled
-unfolding read_order
 returns-clause-spelled c =
-    let order : Order = record { number = c.in_ok-new.field-0; kind = c.args.kind; member = c.in_ok-new-2.field-0; issue = c.in-Ok.issue; asked = c.in_ok-new-3.field-0 } in
-    let read : read_order c.args.kind c.args.bytes.now ≡ Some order = search rules in
-    (read_order-spelled c.args.kind c.args.bytes.now order (search rules) (search rules) read).text
+    text_of _ _ _ _ (order_spelled c.args.version c.args.kind c.args.bytes.now c.order_in.result c.requires (λ i. omega (arith, c.type_inv.bytes i)) c.order_in.ensures)
+
+pub returns-clause-version : goal.returns-clause-version
+returns-clause-version c =
+    its_version _ _ _ _ (order_spelled c.args.version c.args.kind c.args.bytes.now c.order_in.result c.requires (λ i. omega (arith, c.type_inv.bytes i)) c.order_in.ensures)
+
+pub returns-clause-ranges : goal.returns-clause-ranges
+returns-clause-ranges c =
+    ranges_of _ _ _ _ (order_spelled c.args.version c.args.kind c.args.bytes.now c.order_in.result c.requires (λ i. omega (arith, c.type_inv.bytes i)) c.order_in.ensures)
