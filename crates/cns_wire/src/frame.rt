@@ -1,8 +1,5 @@
-use cns_movements::{ORDER_FIELDS_SIZE, Order, REPLY_FIELDS_SIZE, Reply};
+use cns_movements::{Order, REPLY_SIZE as REPLY_FIELDS_SIZE, Reply};
 use thiserror::Error;
-
-/// How many bytes the frame of an order has.
-pub const ORDER_SIZE: usize = HEADER_SIZE + ORDER_FIELDS_SIZE;
 
 /// How many bytes the frame of a reply has.
 pub const REPLY_SIZE: usize = HEADER_SIZE + REPLY_FIELDS_SIZE;
@@ -10,8 +7,6 @@ pub const REPLY_SIZE: usize = HEADER_SIZE + REPLY_FIELDS_SIZE;
 // A frame begins with the magic bytes, the version and the kind. Behind this header stand the fields of
 // the order or the reply.
 pub(crate) const MAGIC: [u8; 2] = *b"CD";
-
-pub(crate) const VERSION: u8 = 1;
 
 // The kinds of frames.
 pub(crate) const COVER: u8 = 1;
@@ -46,10 +41,10 @@ pub enum FrameFault {
     /// The bytes do not begin as a frame does.
     #[error("not a frame")]
     Magic,
-    /// The frame has another version.
+    /// The frame's version is neither 1 nor 2.
     #[error("the frame's version is not known")]
     Version,
-    /// The kind is neither that of an order nor that of a reply.
+    /// The kind is neither that of an order nor, in version 1, that of a reply.
     #[error("the frame's kind is not known")]
     Kind,
     /// Bytes stand after the frame.

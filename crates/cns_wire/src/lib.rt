@@ -8,7 +8,7 @@ mod read;
 mod wire;
 mod write;
 
-pub use frame::{Frame, FrameFault, ORDER_SIZE, REPLY_SIZE};
+pub use frame::{Frame, FrameFault, REPLY_SIZE};
 pub use frame_bytes::{FrameBytes, MAX_PACKET_SIZE};
 pub use read::read_frame;
 pub use wire::Wire;
