@@ -7,7 +7,6 @@ use Rattle.std.proofs.lemmas.Bool.{eqb-true, eqb-false, ne_eqb, not-true, leb-tr
 use Rattle.cns_ids.specs.Cusip.{IsCusip, cusip_text}
 use Rattle.cns_ids.specs.Shares.{IsShares}
 use Rattle.cns_trades.specs.TradeId.{IsId}
-use Rattle.cns_ids.specs.declared.cycle.CycleKind.TheVariants.{Night, Day}
 use Rattle.std.proofs.lemmas.Bool.Decides.{nat_tests}
 use Rattle.std.proofs.lemmas.List.{append_assoc, length-append}
 use Rattle.cns_trades.specs.declared.trade.Trade.{Trade}
@@ -17,22 +16,24 @@ use Rattle.cns_records.specs.declared.clear_record.ClearRecord.TheVariants.{Acce
 use Rattle.cns_journal.specs.declared.record_log.RecordFault.{RecordFault}
 use Rattle.cns_journal.specs.declared.record_log.RecordFault.TheVariants as fault
 use Rattle.cns_records.specs.declared.allocation.Allocation.{Allocation}
-use Rattle.cns_records.specs.Fields.{bad, ◌&◌, whole_at, id_bytes, day_bytes, flag_bytes, cycle_kind_bytes, member_at, issue_at, shares_at, flag_at, day_at, cycle_kind_at, reply_at}
+use Rattle.cns_records.specs.Fields.{bad, ◌&◌, whole_at, id_bytes, flag_bytes, member_at, issue_at, shares_at, flag_at, cycle_at, reply_at}
 use Rattle.cns_records.specs.Clear.{spelling, IsTradeInRange, IsAllocationInRange, HasRanges, IsWritable, HasPayload, trade_at, entry_at, lot_at, allocation_of, allocate_of, read_clear_of, ReadsAs}
 use Rattle.cns_records.specs.Clear as clear
 use Rattle.cns_records.specs.Drawn.{drawn_bytes, drawn_of, AnswersIfRoom}
-use Rattle.cns_movements.specs.Fields.{reply_bytes}
+use Rattle.cns_movements.specs.Fields.{cycle_bytes, day_bytes, reply_bytes}
+use Rattle.cns_movements.specs.declared.version.Version.{Version}
+use Rattle.cns_movements.specs.declared.version.Version.TheVariants.{One, Two}
 use Rattle.cns_movements.proofs.BytesLemmas.{IsBytes}
 use Rattle.cns_records.proofs.FieldLemmas.{bind_ok, ok_value, chosen, done, ok_is, IsField, step, chain, both_field, made_field, tested_field, told_field, number_field, wide64}
-use Rattle.cns_records.proofs.FieldLaws.{id_field, day_field, member_field, issue_field, quantity_field, shares_field, flag_field, cycle_kind_field, reply_field}
+use Rattle.cns_records.proofs.FieldLaws.{id_field, day_field, cycle_field, member_field, issue_field, quantity_field, shares_field, flag_field, reply_field}
 use Rattle.cns_records.proofs.RecordLemmas.{Spells, IsKind, IsOfKind, of_kind, no_kind, or_kind, whole_takes, whole_again, payload_takes}
 use Rattle.cns_records.proofs.DrawnLaws.{drawn_takes, drawn_again, tickets_length}
 
 id_short : (id : List ℕ) → IsId id → length id ≤ 16
 id_short id is = grind (arith, nat_tests)
 
-cycle_short : (id : CycleId) → length (1 ∷ 4 ∷ (day_bytes id.day ++ cycle_kind_bytes id.kind)) ≤ 1048576
-cycle_short id = elim id.kind as (λ kind. length (1 ∷ 4 ∷ (day_bytes id.day ++ cycle_kind_bytes kind)) ≤ 1048576) [ Night ↦ lit≤ tt | Day ↦ lit≤ tt ]
+cycle_short : (id : CycleId) → length (1 ∷ 4 ∷ cycle_bytes id) ≤ 1048576
+cycle_short id = lit≤ tt
 
 flag_length : (on : Bool) → length (flag_bytes on) ≡ 1
 flag_length false = refl
@@ -59,31 +60,31 @@ trade_field =
     (λ t is. (refl, (is.id, (is.settle, (is.buyer, (is.seller, (is.issue, is.quantity))))))) in
     tested_field trade _ _ (λ t is differ. (is, eqb-false _ _ (not-true _ differ))) (λ t is. (is.0, ap not (ne_eqb t.buyer t.seller is.1)))
 
-accept_kind : IsKind spelling HasPayload 1 trade_at (λ t. Accept t)
+accept_kind : IsKind spelling HasPayload One 1 trade_at (λ t. Accept t)
 unfolding spelling
-accept_kind = record { fields = trade_field; spelled = λ t. refl }
+accept_kind = record { fields = trade_field; spelled = λ t fits. refl }
 
-exempt_kind : IsKind spelling HasPayload 2 (member_at & issue_at & shares_at) (λ x. Exempt x.0 x.1.0 x.1.1)
+exempt_kind : IsKind spelling HasPayload One 2 (member_at & issue_at & shares_at) (λ x. Exempt x.0 x.1.0 x.1.1)
 unfolding spelling
 exempt_kind =
     let fields = both_field member_field (both_field issue_field shares_field) in
-    record { fields = told_field fields (λ x f. ((f.0, f.1.0, f.1.1), tt)) (λ x p. (p.0.0, (p.0.1, p.0.2))); spelled = λ x. refl }
+    record { fields = told_field fields (λ x f. ((f.0, f.1.0, f.1.1), tt)) (λ x p. (p.0.0, (p.0.1, p.0.2))); spelled = λ x fits. refl }
 
-priority_kind : IsKind spelling HasPayload 3 (member_at & issue_at & flag_at) (λ x. Priority x.0 x.1.0 x.1.1)
+priority_kind : IsKind spelling HasPayload One 3 (member_at & issue_at & flag_at) (λ x. Priority x.0 x.1.0 x.1.1)
 unfolding spelling
 priority_kind =
     let fields = both_field member_field (both_field issue_field flag_field) in
-    record { fields = told_field fields (λ x f. ((f.0, f.1.0), tt)) (λ x p. (p.0.0, (p.0.1, tt))); spelled = λ x. refl }
+    record { fields = told_field fields (λ x f. ((f.0, f.1.0), tt)) (λ x p. (p.0.0, (p.0.1, tt))); spelled = λ x fits. refl }
 
-cycle_kind : IsKind spelling HasPayload 4 (day_at & cycle_kind_at) (λ id. Cycle (record { day = id.0; kind = id.1 }))
+cycle_kind : IsKind spelling HasPayload One 4 cycle_at (λ id. Cycle id)
 unfolding spelling
-cycle_kind = let fields = both_field day_field cycle_kind_field in record { fields = told_field fields (λ x f. (f.0, tt)) (λ x p. (p.0, tt)); spelled = λ x. refl }
+cycle_kind = record { fields = told_field cycle_field (λ id f. (f, tt)) (λ id p. p.0); spelled = λ id fits. refl }
 
-confirm_kind : IsKind spelling HasPayload 6 reply_at (λ r. Confirm r)
+confirm_kind : IsKind spelling HasPayload One 6 reply_at (λ r. Confirm r)
 unfolding spelling
-confirm_kind = record { fields = told_field reply_field (λ r f. (f, tt)) (λ r p. p.0); spelled = λ r. refl }
+confirm_kind = record { fields = told_field reply_field (λ r f. (f, tt)) (λ r p. p.0); spelled = λ r fits. refl }
 
-entry_kind : (kind : ℕ) → IsOfKind spelling HasPayload kind (entry_at kind)
+entry_kind : (kind : ℕ) → IsOfKind spelling HasPayload One kind (entry_at kind)
 unfolding entry_at
 entry_kind kind = or_kind 1 (of_kind accept_kind) (or_kind 2 (of_kind exempt_kind) (or_kind 3 (of_kind priority_kind) (or_kind 4 (of_kind cycle_kind) (or_kind 6 (of_kind confirm_kind) no_kind))))
 
@@ -102,7 +103,7 @@ allocation_spelled : (a : Allocation) → spelling (Allocate a) ≡ 1 ∷ 5 ∷ 
 unfolding spelling
 allocation_spelled a = simp append_assoc
 
-allocation_takes : (bytes : List ℕ) (a : Allocation) → IsBytes bytes → allocation_of bytes ≡ Ok a → Spells spelling HasPayload 5 bytes (Allocate a)
+allocation_takes : (bytes : List ℕ) (a : Allocation) → IsBytes bytes → allocation_of bytes ≡ Ok a → Spells spelling HasPayload One 5 bytes (Allocate a)
 unfolding allocation_of
 allocation_takes bytes a fits e =
     let lot = step lot_field bytes _ a fits e in
@@ -113,16 +114,18 @@ allocation_takes bytes a fits e =
     let allocation : Allocation = record { issue = x.0; opened = x.1.0; upto = x.1.1.0; poured = x.1.1.1.0; sealed = x.1.1.1.1; drawn = drawn.0 } in
     let ranges : IsAllocationInRange allocation = record { issue = f.0; opened = f.1.0; upto = f.1.1.0; poured = f.1.1.1.0; drawn = d.1 } in
     let spelled = allocation_spelled allocation ∙ ap (λ (t : List ℕ). 1 ∷ 5 ∷ t) (sym (chain (lot_bytes x) lot.parts d.0)) in
-    subst (λ (b : Allocation). Spells spelling HasPayload 5 bytes (Allocate b)) (ok_is allocation a drawn.2) (spelled, (ranges, (lot.fits.1, d.2)))
+    subst (λ (b : Allocation). Spells spelling HasPayload One 5 bytes (Allocate b)) (ok_is allocation a drawn.2) (spelled, (ranges, (lot.fits.1, d.2)))
 
 -- ---- a payload
 
-kind_takes : (kind : ℕ) (bytes : List ℕ) (r : ClearRecord) → IsBytes bytes → clear.of_kind kind bytes ≡ Ok r → Spells spelling HasPayload kind bytes r
-kind_takes kind bytes r fits e = elim (chosen (kind == 5) (allocate_of bytes) (whole_at (entry_at kind) bytes) (Ok r) e) [
+kind_takes : (version : Version) (kind : ℕ) (bytes : List ℕ) (r : ClearRecord) → IsBytes bytes → clear.of_kind version kind bytes ≡ Ok r
+    → Spells spelling HasPayload version kind bytes r
+kind_takes Two kind bytes r fits e = absurd cc
+kind_takes One kind bytes r fits e = elim (chosen (kind == 5) (allocate_of bytes) (whole_at (entry_at kind) bytes) (Ok r) e) [
   | inl f ↦
       let a = bind_ok (allocation_of bytes) _ r f.1 in
-      subst (λ (k : ℕ). Spells spelling HasPayload k bytes r) (sym (eqb-true kind 5 f.0))
-      (subst (Spells spelling HasPayload 5 bytes) (ok_is (Allocate a.0) r a.2) (allocation_takes bytes a.0 fits a.1))
+      subst (λ (k : ℕ). Spells spelling HasPayload One k bytes r) (sym (eqb-true kind 5 f.0))
+      (subst (Spells spelling HasPayload One 5 bytes) (ok_is (Allocate a.0) r a.2) (allocation_takes bytes a.0 fits a.1))
   | inr f ↦ whole_takes (entry_kind kind) bytes r fits f.1
 ]
 
@@ -144,7 +147,7 @@ unfolding read_clear_of spelling entry_at allocation_of
 read-spelling (Accept t) fits differ = whole_again accept_kind t (fits, differ)
 read-spelling (Exempt m i s) fits u = whole_again exempt_kind (m, (i, s)) (fits, u)
 read-spelling (Priority m i on) fits u = whole_again priority_kind (m, (i, on)) (fits, u)
-read-spelling (Cycle id) fits u = whole_again cycle_kind (id.day, id.kind) (fits, u)
+read-spelling (Cycle id) fits u = whole_again cycle_kind id (fits, u)
 read-spelling (Allocate a) fits writable =
     let lot = lot_field.again (a.issue, (a.opened, (a.upto, (a.poured, a.sealed)))) (drawn_bytes a.drawn) ((fits.issue, (fits.opened, (fits.upto, (fits.poured, tt)))), writable.0) in
     ap read_clear_of (allocation_spelled a) ∙ rw (lot, drawn_again a.drawn fits.drawn writable.1) refl

@@ -1,45 +1,58 @@
 -- The two laws of the depository's records: what is read is spelled so, and what is spelled so is read.
 -- With them: no two records are spelled alike.
-use Rattle.std.proofs.Common.{◌≡◌, ℕ, ◌≤◌, List, ◌++◌, length, Result, Ok, Err, refl, sym, ap, subst, ◌∙◌, inl, inr, lit≤}
+use Rattle.std.proofs.Common.{◌≡◌, ℕ, ◌≤◌, List, ◌∷◌, ◌++◌, length, Result, Ok, Err, refl, sym, ap, subst, ◌∙◌, inl, inr, arith, lit≤}
 use Rattle.std.specs.Prelude.{IfOk, ◌==◌, nat_le}
 use Rattle.std.specs.Int.{w64, to_be_bytes}
 use Rattle.std.proofs.lemmas.Bool.{eqb-true, leb-true, le-leb}
-use Rattle.std.proofs.lemmas.List.{append_assoc}
-use Rattle.cns_movements.specs.Fields.{order_bytes}
+use Rattle.std.proofs.lemmas.List.{append_assoc, length-append}
+use Rattle.cns_movements.specs.Fields.{order_bytes, order_size, version_byte, version_of}
 use Rattle.cns_movements.specs.declared.order.MoveKind.{MoveKind}
 use Rattle.cns_movements.specs.declared.order.MoveKind.TheVariants.{Cover, Delivery}
-use Rattle.cns_movements.specs.declared.order.Order.{Order}
+use Rattle.cns_movements.specs.declared.version.Version.{Version}
+use Rattle.cns_movements.specs.declared.version.Version.TheVariants.{One, Two}
 use Rattle.cns_records.specs.declared.bad_record.BadRecord.{BadRecord}
 use Rattle.cns_records.specs.declared.dep_record.DepRecord.{DepRecord}
 use Rattle.cns_records.specs.declared.dep_record.DepRecord.TheVariants.{Exec}
 use Rattle.cns_records.specs.Fields.{bad, ◌&◌, tested_at, order_at, shares_at, move_kind_bytes}
 use Rattle.cns_records.specs.Dep.{dep_spelling, HasDepRanges, IsDepWritable, HasDepPayload, exec_of, dep_of_kind, read_dep_of}
 use Rattle.cns_movements.proofs.BytesLemmas.{IsBytes}
+use Rattle.cns_movements.proofs.FieldLemmas.{length-order_bytes}
 use Rattle.cns_records.proofs.FieldLemmas.{chosen, done, ok_is, both_field, spelled_field, tested_field}
 use Rattle.cns_records.proofs.FieldLaws.{order_field, shares_field}
-use Rattle.cns_records.proofs.RecordLemmas.{after_kind, Spells, IsKind, of_kind, whole_takes, whole_again, payload_takes}
+use Rattle.cns_records.proofs.RecordLemmas.{after_kind, Spells, IsKind, of_kind, whole_takes, whole_again, payload_of, payload_takes}
 
-exec_kind : IsKind dep_spelling HasDepPayload 7 (tested_at (order_at & shares_at) (λ x. nat_le x.1 x.0.asked)) (λ x. Exec x.0 x.1)
+-- a record with a payload, whose order is written in this version
+abbrev IsExec : Version → DepRecord → Type 0
+IsExec version (Exec o moved) = HasDepPayload (Exec o moved) × (version_of o ≡ version)
+
+exec_kind : (version : Version) → IsKind dep_spelling (IsExec version) version 7 (tested_at (order_at version & shares_at) (λ x. nat_le x.1 x.0.asked)) (λ x. Exec x.0 x.1)
 unfolding dep_spelling
-exec_kind =
-    let executed = both_field order_field shares_field in
+exec_kind version =
+    let executed = both_field (order_field version) shares_field in
     let spelled = spelled_field executed (λ x. after_kind (dep_spelling (Exec x.0 x.1))) (λ x. simp append_assoc) in
     record {
-      fields = tested_field spelled _ _ (λ x f le. ((f.0, f.1), leb-true _ _ le)) (λ x p. ((p.0.0, p.0.1), le-leb _ _ p.1));
-      spelled = λ x. refl;
+      fields = tested_field spelled _ _ (λ x f le. (((f.0.0, f.1), leb-true _ _ le), f.0.1)) (λ x p. (((p.0.0.0, p.1), p.0.0.1), le-leb _ _ p.0.1));
+      spelled = λ x fits. ap (λ (v : Version). version_byte v ∷ 7 ∷ after_kind (dep_spelling (Exec x.0 x.1))) fits.1;
     }
 
-kind_takes : (kind : ℕ) (bytes : List ℕ) (r : DepRecord) → IsBytes bytes → dep_of_kind kind bytes ≡ Ok r → Spells dep_spelling HasDepPayload kind bytes r
+payload : (version : Version) (r : DepRecord) → IsExec version r → HasDepPayload r
+payload version (Exec o moved) is = is.0
+
+kind_takes : (version : Version) (kind : ℕ) (bytes : List ℕ) (r : DepRecord) → IsBytes bytes → dep_of_kind version kind bytes ≡ Ok r
+    → Spells dep_spelling HasDepPayload version kind bytes r
 unfolding exec_of
-kind_takes kind bytes r fits e = elim (chosen (kind == 7) (exec_of bytes) bad (Ok r) e) [
-  | inl f ↦ subst (λ (k : ℕ). Spells dep_spelling HasDepPayload k bytes r) (sym (eqb-true kind 7 f.0)) (whole_takes (of_kind exec_kind) bytes r fits f.1)
+kind_takes version kind bytes r fits e = elim (chosen (kind == 7) (exec_of version bytes) bad (Ok r) e) [
+  | inl f ↦
+      let s = whole_takes (of_kind (exec_kind version)) bytes r fits f.1 in
+      subst (λ (k : ℕ). Spells dep_spelling HasDepPayload version k bytes r) (sym (eqb-true kind 7 f.0)) (s.0, payload version r s.1)
   | inr f ↦ absurd cc
 ]
 
 -- A record with its ranges is read again, where it is writable.
 pub dep_read-spelling : (r : DepRecord) → HasDepRanges r → IsDepWritable r → read_dep_of (dep_spelling r) ≡ Ok r
 unfolding read_dep_of dep_spelling exec_of
-dep_read-spelling (Exec o moved) fits writable = whole_again exec_kind (o, moved) (fits, writable)
+dep_read-spelling (Exec o moved) fits writable =
+    payload_of dep_of_kind (version_of o) 7 (after_kind (dep_spelling (Exec o moved))) ∙ whole_again (exec_kind (version_of o)) (o, moved) ((fits, writable), refl)
 
 -- what read answers
 pub is_spelled : (bytes : List ℕ) (r : Result DepRecord BadRecord) → IsBytes bytes → r ≡ read_dep_of bytes → IfOk r (λ v. (dep_spelling v ≡ bytes) × IsDepWritable v)
@@ -48,14 +61,26 @@ is_spelled bytes (Ok v) fits e = let t = payload_takes dep_spelling HasDepPayloa
 is_spelled bytes (Err f) fits e = tt
 
 -- how long a payload is
-short_from_kind : (kind : MoveKind) (o : Order) (moved : ℕ) → length (move_kind_bytes kind ++ (order_bytes o ++ to_be_bytes w64 moved)) ≡ 36
-unfolding order_bytes
-short_from_kind Cover o moved = refl
-short_from_kind Delivery o moved = refl
+one_byte : (kind : MoveKind) → length (move_kind_bytes kind) ≡ 1
+one_byte Cover = refl
+one_byte Delivery = refl
+
+few_bytes : (version : Version) → order_size version ≤ 32
+few_bytes One = lit≤ tt
+few_bytes Two = lit≤ tt
 
 pub dep_spelling_short : (r : DepRecord) → length (dep_spelling r) ≤ 1048576
 unfolding dep_spelling
-dep_spelling_short (Exec o moved) = rw (short_from_kind o.kind o moved) (lit≤ tt)
+dep_spelling_short (Exec o moved) =
+    let last = to_be_bytes w64 moved in
+    omega (
+      arith,
+      length-append (move_kind_bytes o.kind) (order_bytes o ++ last),
+      length-append (order_bytes o) last,
+      one_byte o.kind,
+      length-order_bytes o,
+      few_bytes (version_of o),
+    )
 
 -- No two records are spelled alike.
 pub dep_spelling_injective : (a b : DepRecord) → HasDepPayload a → HasDepPayload b → dep_spelling a ≡ dep_spelling b → a ≡ b

@@ -1,28 +1,27 @@
 -- Each field of a payload: what is read is what was written, and the other way round.
-use Rattle.std.proofs.Common.{◌≡◌, ℕ, ◌/◌, ◌%◌, ◌<◌, ◌≤◌, true, false, List, [], ◌∷◌, ◌++◌, length, Result, Ok, Err, refl, sym, ap, subst, ◌∙◌, arith}
+use Rattle.std.proofs.Common.{◌≡◌, ℕ, ◌<◌, ◌≤◌, true, false, List, ◌∷◌, ◌++◌, length, Result, Ok, Err, refl, sym, ap, subst, ◌∙◌, arith}
 use Rattle.std.specs.Prelude.{◌&&◌, nat_le, Option, None, Some}
 use Rattle.std.specs.Int.{Width, w16, w64, to_be_bytes}
 use Rattle.std.proofs.lemmas.Bool.Decides.{nat_tests}
 use Rattle.cns_ids.specs.Cusip.{IsCusip, cusip_text, read_cusip}
-use Rattle.cns_ids.specs.Day.{IsRealDay, IsDayNumber, is_real_day, number_of_day}
-use Rattle.cns_ids.specs.DayNumber.{year-number, month-number, day-number}
+use Rattle.cns_ids.specs.Day.{IsDayNumber}
 use Rattle.cns_ids.specs.Member.{IsMember}
 use Rattle.cns_ids.specs.Shares.{IsShares, is_shares, IsQuantity}
 use Rattle.cns_ids.specs.declared.cusip.CusipFault.{CusipFault}
-use Rattle.cns_ids.specs.declared.cycle.CycleKind.TheVariants.{Night, Day}
 use Rattle.cns_movements.specs.Asked.{IsAsked}
-use Rattle.cns_movements.specs.Fields.{order_bytes, read_order, read_reply, reply_bytes}
+use Rattle.cns_movements.specs.Fields.{cycle_bytes, day_bytes, order_bytes, order_size, read_cycle, read_day, read_order, read_reply, reply_bytes, version_of}
 use Rattle.cns_movements.specs.Ranges.{IsOrderInRange, IsReplyInRange}
 use Rattle.cns_movements.specs.declared.order.MoveKind.{MoveKind}
 use Rattle.cns_movements.specs.declared.order.Order.{Order}
 use Rattle.cns_movements.specs.declared.order.MoveKind.TheVariants.{Cover, Delivery}
+use Rattle.cns_movements.specs.declared.version.Version.{Version}
 use Rattle.cns_trades.specs.TradeId.{IsId, is_id_text}
-use Rattle.cns_records.specs.Fields.{◌&◌, byte_at, text_at, number_at, tested, tested_at, member_at, quantity_at, shares_at, asked_at, id_bytes, id_at, day_bytes, day_at, issue_from, issue_at, flag_bytes, flag_at, cycle_kind_bytes, cycle_kind_at, move_kind_bytes, move_kind_at, value_at, order_at, reply_at}
+use Rattle.cns_records.specs.Fields.{byte_at, text_at, number_at, tested, tested_at, member_at, quantity_at, shares_at, asked_at, id_bytes, id_at, day_at, cycle_at, issue_from, issue_at, flag_bytes, flag_at, move_kind_bytes, move_kind_at, value_at, order_at, reply_at}
 use Rattle.std.specs.Option.{ok_or}
 use Rattle.std.proofs.lemmas.List.{append_assoc}
 use Rattle.cns_movements.proofs.BytesLemmas.{IsBytes}
-use Rattle.cns_movements.proofs.FieldLemmas.{issue_read, length-order_bytes, length-reply_bytes, read_order-order_bytes, read_order-spelled, read_reply-reply_bytes, read_reply-spelled}
-use Rattle.cns_records.proofs.FieldLemmas.{bind_ok, chain, done, tested_ok, ok_is, Takes, IsField, IsWide, step, both_field, made_field, tested_field, told_field, byte_field, number_field, text_takes, text_again, wide16, wide64, one_field}
+use Rattle.cns_movements.proofs.FieldLemmas.{issue_read, length-order_bytes, length-reply_bytes, read_cycle-cycle_bytes, read_cycle-spelled, read_day-day_bytes, read_day-spelled, read_order-order_bytes, read_order-spelled, read_reply-reply_bytes, read_reply-spelled}
+use Rattle.cns_records.proofs.FieldLemmas.{bind_ok, chain, done, tested_ok, ok_is, Takes, IsField, IsWide, step, tested_field, told_field, byte_field, number_field, text_takes, text_again, wide16, wide64, one_field}
 
 -- ---- numbers
 
@@ -53,10 +52,6 @@ pub flag_field : IsField flag_at flag_bytes (λ _. Unit {0})
 unfolding flag_at byte_at
 flag_field = one_field 0 false 1 true flag_bytes (λ P p q x. elim x as (λ y. P y) [ false ↦ p | true ↦ q ]) refl refl (λ rest. refl) (λ rest. refl)
 
-pub cycle_kind_field : IsField cycle_kind_at cycle_kind_bytes (λ _. Unit {0})
-unfolding cycle_kind_at byte_at
-cycle_kind_field = one_field 0 Night 1 Day cycle_kind_bytes (λ P p q x. elim x as (λ y. P y) [ Night ↦ p | Day ↦ q ]) refl refl (λ rest. refl) (λ rest. refl)
-
 pub move_kind_field : IsField move_kind_at move_kind_bytes (λ _. Unit {0})
 unfolding move_kind_at byte_at
 move_kind_field = one_field 1 Cover 2 Delivery move_kind_bytes (λ P p q x. elim x as (λ y. P y) [ Cover ↦ p | Delivery ↦ q ]) refl refl (λ rest. refl) (λ rest. refl)
@@ -77,43 +72,6 @@ id_field = record { takes = takes; again = again } where
 
   again : (id rest : List ℕ) → IsId id → id_at (id_bytes id ++ rest) ≡ Ok (id, rest)
   again id rest is = rw (text_again (length id) id rest refl, is) refl
-
--- ---- dates
-
-is_real_day-sound : (y m d : ℕ) → is_real_day y m d ≡ true → IsRealDay y m d
-is_real_day-sound y m d h = record {
-  year_from = grind (arith, nat_tests);
-  year_to = grind (arith, nat_tests);
-  month_from = grind (arith, nat_tests);
-  month_to = grind (arith, nat_tests);
-  day_from = grind (arith, nat_tests);
-  day_to = grind (arith, nat_tests);
-}
-
-is_real_day-complete : (y m d : ℕ) → IsRealDay y m d → is_real_day y m d ≡ true
-is_real_day-complete y m d h = grind (arith, nat_tests)
-
-IsDayNumber-number : (y m d : ℕ) → IsRealDay y m d → IsDayNumber (number_of_day y m d)
-IsDayNumber-number y m d h = rw (year-number y m d h, month-number y m d h, day-number y m d h) h
-
-few_days : (y m d : ℕ) → IsRealDay y m d → d < 256
-few_days y m d h = let to = h.day_to in grind (arith, nat_tests)
-
--- a year, a month and a day that are a date
-real_field : IsField (tested_at (number_at w16 & byte_at & byte_at) (λ x. is_real_day x.0 x.1.0 x.1.1)) (λ x. to_be_bytes w16 x.0 ++ (x.1.0 ∷ []) ++ (x.1.1 ∷ [])) (λ x. IsRealDay x.0 x.1.0 x.1.1)
-real_field =
-    let parts = both_field (number_field wide16) (both_field byte_field byte_field) in
-    tested_field parts (λ x. is_real_day x.0 x.1.0 x.1.1) (λ x. IsRealDay x.0 x.1.0 x.1.1) (λ x fits passes. is_real_day-sound x.0 x.1.0 x.1.1 passes)
-    (λ x is. let year = is.year_to in let month = is.month_to in ((omega arith, (omega arith, few_days x.0 x.1.0 x.1.1 is)), is_real_day-complete x.0 x.1.0 x.1.1 is))
-
--- the number of a real day gives back its parts
-number_parts : (y m d : ℕ) → IsRealDay y m d → ◌≡◌ {A = ℕ × (ℕ × ℕ)} (number_of_day y m d / 10000, (number_of_day y m d / 100 % 100, number_of_day y m d % 100)) (y, (m, d))
-number_parts y m d h = rw (year-number y m d h, month-number y m d h, day-number y m d h) refl
-
-pub day_field : IsField day_at day_bytes IsDayNumber
-unfolding day_at
-day_field = made_field real_field (λ x. number_of_day x.0 x.1.0 x.1.1) (λ n. (n / 10000, (n / 100 % 100, n % 100))) IsDayNumber
-    (λ x is. (number_parts x.0 x.1.0 x.1.1 is, IsDayNumber-number x.0 x.1.0 x.1.1 is)) (λ n is. (omega arith, is))
 
 -- ---- issues
 
@@ -136,7 +94,7 @@ issue_field = record { takes = takes; again = again } where
   again : (n : ℕ) (rest : List ℕ) → IsCusip n → issue_at (cusip_text n ++ rest) ≡ Ok (n, rest)
   again n rest is = rw (text_again 9 (cusip_text n) rest refl, is.reads) refl
 
--- ---- orders and replies
+-- ---- values of so many bytes
 
 some_read : {A : Type 0} (r : Option A) (x : A) → ok_or r (record {}) ≡ done x → r ≡ Some x
 some_read None x e = absurd cc
@@ -159,28 +117,54 @@ value_field {A} size read bytes_of Fits sized spelled back = record { takes = ta
   again : (x : A) (rest : List ℕ) → Fits x → value_at size read (bytes_of x ++ rest) ≡ Ok (x, rest)
   again x rest fits = rw (text_again size (bytes_of x) rest (sized x), back x fits) refl
 
--- an order's fields but its kind
-order_fields : (kind : MoveKind) → IsField (value_at 27 (read_order kind)) order_bytes (λ o. IsOrderInRange o × (o.kind ≡ kind))
-order_fields kind = value_field 27 (read_order kind) order_bytes (λ o. IsOrderInRange o × (o.kind ≡ kind)) length-order_bytes
-    (λ bytes o size fits e. let is = read_order-spelled kind bytes o size fits e in (is.text, (is.in_range, is.kind_is)))
-    (λ o is. subst (λ (k : MoveKind). read_order k (order_bytes o) ≡ Some o) is.1 (read_order-order_bytes o is.0))
+pub day_field : IsField day_at day_bytes IsDayNumber
+unfolding day_at
+day_field = value_field 4 read_day day_bytes IsDayNumber (λ n. refl) (λ bytes n size fits e. let is = read_day-spelled bytes n size fits e in (is.text, is.real)) read_day-day_bytes
 
-pub order_field : IsField order_at (λ o. move_kind_bytes o.kind ++ order_bytes o) IsOrderInRange
-unfolding order_at
-order_field = record { takes = takes; again = again } where
-  takes : (bytes : List ℕ) (x : Order × List ℕ) → IsBytes bytes → order_at bytes ≡ Ok x → Takes bytes (move_kind_bytes x.0.kind ++ order_bytes x.0) x.1 × IsOrderInRange x.0
-  takes bytes x fits e =
-      let kind = step move_kind_field bytes (λ k. value_at 27 (read_order k.0) k.1) x fits e in
-      let o = (order_fields kind.value).takes kind.rest x kind.rest_fits kind.then in
-      let parts : bytes ≡ (move_kind_bytes kind.value ++ order_bytes x.0) ++ x.1 =
-      chain (move_kind_bytes kind.value) kind.parts o.0.parts ∙ sym (append_assoc (move_kind_bytes kind.value) (order_bytes x.0) x.1) in
-      (record { parts = subst (λ (k : MoveKind). bytes ≡ (move_kind_bytes k ++ order_bytes x.0) ++ x.1) (sym o.1.1) parts; rest_fits = o.0.rest_fits }, o.1.0)
-
-  again : (o : Order) (rest : List ℕ) → IsOrderInRange o → order_at ((move_kind_bytes o.kind ++ order_bytes o) ++ rest) ≡ Ok (o, rest)
-  again o rest fits =
-      rw (append_assoc (move_kind_bytes o.kind) (order_bytes o) rest, move_kind_field.again o.kind (order_bytes o ++ rest) tt, (order_fields o.kind).again o rest (fits, refl)) refl
+pub cycle_field : IsField cycle_at cycle_bytes (λ id. IsDayNumber id.day)
+unfolding cycle_at
+cycle_field = value_field 5 read_cycle cycle_bytes (λ id. IsDayNumber id.day) (λ id. refl)
+    (λ bytes id size fits e. let is = read_cycle-spelled bytes id size fits e in (is.text, is.real)) read_cycle-cycle_bytes
 
 pub reply_field : IsField reply_at reply_bytes IsReplyInRange
 unfolding reply_at
 reply_field = value_field 16 read_reply reply_bytes IsReplyInRange length-reply_bytes
     (λ bytes r size fits e. let is = read_reply-spelled bytes r size fits e in (is.text, is.in_range)) read_reply-reply_bytes
+
+-- ---- orders
+
+-- an order's range, and its version
+abbrev pub IsOrderOf : Version → Order → Type 0
+IsOrderOf version o = IsOrderInRange o × (version_of o ≡ version)
+
+-- the fields of an order of a version and a kind, but for the kind
+order_takes : (version : Version) (kind : MoveKind) (bytes : List ℕ) (x : Order × List ℕ) → IsBytes bytes → value_at (order_size version) (read_order version kind) bytes ≡ Ok x
+    → Takes bytes (order_bytes x.0) x.1 × IsOrderOf version x.0 × (x.0.kind ≡ kind)
+order_takes version kind bytes x fits e =
+    let a = bind_ok (text_at (order_size version) bytes) _ x e in
+    let t = text_takes (order_size version) bytes a.0 fits a.1 in
+    let r = bind_ok (ok_or (read_order version kind a.0.0) (record {})) _ x a.2 in
+    let is = read_order-spelled version kind a.0.0 r.0 t.1 t.2 (some_read (read_order version kind a.0.0) r.0 r.1) in
+    subst (λ (p : Order × List ℕ). Takes bytes (order_bytes p.0) p.1 × IsOrderOf version p.0 × (p.0.kind ≡ kind)) (ok_is (r.0, a.0.1) x r.2)
+    (record { parts = t.0.parts ∙ ap (λ (u : List ℕ). u ++ a.0.1) (sym is.text); rest_fits = t.0.rest_fits }, (is.in_range, is.version_is), is.kind_is)
+
+order_again : (o : Order) (rest : List ℕ) → IsOrderInRange o → value_at (order_size (version_of o)) (read_order (version_of o) o.kind) (order_bytes o ++ rest) ≡ Ok (o, rest)
+order_again o rest fits = rw (text_again (order_size (version_of o)) (order_bytes o) rest (length-order_bytes o), read_order-order_bytes o fits) refl
+
+pub order_field : (version : Version) → IsField (order_at version) (λ o. move_kind_bytes o.kind ++ order_bytes o) (IsOrderOf version)
+unfolding order_at
+order_field version = record { takes = takes; again = again } where
+  takes : (bytes : List ℕ) (x : Order × List ℕ) → IsBytes bytes → order_at version bytes ≡ Ok x → Takes bytes (move_kind_bytes x.0.kind ++ order_bytes x.0) x.1 × IsOrderOf version x.0
+  takes bytes x fits e =
+      let kind = step move_kind_field bytes (λ k. value_at (order_size version) (read_order version k.0) k.1) x fits e in
+      let o = order_takes version kind.value kind.rest x kind.rest_fits kind.then in
+      let parts : bytes ≡ (move_kind_bytes kind.value ++ order_bytes x.0) ++ x.1 =
+      chain (move_kind_bytes kind.value) kind.parts o.0.parts ∙ sym (append_assoc (move_kind_bytes kind.value) (order_bytes x.0) x.1) in
+      (record { parts = subst (λ (k : MoveKind). bytes ≡ (move_kind_bytes k ++ order_bytes x.0) ++ x.1) (sym o.2) parts; rest_fits = o.0.rest_fits }, o.1)
+
+  behind_kind : (v : Version) (o : Order) (rest : List ℕ) → version_of o ≡ v → IsOrderInRange o → value_at (order_size v) (read_order v o.kind) (order_bytes o ++ rest) ≡ Ok (o, rest)
+  behind_kind v o rest is fits = subst (λ (w : Version). value_at (order_size w) (read_order w o.kind) (order_bytes o ++ rest) ≡ Ok (o, rest)) is (order_again o rest fits)
+
+  again : (o : Order) (rest : List ℕ) → IsOrderOf version o → order_at version ((move_kind_bytes o.kind ++ order_bytes o) ++ rest) ≡ Ok (o, rest)
+  again o rest fits =
+      rw (append_assoc (move_kind_bytes o.kind) (order_bytes o) rest, move_kind_field.again o.kind (order_bytes o ++ rest) tt, behind_kind version o rest fits.1 fits.0) refl

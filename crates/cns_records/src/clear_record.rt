@@ -8,10 +8,10 @@ ghost use Rattle.cns_records.specs.Drawn.{AnswersIfRoom};
 
 use crate::allocation::Allocation;
 use crate::bad_record::BadRecord;
-use crate::fields::{DAY_CYCLE, Fields, NIGHT_CYCLE, VERSION, add_tickets, begin, day_bytes};
-use cns_ids::{Cusip, CycleId, CycleKind, MemberNo, Shares};
+use crate::fields::{Fields, VERSION, add_tickets, begin};
+use cns_ids::{Cusip, CycleId, MemberNo, Shares};
 use cns_journal::{Record, RecordFault};
-use cns_movements::Reply;
+use cns_movements::{Reply, cycle_bytes, day_bytes};
 use cns_trades::Trade;
 use std::alloc::{AllocError, Global};
 
@@ -161,14 +161,9 @@ fn add_cycle(payload: &mut Vec<u8>, id: &CycleId) -> Result<(), AllocError>
     ensures spelled { OnOk result (payload.new.items ≡ payload.old.items ++ spelling (ClearRecord.Cycle id.now)) }
     ensures ranges { HasRanges (ClearRecord.Cycle id.now) }
 {
-    let kind = match id.kind {
-        CycleKind::Night => NIGHT_CYCLE,
-        CycleKind::Day => DAY_CYCLE,
-    };
-    let day = day_bytes(id.day);
+    let fields = cycle_bytes(*id);
     begin(payload, &[VERSION, CYCLE])?;
-    payload.extend_from_slice(&day)?;
-    payload.extend_from_slice(&[kind])?;
+    payload.extend_from_slice(&fields)?;
     Ok(())
 }
 
@@ -241,10 +236,7 @@ fn take_entry(kind: u8, fields: &mut Fields) -> Result<ClearRecord, BadRecord>
             issue: fields.take_issue()?,
             on: fields.take_flag()?,
         }),
-        CYCLE => Ok(ClearRecord::Cycle(CycleId {
-            day: fields.take_day()?,
-            kind: fields.take_cycle_kind()?,
-        })),
+        CYCLE => Ok(ClearRecord::Cycle(fields.take_cycle()?)),
         CONFIRM => Ok(ClearRecord::Confirm(fields.take_reply()?)),
         _ => Err(BadRecord),
     }

@@ -2,10 +2,10 @@ ghost use Rattle.std.specs.Prelude.{◌≡◌, ◌≤◌, ◌++◌, length, IfOk
 ghost use Rattle.cns_records.specs.Dep.{dep_spelling, HasDepRanges, IsDepWritable, exec_of, read_dep_of};
 
 use crate::bad_record::BadRecord;
-use crate::fields::{COVER_ORDER, DELIVERY_ORDER, Fields, VERSION, begin};
+use crate::fields::{COVER_ORDER, DELIVERY_ORDER, Fields, begin};
 use cns_ids::Shares;
 use cns_journal::{Record, RecordFault};
-use cns_movements::{MoveKind, Order};
+use cns_movements::{MAX_ORDER_SIZE, MoveKind, Order, Version};
 use std::alloc::{AllocError, Global};
 
 // The kind of the record, as its payload tells it. The clearing node's kinds are below it.
@@ -21,9 +21,10 @@ pub enum DepRecord {
 impl DepRecord {
     /// The record's payload.
     ///
-    /// After version and kind stand, of `Exec`: the order's kind, 1 for a cover or 2 for a delivery
-    /// (1), its number (8), member (2), CUSIP (9) and asked shares (8), and the shares moved (8).
-    /// (This project's own format.)
+    /// The version is 1 for an order without a cycle and 2 for one with a cycle. After version and kind
+    /// stand, of `Exec`: the order's kind, 1 for a cover or 2 for a delivery (1), its number (8), in
+    /// version 2 its cycle (its date in 4, and 0 for night or 1 for day in 1), member (2), CUSIP (9) and
+    /// asked shares (8), and the shares moved (8). (This project's own format.)
     ///
     /// A record that moves more than was asked has a payload too, but `read` refuses it.
     pub fn write(&self, alloc: Global) -> Result<Vec<u8>, AllocError>
@@ -81,19 +82,22 @@ fn add_exec(payload: &mut Vec<u8>, order: &Order, moved: Shares) -> Result<(), A
         MoveKind::Cover => COVER_ORDER,
         MoveKind::Delivery => DELIVERY_ORDER,
     };
-    let fields = order.to_bytes();
+    let version = order.version();
+    let mut fields = [0; MAX_ORDER_SIZE];
+    let fields = &mut fields[..version.order_size()];
+    order.write_bytes(fields);
     let moved = moved.count().to_be_bytes();
-    begin(payload, &[VERSION, EXEC, kind])?;
-    payload.extend_from_slice(&fields)?;
+    begin(payload, &[version.byte(), EXEC, kind])?;
+    payload.extend_from_slice(fields)?;
     payload.extend_from_slice(&moved)?;
     Ok(())
 }
 
 #[tactic(auto, unfolding(crate::specs::Dep::exec_of))]
-fn read_exec(mut fields: Fields) -> Result<DepRecord, BadRecord>
-    ensures { result ≡ exec_of fields.entry }
+fn read_exec(version: Version, mut fields: Fields) -> Result<DepRecord, BadRecord>
+    ensures { result ≡ exec_of version fields.entry }
 {
-    let order = fields.take_order()?;
+    let order = fields.take_order(version)?;
     let moved = fields.take_shares()?;
     if !fields.is_at_end() || moved.count() > order.asked.shares() {
         return Err(BadRecord);
@@ -114,8 +118,9 @@ fn add_payload(payload: &mut Vec<u8>, entry: &DepRecord) -> Result<(), AllocErro
 fn record_of(payload: &[u8]) -> Result<DepRecord, BadRecord>
     ensures { result ≡ read_dep_of payload.now }
 {
-    match payload {
-        [VERSION, EXEC, fields @ ..] => read_exec(Fields::new(fields)),
-        _ => Err(BadRecord),
-    }
+    let [version, EXEC, fields @ ..] = payload else {
+        return Err(BadRecord);
+    };
+    let version = Version::of_byte(*version).ok_or(BadRecord)?;
+    read_exec(version, Fields::new(fields))
 }

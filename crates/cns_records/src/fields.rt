@@ -1,27 +1,23 @@
 //! The fields of a payload: how each is taken from its front, and the payload that they are added to.
-ghost use Rattle.std.specs.Prelude.{◌≡◌, ◌≤◌, ◌==◌, ◌++◌, IfOk, IsOk, OnOk, is_ok, length};
+ghost use Rattle.std.specs.Prelude.{◌≡◌, ◌≤◌, ◌==◌, ◌++◌, Ok, Err, IfErr, IfOk, IsOk, OnOk, is_ok, length};
 ghost use Rattle.std.specs.Int.{w16, w32, w64};
 ghost use Rattle.std.specs.List.{flat_map};
-ghost use Rattle.cns_ids.specs.Day.{IsDayNumber};
-ghost use Rattle.cns_records.specs.Fields.{day_bytes as day_bytes_of, Gives, byte_at, number_at, text_at, member_at, quantity_at, shares_at, asked_at, id_at, day_at, issue_at, one_of_at, flag_at, cycle_kind_at, move_kind_at, order_at, reply_at};
+ghost use Rattle.cns_records.specs.Fields.{Gives, byte_at, number_at, text_at, member_at, quantity_at, shares_at, asked_at, id_at, day_at, issue_at, one_of_at, flag_at, cycle_at, move_kind_at, order_at, reply_at};
 ghost use Rattle.cns_records.specs.Drawn.{ticket_bytes, ticket_at, tickets_at, tickets_of, drawn_of, AnswersIfRoom};
 
 use crate::bad_record::BadRecord;
 use crate::drawn::{Drawn, DrawnList, MAX_DRAWN};
-use cns_ids::{Cusip, CycleKind, Day, MemberNo, Quantity, Shares};
+use cns_ids::{Cusip, CycleId, Day, MemberNo, Quantity, Shares};
 use cns_journal::RecordFault;
-use cns_movements::{Asked, MoveKind, Order, Reply};
+use cns_movements::{
+    Asked, CYCLE_SIZE, DAY_SIZE, MoveKind, Order, REPLY_SIZE, Reply, Version, read_cycle, read_day,
+};
 use cns_trades::TradeId;
 use std::alloc::{AllocError, Global};
 use std::marker::Model;
 
-/// The version of payloads.
+/// The version of the clearing node's payloads.
 pub const VERSION: u8 = 1;
-
-/// The bytes that stand for a cycle's kind.
-pub const NIGHT_CYCLE: u8 = 0;
-
-pub const DAY_CYCLE: u8 = 1;
 
 /// The bytes that stand for an order's kind.
 pub const COVER_ORDER: u8 = 1;
@@ -33,16 +29,6 @@ const CUSIP_LEN: usize = 9;
 
 // As many bytes as a payload without tickets has at most: those of a trade with the longest id.
 const MOST_PLAIN: usize = 44;
-
-/// A date: the year in 2 bytes, the month and the day in 1 each.
-pub fn day_bytes(day: Day) -> [u8; 4]
-    ensures bytes { result ≡ day_bytes_of day }
-    ensures real { IsDayNumber day }
-{
-    let number = day.number();
-    let [high, low] = ((number / 10_000) as u16).to_be_bytes();
-    [high, low, (number / 100 % 100) as u8, (number % 100) as u8]
-}
 
 /// Adds the first bytes of a payload, and takes the room that one without tickets needs.
 pub fn begin(payload: &mut Vec<u8>, front: &[u8]) -> Result<(), AllocError>
@@ -126,6 +112,21 @@ impl<'a> Fields<'a> {
         Ok(*front)
     }
 
+    // So many of the next bytes.
+    #[tactic(auto, unfolding(crate::specs::Fields::text_at))]
+    fn take_bytes(&mut self, len: usize) -> Result<&'a [u8], BadRecord>
+        ensures bytes { IfOk result (λ text. text_at len self.old ≡ Ok (text.now, self.new)) }
+        ensures len { IfOk result (λ text. length text.now ≡ len) }
+        ensures bad { IfErr result (λ fault. text_at len self.old ≡ Err fault) }
+    {
+        if self.bytes.len() < len {
+            return Err(BadRecord);
+        }
+        let (text, rest) = self.bytes.split_at(len);
+        self.bytes = rest;
+        Ok(text)
+    }
+
     #[tactic(auto, unfolding(crate::specs::Fields::number_at))]
     fn take_u16(&mut self) -> Result<u16, BadRecord>
         ensures { Gives result self.new (number_at w16 self.old) }
@@ -181,16 +182,12 @@ impl<'a> Fields<'a> {
     }
 
     /// A trade's id: its length in one byte, and its characters.
-    #[tactic(auto, unfolding(crate::specs::Fields::id_at, crate::specs::Fields::text_at))]
+    #[tactic(auto, unfolding(crate::specs::Fields::id_at))]
     pub fn take_id(&mut self) -> Result<TradeId, BadRecord>
         ensures { Gives result self.new (id_at self.old) }
     {
         let len = usize::from(self.take_u8()?);
-        if self.bytes.len() < len {
-            return Err(BadRecord);
-        }
-        let (text, rest) = self.bytes.split_at(len);
-        self.bytes = rest;
+        let text = self.take_bytes(len)?;
         TradeId::read(text).map_err(|_| BadRecord)
     }
 
@@ -199,13 +196,15 @@ impl<'a> Fields<'a> {
     pub fn take_day(&mut self) -> Result<Day, BadRecord>
         ensures { Gives result self.new (day_at self.old) }
     {
-        let year = self.take_u16()?;
-        let month = self.take_u8()?;
-        let day = self.take_u8()?;
-        if month > 12 || day > 31 {
-            return Err(BadRecord);
-        }
-        Day::new(year, month, day).map_err(|_| BadRecord)
+        read_day(&self.take_array::<DAY_SIZE>()?).ok_or(BadRecord)
+    }
+
+    /// A cycle: its date in 4 bytes, and 0 for night or 1 for day.
+    #[tactic(auto, unfolding(crate::specs::Fields::cycle_at))]
+    pub fn take_cycle(&mut self) -> Result<CycleId, BadRecord>
+        ensures { Gives result self.new (cycle_at self.old) }
+    {
+        read_cycle(&self.take_array::<CYCLE_SIZE>()?).ok_or(BadRecord)
     }
 
     /// An issue's CUSIP: its 9 characters.
@@ -239,14 +238,6 @@ impl<'a> Fields<'a> {
         self.take_one_of((0, false), (1, true))
     }
 
-    /// A cycle's kind: a byte, 0 at night and 1 by day.
-    #[tactic(auto, unfolding(crate::specs::Fields::cycle_kind_at))]
-    pub fn take_cycle_kind(&mut self) -> Result<CycleKind, BadRecord>
-        ensures { Gives result self.new (cycle_kind_at self.old) }
-    {
-        self.take_one_of((NIGHT_CYCLE, CycleKind::Night), (DAY_CYCLE, CycleKind::Day))
-    }
-
     // An order's kind: a byte, 1 for a cover and 2 for a delivery.
     #[tactic(auto, unfolding(crate::specs::Fields::move_kind_at))]
     fn take_move_kind(&mut self) -> Result<MoveKind, BadRecord>
@@ -258,13 +249,17 @@ impl<'a> Fields<'a> {
         )
     }
 
-    /// An order: its kind in a byte, and its other fields.
+    /// An order of this version: its kind in a byte, and its other fields.
     #[tactic(auto, unfolding(crate::specs::Fields::order_at))]
-    pub fn take_order(&mut self) -> Result<Order, BadRecord>
-        ensures { Gives result self.new (order_at self.old) }
+    pub fn take_order(&mut self, version: Version) -> Result<Order, BadRecord>
+        ensures { Gives result self.new (order_at version self.old) }
     {
         let kind = self.take_move_kind()?;
-        Order::from_bytes(kind, &self.take_array()?).ok_or(BadRecord)
+        let fields = self.take_bytes(version.order_size())?;
+        match Order::from_bytes(version, kind, fields) {
+            Some(order) => Ok(order),
+            None => Err(BadRecord),
+        }
     }
 
     /// A reply: its fields.
@@ -272,7 +267,7 @@ impl<'a> Fields<'a> {
     pub fn take_reply(&mut self) -> Result<Reply, BadRecord>
         ensures { Gives result self.new (reply_at self.old) }
     {
-        Reply::from_bytes(&self.take_array()?).ok_or(BadRecord)
+        Reply::from_bytes(&self.take_array::<REPLY_SIZE>()?).ok_or(BadRecord)
     }
 
     // A ticket: its member (2), its start (8) and how many shares it has (8).

@@ -3,7 +3,7 @@ use Rattle.std.proofs.lemmas.List.{append_assoc}
 use Rattle.std.specs.Int.{w16, w64, to_be_bytes}
 use Rattle.cns_ids.specs.Cusip.{cusip_text}
 use Rattle.cns_trades.specs.declared.trade.Trade.{Trade}
-use Rattle.cns_records.specs.Fields.{day_bytes}
+use Rattle.cns_movements.specs.Fields.{day_bytes}
 use Rattle.cns_records.specs.Clear.{spelling}
 use Rattle.cns_records.specs.declared.clear_record.ClearRecord.TheVariants.{Accept}
 use Rattle.cns_records.proofs.clear_record.add_accept.Goals as goal
