@@ -132,9 +132,10 @@ impl<K: Keeper> Depository<K> {
     }
 
     /// Executes an order once: it moves what the giving account has, at most what is asked, and
-    /// possibly nothing. The same order again is answered with the reply that was kept.
+    /// possibly nothing. An order that agrees with the one that was executed under its number is
+    /// answered with the reply that was kept, and that one stays as it is.
     ///
-    /// Refuses `Down`, then `Conflict` where another order was executed under the number. After
+    /// Refuses `Down`, then `Conflict` where an order that does not agree was executed under the number. After
     /// `Device` nothing is executed, and the depository is down until it is restarted. Costs a few
     /// look-ups, and the commit of its record. (This project's own rule.)
     pub fn take_order(&mut self, order: &Order) -> Result<Answer, DepFault>
@@ -220,7 +221,7 @@ impl<K: Keeper> Depository<K> {
 fn again(known: &Movement, order: &Order) -> Result<Answer, DepFault>
     ensures { IsKnownAnswer order.now known.now result }
 {
-    if known.order.is_same(order) {
+    if known.order.agrees_with(order) {
         Ok(Answer::Again(known.reply()))
     } else {
         Err(DepFault::Conflict)
