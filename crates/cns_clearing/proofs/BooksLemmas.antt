@@ -69,8 +69,8 @@ allocable_asks b a allocable = record {
 
 orderly_allocated : (b : Books) (a : Allocation) → AreOrderly b → IsAllocable b a → AreOrderly (with_record (Allocate a) b)
 orderly_allocated b a orderly allocable = record {
-  bounded = bounded_delivered b.history b.orders a.issue (deliveries_in a) orderly.ordered orderly.bounded (allocable_asks b a allocable);
-  ordered = with_asks_lawful b.orders (deliveries_in a) orderly.ordered (numbers_suffice b.orders (deliveries_in a) orderly.ordered.few allocable.numbers);
+  bounded = bounded_delivered b.history b.orders b.latest a.issue (deliveries_in a) orderly.ordered orderly.bounded (allocable_asks b a allocable);
+  ordered = with_asks_lawful b.orders b.latest (deliveries_in a) orderly.ordered (numbers_suffice b.orders (deliveries_in a) orderly.ordered.few allocable.numbers);
 }
 
 -- they stay so with one more record
@@ -79,8 +79,8 @@ orderly_more (Accept t) b orderly allowed = record { bounded = bounded_accepted 
 orderly_more (Exempt m i s) b orderly allowed = record { bounded = orderly.bounded; ordered = orderly.ordered }
 orderly_more (Priority m i is_on) b orderly allowed = record { bounded = orderly.bounded; ordered = orderly.ordered }
 orderly_more (Cycle id) b orderly allowed = record {
-  bounded = bounded_cycle b.history b.orders b.exemptions id.day orderly.ordered orderly.bounded;
-  ordered = with_asks_lawful b.orders (covers_on b id.day) orderly.ordered (numbers_suffice b.orders (covers_on b id.day) orderly.ordered.few allowed.1);
+  bounded = bounded_cycle b.history b.orders b.exemptions (Some id) id.day orderly.ordered orderly.bounded;
+  ordered = with_asks_lawful b.orders (Some id) (covers_on b id.day) orderly.ordered (numbers_suffice b.orders (covers_on b id.day) orderly.ordered.few allowed.1);
 }
 orderly_more (Allocate a) b orderly allowed = orderly_allocated b a orderly allowed
 orderly_more (Confirm r) b orderly allowed = orderly_confirmed b r orderly (taken_from_done b.orders r allowed)

@@ -1,5 +1,5 @@
 -- The issues that orders name, each once and in order: they are the keys of the sums by issue, in order.
-use Rattle.std.proofs.Common.{◌≡◌, ℕ, suc, ◌<◌, Bool, true, false, List, [], ◌∷◌, Some, Ordering, Less, Equal, Greater, nat_eq, refl, sym, ap, ◌∙◌, arith, subst}
+use Rattle.std.proofs.Common.{◌≡◌, ℕ, suc, ◌<◌, Bool, true, false, List, [], ◌∷◌, Option, Some, Ordering, Less, Equal, Greater, nat_eq, refl, sym, ap, ◌∙◌, arith, subst}
 use Rattle.std.specs.Prelude.{fold, ◌==◌, ◌||◌, if◌then◌else◌}
 use Rattle.std.specs.BTreeSet.{insert_key}
 use Rattle.std.specs.List.{AllByRecursion, IsDistinct, list_any}
@@ -11,6 +11,7 @@ use Rattle.std.proofs.lemmas.List.Folds.{list_any-append}
 use Rattle.std.proofs.lemmas.List.Sorted.{IsNonDecreasingBy-from_sort, list_any-IsPermutation}
 use Rattle.std.proofs.lemmas.Map.Keys.{IsDistinct-IsPermutation, IsStrictlyIncreasing-from_distinct, sorted_from_strictly_increasing}
 use Rattle.std.proofs.lemmas.Option.{same_Some}
+use Rattle.cns_ids.specs.declared.cycle.CycleId.{CycleId}
 use Rattle.cns_movements.specs.Book.{Orders, with_asks}
 use Rattle.cns_movements.specs.Order.{numbered, order_of}
 use Rattle.cns_movements.specs.declared.order.Ask.{Ask}
@@ -176,12 +177,12 @@ issues_by_keys keys sorted orders distinct named moved order =
 
 -- ---- as orders are added and confirmed
 
-numbered_named : (n i : ℕ) (asks : List Ask) → is_named i (numbered n asks) ≡ is_asked i asks
-numbered_named n i [] = refl
-numbered_named n i (a ∷ asks) = ap (λ b. (a.issue == i) || b) (numbered_named (suc n) i asks)
+numbered_named : (n i : ℕ) (cycle : Option CycleId) (asks : List Ask) → is_named i (numbered n cycle asks) ≡ is_asked i asks
+numbered_named n i cycle [] = refl
+numbered_named n i cycle (a ∷ asks) = ap (λ b. (a.issue == i) || b) (numbered_named (suc n) i cycle asks)
 
-pub named_ordered : (book : Orders) (asks : List Ask) (i : ℕ) → is_named i (with_asks book asks).orders ≡ (is_named i book.orders || is_asked i asks)
-named_ordered book asks i = list_any-append (λ (o : Order). o.issue == i) book.orders _ ∙ ap (λ b. is_named i book.orders || b) (numbered_named _ i asks)
+pub named_ordered : (book : Orders) (cycle : Option CycleId) (asks : List Ask) (i : ℕ) → is_named i (with_asks book cycle asks).orders ≡ (is_named i book.orders || is_asked i asks)
+named_ordered book cycle asks i = list_any-append (λ (o : Order). o.issue == i) book.orders _ ∙ ap (λ b. is_named i book.orders || b) (numbered_named _ i cycle asks)
 
 -- the issue of an order is named
 pub order_named : (orders : List Order) (n i : ℕ) (o : Order) → order_of orders n ≡ Some o → ((o.issue == i) || is_named i orders) ≡ is_named i orders

@@ -19,7 +19,7 @@ use Rattle.cns_clearing.specs.Answers.{Closes, LotCloseLeaves, LotPourLeaves, Ma
 use Rattle.cns_records.specs.Refusals.{commit_refusal}
 use Rattle.cns_journal.specs.declared.record_log.CommitFault.{CommitFault}
 use Rattle.cns_journal.specs.declared.record_log.CommitFault.TheVariants as commit
-use Rattle.cns_clearing.specs.Books.{Books, IsAllocable, IsAllowed, IsLawful, are_spent, books_of, deliveries_in, orders_of, tickets_of}
+use Rattle.cns_clearing.specs.Books.{Books, IsAllocable, IsAllowed, IsLawful, are_spent, books_of, deliveries_in, latest_of, orders_of, tickets_of}
 use Rattle.cns_clearing.specs.Closing.{AreRecordable}
 use Rattle.cns_clearing.specs.Lots.{AreLots, IsAllocation, avail_in, longs_among, lots_poured, new_lot, plan_in, refilled}
 use Rattle.cns_clearing.specs.Node.{AddLeaves, ClearNode}
@@ -156,6 +156,6 @@ close_refused old new issue tickets sealed a commit.Device up may enough allowed
 
 -- the next orders, of the records
 pub orders_are : (b : Books) (c : List ClearRecord) (l : List Ask) (a : Allocation) (orders : List Order) → b ≡ books_of c → l ≡ deliveries_in a
-    → orders ≡ next_orders b.orders l → orders ≡ next_orders (orders_of c) (deliveries_in a)
+    → orders ≡ next_orders b.orders b.latest l → orders ≡ next_orders (orders_of c) (latest_of c) (deliveries_in a)
 orders_are b c l a orders same list is =
-    is ∙ ap (λ (x : Books). next_orders x.orders l) same ∙ ap (next_orders (orders_of c)) list
+    is ∙ ap (λ (x : Books). next_orders x.orders x.latest l) same ∙ ap (next_orders (orders_of c) (latest_of c)) list

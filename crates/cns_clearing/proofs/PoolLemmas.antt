@@ -5,6 +5,7 @@ use Rattle.std.proofs.lemmas.Bool.{cases_eq}
 use Rattle.std.proofs.lemmas.List.Elements.{All-head, All-tail, All-weaker}
 use Rattle.std.proofs.lemmas.List.Sums.{sum_by-append, sum_by-cons}
 use Rattle.std.proofs.lemmas.Option.{same_Some}
+use Rattle.cns_ids.specs.declared.cycle.CycleId.{CycleId}
 use Rattle.cns_movements.specs.Book.{IsOrderBook, Orders, with_asks, with_reply}
 use Rattle.cns_movements.specs.Order.{is_cover, is_delivery, moved_of, moved_part, numbered, open_part, order_from, order_of}
 use Rattle.cns_movements.specs.declared.order.Ask.{Ask}
@@ -62,39 +63,39 @@ abbrev is_delivery_of : ℕ → Ask → Bool
 is_delivery_of issue a = is_delivery a.kind && (a.issue == issue)
 
 -- new orders take what those of them that are deliveries ask for
-new_taken : (n : ℕ) (asks : List Ask) (rs : List Reply) (issue : ℕ) → ((j : ℕ) → n ≤ j → moved_of rs j ≡ None)
-    → sum_by (kind_part Delivery issue (taken_part rs)) (numbered n asks) ≡ asked_of_pool issue asks
+new_taken : (n : ℕ) (cycle : Option CycleId) (asks : List Ask) (rs : List Reply) (issue : ℕ) → ((j : ℕ) → n ≤ j → moved_of rs j ≡ None)
+    → sum_by (kind_part Delivery issue (taken_part rs)) (numbered n cycle asks) ≡ asked_of_pool issue asks
 unfolding asked_of_pool
-new_taken n [] rs issue none = refl
-new_taken n (a ∷ asks) rs issue none =
-    let o : Order = order_from n a in
-    let rest = new_taken (suc n) asks rs issue (λ j le. none j (omega arith)) in
+new_taken n cycle [] rs issue none = refl
+new_taken n cycle (a ∷ asks) rs issue none =
+    let o : Order = order_from n cycle a in
+    let rest = new_taken (suc n) cycle asks rs issue (λ j le. none j (omega arith)) in
     let here : kind_part Delivery issue (taken_part rs) o ≡ (if is_delivery_of issue a then a.asked else 0) = rw (none n (omega arith)) refl in
-    omega (arith, sum_by-cons (kind_part Delivery issue (taken_part rs)) o (numbered (suc n) asks), rest, here)
+    omega (arith, sum_by-cons (kind_part Delivery issue (taken_part rs)) o (numbered (suc n) cycle asks), rest, here)
 
 -- but have moved nothing, whichever orders are counted
-pub moved_with_asks : (counted : Order → Bool) (book : Orders) (asks : List Ask) → IsOrderBook book
-    → sum_by (λ (o : Order). if counted o then moved_part book.replies o else 0) (with_asks book asks).orders ≡ sum_by (λ (o : Order). if counted o then moved_part book.replies o else 0) book.orders
-moved_with_asks counted book asks lawful =
+pub moved_with_asks : (counted : Order → Bool) (book : Orders) (cycle : Option CycleId) (asks : List Ask) → IsOrderBook book
+    → sum_by (λ (o : Order). if counted o then moved_part book.replies o else 0) (with_asks book cycle asks).orders ≡ sum_by (λ (o : Order). if counted o then moved_part book.replies o else 0) book.orders
+moved_with_asks counted book cycle asks lawful =
     let next : ℕ = length book.orders + 1 in
-    let new = moved_new counted next asks book.replies (λ j le. moved_of_above book.orders book.replies j lawful.numbered lawful.known (omega arith)) in
-    omega (arith, sum_by-append (λ (o : Order). if counted o then moved_part book.replies o else 0) book.orders (numbered next asks), new)
+    let new = moved_new counted next cycle asks book.replies (λ j le. moved_of_above book.orders book.replies j lawful.numbered lawful.known (omega arith)) in
+    omega (arith, sum_by-append (λ (o : Order). if counted o then moved_part book.replies o else 0) book.orders (numbered next cycle asks), new)
 
-pub covered_ordered : (book : Orders) (asks : List Ask) (issue : ℕ) → IsOrderBook book → covered_of (with_asks book asks) issue ≡ covered_of book issue
+pub covered_ordered : (book : Orders) (cycle : Option CycleId) (asks : List Ask) (issue : ℕ) → IsOrderBook book → covered_of (with_asks book cycle asks) issue ≡ covered_of book issue
 unfolding covered_of
-covered_ordered book asks issue lawful = moved_with_asks (λ (o : Order). is_cover o.kind && (o.issue == issue)) book asks lawful
+covered_ordered book cycle asks issue lawful = moved_with_asks (λ (o : Order). is_cover o.kind && (o.issue == issue)) book cycle asks lawful
 
-pub taken_ordered : (book : Orders) (asks : List Ask) (issue : ℕ) → IsOrderBook book
-    → delivered_of (with_asks book asks) issue + out_of (with_asks book asks) issue ≡ delivered_of book issue + out_of book issue + asked_of_pool issue asks
-taken_ordered book asks issue lawful =
+pub taken_ordered : (book : Orders) (cycle : Option CycleId) (asks : List Ask) (issue : ℕ) → IsOrderBook book
+    → delivered_of (with_asks book cycle asks) issue + out_of (with_asks book cycle asks) issue ≡ delivered_of book issue + out_of book issue + asked_of_pool issue asks
+taken_ordered book cycle asks issue lawful =
     let next : ℕ = length book.orders + 1 in
-    let new = new_taken next asks book.replies issue (λ j le. moved_of_above book.orders book.replies j lawful.numbered lawful.known (omega arith)) in
+    let new = new_taken next cycle asks book.replies issue (λ j le. moved_of_above book.orders book.replies j lawful.numbered lawful.known (omega arith)) in
     omega (
       arith,
-      sum_by-append (kind_part Delivery issue (taken_part book.replies)) book.orders (numbered next asks),
+      sum_by-append (kind_part Delivery issue (taken_part book.replies)) book.orders (numbered next cycle asks),
       new,
       taken_whole book issue,
-      taken_whole (with_asks book asks) issue,
+      taken_whole (with_asks book cycle asks) issue,
     )
 
 -- covers deliver nothing
@@ -192,7 +193,7 @@ avail_more (Priority m i is_on) b issue ordered allowed quiet = omega arith
 avail_more (Cycle id) b issue ordered allowed quiet = absurd quiet
 avail_more (Allocate a) b issue ordered allowed quiet =
     let nothing = others_deliver_nothing (deliveries_in a) issue a.issue quiet (allocation_issue b a allowed) in
-    omega (arith, covered_ordered b.orders (deliveries_in a) issue ordered, taken_ordered b.orders (deliveries_in a) issue ordered, nothing)
+    omega (arith, covered_ordered b.orders b.latest (deliveries_in a) issue ordered, taken_ordered b.orders b.latest (deliveries_in a) issue ordered, nothing)
 avail_more (Confirm r) b issue ordered allowed quiet =
     let taken = taken_from_done b.orders r allowed in
     omega (arith, covered_confirmed b.orders r issue ordered taken, taken_confirmed b.orders r issue ordered taken)

@@ -3,6 +3,7 @@ use Rattle.std.proofs.Common.{◌≡◌, ℕ, suc, ◌+◌, ◌*◌, ◌^◌, �
 use Rattle.std.specs.Prelude.{◌==◌, ◌&&◌, ◌||◌, Option, None, is_some, sum_by, if◌then◌else◌}
 use Rattle.std.proofs.lemmas.Bool.{eq-eqb}
 use Rattle.std.proofs.lemmas.List.Sums.{sum_by-append, sum_by-cons}
+use Rattle.cns_ids.specs.declared.cycle.CycleId.{CycleId}
 use Rattle.cns_movements.specs.declared.order.MoveKind.TheVariants.{Delivery}
 use Rattle.cns_movements.specs.Book.{IsOrderBook, Orders, with_asks, with_reply}
 use Rattle.cns_movements.specs.Order.{is_cover, is_delivery, moved_part, numbered, open_part, order_from, order_of}
@@ -47,13 +48,13 @@ sums_kept old new book now are same is = subst (AreSumsOf new) (sym is) (record 
 -- ---- with more orders
 
 -- of new orders the deliveries ask of the pool
-numbered_out : (n : ℕ) (asks : List Ask) (issue : ℕ)
-    → sum_by (λ (o : Order). if is_delivery o.kind && (o.issue == issue) then o.asked else 0) (numbered n asks) ≡ asked_of_pool issue asks
+numbered_out : (n : ℕ) (cycle : Option CycleId) (asks : List Ask) (issue : ℕ)
+    → sum_by (λ (o : Order). if is_delivery o.kind && (o.issue == issue) then o.asked else 0) (numbered n cycle asks) ≡ asked_of_pool issue asks
 unfolding asked_of_pool
-numbered_out n [] issue = refl
-numbered_out n (a ∷ asks) issue =
-    let o : Order = order_from n a in
-    omega (arith, sum_by-cons (λ (x : Order). if is_delivery x.kind && (x.issue == issue) then x.asked else 0) o (numbered (suc n) asks), numbered_out (suc n) asks issue)
+numbered_out n cycle [] issue = refl
+numbered_out n cycle (a ∷ asks) issue =
+    let o : Order = order_from n cycle a in
+    omega (arith, sum_by-cons (λ (x : Order). if is_delivery x.kind && (x.issue == issue) then x.asked else 0) o (numbered (suc n) cycle asks), numbered_out (suc n) cycle asks issue)
 
 -- an ask at the head of others
 pub ask_first : (a : Ask) (asks : List Ask) (issue : ℕ) → asked_of_pool issue (a ∷ asks) ≡ (if a.issue == issue then (if is_delivery a.kind then a.asked else 0) else 0) + asked_of_pool issue asks
@@ -82,43 +83,43 @@ ask_named true true r some e = ap (λ b. b || r) e
 ask_named true false r some e = ap (λ b. b || r) e
 ask_named false s r some e = ap (λ b. b || r) e
 
-delivered_ordered : (book : Orders) (asks : List Ask) (issue : ℕ) → IsOrderBook book → delivered_of (with_asks book asks) issue ≡ delivered_of book issue
+delivered_ordered : (book : Orders) (cycle : Option CycleId) (asks : List Ask) (issue : ℕ) → IsOrderBook book → delivered_of (with_asks book cycle asks) issue ≡ delivered_of book issue
 unfolding delivered_of
-delivered_ordered book asks issue lawful = moved_with_asks (λ (o : Order). is_delivery o.kind && (o.issue == issue)) book asks lawful
+delivered_ordered book cycle asks issue lawful = moved_with_asks (λ (o : Order). is_delivery o.kind && (o.issue == issue)) book cycle asks lawful
 
-out_ordered : (book : Orders) (asks : List Ask) (issue : ℕ) → IsOrderBook book → out_of (with_asks book asks) issue ≡ out_of book issue + asked_of_pool issue asks
+out_ordered : (book : Orders) (cycle : Option CycleId) (asks : List Ask) (issue : ℕ) → IsOrderBook book → out_of (with_asks book cycle asks) issue ≡ out_of book issue + asked_of_pool issue asks
 unfolding out_of
-out_ordered book asks issue lawful =
+out_ordered book cycle asks issue lawful =
     let next : ℕ = length book.orders + 1 in
     let new =
-    open_new (λ (o : Order). is_delivery o.kind && (o.issue == issue)) next asks book.replies
+    open_new (λ (o : Order). is_delivery o.kind && (o.issue == issue)) next cycle asks book.replies
     (λ j le. moved_of_above book.orders book.replies j lawful.numbered lawful.known (omega arith)) in
-    omega (arith, sum_by-append (kind_part Delivery issue (open_part book.replies)) book.orders (numbered next asks), new, numbered_out next asks issue)
+    omega (arith, sum_by-append (kind_part Delivery issue (open_part book.replies)) book.orders (numbered next cycle asks), new, numbered_out next cycle asks issue)
 
-asked_ordered : (book : Orders) (asks : List Ask) → sum_by (λ (o : Order). o.asked) book.orders ≤ 10 ^ 18 * length book.orders
+asked_ordered : (book : Orders) (cycle : Option CycleId) (asks : List Ask) → sum_by (λ (o : Order). o.asked) book.orders ≤ 10 ^ 18 * length book.orders
     → sum_by (λ (a : Ask). a.asked) asks ≤ 10 ^ 18 * length asks
-    → sum_by (λ (o : Order). o.asked) (with_asks book asks).orders ≤ 10 ^ 18 * length (with_asks book asks).orders
-asked_ordered book asks before most =
+    → sum_by (λ (o : Order). o.asked) (with_asks book cycle asks).orders ≤ 10 ^ 18 * length (with_asks book cycle asks).orders
+asked_ordered book cycle asks before most =
     let next : ℕ = length book.orders + 1 in
     omega (
       arith,
       before,
       most,
-      sum_by-append (λ (o : Order). o.asked) book.orders (numbered next asks),
-      numbered_asked next asks,
-      length-append book.orders (numbered next asks),
-      length-numbered next asks,
+      sum_by-append (λ (o : Order). o.asked) book.orders (numbered next cycle asks),
+      numbered_asked next cycle asks,
+      length-append book.orders (numbered next cycle asks),
+      length-numbered next cycle asks,
     )
 
-pub sums_ordered : (old new : ℕ → PoolSums) (book : Orders) (asks : List Ask) → AreSumsOf old book → are_spent book (length asks) ≡ false
+pub sums_ordered : (old new : ℕ → PoolSums) (book : Orders) (cycle : Option CycleId) (asks : List Ask) → AreSumsOf old book → are_spent book (length asks) ≡ false
     → ((i : ℕ) → (new i).covered ≡ (old i).covered) → ((i : ℕ) → (new i).delivered ≡ (old i).delivered) → ((i : ℕ) → (new i).out ≡ (old i).out + asked_of_pool i asks)
-    → sum_by (λ (a : Ask). a.asked) asks ≤ 10 ^ 18 * length asks → AreSumsOf new (with_asks book asks)
-sums_ordered old new book asks sums enough covered delivered out most = record {
-  lawful = with_asks_lawful book asks sums.lawful (numbers_suffice book asks sums.lawful.few enough);
-  covered = λ i. covered i ∙ sums.covered i ∙ sym (covered_ordered book asks i sums.lawful);
-  delivered = λ i. delivered i ∙ sums.delivered i ∙ sym (delivered_ordered book asks i sums.lawful);
-  out = λ i. omega (arith, out i, sums.out i, out_ordered book asks i sums.lawful);
-  asked = asked_ordered book asks sums.asked most;
+    → sum_by (λ (a : Ask). a.asked) asks ≤ 10 ^ 18 * length asks → AreSumsOf new (with_asks book cycle asks)
+sums_ordered old new book cycle asks sums enough covered delivered out most = record {
+  lawful = with_asks_lawful book cycle asks sums.lawful (numbers_suffice book asks sums.lawful.few enough);
+  covered = λ i. covered i ∙ sums.covered i ∙ sym (covered_ordered book cycle asks i sums.lawful);
+  delivered = λ i. delivered i ∙ sums.delivered i ∙ sym (delivered_ordered book cycle asks i sums.lawful);
+  out = λ i. omega (arith, out i, sums.out i, out_ordered book cycle asks i sums.lawful);
+  asked = asked_ordered book cycle asks sums.asked most;
 }
 
 -- ---- with one more confirmation
@@ -198,9 +199,9 @@ pools_kept old new book now are same is = record {
   named = λ i. ap (λ (o : Option PoolSums). is_some o) (same i) ∙ are.named i ∙ ap (λ (b : Orders). is_named i b.orders) (sym is);
 }
 
-pub named_with_asks : (old new : ℕ → Option PoolSums) (book : Orders) (asks : List Ask) → ArePools old book → ((i : ℕ) → is_some (new i) ≡ (is_some (old i) || is_asked i asks))
-    → (i : ℕ) → is_some (new i) ≡ is_named i (with_asks book asks).orders
-named_with_asks old new book asks are named i = named i ∙ ap (λ b. b || is_asked i asks) (are.named i) ∙ sym (named_ordered book asks i)
+pub named_with_asks : (old new : ℕ → Option PoolSums) (book : Orders) (cycle : Option CycleId) (asks : List Ask) → ArePools old book → ((i : ℕ) → is_some (new i) ≡ (is_some (old i) || is_asked i asks))
+    → (i : ℕ) → is_some (new i) ≡ is_named i (with_asks book cycle asks).orders
+named_with_asks old new book cycle asks are named i = named i ∙ ap (λ b. b || is_asked i asks) (are.named i) ∙ sym (named_ordered book cycle asks i)
 
 pub named_with_reply : (old new : ℕ → Option PoolSums) (book : Orders) (r : Reply) (o : Order) → ArePools old book → (taken : IsTaken book r) → taken.order ≡ o
     → ((i : ℕ) → is_some (new i) ≡ ((o.issue == i) || is_some (old i))) → (i : ℕ) → is_some (new i) ≡ is_named i (with_reply book r).orders

@@ -2,6 +2,7 @@
 use Rattle.std.proofs.Common.{◌≡◌, ℕ, List, [], ◌∷◌, Option, Some, None, refl, sym, ap, ◌∙◌, subst, arith}
 use Rattle.std.specs.Prelude.{◌&&◌, ◌==◌, ◌||◌, nat_le, ℤ, pos, neg_ℤ, ◌+ℤ◌, ◌-ℤ◌, ◌≤ℤ◌}
 use Rattle.std.specs.List.{list_any}
+use Rattle.cns_ids.specs.declared.cycle.CycleId.{CycleId}
 use Rattle.cns_movements.specs.Book.{IsOrderBook, with_asks}
 use Rattle.cns_trades.specs.declared.trade.Trade.{Trade}
 use Rattle.cns_netting.specs.History.{bought, due, due_since, is_reached, latest, position_of, settled_in, settled_out, sold}
@@ -68,10 +69,10 @@ moved_confirmed b r m i ordered taken moved =
       took = rw taken.found (omega (arith, deliveries, moved.took, debit_moved o.kind here r.moved));
     }
 
-moved_ordered : (b : Books) (asks : List Ask) (kind : MoveKind) (m i : ℕ) → IsOrderBook b.orders
-    → moved_sum (with_asks b.orders asks).orders b.orders.replies kind m i ≡ moved_sum b.orders.orders b.orders.replies kind m i
+moved_ordered : (b : Books) (cycle : Option CycleId) (asks : List Ask) (kind : MoveKind) (m i : ℕ) → IsOrderBook b.orders
+    → moved_sum (with_asks b.orders cycle asks).orders b.orders.replies kind m i ≡ moved_sum b.orders.orders b.orders.replies kind m i
 unfolding moved_sum
-moved_ordered b asks kind m i ordered = moved_with_asks (is_of kind m i) b.orders asks ordered
+moved_ordered b cycle asks kind m i ordered = moved_with_asks (is_of kind m i) b.orders cycle asks ordered
 
 moved_more : (r : ClearRecord) (b : Books) (m i : ℕ) → IsOrderBook b.orders → Allows b r → AreMoved b m i → AreMoved (with_record r b) m i
 unfolding settled_in settled_out
@@ -79,12 +80,12 @@ moved_more (Accept t) b m i ordered allowed moved = record { brought = moved.bro
 moved_more (Exempt member issue s) b m i ordered allowed moved = record { brought = moved.brought; took = moved.took }
 moved_more (Priority member issue is_on) b m i ordered allowed moved = record { brought = moved.brought; took = moved.took }
 moved_more (Cycle id) b m i ordered allowed moved = record {
-  brought = moved.brought ∙ sym (moved_ordered b (covers_on b id.day) Cover m i ordered);
-  took = moved.took ∙ sym (moved_ordered b (covers_on b id.day) Delivery m i ordered);
+  brought = moved.brought ∙ sym (moved_ordered b (Some id) (covers_on b id.day) Cover m i ordered);
+  took = moved.took ∙ sym (moved_ordered b (Some id) (covers_on b id.day) Delivery m i ordered);
 }
 moved_more (Allocate a) b m i ordered allowed moved = record {
-  brought = moved.brought ∙ sym (moved_ordered b (deliveries_in a) Cover m i ordered);
-  took = moved.took ∙ sym (moved_ordered b (deliveries_in a) Delivery m i ordered);
+  brought = moved.brought ∙ sym (moved_ordered b b.latest (deliveries_in a) Cover m i ordered);
+  took = moved.took ∙ sym (moved_ordered b b.latest (deliveries_in a) Delivery m i ordered);
 }
 moved_more (Confirm r) b m i ordered allowed moved = moved_confirmed b r m i ordered (taken_from_done b.orders r allowed) moved
 

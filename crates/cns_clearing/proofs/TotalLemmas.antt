@@ -1,5 +1,5 @@
 -- What orders and tickets come to over all members.
-use Rattle.std.proofs.Common.{◌≡◌, ◌≤◌, ℕ, ◌+◌, List, [], ◌∷◌, Bool, true, false, refl, sym, subst, arith}
+use Rattle.std.proofs.Common.{◌≡◌, ◌≤◌, ℕ, ◌+◌, List, [], ◌∷◌, Some, Bool, true, false, refl, sym, subst, arith}
 use Rattle.std.specs.Prelude.{◌==◌}
 use Rattle.std.proofs.lemmas.Bool.{eqb-true}
 use Rattle.cns_netting.specs.History.{due}
@@ -68,10 +68,10 @@ taken_more (Priority m i is_on) b issue ordered allowed before = before
 taken_more (Cycle id) b issue ordered allowed before =
     let asks : List Ask = covers_on b id.day in
     let none = covers_deliver_nothing asks issue (covers_are_covers (Netted id.day ∷ b.history) b.orders b.exemptions) in
-    omega (arith, before, covered_ordered b.orders asks issue ordered, taken_ordered b.orders asks issue ordered, none)
+    omega (arith, before, covered_ordered b.orders (Some id) asks issue ordered, taken_ordered b.orders (Some id) asks issue ordered, none)
 taken_more (Allocate a) b issue ordered allowed before =
     let asks : List Ask = deliveries_in a in
-    omega (arith, before, covered_ordered b.orders asks issue ordered, taken_ordered b.orders asks issue ordered, allocation_takes b a issue allowed)
+    omega (arith, before, covered_ordered b.orders b.latest asks issue ordered, taken_ordered b.orders b.latest asks issue ordered, allocation_takes b a issue allowed)
 taken_more (Confirm r) b issue ordered allowed before =
     let taken = taken_from_done b.orders r allowed in
     omega (arith, before, covered_confirmed b.orders r issue ordered taken, taken_confirmed b.orders r issue ordered taken)

@@ -50,7 +50,7 @@ want_more (Exempt member issue s) b m i ordered allowed quiet = le_refl (want_in
 want_more (Priority member issue is_on) b m i ordered allowed quiet = le_refl (want_in b.history b.orders m i)
 want_more (Cycle id) b m i ordered allowed quiet = absurd quiet
 want_more (Allocate a) b m i ordered allowed quiet =
-    omega (arith, others_leave_open b.orders (deliveries_in a) Delivery m i a.issue ordered quiet (allocation_issue b a allowed))
+    omega (arith, others_leave_open b.orders b.latest (deliveries_in a) Delivery m i a.issue ordered quiet (allocation_issue b a allowed))
 want_more (Confirm r) b m i ordered allowed quiet =
     let taken = taken_from_done b.orders r allowed in
     rw taken.found (want_confirmed b.history b.orders r m i ordered taken)

@@ -38,12 +38,11 @@ impl Orders {
 
 impl PartialEq for Orders {
     ghost use Rattle.std.specs.Cmp.Lexicographic.{pointwise, lists_per};
-    ghost use Rattle.std.specs.Cmp.Rules.{comparing};
-    ghost use Rattle.std.proofs.Common.{rules};
+    ghost use Rattle.cns_movements.specs.contracts.order.OrderPartialEq.TheImpl.Laws.{laws-law as order_partial};
 
     ghost eq = { pointwise ⟦<Order as PartialEq>⟧.eq };
 
-    ghost laws = { lists_per (Prim.search (comparing, rules)) };
+    ghost laws = { lists_per order_partial };
 
     fn eq(&self, other: &Orders) -> bool {
         self.as_slice() == other.as_slice()
@@ -52,10 +51,9 @@ impl PartialEq for Orders {
 
 impl Eq for Orders {
     ghost use Rattle.std.specs.Cmp.Lexicographic.{lists_equiv};
-    ghost use Rattle.std.specs.Cmp.Rules.{comparing};
-    ghost use Rattle.std.proofs.Common.{rules};
+    ghost use Rattle.cns_movements.specs.contracts.order.OrderEq.TheImpl.Laws.{laws-law as order_laws};
 
-    ghost laws = { lists_equiv (Prim.search (comparing, rules)) };
+    ghost laws = { lists_equiv order_laws };
 }
 
 /// A cycle that was run.

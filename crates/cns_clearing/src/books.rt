@@ -288,7 +288,7 @@ impl Books {
             }
             ClearRecord::Cycle(id) => self.cycle(id, effects),
             ClearRecord::Allocate(_) => {
-                self.orders.issue(effects.asks.as_slice());
+                self.orders.issue(self.latest, effects.asks.as_slice());
                 0
             }
             ClearRecord::Confirm(reply) => {
@@ -336,7 +336,7 @@ impl Books {
         ensures books { self.new.books ≡ with_record (ClearRecord.Cycle id.now) self.old.books }
         ensures due { result ≡ becoming_due self.old.books.history id.now.day }
     {
-        self.orders.issue(effects.asks.as_slice());
+        self.orders.issue(Some(*id), effects.asks.as_slice());
         let Ok(due) = self.book.net(id.day) else {
             unreachable!()
         };

@@ -173,7 +173,7 @@ impl<K: Keeper> Clearing<K> {
         if books.are_spent(asks.len()) {
             return Err(Refusal::NumbersSpent);
         }
-        let orders = numbered_orders(alloc, books, asks)?;
+        let orders = numbered_orders(alloc, books, &Some(id), asks)?;
         let due = self.add(ClearRecord::Cycle(id), effects)?;
         Ok(Cycled { due, orders })
     }
@@ -265,7 +265,8 @@ impl<K: Keeper> Clearing<K> {
         let poured = lot.poured.count();
         let allocation = allocation_of(alloc, lot, tickets, sealed)?;
         let asks = deliveries(alloc, issue, tickets, poured)?;
-        let orders = numbered_orders(alloc, self.books(), asks.as_slice())?;
+        let books = self.books();
+        let orders = numbered_orders(alloc, books, &books.latest(), asks.as_slice())?;
         let granted = poured.min(asked_in_all(tickets));
         let effects = Effects::of_asks(alloc, asks);
         self.add(ClearRecord::Allocate(allocation), effects)?;
@@ -623,10 +624,15 @@ impl<K: Keeper> Clearing<K> {
     }
 }
 
-// The orders of these asks, under the next numbers of the books.
-fn numbered_orders(alloc: Global, books: &Books, asks: &[Ask]) -> Result<Orders, AllocError>
+// The orders of these asks, of this cycle and under the next numbers of the books.
+fn numbered_orders(
+    alloc: Global,
+    books: &Books,
+    cycle: &Option<CycleId>,
+    asks: &[Ask],
+) -> Result<Orders, AllocError>
     requires { are_spent books.now.books.orders (length asks.now) ≡ false }
-    ensures { IfOk result (λ orders. orders ≡ next_orders books.now.books.orders asks.now) }
+    ensures { IfOk result (λ orders. orders ≡ next_orders books.now.books.orders cycle.now asks.now) }
 {
     let issued = books.orders().len();
     let mut list = Vec::with_capacity(alloc, asks.len())?;
@@ -634,7 +640,7 @@ fn numbered_orders(alloc: Global, books: &Books, asks: &[Ask]) -> Result<Orders,
         let Some(number) = MoveNo::new((issued + list.len()) as u64 + 1) else {
             unreachable!()
         };
-        list.push(Order::from_ask(number, ask))?;
+        list.push(Order::from_ask(number, *cycle, ask))?;
     }
     Ok(Orders::of(list))
 }

@@ -5,7 +5,7 @@ ghost use Rattle.cns_clearing.specs.Books.{are_spent as are_numbers_spent};
 ghost use Rattle.cns_clearing.specs.Pools.{avail_of, covered_of, delivered_of, issues_of, out_of};
 
 use crate::pool_sums::{PoolSums, ask_all, issues_in, settle, sums_of};
-use cns_ids::Cusip;
+use cns_ids::{Cusip, CycleId};
 use cns_movements::{Ask, Confirm, MoveNo, OrderBook, Reply};
 use std::alloc::{AllocError, Global};
 use std::collections::HashMap;
@@ -70,12 +70,12 @@ impl PooledOrders {
         Ok(issues)
     }
 
-    /// Takes the memory that `issue` of these asks needs.
+    /// Takes the memory that `issue` of these asks needs, of whichever cycle.
     pub(crate) fn issue_room(&mut self, asks: &[Ask]) -> Result<(), AllocError>
         ensures same { self.new.book ≡ self.old.book }
         ensures room { OnOk result (length asks.now ≤ self.new.order_room) }
     {
-        self.orders.issue_room(asks)?;
+        self.orders.issue_room(None, asks)?;
         self.pools.reserve(asks.len())
     }
 
@@ -88,16 +88,16 @@ impl PooledOrders {
         self.pools.reserve(1)
     }
 
-    /// Issues orders for which there are numbers and room.
-    pub(crate) fn issue(&mut self, asks: &[Ask])
+    /// Issues orders of a cycle, for which there are numbers and room.
+    pub(crate) fn issue(&mut self, cycle: Option<CycleId>, asks: &[Ask])
         requires room { length asks.now ≤ self.old.order_room }
         requires numbers { are_numbers_spent self.old.book (length asks.now) ≡ false }
-        ensures { self.new.book ≡ with_asks self.old.book asks.now }
+        ensures { self.new.book ≡ with_asks self.old.book cycle asks.now }
     {
         if asks.is_empty() {
             return;
         }
-        append(&mut self.orders, asks);
+        append(&mut self.orders, cycle, asks);
         ask_all(&mut self.pools, asks);
     }
 
@@ -163,14 +163,14 @@ impl PooledOrders {
     }
 }
 
-// Issues orders, at least one, for which there are numbers and room.
-fn append(orders: &mut OrderBook, asks: &[Ask])
+// Issues orders of a cycle, at least one, for which there are numbers and room.
+fn append(orders: &mut OrderBook, cycle: Option<CycleId>, asks: &[Ask])
     requires some { 1 ≤ length asks.now }
     requires room { length asks.now ≤ orders.old.order_room }
     requires numbers { are_numbers_spent orders.old.book (length asks.now) ≡ false }
-    ensures { orders.new.book ≡ with_asks orders.old.book asks.now }
+    ensures { orders.new.book ≡ with_asks orders.old.book cycle asks.now }
 {
-    let Ok(_) = orders.issue(asks) else {
+    let Ok(_) = orders.issue(cycle, asks) else {
         unreachable!()
     };
 }

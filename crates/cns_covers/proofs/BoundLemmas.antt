@@ -18,6 +18,7 @@ use Rattle.cns_ids.specs.declared.holding.Holding.{Holding}
 use Rattle.cns_netting.proofs.HoldingLemmas.{AreAscending, holding_order, holdings-ascending}
 use Rattle.cns_netting.proofs.BookLemmas.{book_netted, bought-most, sold-most}
 use Rattle.cns_netting.proofs.TradeLemmas.{Reaches, bought-due, reaches_latest, sold-due}
+use Rattle.cns_ids.specs.declared.cycle.CycleId.{CycleId}
 use Rattle.cns_movements.specs.Order.{ask_for, is_of, moved_of, numbered, open_sum, order_of, same_kind}
 use Rattle.cns_movements.specs.Book.{IsOrderBook, Orders, with_asks, with_reply}
 use Rattle.cns_movements.specs.declared.order.Ask.{Ask}
@@ -138,10 +139,10 @@ asked_by-covers h book settings (k ∷ ks) m i up = by ((k.member == m) && (k.is
         omega (arith, here, rest)
 
 -- a cycle orders for a member in an issue no more than its cover
-pub covers-sum : (h : List NetEntry) (book : Orders) (settings : List Exempted) (m i n : ℕ)
-    → sum_by (λ (o : Order). if is_of Cover m i o then o.asked else 0) (numbered n (covers_of h book settings)) ≤ cover_of h book settings m i
-covers-sum h book settings m i n =
-    rw (asked_by-numbered Cover m i n (covers_of h book settings)) (asked_by-covers h book settings (holdings_of h) m i (holdings-ascending h))
+pub covers-sum : (h : List NetEntry) (book : Orders) (settings : List Exempted) (cycle : Option CycleId) (m i n : ℕ)
+    → sum_by (λ (o : Order). if is_of Cover m i o then o.asked else 0) (numbered n cycle (covers_of h book settings)) ≤ cover_of h book settings m i
+covers-sum h book settings cycle m i n =
+    rw (asked_by-numbered Cover m i n cycle (covers_of h book settings)) (asked_by-covers h book settings (holdings_of h) m i (holdings-ascending h))
 
 -- what a cycle orders are covers
 pub covers_are_covers : (h : List NetEntry) (book : Orders) (settings : List Exempted) → All (λ (a : Ask). a.kind ≡ Cover) (covers_of h book settings)
@@ -160,19 +161,19 @@ covers_are_covers h book settings = of_holdings (holdings_of h)
 
 -- after a cycle the bounds hold: its cover is at most what the member sold less what covers brought and still may bring, since
 -- deliveries took no more of its position than it bought
-pub bounded_cycle : (h : List NetEntry) (book : Orders) (settings : List Exempted) (day : ℕ) → IsOrderBook book → AreBounded h book
-    → AreBounded (Netted day ∷ h) (with_asks book (covers_of (Netted day ∷ h) book settings))
+pub bounded_cycle : (h : List NetEntry) (book : Orders) (settings : List Exempted) (cycle : Option CycleId) (day : ℕ) → IsOrderBook book → AreBounded h book
+    → AreBounded (Netted day ∷ h) (with_asks book cycle (covers_of (Netted day ∷ h) book settings))
 unfolding settled_in settled_out
-bounded_cycle h book settings day lawful bounded =
+bounded_cycle h book settings cycle day lawful bounded =
     let next : ℕ = length book.orders + 1 in
     let asks : List Ask = covers_of (Netted day ∷ h) book settings in
     record {
       covered = λ m i.
           omega (
             arith,
-            open_sum_asked book asks Cover m i lawful,
-            asked_by-numbered Cover m i next asks,
-            covers-sum (Netted day ∷ h) book settings m i next,
+            open_sum_asked book cycle asks Cover m i lawful,
+            asked_by-numbered Cover m i next cycle asks,
+            covers-sum (Netted day ∷ h) book settings cycle m i next,
             bounded.covered m i,
             bounded.delivered m i,
             sold-grows h day m i,
@@ -181,7 +182,7 @@ bounded_cycle h book settings day lawful bounded =
       delivered = λ m i.
           omega (
             arith,
-            covers_leave_deliveries book asks m i lawful (covers_are_covers (Netted day ∷ h) book settings),
+            covers_leave_deliveries book cycle asks m i lawful (covers_are_covers (Netted day ∷ h) book settings),
             bounded.delivered m i,
             bought-grows h day m i,
           );
@@ -239,18 +240,18 @@ asked_by-deliverable h book issue asks m i deliverable =
 
 -- after deliveries are ordered the bounds hold: one is at most what the member bought less what deliveries took of its position
 -- and still may take, since covers brought no more than it sold
-pub bounded_delivered : (h : List NetEntry) (book : Orders) (issue : ℕ) (asks : List Ask) → IsOrderBook book → AreBounded h book → AreDeliverable h book issue asks
-    → AreBounded h (with_asks book asks)
-bounded_delivered h book issue asks lawful bounded deliverable =
+pub bounded_delivered : (h : List NetEntry) (book : Orders) (cycle : Option CycleId) (issue : ℕ) (asks : List Ask) → IsOrderBook book → AreBounded h book → AreDeliverable h book issue asks
+    → AreBounded h (with_asks book cycle asks)
+bounded_delivered h book cycle issue asks lawful bounded deliverable =
     let kinds =
     All-weaker (λ (a : Ask). (a.kind ≡ Delivery) × (a.issue ≡ issue) × (a.asked ≤ want_in h book a.member issue)) (λ (a : Ask). a.kind ≡ Delivery)
     (λ a its. its.0) asks deliverable.each in
     record {
-      covered = λ m i. omega (arith, deliveries_leave_covers book asks m i lawful kinds, bounded.covered m i);
+      covered = λ m i. omega (arith, deliveries_leave_covers book cycle asks m i lawful kinds, bounded.covered m i);
       delivered = λ m i.
           omega (
             arith,
-            open_sum_asked book asks Delivery m i lawful,
+            open_sum_asked book cycle asks Delivery m i lawful,
             asked_by-deliverable h book issue asks m i deliverable,
             bounded.covered m i,
             bounded.delivered m i,

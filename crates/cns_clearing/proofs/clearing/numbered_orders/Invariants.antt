@@ -4,6 +4,6 @@ use Rattle.cns_clearing.proofs.clearing.numbered_orders.Given as goal
 
 abbrev pub invariant-loop-ask : goal.invariant-loop-ask
 invariant-loop-ask l = record {
-  list : l.list.items ≡ numbered (l.issued + 1) (take l.ask-index l.asks);
+  list : l.list.items ≡ numbered (l.issued + 1) l.cycle (take l.ask-index l.asks);
   len : length l.list.items ≡ l.ask-index;
 }

@@ -1,5 +1,7 @@
 use Rattle.std.proofs.Common.{◌≡◌, ◌∙◌, ℕ, ap, sym, subst, rules}
-use Rattle.std.specs.Prelude.{min, sum_by}
+use Rattle.std.specs.Prelude.{Option, min, sum_by}
+use Rattle.cns_ids.specs.declared.cycle.CycleId.{CycleId}
+use Rattle.cns_movements.specs.Book.{next_orders}
 use Rattle.cns_movements.specs.declared.order.Ask.{Ask}
 use Rattle.cns_pool.specs.Pool.{asked_sum, intervals_of}
 use Rattle.cns_pool.proofs.TileLemmas.{AreChained-Tiles}
@@ -20,19 +22,19 @@ numbered_orders-requires g c =
     let are = subst (λ (v : ClearNode). AreLots v.log.records v.lots) c.self.view_is c.self.invariant.lots in
     let poured = c.count-poured.ensures.value ∙ sym (ap (λ (x : Allocation). x.poured) c.in_ok-allocation.ensures) in
     let asks = close_asks c.args.self.now c.args.issue _ c.args.tickets.now c.args.sealed a c.in_ok-asks.asks.items are by.0 poured c.in_ok-asks.ensures.exact in
-    close_numbers _ c.args.self.now.log.records _ _ a c.books.ensures.books c.as_slice.ensures.value asks by.1
+    close_numbers _ c.args.self.now.log.records _ _ a c.books-books.ensures.books c.as_slice.ensures.value asks by.1
 
 pub asked_in_all-requires : goal.asked_in_all-requires
 asked_in_all-requires g c =
     let are = subst (λ (v : ClearNode). AreLots v.log.records v.lots) c.self.view_is c.self.invariant.lots in
-    close_small c.args.self.now c.args.issue c.args.tickets.now c.args.sealed _ c.books.ensures.lawful c.books.ensures.fits are c.in_ok-lot.ensures.closes.may
+    close_small c.args.self.now c.args.issue c.args.tickets.now c.args.sealed _ c.books-books.ensures.lawful c.books-books.ensures.fits are c.in_ok-lot.ensures.closes.may
 
 pub add-requires-clause-allowed : goal.add-requires-clause-allowed
 add-requires-clause-allowed g c =
     let a = c.in_ok-allocation.allocation in
     let by = closes_by c.args.self.now c.args.issue c.args.tickets.now c.args.sealed c.in_ok-lot.lot.now a c.in_ok-lot.ensures.closes c.in_ok-allocation.ensures in
     let are = subst (λ (v : ClearNode). AreLots v.log.records v.lots) c.self.view_is c.self.invariant.lots in
-    close_allowed c.args.self.now c.args.issue c.args.tickets.now c.args.sealed a c.books.ensures.lawful c.books.ensures.fits are by.0 by.1
+    close_allowed c.args.self.now c.args.issue c.args.tickets.now c.args.sealed a c.books-books.ensures.lawful c.books-books.ensures.fits are by.0 by.1
 
 pub add-requires-clause-effects : goal.add-requires-clause-effects
 add-requires-clause-effects g c =
@@ -48,7 +50,7 @@ returns-in_err-add g c =
     let a = c.in_ok-allocation.allocation in
     let by = closes_by c.args.self.now c.args.issue c.args.tickets.now c.args.sealed c.in_ok-lot.lot.now a c.in_ok-lot.ensures.closes c.in_ok-allocation.ensures in
     let are = subst (λ (v : ClearNode). AreLots v.log.records v.lots) c.self.view_is c.self.invariant.lots in
-    let allowed = close_allowed c.args.self.now c.args.issue c.args.tickets.now c.args.sealed a c.books.ensures.lawful c.books.ensures.fits are by.0 by.1 in
+    let allowed = close_allowed c.args.self.now c.args.issue c.args.tickets.now c.args.sealed a c.books-books.ensures.lawful c.books-books.ensures.fits are by.0 by.1 in
     let left = close_refused c.args.self.now c.add.new.self c.args.issue c.args.tickets.now c.args.sealed a _ c.in_ok-up.ensures.up by.0 by.1 allowed c.in_err-add.ensures in
     search (rules, left)
 
@@ -59,13 +61,14 @@ returns g c =
     let are = subst (λ (v : ClearNode). AreLots v.log.records v.lots) c.self.view_is c.self.invariant.lots in
     let poured = c.count-poured.ensures.value ∙ sym (ap (λ (x : Allocation). x.poured) c.in_ok-allocation.ensures) in
     let asks = close_asks c.args.self.now c.args.issue _ c.args.tickets.now c.args.sealed a c.in_ok-asks.asks.items are by.0 poured c.in_ok-asks.ensures.exact in
-    let allowed = close_allowed c.args.self.now c.args.issue c.args.tickets.now c.args.sealed a c.books.ensures.lawful c.books.ensures.fits are by.0 by.1 in
+    let allowed = close_allowed c.args.self.now c.args.issue c.args.tickets.now c.args.sealed a c.books-books.ensures.lawful c.books-books.ensures.fits are by.0 by.1 in
     let granted : c.min-granted.result ≡ min a.poured (asked_sum c.args.tickets.now) = search (rules, poured) in
     let done : IsClosed c.args.self.now.log.records c.args.tickets.now a (record { granted = c.min-granted.result; orders = c.in_ok-orders.orders }) =
     record {
       granted = granted;
       sum = ap (sum_by (λ (x : Ask). x.asked)) (sym asks) ∙ c.in_ok-asks.ensures.sum (AreChained-Tiles (intervals_of c.args.tickets.now) by.0.served.chained)
           ∙ ap (λ (p : ℕ). min p (asked_sum c.args.tickets.now)) poured ∙ sym granted;
-      orders = orders_are _ c.args.self.now.log.records _ a _ c.books.ensures.books (c.as_slice.ensures.value ∙ asks) c.in_ok-orders.ensures;
+      orders = orders_are _ c.args.self.now.log.records _ a _ c.books-books.ensures.books (c.as_slice.ensures.value ∙ asks)
+          (c.in_ok-orders.ensures ∙ ap (λ (cycle : Option CycleId). next_orders c.books-books.result.now.books.orders cycle c.as_slice.result.now) c.latest.ensures);
     } in
     (a, by.0, allowed, done, c.in_ok-add.ensures.1)

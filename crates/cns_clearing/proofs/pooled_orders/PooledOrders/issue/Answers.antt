@@ -16,8 +16,8 @@ pub invariant_of-self : goal.invariant_of-self
 invariant_of-self c =
     let enough = rw (← c.self.view_is) at c.requires.numbers in
     let are =
-    sums_ordered (λ i. sums_at (get nat_eq c.self.inside.pools i)) (λ i. sums_at (get nat_eq c.ask_all.new.pools i)) c.self.inside.orders.book c.args.asks.now c.self.invariant.sums enough
+    sums_ordered (λ i. sums_at (get nat_eq c.self.inside.pools i)) (λ i. sums_at (get nat_eq c.ask_all.new.pools i)) c.self.inside.orders.book c.args.cycle c.args.asks.now c.self.invariant.sums enough
     c.ask_all.ensures.covered c.ask_all.ensures.delivered c.ask_all.ensures.out c.ask_all.ensures.most in
     let named =
-    named_with_asks (λ i. get nat_eq c.self.inside.pools i) (λ i. get nat_eq c.ask_all.new.pools i) c.self.inside.orders.book c.args.asks.now c.self.invariant c.ask_all.ensures.named in
+    named_with_asks (λ i. get nat_eq c.self.inside.pools i) (λ i. get nat_eq c.ask_all.new.pools i) c.self.inside.orders.book c.args.cycle c.args.asks.now c.self.invariant c.ask_all.ensures.named in
     rw c.append.ensures (record { sums = are; named = named })
