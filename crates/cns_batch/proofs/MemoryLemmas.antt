@@ -11,7 +11,7 @@ use Rattle.cns_netting.specs.History.{accepted}
 use Rattle.cns_journal.specs.Keeper.{Forecast, Foresight, Unforeseen, Succeeds, Fails}
 use Rattle.cns_movements.specs.Book.{next_orders}
 use Rattle.cns_movements.specs.Confirm.{confirm_answer}
-use Rattle.cns_movements.specs.Order.{same_order}
+use Rattle.cns_movements.specs.Order.{agrees_with}
 use Rattle.cns_movements.specs.declared.book.Confirm.{Confirm}
 use Rattle.cns_movements.specs.declared.book.Confirm.TheVariants as answers
 use Rattle.cns_movements.specs.declared.order.Order.{Order}
@@ -144,7 +144,7 @@ clear_goes d w r outcome other = commits_on d node.Clear w outcome (clear_added 
 abbrev closed_with : Decision → ℕ → Shown → LotState → Lot → Judged
 closed_with d number w lot twin =
     let a = allocation_of twin lot.tickets lot.sealed in
-    let told = outcomes.Closed (record { granted = min a.poured (asked_sum lot.tickets); orders = next_orders (book w).orders (deliveries_in a) }) in
+    let told = outcomes.Closed (record { granted = min a.poured (asked_sum lot.tickets); orders = next_orders (book w).orders (book w).latest (deliveries_in a) }) in
     need (not (are_spent (book w).orders (length (deliveries_in a)))) refusal.NumbersSpent
     >> commits d (told, with_lot number (with_end lot) (clear_added (entry.Allocate a) w)) (clear_failed (entry.Allocate a) w)
 
@@ -188,13 +188,13 @@ executed_by done d o w =
     let e = execution m in
     elim done [
       | None ↦ commits d (outcomes.Executed (reply_to m) (length w.replies + 1), with_reply (reply_to m) (depot_added e w)) (depot_failed e w)
-      | Some known ↦ need (same_order known.order o) refusal.Conflict >> grows d (outcomes.ExecutedAgain (reply_to known) (length w.replies + 1), with_reply (reply_to known) w)
+      | Some known ↦ need (agrees_with known.order o) refusal.Conflict >> grows d (outcomes.ExecutedAgain (reply_to known) (length w.replies + 1), with_reply (reply_to known) w)
     ]
 
 order_goes : (done : Option Movement) (d : Decision) (o : Order) (w : Shown) → IsSteady d node.Depot w (executed_by done NoMemory o w) (executed_by done d o w)
 order_goes None d o w = commits_on d node.Depot w _ _ _ (λ e. absurd (cc e)) refl refl refl
 order_goes (Some known) d o w =
-    needs d node.Depot w (same_order known.order o) refusal.Conflict _ _ (λ e. absurd (cc e)) (grows_on d node.Depot w _ _ (λ e. absurd (cc e)) refl refl)
+    needs d node.Depot w (agrees_with known.order o) refusal.Conflict _ _ (λ e. absurd (cc e)) (grows_on d node.Depot w _ _ (λ e. absurd (cc e)) refl refl)
 
 abbrev confirmed_by : Confirm → Decision → Reply → Shown → Judged
 confirmed_by answer d r w = elim answer [

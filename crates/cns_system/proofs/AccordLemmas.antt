@@ -39,7 +39,7 @@ order_stays (entry.Confirm r) c n o found = found
 
 -- a movement stays that of its order
 ordered_stays : (u : ClearRecord) (c : List ClearRecord) (m : Movement) → IsOrdered (orders_of c).orders m → IsOrdered (orders_of (u ∷ c)).orders m
-ordered_stays u c m ordered = (order_stays u c m.order.number m.order ordered.0, ordered.1)
+ordered_stays u c m ordered = ((ordered.0.0, order_stays u c m.order.number ordered.0.0 ordered.0.1, ordered.0.2), ordered.1)
 
 known_stays : (u : ClearRecord) (c : List ClearRecord) (m : Movement) → IsKnown (orders_of c).orders m → IsKnown (orders_of (u ∷ c)).orders m
 known_stays u c m known = (ordered_stays u c m known.0, known.1)

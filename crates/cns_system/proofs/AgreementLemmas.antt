@@ -1,5 +1,5 @@
 -- The agreement of two nodes, tested record by record.
-use Rattle.std.proofs.Common.{◌≡◌, ◌<◌, ◌+◌, ◌∙◌, ℕ, List, [], ◌∷◌, Option, Some, None, ap, get_or, length, refl, reverse, subst, sym, take}
+use Rattle.std.proofs.Common.{◌≡◌, ◌<◌, ◌+◌, ◌∙◌, ℕ, List, [], ◌∷◌, Option, Some, None, ap, get_or, length, reverse, subst, sym, take}
 use Rattle.std.specs.Prelude.{All, IfSome}
 use Rattle.std.specs.List.{cons_option}
 use Rattle.std.proofs.lemmas.List.{reverse-append, reverse-reverse}

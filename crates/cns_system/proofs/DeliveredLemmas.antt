@@ -7,12 +7,13 @@ use Rattle.std.proofs.lemmas.List.Elements.{All-cons, All-head, All-tail, All-we
 use Rattle.std.proofs.lemmas.List.Sums.{sum_by-cons}
 use Rattle.std.proofs.lemmas.Option.{none-some, same_Some}
 use Rattle.cns_movements.specs.Book.{Orders}
-use Rattle.cns_movements.specs.Order.{IsNumbered, is_cover, is_delivery, moved_of, moved_part, order_of}
+use Rattle.cns_movements.specs.Order.{AgreesWith, IsNumbered, is_cover, is_delivery, moved_of, moved_part, order_of}
 use Rattle.cns_movements.specs.declared.order.MoveKind.{MoveKind}
 use Rattle.cns_movements.specs.declared.order.MoveKind.TheVariants.{Cover, Delivery}
 use Rattle.cns_movements.specs.declared.order.Order.{Order}
 use Rattle.cns_movements.specs.declared.order.Reply.{Reply}
-use Rattle.cns_movements.proofs.OrderLemmas.{sum_but_one, sum_le_found}
+use Rattle.cns_movements.proofs.OrderLemmas.{order_of_number, sum_but_one, sum_le_found}
+use Rattle.cns_movements.proofs.AgreeLemmas.{agree_fields, agrees-refl}
 use Rattle.cns_movements.proofs.ReplyLemmas.{nothing_either}
 use Rattle.cns_trades.specs.declared.opening.Opening.{Opening}
 use Rattle.cns_records.specs.declared.clear_record.ClearRecord.{ClearRecord}
@@ -86,20 +87,25 @@ none_executed test [] = refl
 none_executed test (o ∷ orders) =
     omega (arith, sum_by-cons (executed_where test []) o orders, nothing_either (test o) 0 refl, none_executed test orders)
 
--- what the movements moved is what was executed of the orders, each of which has one movement at most
-pub executed_sum : (test : Order → Bool) (orders : List Order) (movements : List Movement) → IsNumbered 1 orders → All (IsKnown orders) movements → AreOnce movements
+-- what the movements moved is what was executed of the orders, each of which has one movement at most, where a test counts orders that agree
+-- alike
+pub executed_sum : (test : Order → Bool) → ((a b : Order) → AgreesWith a b → test a ≡ test b)
+    → (orders : List Order) (movements : List Movement) → IsNumbered 1 orders → All (IsKnown orders) movements → AreOnce movements
     → sum_by (moved_where test) movements ≡ sum_by (executed_where test movements) orders
-executed_sum test orders [] numbered known once = sym (none_executed test orders)
-executed_sum test orders (m ∷ ms) numbered known once =
-    let o : Order = m.order in
-    let found : order_of orders o.number ≡ Some o = (All-head (IsKnown orders) m ms known).0.0 in
+executed_sum test alike orders [] numbered known once = sym (none_executed test orders)
+executed_sum test alike orders (m ∷ ms) numbered known once =
+    let its = (All-head (IsKnown orders) m ms known).0.0 in
+    let o : Order = its.0 in
+    let n : ℕ = m.order.number in
+    let number : o.number ≡ n = order_of_number orders n o its.1 in
     let term : Bool → Option Movement → ℕ = λ b r. if b then unwrap_or (option_map (λ (m : Movement). m.moved) r) 0 else 0 in
-    let others : (x : Order) → (x.number ≡ o.number → ⊥) → executed_where test (m ∷ ms) x ≡ executed_where test ms x =
+    let others : (x : Order) → (x.number ≡ n → ⊥) → executed_where test (m ∷ ms) x ≡ executed_where test ms x =
     λ x differ. ap (term (test x)) (movement_of_other m ms x.number (λ same. differ (sym same))) in
-    let one = sum_but_one (executed_where test (m ∷ ms)) (executed_where test ms) orders 1 o.number o numbered found others in
-    let now : executed_where test (m ∷ ms) o ≡ moved_where test m = ap (term (test o)) (movement_of_same m ms) in
-    let before : executed_where test ms o ≡ 0 = ap (term (test o)) once.0 ∙ nothing_either (test o) 0 refl in
-    let rest = executed_sum test orders ms numbered (All-tail (IsKnown orders) m ms known) once.1 in
+    let one = sum_but_one (executed_where test (m ∷ ms)) (executed_where test ms) orders 1 n o numbered its.1 others in
+    let now : executed_where test (m ∷ ms) o ≡ moved_where test m =
+    ap (term (test o)) (ap (movement_of (m ∷ ms)) number ∙ movement_of_same m ms) ∙ ap (λ (b : Bool). if b then m.moved else 0) (sym (alike m.order o its.2)) in
+    let before : executed_where test ms o ≡ 0 = ap (term (test o)) (ap (movement_of ms) number ∙ once.0) ∙ nothing_either (test o) 0 refl in
+    let rest = executed_sum test alike orders ms numbered (All-tail (IsKnown orders) m ms known) once.1 in
     omega (arith, sum_by-cons (moved_where test) m ms, one, now, before, rest)
 
 -- ---- executed movements beside the clearing node's book
@@ -131,9 +137,10 @@ module _ (book : Orders) (movements : List Movement) (issue : ℕ) (numbered : I
       by None none m is = omega arith
       by (Some e) done None is =
           let its = movement_known book.orders movements o.number e known done in
-          let same : e.order ≡ o =
-          same_Some e.order o (sym its.0.0.0 ∙ ap (order_of book.orders) its.1 ∙ found) in
-          subst (λ (x : Order). e.moved ≤ x.asked) same its.0.1
+          let of_number = its.0.0.0 in
+          let same : of_number.0 ≡ o = same_Some of_number.0 o (sym of_number.1 ∙ ap (order_of book.orders) its.1 ∙ found) in
+          let asked : e.order.asked ≡ o.asked = (agree_fields e.order of_number.0 of_number.2).asked ∙ ap (λ (x : Order). x.asked) same in
+          omega (arith, its.0.1, asked)
       by (Some e) done (Some m) is =
           let confirmed = confirmed_as movements book.replies o.number m executed is in
           let same : e.moved ≡ confirmed.0.moved = ap (λ (m : Movement). m.moved) (same_Some e confirmed.0 (sym done ∙ confirmed.1)) in
@@ -144,7 +151,7 @@ module _ (book : Orders) (movements : List Movement) (issue : ℕ) (numbered : I
   unfolding covered_of
   covers_executed =
       let test : Order → Bool = λ o. is_cover o.kind && (o.issue == issue) in
-      let all = executed_sum test book.orders movements numbered known once in
+      let all = executed_sum test (λ a b agree. let f = agree_fields a b agree in rw (f.kind, f.issue) refl) book.orders movements numbered known once in
       let less =
       sum_le_found (kind_part Cover issue (moved_part book.replies)) (executed_where test movements) book.orders 1 numbered
       (λ o found. part_le (test o) (moved_part book.replies o) (executed_part movements o) (confirmed_executed o)) in
@@ -154,7 +161,7 @@ module _ (book : Orders) (movements : List Movement) (issue : ℕ) (numbered : I
   deliveries_executed : deliveries_moved movements issue ≤ delivered_of book issue + out_of book issue
   deliveries_executed =
       let test : Order → Bool = λ o. is_delivery o.kind && (o.issue == issue) in
-      let all = executed_sum test book.orders movements numbered known once in
+      let all = executed_sum test (λ a b agree. let f = agree_fields a b agree in rw (f.kind, f.issue) refl) book.orders movements numbered known once in
       let less =
       sum_le_found (executed_where test movements) (kind_part Delivery issue (taken_part book.replies)) book.orders 1 numbered
       (λ o found. part_le (test o) (executed_part movements o) (taken_part book.replies o) (executed_taken o found)) in
@@ -185,7 +192,7 @@ delivery_there openings c p o lawful stock_lawful known executed found fresh del
     let m : Movement = record { order = o; moved = o.asked } in
     let numbered : IsNumbered 1 book.orders = (lawful_bounded c lawful).ordered.numbered in
     let once : AreOnce movements = lawful_once openings p stock_lawful in
-    let its : IsKnown book.orders m = ((found, λ is. refl), omega arith) in
+    let its : IsKnown book.orders m = (((o, found, agrees-refl o), λ is. refl), omega arith) in
     let more : All (IsExecuted (m ∷ movements)) book.replies =
     All-weaker (IsExecuted movements) (IsExecuted (m ∷ movements)) (λ r done. executed_stays (Some m) movements r fresh done) book.replies executed in
     let brought = covers_executed book movements o.issue numbered known once executed in
@@ -207,4 +214,4 @@ pub next_known : (openings : List Opening) (c : List ClearRecord) (p : List DepR
     → All (IsKnown (orders_of c).orders) (executed_of p) → All (IsExecuted (executed_of p)) (orders_of c).replies → order_of (orders_of c).orders o.number ≡ Some o
     → movement_of (executed_of p) o.number ≡ None → IsKnown (orders_of c).orders (movement openings p o)
 next_known openings c p o lawful stock_lawful known executed found fresh =
-    ((found, λ delivers. delivery_in_full openings c p o lawful stock_lawful known executed found fresh delivers), min-le_left o.asked _)
+    (((o, found, agrees-refl o), λ delivers. delivery_in_full openings c p o lawful stock_lawful known executed found fresh delivers), min-le_left o.asked _)

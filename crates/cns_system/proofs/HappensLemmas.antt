@@ -123,7 +123,7 @@ cycle_spent d id w up later none spent = rw (up, later, none, spent) refl
 
 -- what a cycle tells
 abbrev cycled : Shown → CycleId → List Ask → Outcome
-cycled w id asks = outcomes.Cycled (record { due = becoming_due (history_of w.clear.records) id.day; orders = next_orders (orders_of w.clear.records) asks })
+cycled w id asks = outcomes.Cycled (record { due = becoming_due (history_of w.clear.records) id.day; orders = next_orders (orders_of w.clear.records) (Some id) asks })
 
 cycle_numbered : (d : Decision) (id : CycleId) (w : Shown) → w.clear.down ≡ false → is_later (latest_of w.clear.records) id ≡ true → w.open_lots ≡ []
     → are_spent (orders_of w.clear.records) (length (covers_in w.clear.records id.day)) ≡ false
@@ -132,7 +132,7 @@ unfolding happens judged
 cycle_numbered d id w up later none room = rw (up, later, none, room) refl
 
 -- what the node answers is what the cycle comes to
-cycled_is : (w : Shown) (id : CycleId) (done : Cycled) → IsCycled w.clear.records id.day done → outcomes.Cycled done ≡ cycled w id (covers_in w.clear.records id.day)
+cycled_is : (w : Shown) (id : CycleId) (done : Cycled) → IsCycled w.clear.records id done → outcomes.Cycled done ≡ cycled w id (covers_in w.clear.records id.day)
 cycled_is w id done is = rw (← is.due, ← is.orders) refl
 
 cycle_by : (d : Decision) (id : CycleId) (result : Result Cycled Refusal) (old new : World) → IsAtClear old new → ByNode (CycleLeaves id) result old.clear new.clear

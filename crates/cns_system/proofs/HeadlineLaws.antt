@@ -7,7 +7,7 @@ use Rattle.cns_trades.specs.declared.opening.Opening.{Opening}
 use Rattle.cns_netting.specs.History.{bought, longs_of, position_of, shorts_of, sold}
 use Rattle.cns_journal.specs.RecordLog.{MayStand}
 use Rattle.cns_journal.specs.Replay.{AreAllowed}
-use Rattle.cns_movements.specs.Order.{moved_of, order_of}
+use Rattle.cns_movements.specs.Order.{AgreesWith, moved_of, order_of}
 use Rattle.cns_movements.specs.declared.order.MoveKind.TheVariants.{Cover, Delivery}
 use Rattle.cns_movements.specs.declared.order.Order.{Order}
 use Rattle.cns_movements.specs.declared.order.Reply.{Reply}
@@ -39,12 +39,13 @@ lawful_here openings (x ∷ later) before m lawful = lawful_here openings later 
 
 module _ (c : List ClearRecord) (lots : List Lot) (openings : List Opening) (p : List DepRecord) (orders replies : List (List ℕ))
     (h : Headline c lots openings p orders replies) where
-  -- what was executed under a number is the order of that number; it moved no more than that asks for, and a delivery all of it
+  -- what was executed under a number agrees with the order of that number; it moved no more than that asks for, and a delivery all of it
   pub executed_as_ordered : (number : ℕ) (m : Movement) → movement_of (executed_of p) number ≡ Some m
-      → (order_of (orders_of c).orders number ≡ Some m.order) × (m.moved ≤ m.order.asked) × (m.order.kind ≡ Delivery → m.moved ≡ m.order.asked)
+      → ((o : Order) × (order_of (orders_of c).orders number ≡ Some o) × AgreesWith m.order o) × (m.moved ≤ m.order.asked) × (m.order.kind ≡ Delivery → m.moved ≡ m.order.asked)
   executed_as_ordered number m found =
       let known = movement_known (orders_of c).orders (executed_of p) number m h.executed found in
-      (subst (λ (n : ℕ). order_of (orders_of c).orders n ≡ Some m.order) known.1 known.0.0.0, known.0.1, known.0.0.1)
+      let its = known.0.0.0 in
+      ((its.0, subst (λ (n : ℕ). order_of (orders_of c).orders n ≡ Some its.0) known.1 its.1, its.2), known.0.1, known.0.0.1)
 
   -- what is confirmed under a number was executed under it, and moved just that
   pub confirmed_as_executed : (number moved : ℕ) → moved_of (confirmed_of c) number ≡ Some moved

@@ -1,12 +1,13 @@
 -- The headline, from the accord of both nodes and what each of them knows of its own records.
 use Rattle.std.proofs.Common.{◌≡◌, ◌∙◌, ℕ, Bool, true, false, List, Option, Some, None, ap, refl, arith}
 use Rattle.std.specs.Prelude.{◌&&◌, All, is_some, option_map, unwrap_or, if◌then◌else◌}
-use Rattle.cns_movements.specs.Order.{IsNumbered, is_of, moved_of, moved_part, moved_sum}
+use Rattle.cns_movements.specs.Order.{AgreesWith, IsNumbered, is_of, moved_of, moved_part, moved_sum}
 use Rattle.cns_movements.specs.declared.order.MoveKind.{MoveKind}
 use Rattle.cns_movements.specs.declared.order.MoveKind.TheVariants.{Cover, Delivery}
 use Rattle.cns_movements.specs.declared.order.Order.{Order}
 use Rattle.cns_movements.specs.Book.{Orders}
 use Rattle.cns_movements.proofs.OrderLemmas.{sum_same_from}
+use Rattle.cns_movements.proofs.AgreeLemmas.{agree_fields}
 use Rattle.cns_clearing.specs.Books.{orders_of}
 use Rattle.cns_clearing.proofs.BooksLemmas.{lawful_bounded}
 use Rattle.cns_clearing.proofs.PositionLemmas.{position_in_is}
@@ -38,11 +39,15 @@ module _ (book : Orders) (movements : List Movement) (kind : MoveKind) (member i
           let done = confirmed_as movements book.replies o.number m executed is in
           ap (λ (r : Option Movement). unwrap_or (option_map (λ (x : Movement). x.moved) r) 0) done.1 ∙ done.2
 
+  counted_alike : (a b : Order) → AgreesWith a b → is_counted a ≡ is_counted b
+  unfolding is_counted
+  counted_alike a b agree = let f = agree_fields a b agree in rw (f.number, f.kind, f.member, f.issue) refl
+
   pub confirmed_moved : IsNumbered 1 book.orders → All (IsKnown book.orders) movements → AreOnce movements
       → moved_sum book.orders book.replies kind member issue ≡ confirmed_sum movements book.replies kind member issue
   unfolding moved_sum confirmed_sum is_counted
   confirmed_moved numbered known once =
-      let all = executed_sum is_counted book.orders movements numbered known once in
+      let all = executed_sum is_counted counted_alike book.orders movements numbered known once in
       let parts = sum_same_from _ _ book.orders 1 numbered (λ o from. same_part o) in
       omega (arith, all, parts)
 

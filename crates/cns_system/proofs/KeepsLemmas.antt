@@ -18,6 +18,7 @@ use Rattle.cns_journal.specs.declared.record_log.ReplayFault.{ReplayFault}
 use Rattle.cns_journal.specs.declared.record_log.Restarted.{Restarted}
 use Rattle.cns_trades.specs.declared.opening.Opening.{Opening}
 use Rattle.cns_records.specs.Dep.{dep_spelling, HasDepPayload}
+use Rattle.cns_movements.proofs.AgreeLemmas.{agree_fields}
 use Rattle.cns_depository.specs.Answers.{OrderLeaves, known_at, next_movement, next_record}
 use Rattle.cns_depository.specs.Node.{DepNode}
 use Rattle.cns_depository.specs.Stock.{IsExecutable, executed_of, movement_of}
@@ -91,7 +92,7 @@ module _ (c : LogState ClearRecord) (orders replies : List (List ℕ)) where
       → OrderLeaves o result old new → StockKeeps old.log new.log
   order_keeps o (Ok (answer.Done r)) old new known h =
       by_added (λ d. Accord c d orders replies) (FitsBook c) (stock_accord_kept c orders replies) old.log new.log (next_record old o) (λ a. (known a h.0, h.0)) h.2.0 h.2.1
-  order_keeps o (Ok (answer.Again r)) old new known h = stock_same old new h.3
+  order_keeps o (Ok (answer.Again r)) old new known h = stock_same old new h.2
   order_keeps o (Err fault.Down) old new known h = stock_same old new h.1
   order_keeps o (Err fault.Conflict) old new known h = stock_same old new h.2
   order_keeps o (Err fault.OutOfMemory) old new known h = stock_same old new h.2
@@ -113,8 +114,10 @@ done_executed o r old new h =
 
 again_executed : (o : Order) (r : Reply) (old new : DepNode) → OrderLeaves o (Ok (answer.Again r)) old new → IsExecuted (executed_of new.log.records) r
 again_executed o r old new h =
-    subst (λ (n : DepNode). IsExecuted (executed_of n.log.records) r) (sym h.3)
-    (record { order = o; moved = r.moved }, ap (movement_of (executed_of old.log.records)) h.2 ∙ h.1, refl)
+    let known = h.1 in
+    let number : r.number ≡ o.number = ap (λ (x : Reply). x.number) known.3 ∙ (agree_fields known.0.order o known.2).number in
+    subst (λ (n : DepNode). IsExecuted (executed_of n.log.records) r) (sym h.2)
+    (known.0, ap (movement_of (executed_of old.log.records)) number ∙ known.1, sym (ap (λ (x : Reply). x.moved) known.3))
 
 -- ---- events
 

@@ -4,12 +4,12 @@ use Rattle.std.specs.Option.{option_flatten}
 use Rattle.std.proofs.lemmas.List.{length-map, map-append}
 use Rattle.std.proofs.lemmas.Option.{slice_get-map}
 use Rattle.std.proofs.Common.{◌≡◌, ◌≢◌, ℕ, ◌+◌, ◌++◌, Bool, true, false, [], ◌∷◌, length, Option, Some, None, Result, Ok, Err, inl, inr, refl, sym, ap, ◌∙◌, subst}
-use Rattle.cns_movements.specs.Order.{order_of}
+use Rattle.cns_movements.specs.Order.{AgreesWith, order_of}
 use Rattle.cns_movements.specs.declared.book.Confirm.{Confirm}
 use Rattle.cns_movements.specs.declared.book.Confirm.TheVariants as answers
 use Rattle.cns_movements.specs.declared.order.Order.{Order}
 use Rattle.cns_movements.specs.declared.order.Reply.{Reply}
-use Rattle.cns_movements.proofs.SameOrderLemmas.{same_order-differ, same_order-refl}
+use Rattle.cns_movements.proofs.AgreeLemmas.{agrees_with-differ, agrees_with-holds}
 use Rattle.cns_wire.specs.Frame.{order_frame, reply_frame}
 use Rattle.cns_wire.specs.Packet.{at_number}
 use Rattle.cns_records.specs.declared.clear_record.ClearRecord.TheVariants as entry
@@ -117,27 +117,26 @@ order_new : (d : Decision) (packet : ℕ) (o : Order) (w : Shown) → Holds pack
 unfolding happens judged
 order_new d packet o w held up none = rw held (ap (settled w) (passes (not w.depot.down) refusal.Down _ (ap not up)) ∙ rw none refl)
 
-order_known : (d : Decision) (packet : ℕ) (o : Order) (moved : ℕ) (w : Shown) → Holds packet (Some o) w → w.depot.down ≡ false
-    → movement_of (executed_of w.depot.records) o.number ≡ Some (record { order = o; moved = moved })
-    → happens d (event.OrderIn packet) w ≡ settled w (let r = reply_to (record { order = o; moved = moved }) in grows d (outcomes.ExecutedAgain r (length w.replies + 1), with_reply r w))
+order_known : (d : Decision) (packet : ℕ) (o : Order) (known : Movement) (w : Shown) → Holds packet (Some o) w → w.depot.down ≡ false
+    → movement_of (executed_of w.depot.records) o.number ≡ Some known → AgreesWith known.order o
+    → happens d (event.OrderIn packet) w ≡ settled w (let r = reply_to known in grows d (outcomes.ExecutedAgain r (length w.replies + 1), with_reply r w))
 unfolding happens judged
-order_known d packet o moved w held up found = rw held (ap (settled w) (passes (not w.depot.down) refusal.Down _ (ap not up)) ∙ rw (found, same_order-refl o) refl)
+order_known d packet o known w held up found agrees =
+    rw held (ap (settled w) (passes (not w.depot.down) refusal.Down _ (ap not up)) ∙ rw (found, agrees_with-holds known.order o agrees) refl)
 
 order_other : (d : Decision) (packet : ℕ) (o : Order) (other : Movement) (w : Shown) → Holds packet (Some o) w → w.depot.down ≡ false
-    → movement_of (executed_of w.depot.records) o.number ≡ Some other → other.order ≢ o → happens d (event.OrderIn packet) w ≡ refuse refusal.Conflict w
+    → movement_of (executed_of w.depot.records) o.number ≡ Some other → (AgreesWith other.order o → ⊥) → happens d (event.OrderIn packet) w ≡ refuse refusal.Conflict w
 unfolding happens judged
-order_other d packet o other w held up found isnt = rw (held, up, found, same_order-differ other.order o isnt) refl
+order_other d packet o other w held up found isnt = rw (held, up, found, agrees_with-differ other.order o isnt) refl
 
--- nothing but memory is in the way of an order that is new, or the one of its number
+-- nothing but memory is in the way of an order that is new, or agrees with what was executed under its number
 order_short : (d : Decision) (packet : ℕ) (o : Order) (w : Shown) → Holds packet (Some o) w → w.depot.down ≡ false → IsItsOwn o (executed_of w.depot.records) → d ≡ NoMemory
     → happens d (event.OrderIn packet) w ≡ refuse refusal.OutOfMemory w
 order_short d packet o w held up own short = by (movement_of (executed_of w.depot.records) o.number) refl
   where
     by : (found : Option Movement) → movement_of (executed_of w.depot.records) o.number ≡ found → happens d (event.OrderIn packet) w ≡ refuse refusal.OutOfMemory w
     by None e = order_new d packet o w held up e ∙ commit_short d _ w w _ short refl
-    by (Some m) e =
-        let is : m.order ≡ o = own m e in
-        order_known d packet o m.moved w held up (subst (λ (k : Order). movement_of (executed_of w.depot.records) o.number ≡ Some (record { order = k; moved = m.moved })) is e) ∙ without_room d _ w w short refl
+    by (Some m) e = order_known d packet o m w held up e (own m e) ∙ without_room d _ w w short refl
 
 order_by : (d : Decision) (packet : ℕ) (o : Order) (result : Result Answer DepFault) (old new : World) → Holds packet (Some o) (shown_of old) → IsAtDepot old new
     → OrderLeaves o result old.depot new.depot → Puts result old new → Fits d (event.OrderIn packet) (order_outcome (length old.replies + 1) result) (shown_of new)
@@ -150,9 +149,8 @@ order_by d packet o (Ok (answer.Done r)) old new held at (none, is, added) puts 
     order_new d packet o (shown_of old) held added.0 none
     ∙ commit_goes d _ _ _ _ _ fits (depot_when_added e reply old new at added put reads)
     ∙ rw (← is, length-map old.replies reply_spelt) refl
-order_by d packet o (Ok (answer.Again r)) old new held at (up, found, number, same) puts fits =
-    let is : r ≡ record { number = o.number; moved = r.moved } = ap (λ n. record { number = n; moved = r.moved }) number in
-    order_known d packet o r.moved (shown_of old) held up found ∙ with_room d _ (shown_of old) fits
+order_by d packet o (Ok (answer.Again r)) old new held at (up, (known, found, agrees, is), same) puts fits =
+    order_known d packet o known (shown_of old) held up found agrees ∙ with_room d _ (shown_of old) fits
     ∙ ap (λ (x : Reply). (outcomes.ExecutedAgain x (length (map reply_spelt old.replies) + 1), with_reply x (shown_of old))) (sym is)
     ∙ rw (same, puts.put, map-append reply_spelt old.replies (reply_frame r ∷ []), puts.reads, length-map old.replies reply_spelt, at.clear, at.orders) refl
 order_by d packet o (Err fault.Down) old new held at (down, same) puts fits =

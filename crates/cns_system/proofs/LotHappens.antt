@@ -12,7 +12,7 @@ use Rattle.cns_records.specs.declared.refusal.Refusal.{Refusal}
 use Rattle.cns_records.specs.declared.refusal.Refusal.TheVariants as refusal
 use Rattle.cns_clearing.specs.Answers.{allocation_of, IsClosed, LotCloseLeaves, MayClose}
 use Rattle.cns_movements.specs.Book.{next_orders}
-use Rattle.cns_clearing.specs.Books.{are_spent, deliveries_in, orders_of}
+use Rattle.cns_clearing.specs.Books.{are_spent, deliveries_in, latest_of, orders_of}
 use Rattle.cns_clearing.specs.Lots.{lots_poured, new_lot, plan_in}
 use Rattle.cns_clearing.specs.Node.{Added}
 use Rattle.cns_clearing.specs.Pools.{free_of, lot_of}
@@ -278,7 +278,7 @@ met lot (inr none) = by lot.sealed
 
 -- what a close tells, and what it comes to once the lot may close
 abbrev closed : Shown → LotState → Allocation → Outcome
-closed w lot a = outcomes.Closed (record { granted = min a.poured (asked_sum lot.tickets); orders = next_orders (orders_of w.clear.records) (deliveries_in a) })
+closed w lot a = outcomes.Closed (record { granted = min a.poured (asked_sum lot.tickets); orders = next_orders (orders_of w.clear.records) (latest_of w.clear.records) (deliveries_in a) })
 
 abbrev commits_close : Decision → ℕ → Shown → LotState → Allocation → Judged
 commits_close d n w lot a = commits d (closed w lot a, with_lot n (with_end lot) (clear_added (entry.Allocate a) w)) (clear_failed (entry.Allocate a) w)

@@ -1,6 +1,6 @@
 -- The tickets that are entered of a lot that was busy are of its plan.
 use Rattle.std.proofs.Common.{◌≡◌, ◌∙◌, ◌-◌, ℕ, Bool, true, false, List, [], ◌∷◌, ◌++◌, Some, Result, Ok, Err, ap, sym, subst, refl, inl, inr}
-use Rattle.std.specs.Prelude.{◌⊎◌, ◌==◌, slice_set}
+use Rattle.std.specs.Prelude.{◌==◌, slice_set}
 use Rattle.std.specs.List.{list_any}
 use Rattle.std.proofs.lemmas.List.{append_assoc, append-nil}
 use Rattle.std.proofs.lemmas.Option.{same_Some}
@@ -11,7 +11,6 @@ use Rattle.cns_allocate.proofs.ServedLemmas.{waiting-none}
 use Rattle.cns_allocate.proofs.TurnLemmas.{find-All}
 use Rattle.cns_clearing.specs.declared.answer.Closed.{Closed}
 use Rattle.cns_records.specs.declared.refusal.Refusal.{Refusal}
-use Rattle.cns_records.specs.declared.refusal.Refusal.TheVariants as refusal
 use Rattle.cns_system.specs.Finish.{AreCutOff, AreEntered, AreOfLot, AreOfOnePlan, HasPlan, IsClosed, IsEnded, IsSealedFirst, IsUnserved, drawn_in, draws, is_close, is_done, reserves}
 use Rattle.cns_system.specs.Floor.{AreBusy, BusyLot, FloorState, IsBusy, busy_at}
 use Rattle.cns_system.specs.Lot.{IsOfPlan, LotState, with_seal, with_ticket}

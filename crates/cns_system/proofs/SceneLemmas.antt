@@ -43,7 +43,7 @@ use Rattle.cns_system.specs.Lots.{LotLeaves, ReserveLeaves}
 use Rattle.cns_system.specs.Numbered.{NumberedNode, CloseLeaves, OpenLeaves, PourLeaves}
 use Rattle.cns_system.specs.Outcomes.{asked_outcome, close_outcome, cycle_outcome, done_outcome, open_outcome, order_outcome, pour_outcome, poured_outcome, reply_outcome, reserve_outcome, restart_outcome, trade_outcome}
 use Rattle.cns_system.specs.Readers.{PlanStep}
-use Rattle.cns_system.specs.Scene.{Chance, Comes, ComesBack, Decides, Forgets, Plans, Scene, Sight, after_commit, after_restart, comes_to, commit_decision, decision_at, given_back, is_foreseen, known_after, known_of, restart_decision, restart_fails, scene_of, sight_of, with_known}
+use Rattle.cns_system.specs.Scene.{Chance, Comes, ComesBack, Decides, Forgets, Plans, Scene, Sight, after_commit, after_restart, comes_to, commit_decision, decision_at, given_back, is_foreseen, known_after, known_of, restart_decision, scene_of, sight_of, with_known}
 use Rattle.cns_system.specs.Shown.{Shown, shown_of}
 use Rattle.cns_system.specs.Step.{AtClear, ByLots, ByNode, ClearRestarts, DepotRestartStep, IsNotSent, Looks, OrderInStep, OrderTaken, ReplyInStep, SendStep, Step}
 use Rattle.cns_system.specs.World.{World, order_in_packet, reply_in_packet}
@@ -379,7 +379,7 @@ order_commits : (packet k : ℕ) (o : Order) (result : Result Answer DepFault) (
 order_commits packet k o (Ok (answer.Done r)) w old new left =
     goes (event.OrderIn packet) (outcomes.Executed r k) w (next_record old o) old.log new.log (λ d goes. goes) (λ f. refl) left.2.1
 order_commits packet k o (Ok (answer.Again r)) w old new left =
-    same (event.OrderIn packet) (outcomes.ExecutedAgain r k) w _ _ (λ d room. room) (λ f. refl) (ap (λ (n : DepNode). sight_of n.log) left.3)
+    same (event.OrderIn packet) (outcomes.ExecutedAgain r k) w _ _ (λ d room. room) (λ f. refl) (ap (λ (n : DepNode). sight_of n.log) left.2)
 order_commits packet k o (Err fault.Down) w old new left = depot_refused (event.OrderIn packet) refusal.Down w old new tt left.1
 order_commits packet k o (Err fault.Conflict) w old new left = depot_refused (event.OrderIn packet) refusal.Conflict w old new tt left.2
 order_commits packet k o (Err fault.OutOfMemory) w old new left = depot_refused (event.OrderIn packet) refusal.OutOfMemory w old new tt left.2

@@ -5,11 +5,12 @@ use Rattle.std.proofs.lemmas.Bool.{eq-eqb, ltb-true}
 use Rattle.std.proofs.lemmas.Option.{none-some, same_Some}
 use Rattle.cns_movements.specs.Book.{Orders}
 use Rattle.cns_movements.specs.Confirm.{answer_by, confirm_answer}
-use Rattle.cns_movements.specs.Order.{moved_of, order_of}
+use Rattle.cns_movements.specs.Order.{AgreesWith, moved_of, order_of}
 use Rattle.cns_movements.specs.declared.book.Confirm.{Confirm}
 use Rattle.cns_movements.specs.declared.book.Confirm.TheVariants as confirm
 use Rattle.cns_movements.specs.declared.order.Order.{Order}
 use Rattle.cns_movements.specs.declared.order.Reply.{Reply}
+use Rattle.cns_movements.proofs.AgreeLemmas.{agree_fields}
 use Rattle.cns_depository.specs.declared.movement.Movement.{Movement}
 use Rattle.cns_depository.specs.Stock.{executed_of, movement_of}
 use Rattle.cns_clearing.specs.Answers.{ReplyLeaves}
@@ -44,45 +45,47 @@ use Rattle.cns_records.specs.declared.refusal.Refusal.{Refusal}
 use Rattle.cns_records.specs.declared.refusal.Refusal.TheVariants as refusal
 use Rattle.cns_system.specs.Agreement.{IsExecuted}
 
--- an executed order of a number is the order of that number
-pub same_order : (orders : List Order) (movements : List Movement) (o : Order) (m : Movement) → All (IsKnown orders) movements → order_of orders o.number ≡ Some o
-    → movement_of movements o.number ≡ Some m → m.order ≡ o
-same_order orders movements o m all found executed =
+-- an executed order of a number agrees with the order of that number
+pub executed_agrees : (orders : List Order) (movements : List Movement) (o : Order) (m : Movement) → All (IsKnown orders) movements → order_of orders o.number ≡ Some o
+    → movement_of movements o.number ≡ Some m → AgreesWith m.order o
+executed_agrees orders movements o m all found executed =
     let known = movement_known orders movements o.number m all executed in
-    sym (same_Some o m.order (sym found ∙ ap (order_of orders) (sym known.1) ∙ known.0.0.0))
+    let its = known.0.0.0 in
+    subst (AgreesWith m.order) (same_Some its.0 o (sym its.1 ∙ ap (order_of orders) known.1 ∙ found)) its.2
 
 -- a reply of an executed movement is a first or a repeated confirmation
 pub answer_known : (book : Orders) (movements : List Movement) (r : Reply) → All (IsKnown book.orders) movements → All (IsExecuted movements) book.replies → IsExecuted movements r
     → (confirm_answer book r ≡ confirm.Done) ⊎ (confirm_answer book r ≡ confirm.Again)
 answer_known book movements r known executed done =
     let order = movement_known book.orders movements r.number done.0 known done.1 in
-    let found = ap (order_of book.orders) (sym order.1) ∙ order.0.0.0 in
-    let most = subst (λ (n : ℕ). n ≤ done.0.order.asked) done.2 order.0.1 in
+    let its = order.0.0.0 in
+    let found = ap (order_of book.orders) (sym order.1) ∙ its.1 in
+    let most : r.moved ≤ its.0.asked = omega (arith, order.0.1, done.2, (agree_fields done.0.order its.0 its.2).asked) in
     subst (λ (o : Option Order). (answer_by o (moved_of book.replies r.number) r.moved ≡ confirm.Done) ⊎ (answer_by o (moved_of book.replies r.number) r.moved ≡ confirm.Again))
-    (sym found) (by (moved_of book.replies r.number) refl most)
+    (sym found) (by its.0 (moved_of book.replies r.number) refl most)
   where
-    not_more : (b : Bool) → nat_lt done.0.order.asked r.moved ≡ b → r.moved ≤ done.0.order.asked
+    not_more : (asked : ℕ) (b : Bool) → nat_lt asked r.moved ≡ b → r.moved ≤ asked
         → ((if b then confirm.TooMuch else confirm.Done) ≡ confirm.Done) ⊎ ((if b then confirm.TooMuch else confirm.Done) ≡ confirm.Again)
-    not_more true less most = let more = ltb-true done.0.order.asked r.moved less in absurd (omega (arith, more, most))
-    not_more false less most = inl refl
+    not_more asked true less most = let more = ltb-true asked r.moved less in absurd (omega (arith, more, most))
+    not_more asked false less most = inl refl
 
-    by : (m : Option ℕ) → moved_of book.replies r.number ≡ m → r.moved ≤ done.0.order.asked
-        → (answer_by (Some done.0.order) m r.moved ≡ confirm.Done) ⊎ (answer_by (Some done.0.order) m r.moved ≡ confirm.Again)
-    by None is most = not_more (nat_lt done.0.order.asked r.moved) refl most
-    by (Some m) is most =
+    by : (o : Order) (m : Option ℕ) → moved_of book.replies r.number ≡ m → r.moved ≤ o.asked
+        → (answer_by (Some o) m r.moved ≡ confirm.Done) ⊎ (answer_by (Some o) m r.moved ≡ confirm.Again)
+    by o None is most = not_more o.asked (nat_lt o.asked r.moved) refl most
+    by o (Some m) is most =
         let before = confirmed_as movements book.replies r.number m executed is in
         let same : m ≡ r.moved = sym before.2 ∙ ap (λ (x : Movement). x.moved) (same_Some before.0 done.0 (sym before.1 ∙ done.1)) ∙ done.2 in
         inr (ap (λ b. if b then confirm.Again else confirm.Conflict) (eq-eqb m r.moved same))
 
 -- ---- events
 
--- an order that came is not another one than was executed under its number
+-- an order that came agrees with what was executed under its number
 order_sound : (o : Order) (packet : ℕ) (result : Result Answer DepFault) (old new : DepNode) (orders : List Order) → All (IsKnown orders) (executed_of old.log.records)
     → order_of orders o.number ≡ Some o → OrderLeaves o result old new → order_outcome packet result ≢ outcomes.Refused refusal.Conflict
 order_sound o packet (Ok (answer.Done r)) old new orders all found h = λ e. cc e
 order_sound o packet (Ok (answer.Again r)) old new orders all found h = λ e. cc e
 order_sound o packet (Err fault.Down) old new orders all found h = λ e. cc e
-order_sound o packet (Err fault.Conflict) old new orders all found h = λ e. h.1.2 (same_order orders (executed_of old.log.records) o h.1.0 all found h.1.1)
+order_sound o packet (Err fault.Conflict) old new orders all found h = λ e. h.1.2 (executed_agrees orders (executed_of old.log.records) o h.1.0 all found h.1.1)
 order_sound o packet (Err fault.OutOfMemory) old new orders all found h = λ e. cc e
 order_sound o packet (Err fault.Device) old new orders all found h = λ e. cc e
 

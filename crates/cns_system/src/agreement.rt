@@ -8,7 +8,7 @@ use cns_journal::Keeper;
 use cns_movements::{MoveKind, OrderBook, Reply};
 use cns_records::DepRecord;
 
-// Whether what a record executed is the order of its number, and a delivery moved all that it asks for.
+// Whether what a record executed agrees with the order of its number, and a delivery moved all that it asks for.
 fn is_ordered(orders: &OrderBook, entry: &DepRecord) -> bool
     ensures { IsTrue result ↔ IfSome (executed_in entry.now) (IsOrdered orders.now.book.orders) }
 {
@@ -16,7 +16,7 @@ fn is_ordered(orders: &OrderBook, entry: &DepRecord) -> bool
     let Some(known) = orders.get(order.number) else {
         return false;
     };
-    known.is_same(order)
+    order.agrees_with(&known)
         && (order.kind != MoveKind::Delivery || moved.count() == order.asked.shares())
 }
 
@@ -54,7 +54,7 @@ fn are_executed<D: Keeper>(depot: &Depository<D>, replies: &[Reply]) -> bool
     true
 }
 
-/// Whether the records of the two nodes agree: each executed movement is that of the order of its
+/// Whether the records of the two nodes agree: each executed movement agrees with the order of its
 /// number, each delivery moved all that it asks for, and each confirmed movement was executed and
 /// moved just what was confirmed. (This project's own rule.)
 pub(crate) fn agree<C: Keeper, D: Keeper>(clear: &Clearing<C>, depot: &Depository<D>) -> bool

@@ -249,7 +249,7 @@ impl<C: Keeper, D: Keeper> Pair<C, D> {
         let Some(order) = self.order_at(number) else {
             return Outcome::Refused(Refusal::UnknownMove);
         };
-        match self.orders.put(&write_order(&order)) {
+        match self.orders.put(write_order(&order).as_bytes()) {
             Ok(packet) => Outcome::Sent { packet },
             Err(_) => Outcome::Refused(Refusal::OutOfMemory),
         }
@@ -315,7 +315,7 @@ impl<C: Keeper, D: Keeper> Pair<C, D> {
             return Refusal::Down;
         }
         match self.depot.executed(order.number) {
-            Some((executed, _)) if executed != *order => Refusal::Conflict,
+            Some((executed, _)) if !executed.agrees_with(order) => Refusal::Conflict,
             _ => Refusal::OutOfMemory,
         }
     }
