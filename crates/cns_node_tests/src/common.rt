@@ -79,10 +79,12 @@ pub(crate) fn trade_of(rt: &impl Abort, sale: &Sale) -> Trade {
     }
 }
 
+// An order without a cycle.
 pub(crate) fn order_of(rt: &impl Abort, placed: &Placed) -> Order {
     let (number, kind, member, code, count) = *placed;
     Order {
         number: number_of(rt, number),
+        cycle: None,
         kind,
         member: member_of(rt, member),
         issue: issue_of(rt, code),

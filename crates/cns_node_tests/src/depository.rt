@@ -1,6 +1,6 @@
 use crate::common::{APPLE, MICROSOFT, Opened, Placed, opening_of};
 use cns_depository::{DepFault, OpeningFault, Openings};
-use cns_ids::Shares;
+use cns_ids::{CycleKind, Shares};
 use cns_movements::MoveKind;
 use story::{Holder, Moved, Step, Story, TWENTY, tell_all};
 
@@ -38,6 +38,31 @@ const A_COVER: &[Step] = &[
     Step::Executed(COVER, 20),
     Step::Take((1, MoveKind::Cover, 1, APPLE, 61), Err(DepFault::Conflict)),
     Step::Balance((APPLE, Holder::Cns, 20)),
+];
+
+const NIGHT: CycleKind = CycleKind::Night;
+
+// An order of the first version is executed: it agrees with that of each cycle, and stays as it is.
+const PLAIN_FIRST: &[Step] = &[
+    Step::Take(COVER, Ok(Moved::Done(20))),
+    Step::TakeIn(NIGHT, COVER, Ok(Moved::Again(20))),
+    Step::TakeIn(CycleKind::Day, COVER, Ok(Moved::Again(20))),
+    Step::Executed(COVER, 20),
+    Step::Restart(1, false),
+    Step::Executed(COVER, 20),
+];
+
+// An order of the night cycle is executed: that of the day cycle is another.
+const NIGHT_FIRST: &[Step] = &[
+    Step::TakeIn(NIGHT, COVER, Ok(Moved::Done(20))),
+    Step::TakeIn(CycleKind::Day, COVER, Err(DepFault::Conflict)),
+    Step::Take(COVER, Ok(Moved::Again(20))),
+    Step::TakeIn(NIGHT, COVER, Ok(Moved::Again(20))),
+    Step::ExecutedIn(NIGHT, COVER, 20),
+    Step::Restart(1, false),
+    Step::ExecutedIn(NIGHT, COVER, 20),
+    Step::Take((2, MoveKind::Cover, 1, APPLE, 5), Ok(Moved::Done(0))),
+    Step::Restart(2, false),
 ];
 
 const LONG_AND_EMPTY: &[Opened] = &[(1, APPLE, 100), (3, APPLE, 0)];
@@ -109,8 +134,10 @@ const MOVED: &[Step] = &[
     Step::Balance((APPLE, Holder::Cns, 15)),
 ];
 
-static STORIES: [Story; 5] = [
+static STORIES: [Story; 7] = [
     (TWENTY, &[A_COVER]),
+    (TWENTY, &[PLAIN_FIRST]),
+    (TWENTY, &[NIGHT_FIRST]),
     (LONG_AND_EMPTY, &[ORDERS]),
     (TWO_ISSUES, &[IN_TWO_ISSUES]),
     (

@@ -88,7 +88,7 @@ fn even_plan(rt: &impl Abort, alloc: Global) -> Plan {
 // The plan after these orders, where these members were long.
 fn plan_after(rt: &impl Abort, alloc: Global, issued: &[Ask], were_long: &[u16]) -> Plan {
     let mut orders = OrderBook::new(alloc);
-    orders.issue(issued).expect(rt, "orders");
+    orders.issue(None, issued).expect(rt, "orders");
     let priorities = two_priorities(rt, alloc);
     plan_of(rt, alloc, &orders, &priorities, were_long)
 }

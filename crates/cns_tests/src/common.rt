@@ -104,13 +104,19 @@ pub(crate) fn asks_of(rt: &impl Abort, alloc: Global, asked: &[AskedIn]) -> Vec<
 // The order of this number for what is asked for in the low issue.
 pub(crate) fn order_of(rt: &impl Abort, number: u64, asking: Asking) -> Order {
     let ask = ask_of(rt, low_issue(rt), asking);
-    Order {
-        number: number_of(rt, number),
-        kind: ask.kind,
-        member: ask.member,
-        issue: ask.issue,
-        asked: ask.asked,
-    }
+    Order::from_ask(number_of(rt, number), None, &ask)
+}
+
+// The same with a cycle of this kind on 4 March 2025.
+pub(crate) fn order_in_cycle(
+    rt: &impl Abort,
+    number: u64,
+    asking: Asking,
+    kind: CycleKind,
+) -> Order {
+    let ask = ask_of(rt, low_issue(rt), asking);
+    let cycle = cycle_of(rt, b"2025-03-04", kind);
+    Order::from_ask(number_of(rt, number), Some(cycle), &ask)
 }
 
 // A trade: its name, its buyer, its seller and its shares.

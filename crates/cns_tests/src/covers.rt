@@ -42,7 +42,7 @@ fn covers_after(
 ) -> Vec<Ask> {
     let book = book_of(rt, alloc, TRADES);
     let mut orders = OrderBook::new(alloc);
-    orders.issue(issued).expect(rt, "orders");
+    orders.issue(None, issued).expect(rt, "orders");
     let asks = covers(alloc, &book, day, &orders, exemptions);
     drop((book, orders));
     asks.expect(rt, "memory")

@@ -1,6 +1,12 @@
-use crate::common::{ask_of, assert_prints, assert_same, low_issue, number_of, reply_of};
-use cns_ids::Shares;
-use cns_movements::{Ask, Asked, Confirm, IssueFault, MoveKind, MoveNo, OrderBook, Reply};
+use crate::common::{
+    ask_of, assert_prints, assert_same, cycle_of, day_of, low_issue, number_of, order_in_cycle,
+    order_of, reply_of,
+};
+use cns_ids::{CycleId, CycleKind, Shares};
+use cns_movements::{
+    Ask, Asked, Confirm, IssueFault, MoveKind, MoveNo, Order, OrderBook, Reply, Version,
+    cycle_bytes, day_bytes, read_cycle, read_day,
+};
 use std::alloc::{AllocError, Global};
 use std::process::Abort;
 
@@ -35,8 +41,8 @@ fn kinds_print(rt: HostRuntime) {
 fn book_of(rt: &impl Abort, alloc: Global, asks: &[Ask]) -> OrderBook {
     let mut book = OrderBook::new(alloc);
     assert!(rt; book.is_empty());
-    book.issue_room(asks).expect(rt, "memory");
-    let first = book.issue(asks).expect(rt, "a first number");
+    book.issue_room(None, asks).expect(rt, "memory");
+    let first = book.issue(None, asks).expect(rt, "a first number");
     assert_same(rt, &first.number(), &1);
     book
 }
@@ -106,15 +112,81 @@ fn the_numbers_end(rt: HostRuntime) {
     let last = number_of(&rt, 1_000_000);
     let delivery = asked_of_first(&rt, MoveKind::Delivery, 2);
     let mut book = book_of_most(&rt, rt.alloc(), delivery);
-    assert_same(&rt, &book.issue(&[]), &Ok(last));
-    let refused = book.issue(&[delivery, delivery]);
+    assert_same(&rt, &book.issue(None, &[]), &Ok(last));
+    let refused = book.issue(None, &[delivery, delivery]);
     assert_same(&rt, &refused, &Err(IssueFault::NumbersSpent));
     assert_same(&rt, &book.len(), &999_999);
-    assert_same(&rt, &book.issue(&[delivery]), &Ok(last));
+    assert_same(&rt, &book.issue(None, &[delivery]), &Ok(last));
     assert_same(&rt, &book.next_number(), &None);
-    assert_same(&rt, &book.issue(&[]), &Err(IssueFault::NumbersSpent));
+    assert_same(&rt, &book.issue(None, &[]), &Err(IssueFault::NumbersSpent));
     assert_open(&rt, &book, &delivery, 2_000_000);
     let moved = reply_of(&rt, 1_000_000, 2);
     assert_same(&rt, &book.confirm(moved), &Ok(Confirm::Done));
     drop(book);
+}
+
+// Order 7, a cover of 60 shares: without a cycle, and of the two cycles of a date.
+fn three_orders(rt: &impl Abort) -> [Order; 3] {
+    let asking = (MoveKind::Cover, 1, 60);
+    [
+        order_of(rt, 7, asking),
+        order_in_cycle(rt, 7, asking, CycleKind::Night),
+        order_in_cycle(rt, 7, asking, CycleKind::Day),
+    ]
+}
+
+#[test]
+fn orders_agree(rt: HostRuntime) {
+    let [plain, night, day] = three_orders(&rt);
+    assert!(rt; plain.agrees_with(&plain) && night.agrees_with(&night));
+    assert!(rt; plain.agrees_with(&night) && night.agrees_with(&plain));
+    assert!(rt; plain.agrees_with(&day) && day.agrees_with(&plain));
+    assert!(rt; !night.agrees_with(&day) && !day.agrees_with(&night));
+    let fewer = order_of(&rt, 7, (MoveKind::Cover, 1, 59));
+    assert!(rt; !plain.agrees_with(&fewer) && !night.agrees_with(&fewer));
+}
+
+#[test]
+fn versions_of_orders(rt: HostRuntime) {
+    let [plain, night, _day] = three_orders(&rt);
+    assert_same(&rt, &plain.version(), &Version::One);
+    assert_same(&rt, &night.version(), &Version::Two);
+    for (version, byte, size) in [(Version::One, 1, 27), (Version::Two, 2, 32)] {
+        assert_same(&rt, &Version::of_byte(byte), &Some(version));
+        assert!(rt; version.byte() == byte && version.order_size() == size);
+    }
+    assert!(rt; Version::of_byte(0).is_none() && Version::of_byte(3).is_none());
+}
+
+#[test]
+fn orders_of_a_cycle(rt: HostRuntime) {
+    let cover = asked_of_first(&rt, MoveKind::Cover, 35);
+    let cycle = cycle_of(&rt, b"2025-03-04", CycleKind::Night);
+    let mut book = book_of(&rt, rt.alloc(), &[cover]);
+    let second = book.issue(Some(cycle), &[cover]);
+    assert_same(&rt, &second, &Ok(number_of(&rt, 2)));
+    let cycles = [1, 2].map(|number| book
+        .get(number_of(&rt, number))
+        .and_then(|order| order.cycle));
+    assert_same(&rt, &cycles, &[None, Some(cycle)]);
+    drop(book);
+}
+
+// The cycle of a kind on 4 March 2025, and its bytes.
+fn assert_cycle(rt: &impl Abort, kind: CycleKind, bytes: &[u8; 5]) {
+    let day = day_of(rt, b"2025-03-04");
+    let cycle = CycleId { day, kind };
+    assert_same(rt, &cycle_bytes(cycle), bytes);
+    assert_same(rt, &read_cycle(bytes), &Some(cycle));
+}
+
+#[test]
+fn dates_and_cycles_as_bytes(rt: HostRuntime) {
+    let day = day_of(&rt, b"2025-03-04");
+    assert_same(&rt, &day_bytes(day), b"\x07\xe9\x03\x04");
+    assert_same(&rt, &read_day(b"\x07\xe9\x03\x04"), &Some(day));
+    assert!(rt; read_day(b"\x07\xe9\x02\x1e").is_none() && read_day(b"\x07\x6b\x0c\x1f").is_none());
+    assert_cycle(&rt, CycleKind::Night, b"\x07\xe9\x03\x04\x00");
+    assert_cycle(&rt, CycleKind::Day, b"\x07\xe9\x03\x04\x01");
+    assert!(rt; read_cycle(b"\x07\xe9\x03\x04\x02").is_none());
 }

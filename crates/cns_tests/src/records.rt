@@ -1,6 +1,6 @@
 use crate::common::{
-    assert_prints, assert_same, cycle_of, low_issue, member_of, order_of, reply_of, shares_of,
-    trade_of,
+    assert_prints, assert_same, cycle_of, low_issue, member_of, order_in_cycle, order_of, reply_of,
+    shares_of, trade_of,
 };
 use cns_ids::CycleKind;
 use cns_journal::RecordFault;
@@ -18,6 +18,12 @@ const CONFIRM: [u8; 18] = [1, 6, 0, 0, 0, 0, 0, 0, 0, 1, 0, 0, 0, 0, 0, 0, 0, 20
 static EXEC: [u8; 38] = [
     1, 7, 1, 0, 0, 0, 0, 0, 0, 0, 7, 0, 1, 0x30, 0x33, 0x37, 0x38, 0x33, 0x33, 0x31, 0x30, 0x30, 0,
     0, 0, 0, 0, 0, 0, 60, 0, 0, 0, 0, 0, 0, 0, 20,
+];
+
+// The same of the night cycle of 2025-03-04.
+static EXEC_2: [u8; 43] = [
+    2, 7, 1, 0, 0, 0, 0, 0, 0, 0, 7, 0x07, 0xe9, 3, 4, 0, 0, 1, 0x30, 0x33, 0x37, 0x38, 0x33, 0x33,
+    0x31, 0x30, 0x30, 0, 0, 0, 0, 0, 0, 0, 60, 0, 0, 0, 0, 0, 0, 0, 20,
 ];
 
 // Trade A1 of 2025-03-04: member 2 buys 100 shares of 037833100 from member 1.
@@ -286,6 +292,23 @@ fn depository_records_both_ways(rt: HostRuntime) {
     for len in 0..EXEC.len() {
         assert_exec_bad(&rt, &EXEC[..len]);
     }
+}
+
+#[test]
+fn executions_of_a_cycle_both_ways(rt: HostRuntime) {
+    let order = order_in_cycle(&rt, 7, (MoveKind::Cover, 1, 60), CycleKind::Night);
+    let moved = shares_of(&rt, 20);
+    let exec = DepRecord::Exec { order, moved };
+    let payload = exec.write(rt.alloc()).expect(&rt, "memory");
+    assert_same(&rt, &payload.as_slice(), &EXEC_2.as_slice());
+    assert_same(&rt, &DepRecord::read(&EXEC_2), &Ok(exec));
+    for len in 0..EXEC_2.len() {
+        assert_exec_bad(&rt, &EXEC_2[..len]);
+    }
+    for (place, byte) in [(0, 1), (0, 3), (1, 6), (11, 0), (13, 13), (15, 2), (42, 61)] {
+        assert_exec_bad(&rt, &changed(&rt, rt.alloc(), &EXEC_2, place, byte));
+    }
+    assert_bad(&rt, rt.alloc(), &EXEC_2);
 }
 
 // A payload, a place in it, and a byte that is bad there.

@@ -1,6 +1,7 @@
-ghost use Rattle.std.specs.Prelude.{◌+◌, ◌≤◌, length};
+ghost use Rattle.std.specs.Prelude.{◌+◌, ◌<◌, ◌≤◌, length};
 
-use crate::common::{assert_prints, assert_same, order_of, reply_of};
+use crate::common::{assert_prints, assert_same, order_in_cycle, order_of, reply_of};
+use cns_ids::CycleKind;
 use cns_movements::{MoveKind, Order};
 use cns_wire::{Frame, FrameFault, Wire, read_frame, write_order, write_reply};
 use std::alloc::AllocError;
@@ -10,12 +11,16 @@ use std::process::Abort;
 const ORDER: [u8; 31] =
     *b"CD\x01\x01\x00\x00\x00\x00\x00\x00\x00\x07\x00\x01037833100\x00\x00\x00\x00\x00\x00\x00\x3c";
 
+// The same with the night cycle of 4 March 2025.
+const ORDER_2: [u8; 36] =
+    *b"CD\x02\x01\x00\x00\x00\x00\x00\x00\x00\x07\x07\xe9\x03\x04\x00\x00\x01037833100\x00\x00\x00\x00\x00\x00\x00\x3c";
+
 // Order 7 moved 20 shares.
 const REPLY: [u8; 20] =
     *b"CD\x01\x03\x00\x00\x00\x00\x00\x00\x00\x07\x00\x00\x00\x00\x00\x00\x00\x14";
 
 fn assert_order(rt: &impl Abort, order: &Order, frame: &[u8]) {
-    assert_same(rt, &write_order(order).as_slice(), &frame);
+    assert_same(rt, &write_order(order).as_bytes(), &frame);
     assert_same(rt, &read_frame(frame), &Ok(Frame::Order(*order)));
 }
 
@@ -24,6 +29,11 @@ fn orders_and_replies(rt: HostRuntime) {
     assert_order(&rt, &order_of(&rt, 7, (MoveKind::Cover, 1, 60)), &ORDER);
     let delivery = order_of(&rt, 7, (MoveKind::Delivery, 1, 60));
     assert_order(&rt, &delivery, &changed(3, b"\x02"));
+    let asking = (MoveKind::Cover, 1, 60);
+    let night = order_in_cycle(&rt, 7, asking, CycleKind::Night);
+    assert_order(&rt, &night, &ORDER_2);
+    let day = order_in_cycle(&rt, 7, asking, CycleKind::Day);
+    assert_order(&rt, &day, &changed_2(16, 1));
     let reply = reply_of(&rt, 7, 20);
     assert_same(&rt, &write_reply(&reply), &REPLY);
     assert_same(&rt, &read_frame(&REPLY), &Ok(Frame::Reply(reply)));
@@ -36,6 +46,38 @@ fn changed(at: usize, bytes: &[u8]) -> [u8; 31]
     let mut frame = ORDER;
     frame[at..at + bytes.len()].copy_from_slice(bytes);
     frame
+}
+
+// The frame of the order with a cycle, with another byte in this place.
+fn changed_2(at: usize, byte: u8) -> [u8; 36]
+    requires { at < 36 }
+{
+    let mut frame = ORDER_2;
+    frame[at] = byte;
+    frame
+}
+
+// A byte in another place of that frame, and the fault that it makes.
+static CHANGES_2: [(usize, u8, FrameFault); 7] = [
+    (2, 0, FrameFault::Version),
+    (2, 1, FrameFault::Long),
+    (2, 3, FrameFault::Version),
+    (3, 3, FrameFault::Kind),
+    (12, 0, FrameFault::Field),
+    (15, 32, FrameFault::Field),
+    (16, 2, FrameFault::Field),
+];
+
+#[test]
+fn faults_of_frames_with_a_cycle(rt: HostRuntime) {
+    for (at, byte, fault) in &CHANGES_2 {
+        if *at < 36 {
+            assert_fault(&rt, &changed_2(*at, *byte), *fault);
+        }
+    }
+    // A frame that says that it has a cycle, and has none.
+    assert_fault(&rt, &changed(2, b"\x02"), FrameFault::Short);
+    assert_prefixes(&rt, &ORDER_2);
 }
 
 // Bytes in another place of the order's frame, and the fault that they make.
@@ -104,7 +146,7 @@ fn each_prefix_is_short(rt: HostRuntime) {
 // Whether these bytes are no frame, or are written again as they are.
 fn is_refused_or_spelled(bytes: &[u8]) -> bool {
     match read_frame(bytes) {
-        Ok(Frame::Order(order)) => write_order(&order).as_slice() == bytes,
+        Ok(Frame::Order(order)) => write_order(&order).as_bytes() == bytes,
         Ok(Frame::Reply(reply)) => write_reply(&reply).as_slice() == bytes,
         Err(_) => true,
     }
@@ -117,6 +159,9 @@ fn each_changed_byte(rt: HostRuntime) {
             let mut frame = ORDER;
             frame[at] = byte;
             assert!(rt; is_refused_or_spelled(&frame));
+        }
+        for at in 0..36 {
+            assert!(rt; is_refused_or_spelled(&changed_2(at, byte)));
         }
         for at in 0..20 {
             let mut frame = REPLY;

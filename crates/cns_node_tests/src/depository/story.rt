@@ -3,11 +3,13 @@
 //! A step is plain data: so a test is a table, and its proof is short.
 
 use crate::common::{
-    APPLE, Opened, Placed, Text, issue_of, member_of, number_of, openings_of, order_of, reply_of,
-    shares_of,
+    APPLE, Opened, Placed, Text, cycle_of, issue_of, member_of, number_of, openings_of, order_of,
+    reply_of, shares_of,
 };
 use cns_depository::{Account, Answer, BalanceRow, DepFault, Depository};
+use cns_ids::CycleKind;
 use cns_journal::{ListKeeper, Restarted};
+use cns_movements::Order;
 use std::alloc::Global;
 use std::process::Abort;
 
@@ -34,12 +36,15 @@ pub(super) enum Step {
     // The next commit fails, and its record stands or does not.
     Plan(bool),
     Take(Placed, Result<Moved, DepFault>),
+    // The same with the cycle of this kind on 4 March 2025.
+    TakeIn(CycleKind, Placed, Result<Moved, DepFault>),
     // How many records the journal has, and whether the undecided one was kept.
     Restart(u64, bool),
     Down(bool),
     NotExecuted(u64),
     // The order that was executed under its number, and the shares that it moved.
     Executed(Placed, u64),
+    ExecutedIn(CycleKind, Placed, u64),
     Balance(Held),
     Balances(&'static [Held]),
 }
@@ -89,9 +94,16 @@ fn has_balances(rt: &impl Abort, alloc: Global, node: &Node, of: &[Held]) -> boo
     same
 }
 
-fn executed(rt: &impl Abort, node: &Node, placed: &Placed, moved: u64) -> bool {
-    let order = order_of(rt, placed);
-    node.executed(order.number) == Some((order, shares_of(rt, moved)))
+// Whether this order was executed, and moved so much.
+fn executed(rt: &impl Abort, node: &Node, order: &Order, moved: u64) -> bool {
+    node.executed(order.number) == Some((*order, shares_of(rt, moved)))
+}
+
+// An order with the cycle of this kind on 4 March 2025.
+fn order_in(rt: &impl Abort, kind: CycleKind, placed: &Placed) -> Order {
+    let mut order = order_of(rt, placed);
+    order.cycle = Some(cycle_of(rt, b"2025-03-04", kind));
+    order
 }
 
 // Whether a depository answers a step as it says.
@@ -101,13 +113,19 @@ fn answers(rt: &impl Abort, alloc: Global, node: &mut Node, step: &Step) -> bool
         Step::Take(placed, wanted) => {
             node.take_order(&order_of(rt, placed)) == answer_of(rt, placed.0, wanted)
         }
+        Step::TakeIn(kind, placed, wanted) => {
+            node.take_order(&order_in(rt, *kind, placed)) == answer_of(rt, placed.0, wanted)
+        }
         Step::Restart(records, kept) => {
             let (records, kept) = (*records, *kept);
             node.restart() == Ok(Restarted { records, kept })
         }
         Step::Down(wanted) => node.is_down() == *wanted,
         Step::NotExecuted(number) => node.executed(number_of(rt, *number)).is_none(),
-        Step::Executed(placed, moved) => executed(rt, node, placed, *moved),
+        Step::Executed(placed, moved) => executed(rt, node, &order_of(rt, placed), *moved),
+        Step::ExecutedIn(kind, placed, moved) => {
+            executed(rt, node, &order_in(rt, *kind, placed), *moved)
+        }
         Step::Balance(held) => has_balance(rt, node, held),
         Step::Balances(of) => has_balances(rt, alloc, node, of),
     }
