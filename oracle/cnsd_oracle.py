@@ -10,7 +10,7 @@ It keeps the two nodes' records as lists, oldest first, and everything else is a
 over a whole list. Most sums are computed anew at each question; a plan and what is
 available are kept until the next record, and orders, accepted trades and open lots as
 they come, so that a million of each can be asked for. It knows `run` without workers,
-with ample memory, and of journal files what a first run over them tells.
+with ample memory, and of journal files what a run tells that begins with given records.
 """
 import functools
 import os
@@ -218,7 +218,7 @@ Allocate = namedtuple('Allocate', 'issue poured tickets')
 Confirm = namedtuple('Confirm', 'number moved')
 Exec = namedtuple('Exec', 'order moved')
 
-Order = namedtuple('Order', 'number kind member issue asked')
+Order = namedtuple('Order', 'number cycle kind member issue asked')
 Ticket = namedtuple('Ticket', 'member start asked')
 Planned = namedtuple('Planned', 'member asked group')
 
@@ -285,6 +285,12 @@ def grants(tickets, poured):
     return [max(0, min(ticket.start + ticket.asked, poured) - ticket.start) for ticket in tickets]
 
 
+def agree(one, other):
+    """Whether two orders say the same, of their cycles where both have one."""
+    same = one._replace(cycle=None) == other._replace(cycle=None)
+    return same and (None in (one.cycle, other.cycle) or one.cycle == other.cycle)
+
+
 def made_by(records, orders):
     """What the last of these records asks for, given the orders of those before it."""
     last = records[-1]
@@ -297,12 +303,16 @@ def made_by(records, orders):
 
 
 def orders_of(records, orders=(), upto=0):
-    """All orders, numbered from 1, where the given ones are those of the first `upto` records."""
+    """All orders, numbered from 1, where the given ones are those of the first `upto` records.
+
+    Each is of the last cycle that stands up to the record that made it.
+    """
     orders = list(orders)
     for count in range(upto + 1, len(records) + 1):
         if isinstance(records[count - 1], (Cycle, Allocate)):
+            cycles = of_kind(Cycle, records[:count])
             for ask in made_by(records[:count], orders):
-                orders.append(Order(len(orders) + 1, *ask))
+                orders.append(Order(len(orders) + 1, cycles[-1] if cycles else None, *ask))
     return orders
 
 
@@ -393,8 +403,8 @@ class Words:
 class Node:
     """A node's records, and a keeper in memory that can be planned to fail."""
 
-    def __init__(self):
-        self.records = []
+    def __init__(self, records=()):
+        self.records = list(records)
         self.down = False
         self.planned = None       # None, or whether the record of the failing commit stands
         self.undecided = []       # the record that comes back at a restart
@@ -434,9 +444,9 @@ class Lot:
 class Book:
     """The clearing node, the depository, the packets and the lots."""
 
-    def __init__(self, openings):
-        self.clear = Node()
-        self.depot = Node()
+    def __init__(self, openings, clear=(), depot=()):
+        self.clear = Node(clear)
+        self.depot = Node(depot)
         self.openings = openings
         self.order_packets = []
         self.reply_packets = []
@@ -628,7 +638,7 @@ class Book:
         order = self.order_packets[packet - 1]
         done = [record for record in of_kind(Exec, self.depot.records) if record.order.number == order.number]
         if done:
-            if done[0].order != order:
+            if not agree(done[0].order, order):
                 raise Refused('Conflict')
             word, moved = 'again', done[0].moved
         else:
@@ -702,15 +712,16 @@ def read_command(line):
 class Run:
     """One run of a script: the lines that it prints are in `out`.
 
-    It is shaken by a number where there is one. Over journal files no commit can be planned to fail.
+    It is shaken by a number where there is one. Over journal files no commit can be planned to fail, and
+    the nodes begin with the records that those hold.
     """
 
-    def __init__(self, rows, openings, script, shake=None, journal=False):
+    def __init__(self, rows, openings, script, shake=None, journal=False, clear=(), depot=()):
         self.words = None if shake is None else Words(shake)
         self.journal = journal
         self.rows = rows
         self.taken = 0
-        self.book = Book(openings)
+        self.book = Book(openings, clear, depot)
         self.out = []
         # The lines that are not skipped, with their numbers, and the place of the next.
         self.script = [(number, line) for number, line in enumerate(script, 1) if line and not line.startswith(b'#')]
@@ -957,24 +968,30 @@ def good_openings(rows, say):
     return openings
 
 
+def run_of(text, shake=None, journal=False, clear=(), depot=()):
+    """The run of an input, which is over."""
+    if len(text) > INPUT_LIMIT:
+        raise BadInput('input too long')
+    opening_text, trade_text, script = split_sections(text)
+    opening_rows = rows_under(b'account,cusip,shares', opening_text)
+    rows = rows_under(b'trade,settle,buyer,seller,cusip,quantity', trade_text)
+    lines = []
+    run = Run(rows, good_openings(opening_rows, lines.append), script, shake, journal, clear, depot)
+    run.out = lines
+    run.run()
+    return run
+
+
 def answer(text, shake=None, journal=False):
     """(exit status, standard output, standard error) of a run with this input.
 
     With a number it is shaken; with `journal` it is over journal files that are empty.
     """
     try:
-        if len(text) > INPUT_LIMIT:
-            raise BadInput('input too long')
-        opening_text, trade_text, script = split_sections(text)
-        opening_rows = rows_under(b'account,cusip,shares', opening_text)
-        rows = rows_under(b'trade,settle,buyer,seller,cusip,quantity', trade_text)
+        run = run_of(text, shake, journal)
     except BadInput as fault:
         return 2, b'', b'cnsd: %s\n' % str(fault).encode()
-    lines = []
-    run = Run(rows, good_openings(opening_rows, lines.append), script, shake, journal)
-    run.out = lines
-    run.run()
-    return 0, ''.join(line + '\n' for line in lines).encode(), b''
+    return 0, ''.join(line + '\n' for line in run.out).encode(), b''
 
 
 def answer_cusip(text):
