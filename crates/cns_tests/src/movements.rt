@@ -74,10 +74,22 @@ fn confirm_all(rt: &impl Abort, book: &mut OrderBook) {
     }
 }
 
+// The shares that the order of a number asks for.
+fn asked_at(book: &OrderBook, number: MoveNo) -> Option<Asked> {
+    match book.get(number) {
+        Some(order) => Some(order.asked),
+        None => None,
+    }
+}
+
+// The cycle of the order of a number.
+fn cycle_at(book: &OrderBook, number: MoveNo) -> Option<CycleId> {
+    book.get(number)?.cycle
+}
+
 // What a book says of the orders of these numbers: the shares that are asked, and those that moved.
 fn shown(book: &OrderBook, number: MoveNo) -> (Option<Asked>, Option<Shares>) {
-    let asked = book.get(number).map(|order| order.asked);
-    (asked, book.confirmed(number))
+    (asked_at(book, number), book.confirmed(number))
 }
 
 #[test]
@@ -160,24 +172,24 @@ fn versions_of_orders(rt: HostRuntime) {
 
 #[test]
 fn orders_of_a_cycle(rt: HostRuntime) {
-    let cover = asked_of_first(&rt, MoveKind::Cover, 35);
-    let cycle = cycle_of(&rt, b"2025-03-04", CycleKind::Night);
-    let mut book = book_of(&rt, rt.alloc(), &[cover]);
-    let second = book.issue(Some(cycle), &[cover]);
-    assert_same(&rt, &second, &Ok(number_of(&rt, 2)));
-    let cycles = [1, 2].map(|number| book
-        .get(number_of(&rt, number))
-        .and_then(|order| order.cycle));
-    assert_same(&rt, &cycles, &[None, Some(cycle)]);
+    let asks = [asked_of_first(&rt, MoveKind::Cover, 35)];
+    let night = || Some(cycle_of(&rt, b"2025-03-04", CycleKind::Night));
+    let mut book = book_of(&rt, rt.alloc(), &asks);
+    let (first, second) = (number_of(&rt, 1), number_of(&rt, 2));
+    assert_same(&rt, &book.issue(night(), &asks), &Ok(second));
+    assert_same(&rt, &cycle_at(&book, first), &None);
+    assert_same(&rt, &cycle_at(&book, second), &night());
     drop(book);
 }
 
 // The cycle of a kind on 4 March 2025, and its bytes.
 fn assert_cycle(rt: &impl Abort, kind: CycleKind, bytes: &[u8; 5]) {
-    let day = day_of(rt, b"2025-03-04");
-    let cycle = CycleId { day, kind };
-    assert_same(rt, &cycle_bytes(cycle), bytes);
-    assert_same(rt, &read_cycle(bytes), &Some(cycle));
+    assert_same(rt, &cycle_bytes(cycle_of(rt, b"2025-03-04", kind)), bytes);
+    assert_same(
+        rt,
+        &read_cycle(bytes),
+        &Some(cycle_of(rt, b"2025-03-04", kind)),
+    );
 }
 
 #[test]
