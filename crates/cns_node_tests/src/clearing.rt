@@ -31,7 +31,7 @@ const FAILED: &[Step] = &[Step::Plan(true), NIGHT_FAILS];
 
 const LOST: &[Step] = &[Step::Plan(false), NIGHT_FAILS];
 
-const FIRST_ORDER: Step = Step::Order((1, MoveKind::Cover, 1, APPLE, 35));
+const FIRST_ORDER: Step = Step::Order(MONDAY, CycleKind::Night, (1, MoveKind::Cover, 1, APPLE, 35));
 
 const NO_OTHER: Step = Step::NoOrder(2, Refusal::UnknownMove);
 
@@ -58,7 +58,7 @@ const REPLIES: &[Step] = &[
     Step::Reply(1, 35, Err(Refusal::Conflict)),
     Step::Shows(-40, 20),
     Step::Cycle(MONDAY, CycleKind::Day, Ok((0, 2, 1))),
-    Step::Order((2, MoveKind::Cover, 1, APPLE, 15)),
+    Step::Order(MONDAY, CycleKind::Day, (2, MoveKind::Cover, 1, APPLE, 15)),
 ];
 
 const TRADES: &[Step] = &[

@@ -92,6 +92,13 @@ pub(crate) fn order_of(rt: &impl Abort, placed: &Placed) -> Order {
     }
 }
 
+// An order of the cycle of this day and kind.
+pub(crate) fn order_in(rt: &impl Abort, day: Text, kind: CycleKind, placed: &Placed) -> Order {
+    let mut order = order_of(rt, placed);
+    order.cycle = Some(cycle_of(rt, day, kind));
+    order
+}
+
 // The reply to the order of this number.
 pub(crate) fn reply_of(rt: &impl Abort, number: u64, moved: u64) -> Reply {
     let number = number_of(rt, number);

@@ -66,8 +66,16 @@ const UNSERVED: &[Step] = &[
 
 // The orders of a lot that served both members.
 pub(super) const DELIVERIES: &[Step] = &[
-    Step::Order((3, MoveKind::Delivery, 2, APPLE, 30)),
-    Step::Order((4, MoveKind::Delivery, 3, APPLE, 10)),
+    Step::Order(
+        THURSDAY,
+        CycleKind::Night,
+        (3, MoveKind::Delivery, 2, APPLE, 30),
+    ),
+    Step::Order(
+        THURSDAY,
+        CycleKind::Night,
+        (4, MoveKind::Delivery, 3, APPLE, 10),
+    ),
     Step::NoOrder(5, Refusal::UnknownMove),
     Step::Shares(0, 0, 40),
 ];

@@ -3,7 +3,7 @@
 //! A step is plain data: so a test is a table, and its proof is short.
 
 use crate::common::{
-    Draw, Placed, Sale, Text, apple, cycle_of, member_of, number_of, order_of, reply_of, shares_of,
+    Draw, Placed, Sale, Text, apple, cycle_of, member_of, number_of, order_in, reply_of, shares_of,
     tickets_of, trade_of,
 };
 use cns_allocate::{Group, Planned};
@@ -49,7 +49,8 @@ pub(super) enum Step {
     Shows(i128, u128),
     // The shares that are free, lent and out.
     Shares(u128, u128, u128),
-    Order(Placed),
+    // An order, and the cycle that it is of.
+    Order(Text, CycleKind, Placed),
     // Why the order of this number is not shown.
     NoOrder(u64, Refusal),
     // The shares that are free, lent and out in each pool.
@@ -164,7 +165,9 @@ fn shows(rt: &impl Abort, alloc: Global, node: &Node, step: &Step) -> bool {
         Step::Shares(free, lent, out) => {
             (node.free(issue), node.lent(issue), node.out(issue)) == (*free, *lent, *out)
         }
-        Step::Order(placed) => node.order(number_of(rt, placed.0)) == Ok(order_of(rt, placed)),
+        Step::Order(day, kind, placed) => {
+            node.order(number_of(rt, placed.0)) == Ok(order_in(rt, day, *kind, placed))
+        }
         Step::NoOrder(number, fault) => node.order(number_of(rt, *number)) == Err(*fault),
         Step::Pools(wanted) => pools(rt, alloc, node, wanted),
         Step::Latest(day, kind) => node.latest() == Some(cycle_of(rt, day, *kind)),

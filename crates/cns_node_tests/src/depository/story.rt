@@ -3,7 +3,7 @@
 //! A step is plain data: so a test is a table, and its proof is short.
 
 use crate::common::{
-    APPLE, Opened, Placed, Text, cycle_of, issue_of, member_of, number_of, openings_of, order_of,
+    APPLE, Opened, Placed, Text, issue_of, member_of, number_of, openings_of, order_in, order_of,
     reply_of, shares_of,
 };
 use cns_depository::{Account, Answer, BalanceRow, DepFault, Depository};
@@ -99,11 +99,9 @@ fn executed(rt: &impl Abort, node: &Node, order: &Order, moved: u64) -> bool {
     node.executed(order.number) == Some((*order, shares_of(rt, moved)))
 }
 
-// An order with the cycle of this kind on 4 March 2025.
-fn order_in(rt: &impl Abort, kind: CycleKind, placed: &Placed) -> Order {
-    let mut order = order_of(rt, placed);
-    order.cycle = Some(cycle_of(rt, b"2025-03-04", kind));
-    order
+// The order of the cycle of this kind on 4 March 2025.
+fn order_then(rt: &impl Abort, kind: CycleKind, placed: &Placed) -> Order {
+    order_in(rt, b"2025-03-04", kind, placed)
 }
 
 // Whether a depository answers a step as it says.
@@ -114,7 +112,7 @@ fn answers(rt: &impl Abort, alloc: Global, node: &mut Node, step: &Step) -> bool
             node.take_order(&order_of(rt, placed)) == answer_of(rt, placed.0, wanted)
         }
         Step::TakeIn(kind, placed, wanted) => {
-            node.take_order(&order_in(rt, *kind, placed)) == answer_of(rt, placed.0, wanted)
+            node.take_order(&order_then(rt, *kind, placed)) == answer_of(rt, placed.0, wanted)
         }
         Step::Restart(records, kept) => {
             let (records, kept) = (*records, *kept);
@@ -124,7 +122,7 @@ fn answers(rt: &impl Abort, alloc: Global, node: &mut Node, step: &Step) -> bool
         Step::NotExecuted(number) => node.executed(number_of(rt, *number)).is_none(),
         Step::Executed(placed, moved) => executed(rt, node, &order_of(rt, placed), *moved),
         Step::ExecutedIn(kind, placed, moved) => {
-            executed(rt, node, &order_in(rt, *kind, placed), *moved)
+            executed(rt, node, &order_then(rt, *kind, placed), *moved)
         }
         Step::Balance(held) => has_balance(rt, node, held),
         Step::Balances(of) => has_balances(rt, alloc, node, of),
