@@ -87,15 +87,19 @@ fn said(order: &Order) -> Said {
 
 // What the clearing node holds under a number: the order, and the shares that are confirmed.
 fn ordered(both: &Both, number: MoveNo) -> Option<(Said, Option<u64>)> {
-    let order = both.clearing().order(number).ok()?;
     let confirmed = both.clearing().orders().confirmed(number);
-    Some((said(&order), confirmed.map(|moved| moved.count())))
+    match both.clearing().order(number) {
+        Ok(order) => Some((said(&order), confirmed.map(|moved| moved.count()))),
+        Err(_) => None,
+    }
 }
 
 // What the depository holds under a number: the order that it executed, and the shares that it moved.
 fn executed(both: &Both, number: MoveNo) -> Option<(Said, Option<u64>)> {
-    let (order, moved) = both.depository().executed(number)?;
-    Some((said(&order), Some(moved.count())))
+    match both.depository().executed(number) {
+        Some((order, moved)) => Some((said(&order), Some(moved.count()))),
+        None => None,
+    }
 }
 
 // Both nodes hold this movement under its number, the depository where it was executed, and what moved is
