@@ -9,29 +9,42 @@ use Rattle.cns_records.specs.declared.dep_record.DepRecord.{DepRecord}
 use Rattle.cns_trades.specs.declared.opening.Opening.{Opening}
 use Rattle.cns_depository.specs.declared.account.Account.{Account}
 use Rattle.cns_depository.specs.declared.account.Account.TheVariants.{Cns, Member}
+use Rattle.cns_depository.specs.declared.account.Side.{Side}
+use Rattle.cns_depository.specs.declared.account.Side.TheVariants.{Outside, At}
 use Rattle.cns_depository.specs.declared.place.Place.{Place}
 use Rattle.cns_depository.specs.declared.balances.BalanceRow.{BalanceRow}
 use Rattle.cns_depository.specs.Stock.{balance_of, transfer_of}
 
--- the rank of an account: the CNS account first, then the members by number
+-- the rank of an account: the CNS account first, then the members by number; and that of a side: the outside first
 abbrev pub rank : Account → ℕ
 rank account = elim account [ Cns ↦ 0 | Member m ↦ m + 1 ]
 
--- the order of places: by issue, then account
+abbrev pub side_rank : Side → ℕ
+side_rank Outside = 0
+side_rank (At account) = rank account + 1
+
+-- the order of places: by issue, then side
 abbrev pub place_cmp : Place → Place → Ordering
-place_cmp a b = ordering_then (nat_cmp a.issue b.issue) (nat_cmp (rank a.account) (rank b.account))
+place_cmp a b = ordering_then (nat_cmp a.issue b.issue) (nat_cmp (side_rank a.side) (side_rank b.side))
 
 -- the places that some opening or transfer names, each once, ascending
 unfoldable pub places_of : List Opening → List DepRecord → List Place
-places_of openings [] = fold (λ ps o. insert_key place_cmp ps (record { issue = o.issue; account = Member o.member })) [] openings
+places_of openings [] = fold (λ ps o. insert_key place_cmp ps (record { issue = o.issue; side = At (Member o.member) })) [] openings
 places_of openings (e ∷ p) =
-    let t = transfer_of e in fold (λ ps a. insert_key place_cmp ps (record { issue = t.issue; account = a })) (places_of openings p) (t.giver ∷ t.receiver ∷ [])
+    let t = transfer_of e in fold (λ ps s. insert_key place_cmp ps (record { issue = t.issue; side = s })) (places_of openings p) (t.giver ∷ t.receiver ∷ [])
 
--- the row of a place, where its balance is not 0
+-- the row of a place that is an account's, where its balance is not 0
+abbrev pub account_row : List Opening → List DepRecord → Account → ℕ → Option BalanceRow
+account_row openings p account issue =
+    if balance_of openings p account issue == 0 then None
+    else Some (record { issue = issue; account = account; shares = balance_of openings p account issue })
+
+abbrev pub side_row : List Opening → List DepRecord → Side → ℕ → Option BalanceRow
+side_row openings p Outside issue = None
+side_row openings p (At account) issue = account_row openings p account issue
+
 unfoldable pub balance_row : List Opening → List DepRecord → Place → Option BalanceRow
-balance_row openings p k =
-    if balance_of openings p k.account k.issue == 0 then None
-    else Some (record { issue = k.issue; account = k.account; shares = balance_of openings p k.account k.issue })
+balance_row openings p k = side_row openings p k.side k.issue
 
 -- the balances other than 0
 abbrev pub balance_rows : List Opening → List DepRecord → List BalanceRow
@@ -39,7 +52,7 @@ balance_rows openings p = filter_map (balance_row openings p) (places_of opening
 
 -- a row's place
 abbrev pub row_place : BalanceRow → Place
-row_place row = record { issue = row.issue; account = row.account }
+row_place row = record { issue = row.issue; side = At row.account }
 
 -- the rows stand by issue, then account, each place once
 abbrev pub AreAscending : List BalanceRow → Type 0

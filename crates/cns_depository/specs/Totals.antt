@@ -1,49 +1,59 @@
 -- What the records of a depository come to, by look-up (this project's own rules).
-use Rattle.std.specs.Prelude.{◌≡◌, ℕ, ◌*◌, ◌^◌, ◌<◌, ◌≤◌, ◌==◌, Bool, false, List, reverse, length, nat_eq, Option, Some, None, option_and_then, option_map, unwrap_or}
+use Rattle.std.specs.Prelude.{◌≡◌, ℕ, ◌*◌, ◌^◌, ◌<◌, ◌≤◌, Bool, List, reverse, length, find, Option, Some, None}
 use Rattle.std.specs.HashMap.{get, spare}
 use Rattle.std.specs.List.{slice_get}
 use Rattle.cns_records.specs.declared.dep_record.DepRecord.{DepRecord}
-use Rattle.cns_depository.specs.declared.account.Account.{Account}
+use Rattle.cns_records.specs.declared.dep_record.DepRecord.TheVariants.{Exec, Own}
+use Rattle.cns_depository.specs.declared.account.Side.{Side}
+use Rattle.cns_depository.specs.declared.key.Key.{Key}
+use Rattle.cns_depository.specs.declared.key.Key.TheVariants as key
 use Rattle.cns_depository.specs.declared.moved.Moved.{Moved}
-use Rattle.cns_depository.specs.declared.movement.Movement.{Movement}
 use Rattle.cns_depository.specs.declared.place.Place.{Place}
 use Rattle.cns_depository.specs.declared.stock.Stock.{Stock}
+use Rattle.cns_depository.specs.contracts.key.KeyPartialEq.TheImpl as keys
 use Rattle.cns_depository.specs.contracts.place.PlacePartialEq.TheImpl as place
 use Rattle.cns_depository.specs.Node.{DepNode, IsNode}
-use Rattle.cns_depository.specs.Stock.{executed_in, executed_of, moved_in, moved_out, movement_of}
+use Rattle.cns_depository.specs.Stock.{brought, taken}
 
--- whether two places are the same
+-- whether two places are the same, and whether two keys are
 abbrev pub place_eq : Place → Place → Bool
 place_eq = place.ghosts.eq
+
+abbrev pub key_eq : Key → Key → Bool
+key_eq = keys.ghosts.eq
 
 -- what is found for a place; nothing was moved where nothing is found
 abbrev pub moved_at : Option Moved → Moved
 moved_at None = record { entered = 0; left = 0 }
 moved_at (Some m) = m
 
--- whether a record executed the order of this number
-abbrev pub executes : ℕ → DepRecord → Bool
-executes n e = unwrap_or (option_map (λ (m : Movement). m.order.number == n) (executed_in e)) false
+-- the key of a record: the number of the order that it executed, or the member and the number of its instruction
+abbrev pub key_of : DepRecord → Key
+key_of (Exec o moved) = key.Movement o.number
+key_of (Own i) = key.Own i.member i.number
 
--- the record that executed the order of a number has this index among the records, the first one first; none executed one where no index is
--- found
-abbrev pub HasIndex : List DepRecord → ℕ → Option ℕ → Type 0
-HasIndex p n None = movement_of (executed_of p) n ≡ None
-HasIndex p n (Some i) = (i < length p) × (option_and_then executed_in (slice_get (reverse p) i) ≡ movement_of (executed_of p) n)
+-- the record of a key
+abbrev pub record_of : List DepRecord → Key → Option DepRecord
+record_of p k = find (λ (e : DepRecord). key_eq (key_of e) k) p
 
--- what was moved into each place and out of it, and the index of the record that executed the order of each number, are those of these
--- records, the newest first, which moved at most 10^18 shares each
-pub record AreTotalsOf (moved : Place → Moved) (indices : ℕ → Option ℕ) (p : List DepRecord) : Type 0 where
-  pub entered : (a : Account) (issue : ℕ) → (moved (record { issue = issue; account = a })).entered ≡ moved_in p a issue
-  pub left : (a : Account) (issue : ℕ) → (moved (record { issue = issue; account = a })).left ≡ moved_out p a issue
-  pub found : (n : ℕ) → HasIndex p n (indices n)
+-- the record of a key has this index among the records, the first one first; there is none where no index is found
+abbrev pub HasIndex : List DepRecord → Key → Option ℕ → Type 0
+HasIndex p k None = record_of p k ≡ None
+HasIndex p k (Some i) = (i < length p) × (slice_get (reverse p) i ≡ record_of p k)
+
+-- what was brought to each place and taken from it, and the index of the record of each key, are those of these records, the newest first,
+-- which moved at most 10^18 shares each
+pub record AreTotalsOf (moved : Place → Moved) (indices : Key → Option ℕ) (p : List DepRecord) : Type 0 where
+  pub entered : (s : Side) (issue : ℕ) → (moved (record { issue = issue; side = s })).entered ≡ brought p s issue
+  pub left : (s : Side) (issue : ℕ) → (moved (record { issue = issue; side = s })).left ≡ taken p s issue
+  pub found : (k : Key) → HasIndex p k (indices k)
   pub few : length p ≤ 2 ^ 64
-  pub entered_small : (a : Account) (issue : ℕ) → moved_in p a issue ≤ 10 ^ 18 * length p
-  pub left_small : (a : Account) (issue : ℕ) → moved_out p a issue ≤ 10 ^ 18 * length p
+  pub entered_small : (s : Side) (issue : ℕ) → brought p s issue ≤ 10 ^ 18 * length p
+  pub left_small : (s : Side) (issue : ℕ) → taken p s issue ≤ 10 ^ 18 * length p
 
 -- a stock is what these records come to
 abbrev pub IsStockOf : Stock → List DepRecord → Type 0
-IsStockOf s p = AreTotalsOf (λ k. moved_at (get place_eq s.moved k)) (get nat_eq s.indices) p
+IsStockOf s p = AreTotalsOf (λ k. moved_at (get place_eq s.moved k)) (get key_eq s.indices) p
 
 -- a stock is what some records come to
 abbrev pub IsStock : Stock → Type 0

@@ -7,6 +7,8 @@ use Rattle.cns_ids.specs.Number.{number_in}
 use Rattle.cns_ids.specs.ReadDay.{read_day}
 use Rattle.cns_ids.specs.declared.cycle.CycleKind.TheVariants.{Night, Day}
 use Rattle.cns_trades.specs.Fields.{same_text}
+use Rattle.cns_records.specs.declared.instruction.Sort.{Sort}
+use Rattle.cns_records.specs.declared.instruction.Sort.TheVariants.{Deposit, Withdraw}
 use Rattle.cns_system.specs.declared.event.Event.{Event}
 use Rattle.cns_system.specs.declared.event.Event.TheVariants as event
 use Rattle.cns_system.specs.declared.event.NodeName.{NodeName}
@@ -26,6 +28,13 @@ place_in = number 0 1000000000
 
 abbrev pub member_in : List ℕ → Option ℕ
 member_in = number 1 9999
+
+-- the number of a member's own instruction, and its shares
+abbrev pub move_no_in : List ℕ → Option ℕ
+move_no_in = number 1 1000000
+
+abbrev pub asked_in : List ℕ → Option ℕ
+asked_in = number 1 (10 ^ 18)
 
 abbrev pub issue_in : List ℕ → Option ℕ
 issue_in text = result_ok (read_cusip text)
@@ -52,7 +61,19 @@ abbrev pub three : {A B C R : Type 0} → (List ℕ → Option A) → (List ℕ 
 three read next last make words =
     if length words == 3 then (do Some (make (← read (get_or words 0 [])) (← next (get_or words 1 [])) (← last (get_or words 2 [])))) else None
 
+abbrev pub four : {A B C D R : Type 0} → (List ℕ → Option A) → (List ℕ → Option B) → (List ℕ → Option C) → (List ℕ → Option D) → (A → B → C → D → R) → List (List ℕ) → Option R
+four read next third last make words =
+    if length words == 4 then
+    (do Some (make (← read (get_or words 0 [])) (← next (get_or words 1 [])) (← third (get_or words 2 [])) (← last (get_or words 3 []))))
+    else None
+
 -- ---- the commands
+
+-- a member's own instruction of a sort: its member, its number, the issue and the shares
+abbrev pub own_in : Sort → List (List ℕ) → Option Event
+own_in sort =
+    four member_in move_no_in issue_in asked_in
+    (λ member number issue shares. event.Own (record { sort = sort; member = member; number = number; issue = issue; shares = shares }))
 
 -- those that are one event
 abbrev pub events : List (String × (List (List ℕ) → Option Event))
@@ -69,6 +90,8 @@ events =
     ∷ ("CYCLE", two (word_in (("NIGHT", Night) ∷ ("DAY", Day) ∷ [])) (λ text. result_ok (read_day text)) (λ kind day. event.Cycle (record { day = day; kind = kind })))
     ∷ ("EXEMPT", three member_in issue_in (number 0 (10 ^ 18)) event.Exempt)
     ∷ ("PRIORITY", three member_in issue_in (word_in (("ON", true) ∷ ("OFF", false) ∷ [])) event.Priority)
+    ∷ ("DEPOSIT", own_in Deposit)
+    ∷ ("WITHDRAW", own_in Withdraw)
     ∷ []
 
 -- all: the first two stand alone, and the others have words behind theirs

@@ -9,6 +9,7 @@ use Rattle.cns_ids.specs.Steps.{◌>>=◌}
 use Rattle.cns_ids.specs.declared.cusip.CusipFault.{CusipFault}
 use Rattle.cns_ids.specs.declared.cycle.CycleId.{CycleId}
 use Rattle.cns_movements.specs.Asked.{is_asked}
+use Rattle.cns_movements.specs.Number.{is_move_no}
 use Rattle.cns_movements.specs.Fields.{order_size, read_cycle, read_day, read_order, read_reply, version_of_byte}
 use Rattle.cns_movements.specs.declared.order.MoveKind.{MoveKind}
 use Rattle.cns_movements.specs.declared.order.MoveKind.TheVariants.{Cover, Delivery}
@@ -100,6 +101,9 @@ shares_at bytes = tested_at (number_at w64) is_shares bytes
 
 unfoldable pub asked_at : Reader ℕ
 asked_at bytes = tested_at (number_at w64) is_asked bytes
+
+unfoldable pub move_no_at : Reader ℕ
+move_no_at bytes = tested_at (number_at w64) is_move_no bytes
 
 -- a trade's id: its length, and its characters
 abbrev pub id_bytes : List ℕ → List ℕ

@@ -9,6 +9,8 @@ use Rattle.cns_ids.specs.Member.{member_text}
 use Rattle.cns_movements.specs.Order.{kind_text as move_text}
 use Rattle.cns_movements.specs.declared.order.Order.{Order}
 use Rattle.cns_movements.specs.declared.order.Reply.{Reply}
+use Rattle.cns_records.specs.Instruction.{sort_text}
+use Rattle.cns_records.specs.declared.instruction.Instruction.{Instruction}
 use Rattle.cns_system.specs.declared.event.Event.{Event}
 use Rattle.cns_system.specs.declared.event.Event.TheVariants as event
 use Rattle.cns_system.specs.declared.outcome.Outcome.{Outcome}
@@ -21,6 +23,10 @@ yes_or_no answer = if answer then codes "yes" else codes "no"
 -- N moved Q
 abbrev pub moved_text : Reply → List ℕ
 moved_text r = decimal r.number ++ codes " moved " ++ decimal r.moved
+
+-- deposit MEMBER number N, or withdraw MEMBER number N
+abbrev pub instruction_text : Instruction → List ℕ
+instruction_text i = sort_text i.sort ++ 32 ∷ member_text i.member ++ codes " number " ++ decimal i.number
 
 -- the line of an event and what it came to, before those of the orders that it made. Each line ends with LF. The two looks at a lot share
 -- one: the first tells its first part. (Of an outcome that the event never comes to, the line has no meaning, or there is none.)
@@ -55,6 +61,9 @@ event_line e (outcome.ExecutedAgain r packet) = codes "again " ++ moved_text r +
 event_line e (outcome.Confirmed r) = codes "confirm " ++ moved_text r ++ codes " done\n"
 -- confirm N moved Q again
 event_line e (outcome.ConfirmedAgain r) = codes "confirm " ++ moved_text r ++ codes " again\n"
+-- deposit MEMBER number N done, and .. again; or withdraw ..
+event_line e (outcome.Instructed i) = instruction_text i ++ codes " done\n"
+event_line e (outcome.InstructedAgain i) = instruction_text i ++ codes " again\n"
 -- restart NODE records N kept yes, or .. no
 event_line (event.Restart node) (outcome.Restarted records kept) =
     codes "restart " ++ node_text node ++ codes " records " ++ decimal records ++ codes " kept " ++ yes_or_no kept ++ codes "\n"

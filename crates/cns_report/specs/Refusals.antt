@@ -1,5 +1,6 @@
 -- The names of commands and refusals, as lines show them (this project's own format).
 use Rattle.std.specs.Prelude.{ℕ, List, ◌++◌, codes}
+use Rattle.cns_records.specs.Instruction.{sort_text}
 use Rattle.cns_records.specs.declared.refusal.Refusal.{Refusal}
 use Rattle.cns_records.specs.declared.refusal.Refusal.TheVariants as refusal
 use Rattle.cns_system.specs.declared.event.Event.{Event}
@@ -24,6 +25,7 @@ word_of (event.LotClose lot) = codes "close"
 word_of (event.Send number) = codes "send"
 word_of (event.OrderIn packet) = codes "order"
 word_of (event.ReplyIn packet) = codes "reply"
+word_of (event.Own i) = sort_text i.sort
 word_of (event.Restart node) = codes "restart"
 
 -- a trade is refused by the name of its verdict
@@ -41,6 +43,8 @@ refusal_text refusal.UnknownMove = codes "UnknownMove"
 refusal_text refusal.NoPacket = codes "NoPacket"
 refusal_text refusal.Conflict = codes "Conflict"
 refusal_text refusal.TooMuch = codes "TooMuch"
+refusal_text refusal.IssueSum = codes "IssueSum"
+refusal_text refusal.TooFew = codes "TooFew"
 refusal_text refusal.LotsOpen = codes "LotsOpen"
 refusal_text refusal.LotAlready = codes "LotAlready"
 refusal_text refusal.LotsSpent = codes "LotsSpent"

@@ -28,6 +28,7 @@ node_of (event.LotClose lot) = node.Clear
 node_of (event.Send number) = node.Clear
 node_of (event.OrderIn packet) = node.Depot
 node_of (event.ReplyIn packet) = node.Clear
+node_of (event.Own i) = node.Depot
 node_of (event.Restart name) = name
 
 -- how often the device of a node's keeper has failed, and whether the keeper is honest

@@ -18,15 +18,17 @@ use Rattle.cns_allocate.specs.Served.{turn_of}
 use Rattle.cns_allocate.specs.declared.turns.Turn.TheVariants as turn
 use Rattle.cns_records.specs.declared.clear_record.ClearRecord.{ClearRecord}
 use Rattle.cns_records.specs.declared.clear_record.ClearRecord.TheVariants as entry
+use Rattle.cns_records.specs.Instruction.{same_instruction}
 use Rattle.cns_records.specs.declared.dep_record.DepRecord.{DepRecord}
+use Rattle.cns_records.specs.declared.dep_record.DepRecord.TheVariants as dep
 use Rattle.cns_records.specs.declared.refusal.Refusal.{Refusal}
 use Rattle.cns_records.specs.declared.refusal.Refusal.TheVariants as refusal
 use Rattle.cns_clearing.specs.Answers.{allocation_of}
 use Rattle.cns_clearing.specs.Books.{Books, are_spent, books_of, covers_on, deliveries_in, is_later}
 use Rattle.cns_clearing.specs.Lots.{new_lot}
 use Rattle.cns_clearing.specs.Pools.{free_of, lent_of, lot_of}
-use Rattle.cns_depository.specs.Answers.{reply_to}
-use Rattle.cns_depository.specs.Stock.{executed_of, execution, movement, movement_of}
+use Rattle.cns_depository.specs.Answers.{own_fault_refusal, own_refused, reply_to}
+use Rattle.cns_depository.specs.Stock.{executed_of, execution, instructed_of, instruction_of, movement, movement_of, own_refusal}
 use Rattle.cns_system.specs.Lot.{LotState, ticket_in, with_end, with_seal, with_ticket}
 use Rattle.cns_system.specs.Shown.{Shown, LogShown, clear_added, clear_failed, depot_added, depot_failed, with_lot, with_new_lot, with_pour}
 use Rattle.cns_system.specs.declared.event.Event.{Event}
@@ -148,6 +150,15 @@ judged d (event.ReplyIn packet) w = do
     | answers.UnknownMove ↦ Err refusal.UnknownMove
     | answers.Conflict ↦ Err refusal.Conflict
     | answers.TooMuch ↦ Err refusal.TooMuch
+  ]
+judged d (event.Own i) w = do
+  need (not w.depot.down) refusal.Down
+  elim (instruction_of (instructed_of w.depot.records) i.member i.number) [
+    | None ↦ elim (own_refusal w.openings w.depot.records i) [
+      | None ↦ commits d (outcomes.Instructed i, depot_added (dep.Own i) w) (depot_failed (dep.Own i) w)
+      | Some why ↦ Err (own_fault_refusal (own_refused why))
+    ]
+    | Some held ↦ need (same_instruction held i) refusal.Conflict >> Ok (outcomes.InstructedAgain i, w)
   ]
 judged d (event.Restart node.Clear) w =
     restarted d w.clear (elim d [ ClearReads c ↦ c | _ ↦ w.clear.records ]) (λ log. record w { clear = log; open_lots = []; lots = map with_end w.lots })

@@ -3,6 +3,7 @@ use Rattle.std.specs.Prelude.{ℕ, Result, Ok, Err}
 use Rattle.cns_movements.specs.declared.order.Reply.{Reply}
 use Rattle.cns_pool.specs.declared.ticket.Ticket.{Ticket}
 use Rattle.cns_records.specs.Refusals.{replay_refusal}
+use Rattle.cns_records.specs.declared.instruction.Instruction.{Instruction}
 use Rattle.cns_records.specs.declared.refusal.Refusal.{Refusal}
 use Rattle.cns_clearing.specs.declared.answer.Closed.{Closed}
 use Rattle.cns_clearing.specs.declared.answer.Cycled.{Cycled}
@@ -10,10 +11,13 @@ use Rattle.cns_clearing.specs.declared.answer.Taken.{Taken}
 use Rattle.cns_clearing.specs.declared.answer.Taken.TheVariants as taken
 use Rattle.cns_journal.specs.declared.record_log.ReplayFault.{ReplayFault}
 use Rattle.cns_journal.specs.declared.record_log.Restarted.{Restarted}
-use Rattle.cns_depository.specs.Answers.{dep_refusal}
+use Rattle.cns_depository.specs.Answers.{dep_refusal, own_fault_refusal}
 use Rattle.cns_depository.specs.declared.fault.Answer.{Answer}
 use Rattle.cns_depository.specs.declared.fault.Answer.TheVariants as answer
 use Rattle.cns_depository.specs.declared.fault.DepFault.{DepFault}
+use Rattle.cns_depository.specs.declared.fault.Own.{Own}
+use Rattle.cns_depository.specs.declared.fault.Own.TheVariants as own
+use Rattle.cns_depository.specs.declared.fault.OwnFault.{OwnFault}
 use Rattle.cns_system.specs.declared.entry.Look.{Look}
 use Rattle.cns_system.specs.declared.numbered.Opened.{Opened}
 use Rattle.cns_system.specs.declared.outcome.Outcome.{Outcome}
@@ -64,6 +68,12 @@ abbrev pub reply_outcome : Reply → Result Taken Refusal → Outcome
 reply_outcome r (Ok taken.Done) = outcome.Confirmed r
 reply_outcome r (Ok taken.Again) = outcome.ConfirmedAgain r
 reply_outcome r (Err refusal) = outcome.Refused refusal
+
+-- of a member's own instruction that came to the depository
+abbrev pub own_outcome : Instruction → Result Own OwnFault → Outcome
+own_outcome i (Ok own.Done) = outcome.Instructed i
+own_outcome i (Ok own.Again) = outcome.InstructedAgain i
+own_outcome i (Err fault) = outcome.Refused (own_fault_refusal fault)
 
 -- of a restart of a node
 abbrev pub restart_outcome : Result Restarted ReplayFault → Outcome

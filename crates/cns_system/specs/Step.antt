@@ -5,9 +5,10 @@ use Rattle.cns_movements.specs.Order.{AgreesWith, order_of}
 use Rattle.cns_movements.specs.declared.order.Order.{Order}
 use Rattle.cns_movements.specs.declared.order.Reply.{Reply}
 use Rattle.cns_records.specs.declared.clear_record.ClearRecord.TheVariants as entry
+use Rattle.cns_records.specs.declared.instruction.Instruction.{Instruction}
 use Rattle.cns_wire.specs.Frame.{order_frame, reply_frame}
 use Rattle.cns_wire.specs.Packet.{at_number}
-use Rattle.cns_depository.specs.Answers.{OrderLeaves}
+use Rattle.cns_depository.specs.Answers.{InstructLeaves, OrderLeaves}
 use Rattle.cns_depository.specs.Node.{DepNode, RestartLeaves as DepotRestartLeaves}
 use Rattle.cns_depository.specs.declared.movement.Movement.{Movement}
 use Rattle.cns_depository.specs.Stock.{executed_of, movement_of}
@@ -26,7 +27,7 @@ use Rattle.cns_pool.specs.Pool.{asked_sum}
 use Rattle.cns_system.specs.Lot.{LotState, with_end, with_seal}
 use Rattle.cns_system.specs.Lots.{LotGives, LotLeaves, ReserveLeaves}
 use Rattle.cns_system.specs.Numbered.{NumberedNode, CloseLeaves, OpenLeaves, PourLeaves}
-use Rattle.cns_system.specs.Outcomes.{asked_outcome, restart_outcome, close_outcome, cycle_outcome, done_outcome, open_outcome, order_outcome, pour_outcome, poured_outcome, reply_outcome, reserve_outcome, trade_outcome}
+use Rattle.cns_system.specs.Outcomes.{asked_outcome, restart_outcome, close_outcome, cycle_outcome, done_outcome, open_outcome, order_outcome, own_outcome, pour_outcome, poured_outcome, reply_outcome, reserve_outcome, trade_outcome}
 use Rattle.cns_system.specs.World.{World, order_in_packet, reply_in_packet}
 use Rattle.cns_system.specs.declared.entry.Look.{Look}
 use Rattle.cns_system.specs.declared.event.Event.{Event}
@@ -126,11 +127,17 @@ abbrev pub ReplyInStep : Option Reply → Outcome → World → World → Type 0
 ReplyInStep None outcome old new = (outcome ≡ outcomes.Refused refusal.NoPacket) × (new ≡ old)
 ReplyInStep (Some r) outcome old new = AtClear (reply_outcome r) (ByNode (ReplyLeaves r)) outcome old new
 
--- a restart of the depository
+-- an event at the depository alone: a call of it answers this, and leaves so much of it and nothing else changed
+abbrev pub AtDepot : {R : Type 0} → (R → Outcome) → (R → DepNode → DepNode → Type 0) → Outcome → World → World → Type 0
+AtDepot {R} told Leaves outcome old new =
+    (new.clear ≡ old.clear) × (new.orders ≡ old.orders) × (new.replies ≡ old.replies) × ((result : R) × (outcome ≡ told result) × Leaves result old.depot new.depot)
+
+-- a member's own instruction at the depository, and a restart of it
+abbrev pub InstructStep : Instruction → Outcome → World → World → Type 0
+InstructStep i outcome old new = AtDepot (own_outcome i) (InstructLeaves i) outcome old new
+
 abbrev pub DepotRestartStep : Outcome → World → World → Type 0
-DepotRestartStep outcome old new =
-    (new.clear ≡ old.clear) × (new.orders ≡ old.orders) × (new.replies ≡ old.replies)
-    × ((result : Result Restarted ReplayFault) × (outcome ≡ restart_outcome result) × DepotRestartLeaves result old.depot new.depot)
+DepotRestartStep outcome old new = AtDepot restart_outcome DepotRestartLeaves outcome old new
 
 -- an event comes to this, and leaves so much
 abbrev pub Step : Event → Outcome → World → World → Type 0
@@ -148,5 +155,6 @@ Step (event.LotClose lot) outcome old new = AtClear close_outcome (CloseLeaves l
 Step (event.Send number) outcome old new = SendStep number outcome old new
 Step (event.OrderIn packet) outcome old new = OrderInStep (order_in_packet (at_number old.orders packet)) outcome old new
 Step (event.ReplyIn packet) outcome old new = ReplyInStep (reply_in_packet (at_number old.replies packet)) outcome old new
+Step (event.Own i) outcome old new = InstructStep i outcome old new
 Step (event.Restart node.Clear) outcome old new = AtClear restart_outcome ClearRestarts outcome old new
 Step (event.Restart node.Depot) outcome old new = DepotRestartStep outcome old new
