@@ -9,6 +9,7 @@ use Rattle.cns_ids.specs.Member.{IsMember}
 use Rattle.cns_ids.specs.Shares.{IsShares, is_shares, IsQuantity}
 use Rattle.cns_ids.specs.declared.cusip.CusipFault.{CusipFault}
 use Rattle.cns_movements.specs.Asked.{IsAsked}
+use Rattle.cns_movements.specs.Number.{IsMoveNo}
 use Rattle.cns_movements.specs.Fields.{cycle_bytes, day_bytes, order_bytes, order_size, read_cycle, read_day, read_order, read_reply, reply_bytes, version_of}
 use Rattle.cns_movements.specs.Ranges.{IsOrderInRange, IsReplyInRange}
 use Rattle.cns_movements.specs.declared.order.MoveKind.{MoveKind}
@@ -16,12 +17,15 @@ use Rattle.cns_movements.specs.declared.order.Order.{Order}
 use Rattle.cns_movements.specs.declared.order.MoveKind.TheVariants.{Cover, Delivery}
 use Rattle.cns_movements.specs.declared.version.Version.{Version}
 use Rattle.cns_trades.specs.TradeId.{IsId, is_id_text}
-use Rattle.cns_records.specs.Fields.{byte_at, text_at, number_at, tested, tested_at, member_at, quantity_at, shares_at, asked_at, id_bytes, id_at, day_at, cycle_at, issue_from, issue_at, flag_bytes, flag_at, move_kind_bytes, move_kind_at, value_at, order_at, reply_at}
+use Rattle.cns_records.specs.Instruction.{IsInstructionInRange, instruction_at, instruction_bytes, sort_at, sort_bytes}
+use Rattle.cns_records.specs.declared.instruction.Instruction.{Instruction}
+use Rattle.cns_records.specs.declared.instruction.Sort.TheVariants.{Deposit, Withdraw}
+use Rattle.cns_records.specs.Fields.{byte_at, text_at, number_at, tested, tested_at, member_at, quantity_at, shares_at, asked_at, move_no_at, id_bytes, id_at, day_at, cycle_at, issue_from, issue_at, flag_bytes, flag_at, move_kind_bytes, move_kind_at, value_at, order_at, reply_at}
 use Rattle.std.specs.Option.{ok_or}
 use Rattle.std.proofs.lemmas.List.{append_assoc}
 use Rattle.cns_movements.proofs.BytesLemmas.{IsBytes}
 use Rattle.cns_movements.proofs.FieldLemmas.{issue_read, length-order_bytes, length-reply_bytes, read_cycle-cycle_bytes, read_cycle-spelled, read_day-day_bytes, read_day-spelled, read_order-order_bytes, read_order-spelled, read_reply-reply_bytes, read_reply-spelled}
-use Rattle.cns_records.proofs.FieldLemmas.{bind_ok, chain, done, tested_ok, ok_is, Takes, IsField, IsWide, step, tested_field, told_field, byte_field, number_field, text_takes, text_again, wide16, wide64, one_field}
+use Rattle.cns_records.proofs.FieldLemmas.{both_field, made_field, bind_ok, chain, done, tested_ok, ok_is, Takes, IsField, IsWide, step, tested_field, told_field, byte_field, number_field, text_takes, text_again, wide16, wide64, one_field}
 
 -- ---- numbers
 
@@ -42,6 +46,10 @@ pub asked_field : IsField asked_at (to_be_bytes w64) IsAsked
 unfolding asked_at
 asked_field = told_field (from_one_field wide64 1000000000000000000 (omega arith)) (λ n is. record { from = is.0; to = is.1 }) (λ n is. (is.from, is.to))
 
+pub move_no_field : IsField move_no_at (to_be_bytes w64) IsMoveNo
+unfolding move_no_at
+move_no_field = told_field (from_one_field wide64 1000000 (omega arith)) (λ n is. record { from = is.0; to = is.1 }) (λ n is. (is.from, is.to))
+
 pub shares_field : IsField shares_at (to_be_bytes w64) IsShares
 unfolding shares_at
 shares_field = tested_field (number_field wide64) is_shares IsShares (λ n fits passes. grind (arith, nat_tests)) (λ n is. (omega arith, grind (arith, nat_tests)))
@@ -55,6 +63,10 @@ flag_field = one_field 0 false 1 true flag_bytes (λ P p q x. elim x as (λ y. P
 pub move_kind_field : IsField move_kind_at move_kind_bytes (λ _. Unit {0})
 unfolding move_kind_at byte_at
 move_kind_field = one_field 1 Cover 2 Delivery move_kind_bytes (λ P p q x. elim x as (λ y. P y) [ Cover ↦ p | Delivery ↦ q ]) refl refl (λ rest. refl) (λ rest. refl)
+
+pub sort_field : IsField sort_at sort_bytes (λ _. Unit {0})
+unfolding sort_at byte_at
+sort_field = one_field 1 Deposit 2 Withdraw sort_bytes (λ P p q x. elim x as (λ y. P y) [ Deposit ↦ p | Withdraw ↦ q ]) refl refl (λ rest. refl) (λ rest. refl)
 
 -- ---- ids
 
@@ -168,3 +180,13 @@ order_field version = record { takes = takes; again = again } where
   again : (o : Order) (rest : List ℕ) → IsOrderOf version o → order_at version ((move_kind_bytes o.kind ++ order_bytes o) ++ rest) ≡ Ok (o, rest)
   again o rest fits =
       rw (append_assoc (move_kind_bytes o.kind) (order_bytes o) rest, move_kind_field.again o.kind (order_bytes o ++ rest) tt, behind_kind version o rest fits.1 fits.0) refl
+
+-- ---- instructions
+
+pub instruction_field : IsField instruction_at instruction_bytes IsInstructionInRange
+unfolding instruction_at
+instruction_field =
+    let fields = both_field sort_field (both_field member_field (both_field move_no_field (both_field issue_field asked_field))) in
+    made_field fields _ (λ (i : Instruction). (i.sort, (i.member, (i.number, (i.issue, i.shares))))) IsInstructionInRange
+    (λ x f. (refl, record { member = f.1.0; number = f.1.1.0; issue = f.1.1.1.0; shares = f.1.1.1.1 }))
+    (λ i is. (refl, (tt, (is.member, (is.number, (is.issue, is.shares))))))

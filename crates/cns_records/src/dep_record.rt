@@ -1,21 +1,33 @@
 ghost use Rattle.std.specs.Prelude.{◌≡◌, ◌≤◌, ◌++◌, length, IfOk, OnOk};
-ghost use Rattle.cns_records.specs.Dep.{dep_spelling, HasDepRanges, IsDepWritable, exec_of, read_dep_of};
+ghost use Rattle.cns_records.specs.Dep.{dep_spelling, HasDepRanges, IsDepWritable, exec_of, own_of, read_dep_of};
+ghost use Rattle.cns_records.specs.Fields.{Gives};
+ghost use Rattle.cns_records.specs.Instruction.{instruction_at, sort_at};
 
 use crate::bad_record::BadRecord;
 use crate::fields::{COVER_ORDER, DELIVERY_ORDER, Fields, begin};
+use crate::instruction::{Instruction, Sort};
 use cns_ids::Shares;
 use cns_journal::{Record, RecordFault};
 use cns_movements::{MAX_ORDER_SIZE, MoveKind, Order, Version};
 use std::alloc::{AllocError, Global};
 
-// The kind of the record, as its payload tells it. The clearing node's kinds are below it.
+// The kinds of records, as their payloads tell them. The clearing node's kinds are below them.
 const EXEC: u8 = 7;
+
+const OWN: u8 = 8;
+
+// The bytes that stand for the sort of an instruction.
+const DEPOSIT: u8 = 1;
+
+const WITHDRAWAL: u8 = 2;
 
 /// A record of the depository: what one accepted call added to its stock record.
 #[derive(Clone, Copy, PartialEq, Eq, Debug)]
 pub enum DepRecord {
     /// An order was executed: `moved` of the shares that it asks for were moved.
     Exec { order: Order, moved: Shares },
+    /// A member's own instruction was carried out.
+    Own(Instruction),
 }
 
 impl DepRecord {
@@ -24,7 +36,9 @@ impl DepRecord {
     /// The version is 1 for an order without a cycle and 2 for one with a cycle. After version and kind
     /// stand, of `Exec`: the order's kind, 1 for a cover or 2 for a delivery (1), its number (8), in
     /// version 2 its cycle (its date in 4, and 0 for night or 1 for day in 1), member (2), CUSIP (9) and
-    /// asked shares (8), and the shares moved (8). (This project's own format.)
+    /// asked shares (8), and the shares moved (8); and of `Own`, whose version is 2: 1 for a deposit or 2
+    /// for a withdrawal (1), the member (2), the number (8), the CUSIP (9) and the shares (8). (This
+    /// project's own format.)
     ///
     /// A record that moves more than was asked has a payload too, but `read` refuses it.
     pub fn write(&self, alloc: Global) -> Result<Vec<u8>, AllocError>
@@ -93,6 +107,62 @@ fn add_exec(payload: &mut Vec<u8>, order: &Order, moved: Shares) -> Result<(), A
     Ok(())
 }
 
+#[tactic(auto, unfolding(crate::specs::Dep::dep_spelling))]
+fn add_own(payload: &mut Vec<u8>, instruction: &Instruction) -> Result<(), AllocError>
+    ensures spelled { OnOk result (payload.new.items ≡ payload.old.items ++ dep_spelling (DepRecord.Own instruction.now)) }
+    ensures ranges { HasDepRanges (DepRecord.Own instruction.now) }
+{
+    let sort = match instruction.sort {
+        Sort::Deposit => DEPOSIT,
+        Sort::Withdraw => WITHDRAWAL,
+    };
+    let member = instruction.member.number().to_be_bytes();
+    let number = instruction.number.number().to_be_bytes();
+    let issue = instruction.issue.to_bytes();
+    let shares = instruction.shares.shares().to_be_bytes();
+    begin(payload, &[Version::Two.byte(), OWN, sort])?;
+    payload.extend_from_slice(&member)?;
+    payload.extend_from_slice(&number)?;
+    payload.extend_from_slice(&issue)?;
+    payload.extend_from_slice(&shares)?;
+    Ok(())
+}
+
+// The sort of an instruction.
+#[tactic(auto, unfolding(crate::specs::Instruction::sort_at))]
+fn take_sort(fields: &mut Fields) -> Result<Sort, BadRecord>
+    ensures { Gives result fields.new (sort_at fields.old) }
+{
+    fields.take_one_of((DEPOSIT, Sort::Deposit), (WITHDRAWAL, Sort::Withdraw))
+}
+
+#[tactic(auto, unfolding(crate::specs::Instruction::instruction_at))]
+fn take_instruction(fields: &mut Fields) -> Result<Instruction, BadRecord>
+    ensures { Gives result fields.new (instruction_at fields.old) }
+{
+    Ok(Instruction {
+        sort: take_sort(fields)?,
+        member: fields.take_member()?,
+        number: fields.take_move_no()?,
+        issue: fields.take_issue()?,
+        shares: fields.take_asked()?,
+    })
+}
+
+#[tactic(auto, unfolding(crate::specs::Dep::own_of))]
+fn read_own(version: Version, mut fields: Fields) -> Result<DepRecord, BadRecord>
+    ensures { result ≡ own_of version fields.entry }
+{
+    if version == Version::One {
+        return Err(BadRecord);
+    }
+    let instruction = take_instruction(&mut fields)?;
+    if !fields.is_at_end() {
+        return Err(BadRecord);
+    }
+    Ok(DepRecord::Own(instruction))
+}
+
 #[tactic(auto, unfolding(crate::specs::Dep::exec_of))]
 fn read_exec(version: Version, mut fields: Fields) -> Result<DepRecord, BadRecord>
     ensures { result ≡ exec_of version fields.entry }
@@ -111,6 +181,7 @@ fn add_payload(payload: &mut Vec<u8>, entry: &DepRecord) -> Result<(), AllocErro
 {
     match entry {
         DepRecord::Exec { order, moved } => add_exec(payload, order, *moved),
+        DepRecord::Own(instruction) => add_own(payload, instruction),
     }
 }
 
@@ -118,9 +189,13 @@ fn add_payload(payload: &mut Vec<u8>, entry: &DepRecord) -> Result<(), AllocErro
 fn record_of(payload: &[u8]) -> Result<DepRecord, BadRecord>
     ensures { result ≡ read_dep_of payload.now }
 {
-    let [version, EXEC, fields @ ..] = payload else {
+    let [version, kind, fields @ ..] = payload else {
         return Err(BadRecord);
     };
     let version = Version::of_byte(*version).ok_or(BadRecord)?;
-    read_exec(version, Fields::new(fields))
+    match *kind {
+        EXEC => read_exec(version, Fields::new(fields)),
+        OWN => read_own(version, Fields::new(fields)),
+        _ => Err(BadRecord),
+    }
 }

@@ -2,7 +2,7 @@
 ghost use Rattle.std.specs.Prelude.{◌≡◌, ◌≤◌, ◌==◌, ◌++◌, Ok, Err, IfErr, IfOk, IsOk, OnOk, is_ok, length};
 ghost use Rattle.std.specs.Int.{w16, w32, w64};
 ghost use Rattle.std.specs.List.{flat_map};
-ghost use Rattle.cns_records.specs.Fields.{Gives, byte_at, number_at, text_at, member_at, quantity_at, shares_at, asked_at, id_at, day_at, issue_at, one_of_at, flag_at, cycle_at, move_kind_at, order_at, reply_at};
+ghost use Rattle.cns_records.specs.Fields.{Gives, byte_at, number_at, text_at, member_at, quantity_at, shares_at, asked_at, move_no_at, id_at, day_at, issue_at, one_of_at, flag_at, cycle_at, move_kind_at, order_at, reply_at};
 ghost use Rattle.cns_records.specs.Drawn.{ticket_bytes, ticket_at, tickets_at, tickets_of, drawn_of, AnswersIfRoom};
 
 use crate::bad_record::BadRecord;
@@ -10,7 +10,8 @@ use crate::drawn::{Drawn, DrawnList, MAX_DRAWN};
 use cns_ids::{Cusip, CycleId, Day, MemberNo, Quantity, Shares};
 use cns_journal::RecordFault;
 use cns_movements::{
-    Asked, CYCLE_SIZE, DAY_SIZE, MoveKind, Order, REPLY_SIZE, Reply, Version, read_cycle, read_day,
+    Asked, CYCLE_SIZE, DAY_SIZE, MoveKind, MoveNo, Order, REPLY_SIZE, Reply, Version, read_cycle,
+    read_day,
 };
 use cns_trades::TradeId;
 use std::alloc::{AllocError, Global};
@@ -173,9 +174,17 @@ impl<'a> Fields<'a> {
         Shares::new(self.take_u64()?).ok_or(BadRecord)
     }
 
-    // The shares that are asked for: 8 bytes.
+    /// A movement's number, or an instruction's: 8 bytes.
+    #[tactic(auto, unfolding(crate::specs::Fields::move_no_at))]
+    pub fn take_move_no(&mut self) -> Result<MoveNo, BadRecord>
+        ensures { Gives result self.new (move_no_at self.old) }
+    {
+        MoveNo::new(self.take_u64()?).ok_or(BadRecord)
+    }
+
+    /// The shares that are asked for: 8 bytes.
     #[tactic(auto, unfolding(crate::specs::Fields::asked_at))]
-    fn take_asked(&mut self) -> Result<Asked, BadRecord>
+    pub fn take_asked(&mut self) -> Result<Asked, BadRecord>
         ensures { Gives result self.new (asked_at self.old) }
     {
         Asked::new(self.take_u64()?).ok_or(BadRecord)
@@ -216,8 +225,8 @@ impl<'a> Fields<'a> {
         Cusip::read(&text).map_err(|_| BadRecord)
     }
 
-    // One of two values, by the byte that stands for it.
-    fn take_one_of<T: Copy>(&mut self, a: (u8, T), b: (u8, T)) -> Result<T, BadRecord>
+    /// One of two values, by the byte that stands for it.
+    pub fn take_one_of<T: Copy>(&mut self, a: (u8, T), b: (u8, T)) -> Result<T, BadRecord>
         ensures { Gives result self.new (one_of_at a.0 a.1 b.0 b.1 self.old) }
     {
         let byte = self.take_u8()?;

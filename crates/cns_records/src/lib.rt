@@ -13,6 +13,7 @@ mod clear_record;
 mod dep_record;
 mod drawn;
 mod fields;
+mod instruction;
 mod refusal;
 
 pub use allocation::Allocation;
@@ -20,4 +21,5 @@ pub use bad_record::BadRecord;
 pub use clear_record::ClearRecord;
 pub use dep_record::DepRecord;
 pub use drawn::{Drawn, DrawnList, MAX_DRAWN};
+pub use instruction::{Instruction, Sort};
 pub use refusal::Refusal;

@@ -61,13 +61,19 @@ pub enum Refusal {
     /// The link has no packet of this number.
     #[error("the link has no packet of this number")]
     NoPacket,
-    /// Another order was executed under the number, or the order of the number was confirmed with
-    /// other shares.
-    #[error("another order or confirmation has this number")]
+    /// Another order was executed under the number, the order of the number was confirmed with other
+    /// shares, or another instruction of the member has the number.
+    #[error("another order, confirmation or instruction has this number")]
     Conflict,
     /// The shares are more than the order asked for.
     #[error("the shares are more than the order asked for")]
     TooMuch,
+    /// With the deposit the accounts of the depository would hold more than 10^18 shares of the issue.
+    #[error("the shares of the issue would pass 10^18")]
+    IssueSum,
+    /// The member's account at the depository has fewer shares of the issue than are withdrawn.
+    #[error("the account has fewer shares")]
+    TooFew,
     /// The journal's payload in this place, counted from 1, is the first bad one.
     #[error("record {place} of the journal is bad")]
     BadJournal { place: u64 },
