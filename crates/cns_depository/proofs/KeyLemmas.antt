@@ -16,10 +16,12 @@ use Rattle.cns_trades.specs.declared.opening.Opening.{Opening}
 use Rattle.cns_depository.specs.declared.account.Account.{Account}
 use Rattle.cns_depository.specs.declared.account.Account.TheVariants.{Cns, Member}
 use Rattle.cns_depository.specs.declared.balances.BalanceRow.{BalanceRow}
+use Rattle.cns_depository.specs.declared.account.Side.{Side}
+use Rattle.cns_depository.specs.declared.account.Side.TheVariants.{Outside, At}
 use Rattle.cns_depository.specs.declared.moved.Moved.{Moved}
 use Rattle.cns_depository.specs.declared.place.Place.{Place}
 use Rattle.cns_depository.specs.declared.stock.Stock.{Stock}
-use Rattle.cns_depository.specs.Balances.{balance_row, balance_rows, place_cmp, places_of}
+use Rattle.cns_depository.specs.Balances.{account_row, balance_row, balance_rows, place_cmp, places_of, side_row}
 use Rattle.cns_depository.specs.Openings.{opening_shares}
 use Rattle.cns_depository.specs.Stock.{balance_of, moved_in}
 use Rattle.cns_depository.specs.Totals.{IsStockOf, moved_at, place_eq}
@@ -140,13 +142,13 @@ found_among (e ∷ es) q found = by (place_eq q e.0) refl (found_among es q) fou
     by true is more there = inl (sym (equal_places q e.0 is))
     by false is more there = inr (more there)
 
-moved_named : (s : Stock) (p : List DepRecord) (a : Account) (issue : ℕ) → IsStockOf s p → moved_in p a issue ≢ 0 → IsAmong (record { issue = issue; account = a }) (keys s.moved)
+moved_named : (s : Stock) (p : List DepRecord) (a : Account) (issue : ℕ) → IsStockOf s p → moved_in p a issue ≢ 0 → IsAmong (record { issue = issue; side = At a }) (keys s.moved)
 moved_named s p a issue stock some =
-    found_among s.moved.entries _ (λ none. some (sym (stock.entered a issue) ∙ ap (λ (m : Option Moved). (moved_at m).entered) none))
+    found_among s.moved.entries _ (λ none. some (sym (stock.entered (At a) issue) ∙ ap (λ (m : Option Moved). (moved_at m).entered) none))
 
 -- a balance other than 0 is of a place that is opened, or into which something was moved
 stock_place : (s : Stock) (openings : List Opening) (p : List DepRecord) (a : Account) (issue : ℕ) → IsStockOf s p → balance_of openings p a issue ≢ 0
-    → IsAmong (record { issue = issue; account = a }) (fold (insert_key place_cmp) (places_of openings []) (keys s.moved))
+    → IsAmong (record { issue = issue; side = At a }) (fold (insert_key place_cmp) (places_of openings []) (keys s.moved))
 unfolding balance_of places_of
 stock_place s openings p a issue stock held =
     elim (cases_Bool (eqb (opening_shares openings a issue) 0)) [
@@ -156,15 +158,24 @@ stock_place s openings p a issue stock held =
       | inr some ↦ added_keeps (keys s.moved) (places_of openings []) _ (opened a (λ z. absurd cc))
     ]
   where
-    opened : (b : Account) → opening_shares openings b issue ≢ 0 → IsAmong (record { issue = issue; account = b }) (places_of openings [])
+    opened : (b : Account) → opening_shares openings b issue ≢ 0 → IsAmong (record { issue = issue; side = At b }) (places_of openings [])
     opened Cns some = absurd (some refl)
     opened (Member m) some = opened_has openings [] m issue some
 
 -- the row of a balance other than 0
-row_held : (openings : List Opening) (p : List DepRecord) (q : Place) (row : BalanceRow) → balance_row openings p q ≡ Some row → balance_of openings p q.account q.issue ≢ 0
+row_held : (openings : List Opening) (p : List DepRecord) (a : Account) (issue : ℕ) (row : BalanceRow) → account_row openings p a issue ≡ Some row → balance_of openings p a issue ≢ 0
+row_held openings p a issue row is none =
+    absurd (none-some row (sym (cond-true (eqb (balance_of openings p a issue) 0) None (Some (record { issue = issue; account = a; shares = balance_of openings p a issue })) (eq-eqb (balance_of openings p a issue) 0 none)) ∙ is))
+
+-- a place with a row is an account's, and is among those that have the account's
+by_row : (openings : List Opening) (p : List DepRecord) (ks : List Place) (q : Place) (row : BalanceRow) → balance_row openings p q ≡ Some row
+    → ((a : Account) (issue : ℕ) → balance_of openings p a issue ≢ 0 → IsAmong (record { issue = issue; side = At a }) ks) → IsAmong q ks
 unfolding balance_row
-row_held openings p q row is none =
-    absurd (none-some row (sym (cond-true (eqb (balance_of openings p q.account q.issue) 0) None (Some (record { issue = q.issue; account = q.account; shares = balance_of openings p q.account q.issue })) (eq-eqb (balance_of openings p q.account q.issue) 0 none)) ∙ is))
+by_row openings p ks q row is has = by q.side is
+  where
+    by : (s : Side) → side_row openings p s q.issue ≡ Some row → IsAmong (record { issue = q.issue; side = s }) ks
+    by Outside is = absurd (none-some row is)
+    by (At a) is = has a q.issue (row_held openings p a q.issue row is)
 
 -- the places of the openings and of a stock have the rows
 pub rows_by_stock : (s : Stock) (openings : List Opening) (p : List DepRecord) → IsStockOf s p
@@ -173,8 +184,8 @@ unfolding places_of IsStrictlySortedBy
 rows_by_stock s openings p stock =
     same_rows (balance_row openings p) (fold (insert_key place_cmp) (places_of openings []) (keys s.moved)) (places_of openings p)
     (added_sorted (keys s.moved) (places_of openings []) (opened_sorted openings [] tt)) (places_sorted openings p)
-    (λ q row is in'. held_place openings p q.account q.issue (row_held openings p q row is))
-    (λ q row is in'. stock_place s openings p q.account q.issue stock (row_held openings p q row is))
+    (λ q row is in'. by_row openings p (places_of openings p) q row is (λ a issue held. held_place openings p a issue held))
+    (λ q row is in'. by_row openings p (fold (insert_key place_cmp) (places_of openings []) (keys s.moved)) q row is (λ a issue held. stock_place s openings p a issue stock held))
 
 -- where nothing is opened and nothing was moved there is no row
 pub no_rows : (s : Stock) (openings : List Opening) (p : List DepRecord) → IsStockOf s p → length openings ≡ 0 → keys s.moved ≡ [] → [] ≡ balance_rows openings p

@@ -17,15 +17,17 @@ use Rattle.cns_records.specs.declared.dep_record.DepRecord.{DepRecord}
 use Rattle.cns_trades.specs.declared.opening.Opening.{Opening}
 use Rattle.cns_depository.specs.declared.account.Account.{Account}
 use Rattle.cns_depository.specs.declared.account.Account.TheVariants.{Cns, Member}
+use Rattle.cns_depository.specs.declared.account.Side.{Side}
+use Rattle.cns_depository.specs.declared.account.Side.TheVariants.{Outside, At}
 use Rattle.cns_depository.specs.declared.movement.Transfer.{Transfer}
 use Rattle.cns_depository.specs.declared.place.Place.{Place}
 use Rattle.cns_depository.specs.declared.balances.BalanceRow.{BalanceRow}
-use Rattle.cns_depository.specs.Account.{same_account}
+use Rattle.cns_depository.specs.Account.{same_side}
 use Rattle.cns_depository.specs.Openings.{is_opening_of, opening_shares}
-use Rattle.cns_depository.specs.Stock.{balance_of, moved_in, part_in, transfer_of}
-use Rattle.cns_depository.specs.Balances.{place_cmp, places_of, balance_row, balance_rows, rank, row_place, AreComplete, AreAscending}
+use Rattle.cns_depository.specs.Stock.{balance_of, brought, moved_in, part_in, transfer_of}
+use Rattle.cns_depository.specs.Balances.{account_row, side_row, place_cmp, places_of, balance_row, balance_rows, rank, row_place, side_rank, AreComplete, AreAscending}
 use Rattle.cns_depository.specs.contracts.place.PlaceOrd.TheImpl.Laws.{total-law}
-use Rattle.cns_depository.proofs.MovementLemmas.{and_left, and_right, equal_accounts}
+use Rattle.cns_depository.proofs.MovementLemmas.{and_left, and_right, equal_sides}
 use Rattle.cns_depository.proofs.PlaceLemmas.{place_order}
 
 -- places that compare equal are the same
@@ -38,6 +40,12 @@ same_rank Cns (Member m) e = absurd (omega (arith, e))
 same_rank (Member m) Cns e = absurd (omega (arith, e))
 same_rank (Member m) (Member k) e = ap Member (omega (arith, e))
 
+same_side_rank : (a b : Side) → side_rank a ≡ side_rank b → a ≡ b
+same_side_rank Outside Outside e = refl
+same_side_rank Outside (At b) e = absurd (omega (arith, e))
+same_side_rank (At a) Outside e = absurd (omega (arith, e))
+same_side_rank (At a) (At b) e = ap At (same_rank a b (omega (arith, e)))
+
 both_equal : (x y : Ordering) → ordering_then x y ≡ Equal → (x ≡ Equal) × (y ≡ Equal)
 both_equal Less y e = absurd cc
 both_equal Equal y e = (refl, e)
@@ -45,10 +53,10 @@ both_equal Greater y e = absurd cc
 
 pub same_place : (a b : Place) → place_cmp a b ≡ Equal → a ≡ b
 same_place a b e =
-    let both = both_equal (nat_cmp a.issue b.issue) (nat_cmp (rank a.account) (rank b.account)) e in
-    let account = same_rank a.account b.account (same_number (rank a.account) (rank b.account) both.1) in
+    let both = both_equal (nat_cmp a.issue b.issue) (nat_cmp (side_rank a.side) (side_rank b.side)) e in
+    let side = same_side_rank a.side b.side (same_number (side_rank a.side) (side_rank b.side) both.1) in
     let issue = same_number a.issue b.issue both.0 in
-    λ i. record { issue = issue i; account = account i }
+    λ i. record { issue = issue i; side = side i }
 
 -- a place is one of these
 abbrev pub IsAmong : Place → List Place → Type 0
@@ -75,26 +83,26 @@ insert_has (x ∷ xs) k = by (place_cmp k x) refl (insert_has xs k)
 
 -- places with the one that an opening names, and with those that a transfer names, each once, ascending
 abbrev pub with_opening : List Place → Opening → List Place
-with_opening ps o = insert_key place_cmp ps (record { issue = o.issue; account = Member o.member })
+with_opening ps o = insert_key place_cmp ps (record { issue = o.issue; side = At (Member o.member) })
 
 abbrev with_transfer : List Place → Transfer → List Place
-with_transfer ps t = insert_key place_cmp (insert_key place_cmp ps (record { issue = t.issue; account = t.giver })) (record { issue = t.issue; account = t.receiver })
+with_transfer ps t = insert_key place_cmp (insert_key place_cmp ps (record { issue = t.issue; side = t.giver })) (record { issue = t.issue; side = t.receiver })
 
 -- the places of openings
 opened_keeps : (os : List Opening) (ps : List Place) (q : Place) → IsAmong q ps → IsAmong q (fold with_opening ps os)
 opened_keeps [] ps q in' = in'
 opened_keeps (o ∷ os) ps q in' = opened_keeps os (with_opening ps o) q (insert_keeps ps _ q in')
 
-pub opened_has : (os : List Opening) (ps : List Place) (m i : ℕ) → opening_shares os (Member m) i ≢ 0 → IsAmong (record { issue = i; account = Member m }) (fold with_opening ps os)
+pub opened_has : (os : List Opening) (ps : List Place) (m i : ℕ) → opening_shares os (Member m) i ≢ 0 → IsAmong (record { issue = i; side = At (Member m) }) (fold with_opening ps os)
 opened_has [] ps m i held = absurd (held refl)
 opened_has (o ∷ os) ps m i held = by (is_opening_of m i o) refl (opened_has os (with_opening ps o) m i)
   where
-    by : (b : Bool) → is_opening_of m i o ≡ b → (opening_shares os (Member m) i ≢ 0 → IsAmong (record { issue = i; account = Member m }) (fold with_opening (with_opening ps o) os))
-        → IsAmong (record { issue = i; account = Member m }) (fold with_opening (with_opening ps o) os)
+    by : (b : Bool) → is_opening_of m i o ≡ b → (opening_shares os (Member m) i ≢ 0 → IsAmong (record { issue = i; side = At (Member m) }) (fold with_opening (with_opening ps o) os))
+        → IsAmong (record { issue = i; side = At (Member m) }) (fold with_opening (with_opening ps o) os)
     by true e rest =
         let of : o.member ≡ m = eqb-true o.member m (and_left (eqb o.member m) (eqb o.issue i) e) in
         let at : o.issue ≡ i = eqb-true o.issue i (and_right (eqb o.member m) (eqb o.issue i) e) in
-        opened_keeps os (with_opening ps o) _ (subst (λ (q : Place). IsAmong q (with_opening ps o)) (λ j. record { issue = at j; account = Member (of j) }) (insert_has ps _))
+        opened_keeps os (with_opening ps o) _ (subst (λ (q : Place). IsAmong q (with_opening ps o)) (λ j. record { issue = at j; side = At (Member (of j)) }) (insert_has ps _))
     by false e rest =
         let f : Opening → ℕ = λ (x : Opening). if is_opening_of m i x then x.shares else 0 in
         let none : f o ≡ 0 = cond-false (is_opening_of m i o) o.shares 0 e in
@@ -104,35 +112,35 @@ opened_has (o ∷ os) ps m i held = by (is_opening_of m i o) refl (opened_has os
 transfer_keeps : (ps : List Place) (t : Transfer) (q : Place) → IsAmong q ps → IsAmong q (with_transfer ps t)
 transfer_keeps ps t q in' = insert_keeps _ _ q (insert_keeps ps _ q in')
 
-transfer_has : (ps : List Place) (t : Transfer) → IsAmong (record { issue = t.issue; account = t.receiver }) (with_transfer ps t)
-transfer_has ps t = insert_has (insert_key place_cmp ps (record { issue = t.issue; account = t.giver })) _
+transfer_has : (ps : List Place) (t : Transfer) → IsAmong (record { issue = t.issue; side = t.receiver }) (with_transfer ps t)
+transfer_has ps t = insert_has (insert_key place_cmp ps (record { issue = t.issue; side = t.giver })) _
 
-opening_place : (openings : List Opening) (p : List DepRecord) (a : Account) (i : ℕ) → opening_shares openings a i ≢ 0 → IsAmong (record { issue = i; account = a }) (places_of openings p)
+opening_place : (openings : List Opening) (p : List DepRecord) (a : Account) (i : ℕ) → opening_shares openings a i ≢ 0 → IsAmong (record { issue = i; side = At a }) (places_of openings p)
 unfolding places_of
 opening_place openings [] Cns i held = absurd (held refl)
 opening_place openings [] (Member m) i held = opened_has openings [] m i held
 opening_place openings (e ∷ p) a i held = transfer_keeps (places_of openings p) (transfer_of e) _ (opening_place openings p a i held)
 
-moved_place : (openings : List Opening) (p : List DepRecord) (a : Account) (i : ℕ) → moved_in p a i ≢ 0 → IsAmong (record { issue = i; account = a }) (places_of openings p)
-unfolding places_of moved_in
+moved_place : (openings : List Opening) (p : List DepRecord) (a : Account) (i : ℕ) → moved_in p a i ≢ 0 → IsAmong (record { issue = i; side = At a }) (places_of openings p)
+unfolding places_of brought
 moved_place openings [] a i held = absurd (held refl)
-moved_place openings (e ∷ p) a i held = by (same_account (transfer_of e).receiver a && eqb (transfer_of e).issue i) refl (moved_place openings p a i)
+moved_place openings (e ∷ p) a i held = by (same_side (transfer_of e).receiver (At a) && eqb (transfer_of e).issue i) refl (moved_place openings p a i)
   where
-    by : (b : Bool) → (same_account (transfer_of e).receiver a && eqb (transfer_of e).issue i) ≡ b
-        → (moved_in p a i ≢ 0 → IsAmong (record { issue = i; account = a }) (places_of openings p))
-        → IsAmong (record { issue = i; account = a }) (with_transfer (places_of openings p) (transfer_of e))
+    by : (b : Bool) → (same_side (transfer_of e).receiver (At a) && eqb (transfer_of e).issue i) ≡ b
+        → (moved_in p a i ≢ 0 → IsAmong (record { issue = i; side = At a }) (places_of openings p))
+        → IsAmong (record { issue = i; side = At a }) (with_transfer (places_of openings p) (transfer_of e))
     by true h rest =
         let t : Transfer = transfer_of e in
-        let to : t.receiver ≡ a = equal_accounts t.receiver a (and_left (same_account t.receiver a) (eqb t.issue i) h) in
-        let at : t.issue ≡ i = eqb-true t.issue i (and_right (same_account t.receiver a) (eqb t.issue i) h) in
-        subst (λ (q : Place). IsAmong q (with_transfer (places_of openings p) t)) (λ j. record { issue = at j; account = to j }) (transfer_has (places_of openings p) t)
+        let to : t.receiver ≡ At a = equal_sides t.receiver (At a) (and_left (same_side t.receiver (At a)) (eqb t.issue i) h) in
+        let at : t.issue ≡ i = eqb-true t.issue i (and_right (same_side t.receiver (At a)) (eqb t.issue i) h) in
+        subst (λ (q : Place). IsAmong q (with_transfer (places_of openings p) t)) (λ j. record { issue = at j; side = to j }) (transfer_has (places_of openings p) t)
     by false h rest =
         let t : Transfer = transfer_of e in
-        let none : part_in a i t ≡ 0 = cond-false (same_account t.receiver a && eqb t.issue i) t.shares 0 h in
-        transfer_keeps (places_of openings p) t _ (rest (λ z. held (omega (arith, sum_by-cons (λ (x : DepRecord). part_in a i (transfer_of x)) e p, none, z))))
+        let none : part_in (At a) i t ≡ 0 = cond-false (same_side t.receiver (At a) && eqb t.issue i) t.shares 0 h in
+        transfer_keeps (places_of openings p) t _ (rest (λ z. held (omega (arith, sum_by-cons (λ (x : DepRecord). part_in (At a) i (transfer_of x)) e p, none, z))))
 
 -- a balance other than 0 is of a place that is named
-pub held_place : (openings : List Opening) (p : List DepRecord) (a : Account) (i : ℕ) → balance_of openings p a i ≢ 0 → IsAmong (record { issue = i; account = a }) (places_of openings p)
+pub held_place : (openings : List Opening) (p : List DepRecord) (a : Account) (i : ℕ) → balance_of openings p a i ≢ 0 → IsAmong (record { issue = i; side = At a }) (places_of openings p)
 unfolding balance_of
 held_place openings p a i held =
     elim (cases_Bool (eqb (opening_shares openings a i) 0)) [
@@ -157,20 +165,20 @@ row_among f (x ∷ xs) q row in' is =
     by None h = h
     by (Some y) h = Contains-append_right (y ∷ []) (filter_map f xs) row h
 
-held_row : (openings : List Opening) (p : List DepRecord) (k : Place) → balance_of openings p k.account k.issue ≢ 0
-    → balance_row openings p k ≡ Some (record { issue = k.issue; account = k.account; shares = balance_of openings p k.account k.issue })
+held_row : (openings : List Opening) (p : List DepRecord) (a : Account) (i : ℕ) → balance_of openings p a i ≢ 0
+    → balance_row openings p (record { issue = i; side = At a }) ≡ Some (record { issue = i; account = a; shares = balance_of openings p a i })
 unfolding balance_row
-held_row openings p k held =
-    elim (cases_Bool (eqb (balance_of openings p k.account k.issue) 0)) [
-      | inl none ↦ absurd (held (eqb-true (balance_of openings p k.account k.issue) 0 none))
-      | inr some ↦ cond-false (eqb (balance_of openings p k.account k.issue) 0) None (Some (record { issue = k.issue; account = k.account; shares = balance_of openings p k.account k.issue })) some
+held_row openings p a i held =
+    elim (cases_Bool (eqb (balance_of openings p a i) 0)) [
+      | inl none ↦ absurd (held (eqb-true (balance_of openings p a i) 0 none))
+      | inr some ↦ cond-false (eqb (balance_of openings p a i) 0) None (Some (record { issue = i; account = a; shares = balance_of openings p a i })) some
     ]
 
 -- each balance other than 0 has its row
 pub rows_complete : (openings : List Opening) (p : List DepRecord) → AreComplete openings p (balance_rows openings p)
 rows_complete openings p a i held =
     row_among (balance_row openings p) (places_of openings p) _ (record { issue = i; account = a; shares = balance_of openings p a i }) (held_place openings p a i held)
-    (held_row openings p (record { issue = i; account = a }) held)
+    (held_row openings p a i held)
 
 -- the order of places is one
 pub place_total : IsTotalOrder place_cmp
@@ -240,17 +248,21 @@ rows_sorted f (k ∷ ks) own sorted = by (f k) refl (rows_sorted f ks own sorted
 
 own_row : (openings : List Opening) (p : List DepRecord) → GivesOwn (balance_row openings p)
 unfolding balance_row
-own_row openings p k row is =
-    let held = balance_of openings p k.account k.issue in
-    let its : BalanceRow = record { issue = k.issue; account = k.account; shares = held } in
-    elim (cases_Bool (eqb held 0)) [
-      | inl none ↦
-          let e : balance_row openings p k ≡ None = cond-true (eqb held 0) None (Some its) none in
-          absurd (none-some row (sym e ∙ is))
-      | inr some ↦
-          let e : balance_row openings p k ≡ Some its = cond-false (eqb held 0) None (Some its) some in
-          ap row_place (sym (same_Some its row (sym e ∙ is)))
-    ]
+own_row openings p k row is = by k.side is
+  where
+    by : (s : Side) → side_row openings p s k.issue ≡ Some row → row_place row ≡ record { issue = k.issue; side = s }
+    by Outside is = absurd (none-some row is)
+    by (At a) is =
+        let held = balance_of openings p a k.issue in
+        let its : BalanceRow = record { issue = k.issue; account = a; shares = held } in
+        elim (cases_Bool (eqb held 0)) [
+          | inl none ↦
+              let e : account_row openings p a k.issue ≡ None = cond-true (eqb held 0) None (Some its) none in
+              absurd (none-some row (sym e ∙ is))
+          | inr some ↦
+              let e : account_row openings p a k.issue ≡ Some its = cond-false (eqb held 0) None (Some its) some in
+              ap row_place (sym (same_Some its row (sym e ∙ is)))
+        ]
 
 -- the rows stand by issue, then account
 pub rows_ascend : (openings : List Opening) (p : List DepRecord) → AreAscending (balance_rows openings p)

@@ -1,8 +1,9 @@
 ghost use Rattle.std.specs.Prelude.{◌≡◌};
-ghost use Rattle.cns_depository.specs.Account.{giver, receiver};
+ghost use Rattle.cns_depository.specs.Account.{giver, own_giver, own_receiver, receiver};
 
 use cns_ids::MemberNo;
 use cns_movements::{MoveKind, Order};
+use cns_records::{Instruction, Sort};
 
 /// An account at the depository. The CNS account stands before the members' accounts, and these stand
 /// by number. (This project's own rule.)
@@ -12,6 +13,15 @@ pub enum Account {
     Cns,
     /// The account of a member.
     Member(MemberNo),
+}
+
+/// One side of a transfer. The outside stands before the accounts.
+#[derive(Clone, Copy, PartialEq, Eq, PartialOrd, Ord, Hash)]
+pub(crate) enum Side {
+    /// What is not at the depository: deposits come from there, and withdrawals go there.
+    Outside,
+    /// An account.
+    At(Account),
 }
 
 // The account that gives.
@@ -31,5 +41,25 @@ pub(crate) fn receiver_of(order: &Order) -> Account
     match order.kind {
         MoveKind::Cover => Account::Cns,
         MoveKind::Delivery => Account::Member(order.member),
+    }
+}
+
+// The side that gives the shares of an instruction.
+pub(crate) fn own_giver_of(instruction: &Instruction) -> Side
+    ensures { result ≡ own_giver instruction.now }
+{
+    match instruction.sort {
+        Sort::Deposit => Side::Outside,
+        Sort::Withdraw => Side::At(Account::Member(instruction.member)),
+    }
+}
+
+// The side that receives them.
+pub(crate) fn own_receiver_of(instruction: &Instruction) -> Side
+    ensures { result ≡ own_receiver instruction.now }
+{
+    match instruction.sort {
+        Sort::Deposit => Side::At(Account::Member(instruction.member)),
+        Sort::Withdraw => Side::Outside,
     }
 }

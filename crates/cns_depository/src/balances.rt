@@ -5,7 +5,7 @@ ghost use Rattle.cns_records.specs.declared.dep_record.DepRecord.{DepRecord};
 ghost use Rattle.cns_depository.specs.Balances.{balance_row as balance_row_of, balance_rows as balance_rows_of, place_cmp, places_of};
 ghost use Rattle.cns_depository.specs.Totals.{IsStockOf};
 
-use crate::account::Account;
+use crate::account::{Account, Side};
 use crate::openings::Openings;
 use crate::place::Place;
 use crate::stock::Stock;
@@ -58,7 +58,7 @@ fn opened_places(alloc: Global, openings: &[Opening]) -> Result<BTreeSet<Place>,
     for opening in openings {
         places.insert(Place {
             issue: opening.issue,
-            account: Account::Member(opening.member),
+            side: Side::At(Account::Member(opening.member)),
         })?;
     }
     Ok(places)
@@ -86,18 +86,22 @@ fn places_in_order(
     places.iter().copied().collect(alloc)
 }
 
-// The row of a place, where its balance is not 0.
+// The row of a place that is an account's, where its balance is not 0.
 #[tactic(auto, unfolding(crate::specs::Balances::balance_row))]
 fn balance_row(openings: &Openings, stock: &Stock, place: &Place) -> Option<BalanceRow>
     ensures { (p : List DepRecord) → IsStockOf stock.now p → result ≡ balance_row_of openings.now p place.now }
 {
-    let shares = stock.balance(openings, place);
+    let Side::At(account) = place.side else {
+        return None;
+    };
+    let issue = place.issue;
+    let shares = stock.balance(openings, &account, issue);
     if shares == 0 {
         return None;
     }
     Some(BalanceRow {
-        issue: place.issue,
-        account: place.account,
+        issue,
+        account,
         shares,
     })
 }

@@ -1,23 +1,22 @@
 ghost use Rattle.std.specs.Prelude.{◌≡◌, ◌+◌, ◌≤◌, true, false, option_map, reverse, IfOk, IfErr};
 ghost use Rattle.cns_depository.specs.Openings.{opening_shares};
-ghost use Rattle.cns_depository.specs.Stock.{IsNextMovement, IsLawfulDepot, execution, executed_of, movement_of, moved_in, moved_out, balance_of as balance_in};
+ghost use Rattle.cns_depository.specs.Stock.{IsExecutable, IsLawfulDepot, IsNextMovement, execution, instructed_of, instruction_of, executed_of, movement_of, moved_in, moved_out, balance_of as balance_in};
 ghost use Rattle.cns_depository.specs.Balances.{balance_rows as balance_rows_of, AreComplete, AreAscending};
-ghost use Rattle.cns_depository.specs.Answers.{OrderLeaves, IsKnownAnswer, known_at};
+ghost use Rattle.cns_depository.specs.Answers.{OrderLeaves, InstructLeaves, IsHeldAnswer, IsKnownAnswer, instructed_at, known_at};
 ghost use Rattle.cns_depository.specs.Node.{Commits, IsOpened, IsUnread, NodePlanned, RestartLeaves};
 ghost use Rattle.cns_journal.specs.RecordLog.{IsGivenUp};
 ghost use Rattle.cns_records.specs.Dep.{dep_spelling};
 
 use crate::account::Account;
 use crate::balances::{BalanceRows, balance_rows};
-use crate::fault::{Answer, DepFault};
+use crate::fault::{Answer, DepFault, Own, OwnFault};
 use crate::movement::Movement;
 use crate::openings::Openings;
-use crate::place::Place;
 use crate::stock::Stock;
-use cns_ids::{Cusip, Shares};
+use cns_ids::{Cusip, MemberNo, Shares};
 use cns_journal::{CommitFault, Keeper, NotPlanned, RecordLog, Refused, ReplayFault, Restarted};
 use cns_movements::{MoveNo, Order};
-use cns_records::DepRecord;
+use cns_records::{DepRecord, Instruction};
 use std::alloc::{AllocError, Global};
 use std::marker::Model;
 
@@ -114,8 +113,7 @@ impl<K: Keeper> Depository<K> {
         ensures covered { moved_out self.now.log.records account issue
             ≤ opening_shares self.now.openings account issue + moved_in self.now.log.records account issue }
     {
-        let place = Place { issue, account };
-        self.stock.balance(&self.openings, &place)
+        self.stock.balance(&self.openings, &account, issue)
     }
 
     /// Each balance that is not 0, by issue, then account: the CNS account first, then the members by
@@ -150,6 +148,40 @@ impl<K: Keeper> Depository<K> {
         let movement = self.stock.movement(&self.openings, order);
         self.execute(&movement)?;
         Ok(Answer::Done(movement.reply()))
+    }
+
+    /// A member's own instruction of this number, where it was carried out. Costs a look-up, and takes no
+    /// memory.
+    pub fn instructed(&self, member: MemberNo, number: MoveNo) -> Option<Instruction>
+        ensures { result ≡ instruction_of (instructed_of self.now.log.records) member number }
+    {
+        self.stock
+            .instruction_at(self.log.records(), member, number)
+    }
+
+    /// Carries out a member's own instruction once: a deposit brings its shares into the member's account
+    /// from outside, a withdrawal takes them out. The same instruction again adds nothing.
+    ///
+    /// Refuses `Down`; then `Conflict` where another instruction of the member has the number; then
+    /// `IssueSum` where with a deposit the openings of the issue and its deposits, less its withdrawals,
+    /// would pass 10^18 shares; then `TooFew` where a withdrawal asks for more than the member's balance
+    /// in the issue. A refused number is not held. After `Device` nothing is carried out, and the depository
+    /// is down until it is restarted. Costs a few look-ups, and the commit of its record. (This project's
+    /// own rule.)
+    pub fn instruct(&mut self, instruction: &Instruction) -> Result<Own, OwnFault>
+        ensures { InstructLeaves instruction.now result self.old self.new }
+    {
+        if self.is_down() {
+            return Err(OwnFault::Down);
+        }
+        if let Some(held) = self.instructed(instruction.member, instruction.number) {
+            return held_before(&held, instruction);
+        }
+        if let Some(refusal) = self.stock.refusal(&self.openings, instruction) {
+            return Err(OwnFault::from(refusal));
+        }
+        self.commit(DepRecord::Own(*instruction))?;
+        Ok(Own::Done)
     }
 
     /// Reads the journal again, and puts the depository up. A refused restart leaves it down and
@@ -200,19 +232,27 @@ impl<K: Keeper> Depository<K> {
         self.stock.movement_at(self.log.records(), number)
     }
 
-    // Commits the record of a movement that may be executed next, and then adds it to the stock.
+    // Commits the record of a movement that may be executed next.
     fn execute(&mut self, movement: &Movement) -> Result<(), CommitFault>
         requires up { self.old.log.down ≡ false }
         requires next { IsNextMovement self.old.openings self.old.log.records movement.now }
         ensures { Commits (execution movement.now) result self.old self.new }
     {
+        self.commit(movement.to_record())
+    }
+
+    // Commits a record that may stand next, and then adds it to the stock.
+    fn commit(&mut self, entry: DepRecord) -> Result<(), CommitFault>
+        requires up { self.old.log.down ≡ false }
+        requires next { IsExecutable self.old.openings self.old.log.records entry }
+        ensures { Commits entry result self.old self.new }
+    {
         if self.stock.room().is_err() {
             return Err(CommitFault::OutOfMemory);
         }
         let index = self.log.records().len();
-        let record = movement.to_record();
-        self.log.commit(record)?;
-        self.stock.add(index, &record);
+        self.log.commit(entry)?;
+        self.stock.add(index, &entry);
         Ok(())
     }
 }
@@ -225,5 +265,16 @@ fn again(known: &Movement, order: &Order) -> Result<Answer, DepFault>
         Ok(Answer::Again(known.reply()))
     } else {
         Err(DepFault::Conflict)
+    }
+}
+
+// The answer to an instruction under whose number its member's instruction was carried out.
+fn held_before(held: &Instruction, instruction: &Instruction) -> Result<Own, OwnFault>
+    ensures { IsHeldAnswer instruction.now held.now result }
+{
+    if held == instruction {
+        Ok(Own::Again)
+    } else {
+        Err(OwnFault::Conflict)
     }
 }

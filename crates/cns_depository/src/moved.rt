@@ -6,7 +6,7 @@ ghost use Rattle.cns_depository.specs.declared.place.Place.{Place};
 use crate::place::Place;
 use std::collections::HashMap;
 
-/// The shares of an issue that were moved into an account, and those that were moved out of it.
+/// The shares of an issue that were brought to a side of transfers, and those that were taken from it.
 #[derive(Clone, Copy)]
 pub(crate) struct Moved {
     pub(crate) entered: u128,
@@ -35,7 +35,7 @@ fn put(moved: &mut HashMap<Place, Moved>, place: &Place, sides: Moved)
 {
     let named = Place {
         issue: place.issue,
-        account: place.account,
+        side: place.side,
     };
     let Ok(_) = moved.insert(named, sides) else {
         unreachable!()

@@ -1,5 +1,5 @@
 ghost use Rattle.std.specs.Prelude.{◌≡◌, ◌^◌, ◌≤◌, []};
-ghost use Rattle.cns_depository.specs.Openings.{AddLeaves, opening_shares as shares_of_opening};
+ghost use Rattle.cns_depository.specs.Openings.{AddLeaves, issue_sum, opening_shares as shares_of_opening};
 
 use crate::account::Account;
 use crate::opening_index::{Holding, enter, held, is_held, make_room, set_sum, sum_of};
@@ -90,6 +90,14 @@ impl Openings {
         ensures { result.now ≡ self.now }
     {
         self.list.as_slice()
+    }
+
+    // The shares of all openings in an issue.
+    pub(crate) fn sum(&self, issue: Cusip) -> u128
+        ensures sum { result ≡ issue_sum self.now issue }
+        ensures small { result ≤ 10 ^ 18 }
+    {
+        sum_of(&self.sums, issue)
     }
 
     // The shares with which an account opens in an issue.

@@ -1,9 +1,9 @@
-use crate::account::Account;
+use crate::account::Side;
 use cns_ids::Cusip;
 
-/// An account in an issue. Places stand by issue, then account.
+/// A side of transfers in an issue. Places stand by issue, then side.
 #[derive(Clone, Copy, PartialEq, Eq, PartialOrd, Ord, Hash)]
 pub(crate) struct Place {
     pub(crate) issue: Cusip,
-    pub(crate) account: Account,
+    pub(crate) side: Side,
 }

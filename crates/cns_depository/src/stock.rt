@@ -1,41 +1,43 @@
-ghost use Rattle.std.specs.Prelude.{◌≡◌, ℕ, ◌^◌, ◌<◌, ◌≤◌, ◌↔◌, IsTrue, List, [], ◌∷◌, Some, OnOk, reverse, length, nat_eq, fold, if◌then◌else◌};
+ghost use Rattle.std.specs.Prelude.{◌≡◌, ℕ, ◌^◌, ◌<◌, ◌≤◌, ◌↔◌, IsTrue, List, [], ◌∷◌, Some, OnOk, reverse, length, fold, if◌then◌else◌};
 ghost use Rattle.std.specs.BTreeSet.{insert_key};
 ghost use Rattle.std.specs.HashMap.{get, keys, spare};
 ghost use Rattle.cns_records.specs.declared.dep_record.DepRecord.{DepRecord};
 ghost use Rattle.cns_depository.specs.Balances.{place_cmp};
-ghost use Rattle.cns_depository.specs.Stock.{balance_of as balance_in, executed_of, movement as movement_after, movement_of, IsExecutable, IsNextMovement};
-ghost use Rattle.cns_depository.specs.Totals.{HasRoom, IsStock, IsStockOf, executes};
+ghost use Rattle.cns_depository.specs.Stock.{balance_of as balance_in, executed_of, held_in, instructed_of, instruction_of, movement as movement_after, movement_of, own_refusal, IsExecutable, IsNextInstruction, IsNextMovement};
+ghost use Rattle.cns_depository.specs.Totals.{HasRoom, IsStock, IsStockOf, key_eq, key_of as key_of_record, record_of};
+ghost use Rattle.cns_depository.specs.declared.key.Key.{Key};
 
-use crate::account::giver_of;
+use crate::account::{Account, Side, giver_of};
+use crate::fault::OwnRefusal;
+use crate::key::{Key, key_of};
 use crate::moved::{Moved, enter, leave, moved_of};
-use crate::movement::{Movement, executed_in, transfer_of};
+use crate::movement::{Movement, executed_in, instructed_in, transfer_of};
 use crate::openings::Openings;
 use crate::place::Place;
-use cns_ids::Shares;
+use cns_ids::{Cusip, MemberNo, Shares};
 use cns_movements::{MoveNo, Order};
-use cns_records::DepRecord;
+use cns_records::{DepRecord, Instruction, Sort};
 use std::alloc::{AllocError, Global};
 use std::collections::{BTreeSet, HashMap};
 
 /// What the records of a depository come to beside themselves, by look-up.
 #[derive(Drop)]
 pub(crate) struct Stock {
-    // What was moved into each account in each issue, and out of it.
+    // What was brought to each account in each issue, and taken from it; and what came from outside in each
+    // issue, and went there.
     moved: HashMap<Place, Moved>,
-    // The index of the record that executed the order of each number, among the records, the first one first.
-    indices: HashMap<MoveNo, usize>,
+    // The index of the record of each key, among the records, the first one first.
+    indices: HashMap<Key, usize>,
 }
 
-// Notes the index of a record under the number of the order that it executed, for which there is room.
-fn note(indices: &mut HashMap<MoveNo, usize>, entry: &DepRecord, index: usize)
+// Notes the index of a record under its key, for which there is room.
+fn note(indices: &mut HashMap<Key, usize>, entry: &DepRecord, index: usize)
     requires { 0 < spare indices.old }
-    ensures { (n : ℕ) → get nat_eq indices.new n ≡ (if executes n entry.now then Some index else get nat_eq indices.old n) }
+    ensures { (k : Key) → get key_eq indices.new k ≡ (if key_eq (key_of_record entry.now) k then Some index else get key_eq indices.old k) }
 {
-    if let Some(movement) = executed_in(entry) {
-        let Ok(_) = indices.insert(movement.order.number, index) else {
-            unreachable!()
-        };
-    }
+    let Ok(_) = indices.insert(key_of(entry), index) else {
+        unreachable!()
+    };
 }
 
 impl Stock {
@@ -49,25 +51,81 @@ impl Stock {
         }
     }
 
+    // The record of a key, among those that the stock comes from.
+    fn record_at(&self, records: &[DepRecord], key: &Key) -> Option<DepRecord>
+        requires { IsStockOf self.now (reverse records.now) }
+        ensures { result ≡ record_of (reverse records.now) key.now }
+    {
+        let index = self.indices.get(key)?;
+        records.get(*index).copied()
+    }
+
     /// The movement of this number, among those of the records that the stock comes from.
     pub(crate) fn movement_at(&self, records: &[DepRecord], number: MoveNo) -> Option<Movement>
         requires { IsStockOf self.now (reverse records.now) }
         ensures { result ≡ movement_of (executed_of (reverse records.now)) number }
     {
-        let index = self.indices.get(&number)?;
-        executed_in(records.get(*index)?)
+        let record = self.record_at(records, &Key::Movement(number))?;
+        executed_in(&record)
+    }
+
+    /// A member's instruction of this number, among those of the records that the stock comes from.
+    pub(crate) fn instruction_at(
+        &self,
+        records: &[DepRecord],
+        member: MemberNo,
+        number: MoveNo,
+    ) -> Option<Instruction>
+        requires { IsStockOf self.now (reverse records.now) }
+        ensures { result ≡ instruction_of (instructed_of (reverse records.now)) member number }
+    {
+        let record = self.record_at(records, &Key::Own(member, number))?;
+        instructed_in(&record)
     }
 
     /// The balance of an account in an issue.
-    pub(crate) fn balance(&self, openings: &Openings, place: &Place) -> u128
-        ensures { (p : List DepRecord) → IsStockOf self.now p
-            → result ≡ balance_in openings.now p place.now.account place.now.issue }
+    pub(crate) fn balance(&self, openings: &Openings, account: &Account, issue: Cusip) -> u128
+        ensures { (p : List DepRecord) → IsStockOf self.now p → result ≡ balance_in openings.now p account.now issue }
     {
-        let moved = moved_of(&self.moved, place);
-        let opened = openings.shares(&place.account, place.issue);
+        let side = Side::At(*account);
+        let moved = moved_of(&self.moved, &Place { issue, side });
+        let opened = openings.shares(account, issue);
         // The sum stays far below the greatest number, so it is exact.
         let held = opened.saturating_add(moved.entered);
         held.saturating_sub(moved.left)
+    }
+
+    // The shares of an issue that all accounts hold.
+    fn held(&self, openings: &Openings, issue: Cusip) -> u128
+        ensures { (p : List DepRecord) → IsStockOf self.now p → result ≡ held_in openings.now p issue }
+    {
+        let side = Side::Outside;
+        let moved = moved_of(&self.moved, &Place { issue, side });
+        let brought = openings.sum(issue).saturating_add(moved.left);
+        brought.saturating_sub(moved.entered)
+    }
+
+    /// Why a new instruction is refused, where it is.
+    pub(crate) fn refusal(
+        &self,
+        openings: &Openings,
+        instruction: &Instruction,
+    ) -> Option<OwnRefusal>
+        ensures { (p : List DepRecord) → IsStockOf self.now p → result ≡ own_refusal openings.now p instruction.now }
+    {
+        let shares = u128::from(instruction.shares.shares());
+        match instruction.sort {
+            Sort::Deposit => {
+                let held = self.held(openings, instruction.issue);
+                let passes = held.saturating_add(shares) > u128::from(Shares::MAX);
+                passes.then_some(OwnRefusal::IssueSum)
+            }
+            Sort::Withdraw => {
+                let account = Account::Member(instruction.member);
+                let has = self.balance(openings, &account, instruction.issue);
+                (has < shares).then_some(OwnRefusal::TooFew)
+            }
+        }
     }
 
     /// The movement of a new order.
@@ -75,11 +133,7 @@ impl Stock {
         ensures { (p : List DepRecord) → IsStockOf self.now p → result ≡ movement_after openings.now p order.now }
     {
         let asked = order.asked.shares();
-        let giver = Place {
-            issue: order.issue,
-            account: giver_of(order),
-        };
-        let held = self.balance(openings, &giver);
+        let held = self.balance(openings, &giver_of(order), order.issue);
         let moved = u128::from(asked).min(held) as u64;
         let Some(moved) = Shares::new(moved) else {
             unreachable!()
@@ -100,6 +154,21 @@ impl Stock {
             && *movement == self.movement(openings, order)
     }
 
+    // Whether an instruction may be carried out after the records that the stock comes from.
+    fn may_be_next(
+        &self,
+        openings: &Openings,
+        records: &[DepRecord],
+        instruction: &Instruction,
+    ) -> bool
+        requires { IsStockOf self.now (reverse records.now) }
+        ensures { IsTrue result ↔ IsNextInstruction openings.now (reverse records.now) instruction.now }
+    {
+        self.instruction_at(records, instruction.member, instruction.number)
+            .is_none()
+            && self.refusal(openings, instruction).is_none()
+    }
+
     /// Whether a record may stand after those that the stock comes from.
     pub(crate) fn is_executable(
         &self,
@@ -118,6 +187,7 @@ impl Stock {
                 };
                 self.is_next(openings, records, &movement)
             }
+            DepRecord::Own(instruction) => self.may_be_next(openings, records, instruction),
         }
     }
 
@@ -140,11 +210,11 @@ impl Stock {
         let transfer = transfer_of(entry);
         let receiver = Place {
             issue: transfer.issue,
-            account: transfer.receiver,
+            side: transfer.receiver,
         };
         let giver = Place {
             issue: transfer.issue,
-            account: transfer.giver,
+            side: transfer.giver,
         };
         let shares = u128::from(transfer.shares.count());
         enter(&mut self.moved, &receiver, shares);
@@ -159,7 +229,7 @@ impl Stock {
         self.moved.is_empty()
     }
 
-    /// Adds each place into which or out of which something was moved.
+    /// Adds each place to which or from which something was moved.
     pub(crate) fn add_places(&self, places: &mut BTreeSet<Place>) -> Result<(), AllocError>
         ensures { OnOk result (places.new.keys ≡ fold (insert_key place_cmp) places.old.keys (keys self.now.moved)) }
     {

@@ -1,16 +1,18 @@
 use Rattle.std.proofs.Common.{◌≡◌, ◌∙◌, ap, arith}
 use Rattle.cns_depository.specs.Stock.{balance_of, moved_in, moved_out}
+use Rattle.cns_depository.specs.declared.account.Side.TheVariants.{At}
 use Rattle.cns_depository.specs.declared.moved.Moved.{Moved}
 use Rattle.cns_depository.proofs.stock.Stock.balance.Goals as goal
 
 pub returns : goal.returns
 unfolding balance_of
 returns c = λ p are.
-    let place = c.args.place.now in
-    let entered : c.moved_of-moved.result.entered ≡ moved_in p place.account place.issue =
-    ap (λ (m : Moved). m.entered) c.moved_of-moved.ensures ∙ are.entered place.account place.issue in
-    let left : c.moved_of-moved.result.left ≡ moved_out p place.account place.issue =
-    ap (λ (m : Moved). m.left) c.moved_of-moved.ensures ∙ are.left place.account place.issue in
+    let account = c.args.account.now in
+    let issue = c.args.issue in
+    let entered : c.moved_of-moved.result.entered ≡ moved_in p account issue =
+    ap (λ (m : Moved). m.entered) c.moved_of-moved.ensures ∙ are.entered (At account) issue in
+    let left : c.moved_of-moved.result.left ≡ moved_out p account issue =
+    ap (λ (m : Moved). m.left) c.moved_of-moved.ensures ∙ are.left (At account) issue in
     omega (
       arith,
       c.saturating_sub.ensures,
@@ -20,5 +22,5 @@ returns c = λ p are.
       entered,
       left,
       are.few,
-      are.entered_small place.account place.issue,
+      are.entered_small (At account) issue,
     )

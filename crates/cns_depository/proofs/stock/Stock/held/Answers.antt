@@ -1,0 +1,25 @@
+use Rattle.std.proofs.Common.{◌≡◌, ◌∙◌, ap, arith}
+use Rattle.cns_depository.specs.Stock.{brought, held_in, taken}
+use Rattle.cns_depository.specs.declared.account.Side.TheVariants.{Outside}
+use Rattle.cns_depository.specs.declared.moved.Moved.{Moved}
+use Rattle.cns_depository.proofs.stock.Stock.held.Goals as goal
+
+pub returns : goal.returns
+unfolding held_in
+returns c = λ p are.
+    let issue = c.args.issue in
+    let entered : c.moved_of-moved.result.entered ≡ brought p Outside issue =
+    ap (λ (m : Moved). m.entered) c.moved_of-moved.ensures ∙ are.entered Outside issue in
+    let left : c.moved_of-moved.result.left ≡ taken p Outside issue =
+    ap (λ (m : Moved). m.left) c.moved_of-moved.ensures ∙ are.left Outside issue in
+    omega (
+      arith,
+      c.saturating_sub.ensures,
+      c.saturating_add-brought.ensures,
+      c.sum.ensures.sum,
+      c.sum.ensures.small,
+      entered,
+      left,
+      are.few,
+      are.left_small Outside issue,
+    )
