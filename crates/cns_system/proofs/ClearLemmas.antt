@@ -174,6 +174,7 @@ module _ (P : LogState ClearRecord → Type 0) (Fits : List ClearRecord → Clea
   event_keeps plain closes (event.OrderIn packet) outcome old new confirms h = order_keeps (order_in_packet (at_number old.orders packet)) outcome old new h
   event_keeps plain closes (event.ReplyIn packet) outcome old new confirms h =
       reply_in_keeps (reply_in_packet (at_number old.replies packet)) outcome old new (λ r e. confirms packet r e) h
+  event_keeps plain closes (event.Own i) outcome old new confirms h = by_same_lots old.clear new.clear h.0
   event_keeps plain closes (event.Restart node.Clear) outcome old new confirms h =
       restart_keeps P Fits is spelling IsAllowed HasPayload h.3.0 old.clear.clear.log new.clear.clear.log h.3.2.0.0
   event_keeps plain closes (event.Restart node.Depot) outcome old new confirms h = by_same_lots old.clear new.clear h.0

@@ -15,6 +15,7 @@ use Rattle.cns_journal.specs.declared.record_log.Restarted.{Restarted}
 use Rattle.cns_records.specs.Dep.{dep_spelling, HasDepPayload}
 use Rattle.cns_records.specs.declared.clear_record.ClearRecord.{ClearRecord}
 use Rattle.cns_records.specs.declared.clear_record.ClearRecord.TheVariants as entry
+use Rattle.cns_records.specs.declared.instruction.Instruction.{Instruction}
 use Rattle.cns_records.specs.declared.refusal.Refusal.{Refusal}
 use Rattle.cns_records.specs.declared.refusal.Refusal.TheVariants as refusal
 use Rattle.cns_clearing.specs.Answers.{CycleLeaves, ReplyLeaves, SettingLeaves, TradeLeaves}
@@ -22,21 +23,25 @@ use Rattle.cns_clearing.specs.declared.answer.Closed.{Closed}
 use Rattle.cns_clearing.specs.declared.answer.Cycled.{Cycled}
 use Rattle.cns_clearing.specs.declared.answer.Taken.{Taken}
 use Rattle.cns_clearing.specs.declared.answer.Taken.TheVariants as taken
-use Rattle.cns_depository.specs.Answers.{OrderLeaves}
+use Rattle.cns_depository.specs.Answers.{InstructLeaves, OrderLeaves}
 use Rattle.cns_depository.specs.Stock.{IsExecutable}
 use Rattle.cns_depository.specs.declared.fault.Answer.{Answer}
 use Rattle.cns_depository.specs.declared.fault.Answer.TheVariants as answer
 use Rattle.cns_depository.specs.declared.fault.DepFault.{DepFault}
 use Rattle.cns_depository.specs.declared.fault.DepFault.TheVariants as fault
+use Rattle.cns_depository.specs.declared.fault.Own.{Own}
+use Rattle.cns_depository.specs.declared.fault.Own.TheVariants as done
+use Rattle.cns_depository.specs.declared.fault.OwnFault.{OwnFault}
+use Rattle.cns_depository.specs.declared.fault.OwnFault.TheVariants as own
 use Rattle.cns_system.specs.Decisions.{MayDecide}
 use Rattle.cns_system.specs.Happens.{DeviceFails}
 use Rattle.cns_system.specs.Lot.{with_seal}
 use Rattle.cns_system.specs.Lots.{LotLeaves, ReserveLeaves}
 use Rattle.cns_system.specs.Numbered.{NumberedNode, CloseLeaves, OpenLeaves, PourLeaves}
-use Rattle.cns_system.specs.Outcomes.{asked_outcome, close_outcome, cycle_outcome, done_outcome, open_outcome, order_outcome, pour_outcome, poured_outcome, reply_outcome, reserve_outcome, restart_outcome, trade_outcome}
+use Rattle.cns_system.specs.Outcomes.{asked_outcome, close_outcome, cycle_outcome, done_outcome, open_outcome, order_outcome, own_outcome, pour_outcome, poured_outcome, reply_outcome, reserve_outcome, restart_outcome, trade_outcome}
 use Rattle.cns_system.specs.Run.{IsDecided}
 use Rattle.cns_system.specs.Shown.{shown_of}
-use Rattle.cns_system.specs.Step.{AtClear, ByLots, ByNode, ClearRestarts, DepotRestartStep, IsNotSent, Looks, OrderInStep, OrderTaken, ReplyInStep, SendStep, Step}
+use Rattle.cns_system.specs.Step.{AtClear, ByLots, ByNode, ClearRestarts, DepotRestartStep, InstructStep, IsNotSent, Looks, OrderInStep, OrderTaken, ReplyInStep, SendStep, Step}
 use Rattle.cns_system.specs.World.{World, order_in_packet, reply_in_packet}
 use Rattle.cns_system.specs.declared.entry.Look.{Look}
 use Rattle.cns_system.specs.declared.event.Event.{Event}
@@ -101,6 +106,13 @@ order_may packet k o (Ok (answer.Done r)) old new left = tt
 order_may packet k o (Ok (answer.Again r)) old new left = tt
 order_may packet k o (Err fault.Device) old new left = left.1.1.1
 order_may packet k o (Err _) old new left = tt
+
+instruct_may : (i : Instruction) (result : Result Own OwnFault) (old new : World) → InstructLeaves i result old.depot new.depot
+    → MayDecide (decided (event.Own i) (own_outcome i result) (shown_of new)) (event.Own i) old new
+instruct_may i (Ok done.Done) old new left = tt
+instruct_may i (Ok done.Again) old new left = tt
+instruct_may i (Err own.Device) old new left = left.1.1.1
+instruct_may i (Err _) old new left = tt
 
 -- ---- calls that do not
 
@@ -179,6 +191,11 @@ reply_in_may packet None outcome old new (is, same) =
 reply_in_may packet (Some r) outcome old new step =
     at_clear (event.ReplyIn packet) (reply_outcome r) (ByNode (ReplyLeaves r)) outcome old new (λ result left. reply_may packet r result old new left) step
 
+instruct_step_may : (i : Instruction) (outcome : Outcome) (old new : World) → InstructStep i outcome old new
+    → MayDecide (decided (event.Own i) outcome (shown_of new)) (event.Own i) old new
+instruct_step_may i outcome old new (clear, orders, replies, (result, is, left)) =
+    subst (λ (o : Outcome). MayDecide (decided (event.Own i) o (shown_of new)) (event.Own i) old new) (sym is) (instruct_may i result old new left)
+
 -- ---- restarts
 
 -- an honest keeper gave the records back, and at most the one besides whose commit failed
@@ -225,6 +242,7 @@ decided_may (event.LotClose n) outcome old new step = at_clear (event.LotClose n
 decided_may (event.Send n) outcome old new step = send_may n outcome old new step
 decided_may (event.OrderIn packet) outcome old new step = order_in_may packet (order_in_packet (at_number old.orders packet)) outcome old new step
 decided_may (event.ReplyIn packet) outcome old new step = reply_in_may packet (reply_in_packet (at_number old.replies packet)) outcome old new step
+decided_may (event.Own i) outcome old new step = instruct_step_may i outcome old new step
 decided_may (event.Restart node.Clear) outcome old new step =
     at_clear (event.Restart node.Clear) restart_outcome ClearRestarts outcome old new (λ result left. clear_restart_may result old new left) step
 decided_may (event.Restart node.Depot) outcome old new step = depot_restart_may outcome old new step

@@ -39,7 +39,7 @@ use Rattle.cns_system.specs.declared.event.NodeName.TheVariants as node
 use Rattle.cns_system.specs.declared.outcome.Outcome.{Outcome}
 use Rattle.cns_system.specs.declared.outcome.Outcome.TheVariants as outcomes
 use Rattle.cns_system.proofs.Decided.{Fits, FitsDone}
-use Rattle.cns_system.proofs.LinkHappens.{no_reply, order_in_by, reply_by, send_by}
+use Rattle.cns_system.proofs.LinkHappens.{instruct_step_by, no_reply, order_in_by, reply_by, send_by}
 use Rattle.cns_system.proofs.LotHappens.{close_by, look_asked_by, look_poured_by, open_by, pour_by, reserve_by, seal_by}
 use Rattle.cns_system.proofs.ShownLemmas.{IsAtClear, IsAtDepot, came, refuse, clear_same, clear_when_added, clear_when_failed, commit_fails, commit_goes, commit_short, passes, some_there}
 
@@ -264,6 +264,7 @@ step_happens d (event.LotClose lot) outcome old new fits h =
 step_happens d (event.Send number) outcome old new fits h = send_by d number outcome old new h fits
 step_happens d (event.OrderIn packet) outcome old new fits h = order_in_by d packet (order_in_packet (at_number old.orders packet)) outcome old new refl h fits
 step_happens d (event.ReplyIn packet) outcome old new fits h = reply_in_by d packet (reply_in_packet (at_number old.replies packet)) outcome old new refl fits h
+step_happens d (event.Own i) outcome old new fits h = instruct_step_by d i outcome old new h fits
 step_happens d (event.Restart node.Clear) outcome old new fits h =
     at_clear restart_outcome ClearRestarts d (event.Restart node.Clear) outcome old new _ (λ result. clear_restart_by d result old new) fits h
 step_happens d (event.Restart node.Depot) outcome old new fits h = depot_restart_in d outcome old new fits h

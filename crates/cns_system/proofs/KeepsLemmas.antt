@@ -11,6 +11,8 @@ use Rattle.cns_movements.proofs.OrderLemmas.{order_of_number}
 use Rattle.cns_records.specs.declared.clear_record.ClearRecord.{ClearRecord}
 use Rattle.cns_records.specs.declared.clear_record.ClearRecord.TheVariants as entry
 use Rattle.cns_records.specs.declared.dep_record.DepRecord.{DepRecord}
+use Rattle.cns_records.specs.declared.dep_record.DepRecord.TheVariants as dep
+use Rattle.cns_records.specs.declared.instruction.Instruction.{Instruction}
 use Rattle.cns_clearing.specs.Answers.{CycleLeaves, ReplyLeaves, SettingLeaves, TradeLeaves}
 use Rattle.cns_clearing.specs.Books.{orders_of}
 use Rattle.cns_journal.specs.RecordLog.{LogRestarts, LogState}
@@ -19,7 +21,7 @@ use Rattle.cns_journal.specs.declared.record_log.Restarted.{Restarted}
 use Rattle.cns_trades.specs.declared.opening.Opening.{Opening}
 use Rattle.cns_records.specs.Dep.{dep_spelling, HasDepPayload}
 use Rattle.cns_movements.proofs.AgreeLemmas.{agree_fields}
-use Rattle.cns_depository.specs.Answers.{OrderLeaves, known_at, next_movement, next_record}
+use Rattle.cns_depository.specs.Answers.{InstructLeaves, OrderLeaves, known_at, next_movement, next_record}
 use Rattle.cns_depository.specs.Node.{DepNode}
 use Rattle.cns_depository.specs.Stock.{IsExecutable, executed_of, movement_of}
 use Rattle.cns_depository.specs.declared.movement.Movement.{Movement}
@@ -27,6 +29,10 @@ use Rattle.cns_depository.specs.declared.fault.Answer.{Answer}
 use Rattle.cns_depository.specs.declared.fault.Answer.TheVariants as answer
 use Rattle.cns_depository.specs.declared.fault.DepFault.{DepFault}
 use Rattle.cns_depository.specs.declared.fault.DepFault.TheVariants as fault
+use Rattle.cns_depository.specs.declared.fault.Own.{Own}
+use Rattle.cns_depository.specs.declared.fault.Own.TheVariants as done
+use Rattle.cns_depository.specs.declared.fault.OwnFault.{OwnFault}
+use Rattle.cns_depository.specs.declared.fault.OwnFault.TheVariants as own
 use Rattle.cns_system.specs.Accord.{Accord, AreLawful, FitsOrders, FitsStock, IsInAccord, IsKnown}
 use Rattle.cns_system.specs.Agreement.{IsExecuted}
 use Rattle.cns_system.specs.Lot.{with_seal}
@@ -34,7 +40,7 @@ use Rattle.cns_system.specs.Lots.{LotLeaves, ReserveLeaves}
 use Rattle.cns_system.specs.Outcomes.{asked_outcome, close_outcome, cycle_outcome, done_outcome, open_outcome, pour_outcome, poured_outcome, reply_outcome, reserve_outcome, restart_outcome, trade_outcome}
 use Rattle.cns_system.specs.Numbered.{NumberedNode, CloseLeaves, OpenLeaves, PourLeaves}
 use Rattle.cns_wire.specs.Packet.{at_number}
-use Rattle.cns_system.specs.Step.{AtClear, ByLots, ByNode, ClearRestarts, DepotRestartStep, Looks, OrderInStep, OrderTaken, Puts, ReplyInStep, SendStep, Step}
+use Rattle.cns_system.specs.Step.{AtClear, ByLots, ByNode, ClearRestarts, DepotRestartStep, InstructStep, Looks, OrderInStep, OrderTaken, Puts, ReplyInStep, SendStep, Step}
 use Rattle.cns_system.specs.World.{World, order_in_packet, reply_in_packet}
 use Rattle.cns_system.specs.declared.event.Event.{Event}
 use Rattle.cns_system.specs.declared.event.Event.TheVariants as event
@@ -98,6 +104,19 @@ module _ (c : LogState ClearRecord) (orders replies : List (List ℕ)) where
   order_keeps o (Err fault.OutOfMemory) old new known h = stock_same old new h.2
   order_keeps o (Err fault.Device) old new known h =
       by_failed (λ d. Accord c d orders replies) (FitsBook c) (stock_accord_kept c orders replies) old.log new.log (next_record old o) (λ a. (known a h.0, h.0)) h.1.1
+
+  -- a member's own instruction, of which the clearing node's orders know nothing
+  instruct_keeps : (i : Instruction) (result : Result Own OwnFault) (old new : DepNode) → InstructLeaves i result old new → StockKeeps old.log new.log
+  instruct_keeps i (Ok done.Done) old new h =
+      by_added (λ d. Accord c d orders replies) (FitsBook c) (stock_accord_kept c orders replies) old.log new.log (dep.Own i) (λ a. tt) h.1.0 h.1.1
+  instruct_keeps i (Ok done.Again) old new h = stock_same old new h.2
+  instruct_keeps i (Err own.Down) old new h = stock_same old new h.1
+  instruct_keeps i (Err own.Conflict) old new h = stock_same old new h.2
+  instruct_keeps i (Err own.IssueSum) old new h = stock_same old new h.1
+  instruct_keeps i (Err own.TooFew) old new h = stock_same old new h.1
+  instruct_keeps i (Err own.OutOfMemory) old new h = stock_same old new h.2
+  instruct_keeps i (Err own.Device) old new h =
+      by_failed (λ d. Accord c d orders replies) (FitsBook c) (stock_accord_kept c orders replies) old.log new.log (dep.Own i) (λ a. tt) h.1.1
 
   depot_restart_keeps : (openings : List Opening) (result : Result Restarted ReplayFault) (old new : LogState DepRecord)
       → LogRestarts dep_spelling (IsExecutable openings) HasDepPayload result old new → StockKeeps old new
@@ -221,6 +240,11 @@ reply_arrives : (held : Option Reply) (outcome : Outcome) (old new : World)
 reply_arrives None outcome old new now h accord = subst IsInAccord (sym h.1) accord
 reply_arrives (Some r) outcome old new now h accord = clear_step (reply_outcome r) (ByNode (ReplyLeaves r)) outcome old new now h accord
 
+-- a member's own instruction comes to the depository
+instruct_step : (i : Instruction) (outcome : Outcome) (old new : World) → InstructStep i outcome old new → IsInAccord old → IsInAccord new
+instruct_step i outcome old new h =
+    at_depot old new (instruct_keeps old.clear.clear.log old.orders old.replies i h.3.0 old.depot new.depot h.3.2) h.0 h.1 h.2
+
 -- the depository restarts
 depot_restart_step : (outcome : Outcome) (old new : World) → DepotRestartStep outcome old new → IsInAccord old → IsInAccord new
 depot_restart_step outcome old new h =
@@ -264,6 +288,7 @@ step_keeps (event.OrderIn packet) outcome old new lawful h =
     order_arrives (at_number old.orders packet) (order_in_packet (at_number old.orders packet)) outcome old new (packet_place old.orders packet) refl h lawful
 step_keeps (event.ReplyIn packet) outcome old new lawful h =
     reply_arrives (reply_in_packet (at_number old.replies packet)) outcome old new (log_keeps (event.ReplyIn packet) outcome old new h) h
+step_keeps (event.Own i) outcome old new lawful h = instruct_step i outcome old new h
 step_keeps (event.Restart node.Clear) outcome old new lawful h =
     clear_step restart_outcome ClearRestarts outcome old new (log_keeps (event.Restart node.Clear) outcome old new h) h
 step_keeps (event.Restart node.Depot) outcome old new lawful h = depot_restart_step outcome old new h

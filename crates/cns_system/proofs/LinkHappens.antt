@@ -13,29 +13,38 @@ use Rattle.cns_movements.proofs.AgreeLemmas.{agrees_with-differ, agrees_with-hol
 use Rattle.cns_wire.specs.Frame.{order_frame, reply_frame}
 use Rattle.cns_wire.specs.Packet.{at_number}
 use Rattle.cns_records.specs.declared.clear_record.ClearRecord.TheVariants as entry
+use Rattle.cns_records.specs.declared.dep_record.DepRecord.TheVariants as dep
+use Rattle.cns_records.specs.declared.instruction.Instruction.{Instruction}
 use Rattle.cns_records.specs.declared.refusal.Refusal.{Refusal}
 use Rattle.cns_records.specs.declared.refusal.Refusal.TheVariants as refusal
+use Rattle.cns_records.proofs.InstructionLemmas.{same_instruction-differ, same_instruction-refl}
 use Rattle.cns_clearing.specs.Answers.{answer_in, ReplyLeaves}
 use Rattle.cns_clearing.specs.Books.{orders_of}
 use Rattle.cns_clearing.specs.declared.answer.Taken.{Taken}
 use Rattle.cns_clearing.specs.declared.answer.Taken.TheVariants as taken
-use Rattle.cns_depository.specs.Answers.{OrderLeaves, next_movement, next_record, reply_to}
+use Rattle.cns_depository.specs.Answers.{InstructLeaves, OrderLeaves, next_movement, next_record, own_fault_refusal, own_refused, reply_to}
 use Rattle.cns_depository.specs.declared.movement.Movement.{Movement}
-use Rattle.cns_depository.specs.Stock.{executed_of, execution, movement, movement_of}
+use Rattle.cns_depository.specs.Stock.{executed_of, execution, instructed_of, instruction_of, movement, movement_of, own_refusal, IsNextInstruction}
 use Rattle.cns_depository.specs.declared.fault.Answer.{Answer}
 use Rattle.cns_depository.specs.declared.fault.Answer.TheVariants as answer
 use Rattle.cns_depository.specs.declared.fault.DepFault.{DepFault}
 use Rattle.cns_depository.specs.declared.fault.DepFault.TheVariants as fault
+use Rattle.cns_depository.specs.declared.fault.Own.{Own}
+use Rattle.cns_depository.specs.declared.fault.Own.TheVariants as done
+use Rattle.cns_depository.specs.declared.fault.OwnFault.{OwnFault}
+use Rattle.cns_depository.specs.declared.fault.OwnFault.TheVariants as own
+use Rattle.cns_depository.specs.declared.fault.OwnRefusal.{OwnRefusal}
+use Rattle.cns_depository.specs.declared.fault.OwnRefusal.TheVariants as why
 use Rattle.cns_system.specs.Happens.{Decision, NoMemory, clear_commits, commits, grows, happens, judged, settled, with_reply}
-use Rattle.cns_system.specs.Outcomes.{order_outcome, reply_outcome}
+use Rattle.cns_system.specs.Outcomes.{order_outcome, own_outcome, reply_outcome}
 use Rattle.cns_system.specs.Shown.{Shown, depot_added, depot_failed, shown_of}
-use Rattle.cns_system.specs.Step.{ByNode, IsItsOwn, IsNotSent, IsSent, OrderInStep, OrderTaken, Puts, SendStep}
+use Rattle.cns_system.specs.Step.{ByNode, IsItsOwn, IsNotSent, IsSent, InstructStep, OrderInStep, OrderTaken, Puts, SendStep}
 use Rattle.cns_system.specs.World.{World, order_in_packet, order_spelt, reply_in_packet, reply_spelt}
 use Rattle.cns_system.specs.declared.event.Event.TheVariants as event
 use Rattle.cns_system.specs.declared.outcome.Outcome.{Outcome}
 use Rattle.cns_system.specs.declared.outcome.Outcome.TheVariants as outcomes
 use Rattle.cns_system.proofs.Decided.{Fits}
-use Rattle.cns_system.proofs.ShownLemmas.{IsAtClear, IsAtDepot, came, refuse, clear_same, clear_when_added, clear_when_failed, commit_fails, commit_goes, commit_short, passes, depot_same, depot_when_added, depot_when_failed, with_room, without_room}
+use Rattle.cns_system.proofs.ShownLemmas.{IsAtClear, IsAtDepot, came, refuse, clear_same, clear_when_added, clear_when_failed, commit_fails, commit_goes, commit_short, passes, depot_same, depot_when_added, depot_when_failed, depot_when_instructed, with_room, without_room}
 
 -- ---- packets
 
@@ -180,6 +189,58 @@ order_in_by d packet (Some o) outcome old new e (clear, orders, left) fits = by 
     by (inr (is, same, replies, up, own)) =
         let short : d ≡ NoMemory = rw is at fits in
         came _ _ _ _ (order_short d packet o (shown_of old) held up own short ∙ rw is refl) (depot_same old new at same replies)
+
+-- ---- a member's own instruction comes to the depository
+
+own_down : (d : Decision) (i : Instruction) (w : Shown) → w.depot.down ≡ true → happens d (event.Own i) w ≡ refuse refusal.Down w
+unfolding happens judged
+own_down d i w down = rw down refl
+
+own_held : (d : Decision) (i : Instruction) (w : Shown) → w.depot.down ≡ false → instruction_of (instructed_of w.depot.records) i.member i.number ≡ Some i
+    → happens d (event.Own i) w ≡ (outcomes.InstructedAgain i, w)
+unfolding happens judged
+own_held d i w up held = ap (settled w) (passes (not w.depot.down) refusal.Down _ (ap not up)) ∙ rw (held, same_instruction-refl i) refl
+
+own_other : (d : Decision) (i other : Instruction) (w : Shown) → w.depot.down ≡ false → instruction_of (instructed_of w.depot.records) i.member i.number ≡ Some other
+    → (other ≡ i → ⊥) → happens d (event.Own i) w ≡ refuse refusal.Conflict w
+unfolding happens judged
+own_other d i other w up held isnt = rw (up, held, same_instruction-differ other i isnt) refl
+
+own_refused_by : (d : Decision) (i : Instruction) (why : OwnRefusal) (w : Shown) → w.depot.down ≡ false → instruction_of (instructed_of w.depot.records) i.member i.number ≡ None
+    → own_refusal w.openings w.depot.records i ≡ Some why → happens d (event.Own i) w ≡ refuse (own_fault_refusal (own_refused why)) w
+unfolding happens judged
+own_refused_by d i why w up none refused = ap (settled w) (passes (not w.depot.down) refusal.Down _ (ap not up)) ∙ rw (none, refused) refl
+
+own_new : (d : Decision) (i : Instruction) (w : Shown) → w.depot.down ≡ false → IsNextInstruction w.openings w.depot.records i
+    → happens d (event.Own i) w ≡ settled w (commits d (outcomes.Instructed i, depot_added (dep.Own i) w) (depot_failed (dep.Own i) w))
+unfolding happens judged
+own_new d i w up next = ap (settled w) (passes (not w.depot.down) refusal.Down _ (ap not up)) ∙ rw (next.number_is_new, next.may) refl
+
+instruct_by : (d : Decision) (i : Instruction) (result : Result Own OwnFault) (old new : World) → IsAtDepot old new → new.replies ≡ old.replies
+    → InstructLeaves i result old.depot new.depot → Fits d (event.Own i) (own_outcome i result) (shown_of new)
+    → happens d (event.Own i) (shown_of old) ≡ (own_outcome i result, shown_of new)
+instruct_by d i (Ok done.Done) old new at replies (next, added) fits =
+    own_new d i (shown_of old) added.0 next ∙ commit_goes d _ _ _ _ _ fits (depot_when_instructed (dep.Own i) old new at added replies)
+instruct_by d i (Ok done.Again) old new at replies (up, held, same) fits =
+    came _ _ _ _ (own_held d i (shown_of old) up held) (depot_same old new at same replies)
+instruct_by d i (Err own.Down) old new at replies (down, same) fits =
+    came _ _ _ _ (own_down d i (shown_of old) down) (depot_same old new at same replies)
+instruct_by d i (Err own.Conflict) old new at replies (up, (other, held, isnt), same) fits =
+    came _ _ _ _ (own_other d i other (shown_of old) up held isnt) (depot_same old new at same replies)
+instruct_by d i (Err own.IssueSum) old new at replies ((up, none, refused), same) fits =
+    came _ _ _ _ (own_refused_by d i why.IssueSum (shown_of old) up none refused) (depot_same old new at same replies)
+instruct_by d i (Err own.TooFew) old new at replies ((up, none, refused), same) fits =
+    came _ _ _ _ (own_refused_by d i why.TooFew (shown_of old) up none refused) (depot_same old new at same replies)
+instruct_by d i (Err own.OutOfMemory) old new at replies (up, next, same) fits =
+    own_new d i (shown_of old) up next ∙ commit_short d _ _ _ _ fits (depot_same old new at same replies)
+instruct_by d i (Err own.Device) old new at replies (next, failed) fits =
+    own_new d i (shown_of old) failed.0 next ∙ commit_fails d _ _ _ _ fits (depot_when_failed (dep.Own i) old new at failed replies)
+
+pub instruct_step_by : (d : Decision) (i : Instruction) (outcome : Outcome) (old new : World) → InstructStep i outcome old new → Fits d (event.Own i) outcome (shown_of new)
+    → happens d (event.Own i) (shown_of old) ≡ (outcome, shown_of new)
+instruct_step_by d i outcome old new (clear, orders, replies, (result, is, leaves)) fits =
+    subst (λ (o : Outcome). happens d (event.Own i) (shown_of old) ≡ (o, shown_of new)) (sym is)
+    (instruct_by d i result old new (record { clear = clear; orders = orders }) replies leaves (subst (λ (o : Outcome). Fits d (event.Own i) o (shown_of new)) is fits))
 
 -- ---- a reply arrives at the clearing node
 

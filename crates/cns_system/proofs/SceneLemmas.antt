@@ -20,6 +20,8 @@ use Rattle.cns_records.specs.Dep.{dep_spelling, HasDepPayload}
 use Rattle.cns_records.specs.declared.clear_record.ClearRecord.{ClearRecord}
 use Rattle.cns_records.specs.declared.clear_record.ClearRecord.TheVariants as entry
 use Rattle.cns_records.specs.declared.dep_record.DepRecord.{DepRecord}
+use Rattle.cns_records.specs.declared.dep_record.DepRecord.TheVariants as dep
+use Rattle.cns_records.specs.declared.instruction.Instruction.{Instruction}
 use Rattle.cns_records.specs.declared.refusal.Refusal.{Refusal}
 use Rattle.cns_records.specs.declared.refusal.Refusal.TheVariants as refusal
 use Rattle.cns_clearing.specs.Answers.{CycleLeaves, ReplyLeaves, SettingLeaves, TradeLeaves}
@@ -29,23 +31,27 @@ use Rattle.cns_clearing.specs.declared.answer.Closed.{Closed}
 use Rattle.cns_clearing.specs.declared.answer.Cycled.{Cycled}
 use Rattle.cns_clearing.specs.declared.answer.Taken.{Taken}
 use Rattle.cns_clearing.specs.declared.answer.Taken.TheVariants as taken
-use Rattle.cns_depository.specs.Answers.{OrderLeaves, next_record}
+use Rattle.cns_depository.specs.Answers.{InstructLeaves, OrderLeaves, next_record}
 use Rattle.cns_depository.specs.Node.{DepNode}
 use Rattle.cns_depository.specs.Stock.{IsExecutable}
 use Rattle.cns_depository.specs.declared.fault.Answer.{Answer}
 use Rattle.cns_depository.specs.declared.fault.Answer.TheVariants as answer
 use Rattle.cns_depository.specs.declared.fault.DepFault.{DepFault}
 use Rattle.cns_depository.specs.declared.fault.DepFault.TheVariants as fault
+use Rattle.cns_depository.specs.declared.fault.Own.{Own}
+use Rattle.cns_depository.specs.declared.fault.Own.TheVariants as done
+use Rattle.cns_depository.specs.declared.fault.OwnFault.{OwnFault}
+use Rattle.cns_depository.specs.declared.fault.OwnFault.TheVariants as own
 use Rattle.cns_system.specs.Decisions.{MayDecide, MayTell, node_of}
 use Rattle.cns_system.specs.Happens.{Decision, Goes, NoMemory, DeviceFails, ClearReads, DepotReads, FindsBad}
 use Rattle.cns_system.specs.Lot.{with_seal}
 use Rattle.cns_system.specs.Lots.{LotLeaves, ReserveLeaves}
 use Rattle.cns_system.specs.Numbered.{NumberedNode, CloseLeaves, OpenLeaves, PourLeaves}
-use Rattle.cns_system.specs.Outcomes.{asked_outcome, close_outcome, cycle_outcome, done_outcome, open_outcome, order_outcome, pour_outcome, poured_outcome, reply_outcome, reserve_outcome, restart_outcome, trade_outcome}
+use Rattle.cns_system.specs.Outcomes.{asked_outcome, close_outcome, cycle_outcome, done_outcome, open_outcome, order_outcome, own_outcome, pour_outcome, poured_outcome, reply_outcome, reserve_outcome, restart_outcome, trade_outcome}
 use Rattle.cns_system.specs.Readers.{PlanStep}
 use Rattle.cns_system.specs.Scene.{Chance, Comes, ComesBack, Decides, Forgets, Plans, Scene, Sight, after_commit, after_restart, comes_to, commit_decision, decision_at, given_back, is_foreseen, known_after, known_of, restart_decision, scene_of, sight_of, with_known}
 use Rattle.cns_system.specs.Shown.{Shown, shown_of}
-use Rattle.cns_system.specs.Step.{AtClear, ByLots, ByNode, ClearRestarts, DepotRestartStep, IsNotSent, Looks, OrderInStep, OrderTaken, ReplyInStep, SendStep, Step}
+use Rattle.cns_system.specs.Step.{AtClear, ByLots, ByNode, ClearRestarts, DepotRestartStep, InstructStep, IsNotSent, Looks, OrderInStep, OrderTaken, ReplyInStep, SendStep, Step}
 use Rattle.cns_system.specs.World.{World, order_in_packet, reply_in_packet}
 use Rattle.cns_system.specs.declared.entry.Look.{Look}
 use Rattle.cns_system.specs.declared.event.Event.{Event}
@@ -305,6 +311,7 @@ not_sent_commits n r w old new why is = clear_refused (event.Send n) r w old.cle
 abbrev IsClearEvent : Event → Type 0
 IsClearEvent (event.Restart name) = ⊥
 IsClearEvent (event.OrderIn packet) = ⊥
+IsClearEvent (event.Own i) = ⊥
 IsClearEvent _ = Unit {0}
 
 -- by what is known of the clearing node's keeper such an event is decided, and only of it is something else known after the event
@@ -316,6 +323,7 @@ record OfClear (e : Event) : Type 0 where
 of_clear : (e : Event) → IsClearEvent e → OfClear e
 of_clear (event.Restart name) at = absurd at
 of_clear (event.OrderIn packet) at = absurd at
+of_clear (event.Own i) at = absurd at
 of_clear _ at = record { decision = λ chance s. refl; leaves = λ chance outcome w s. refl }
 
 clear_comes : (e : Event) (outcome : Outcome) (old new : World) → IsClearEvent e
@@ -407,6 +415,28 @@ order_in_comes packet (Some o) outcome old new step (clear, orders, taken) = ord
     by (inr (is, depot, replies, up, own)) =
         subst (λ (x : Outcome). DepotCommits (event.OrderIn packet) x (shown_of new) old.depot new.depot) (sym is)
         (depot_refused (event.OrderIn packet) refusal.OutOfMemory (shown_of new) old.depot new.depot tt depot)
+
+own_commits : (i : Instruction) (result : Result Own OwnFault) (w : Shown) (old new : DepNode) → InstructLeaves i result old new
+    → DepotCommits (event.Own i) (own_outcome i result) w old new
+own_commits i (Ok done.Done) w old new left =
+    goes (event.Own i) (outcomes.Instructed i) w (dep.Own i) old.log new.log (λ d goes. goes) (λ f. refl) left.1.1
+own_commits i (Ok done.Again) w old new left =
+    same (event.Own i) (outcomes.InstructedAgain i) w _ _ (λ d room. tt) (λ f. refl) (ap (λ (n : DepNode). sight_of n.log) left.2)
+own_commits i (Err own.Down) w old new left = depot_refused (event.Own i) refusal.Down w old new tt left.1
+own_commits i (Err own.Conflict) w old new left = depot_refused (event.Own i) refusal.Conflict w old new tt left.2
+own_commits i (Err own.IssueSum) w old new left = depot_refused (event.Own i) refusal.IssueSum w old new tt left.1
+own_commits i (Err own.TooFew) w old new left = depot_refused (event.Own i) refusal.TooFew w old new tt left.1
+own_commits i (Err own.OutOfMemory) w old new left = depot_refused (event.Own i) refusal.OutOfMemory w old new tt left.2
+own_commits i (Err own.Device) w old new left = fails (event.Own i) w (dep.Own i) old.log new.log left.1.1
+
+own_comes : (i : Instruction) (outcome : Outcome) (old new : World) → Step (event.Own i) outcome old new → InstructStep i outcome old new
+    → Comes (event.Own i) outcome old new
+own_comes i outcome old new step (clear, orders, replies, (result, is, left)) =
+    let commits : DepotCommits (event.Own i) outcome (shown_of new) old.depot new.depot =
+    subst (λ (o : Outcome). DepotCommits (event.Own i) o (shown_of new) old.depot new.depot) (sym is)
+    (own_commits i result (shown_of new) old.depot new.depot left) in
+    comes_by commits.chance (event.Own i) outcome old new commits.fits
+    (scene_same (shown_of new) _ _ _ _ (ap (λ (n : NumberedNode). sight_of n.clear.log) clear) commits.leaves) step
 
 -- ---- restarts
 
@@ -560,6 +590,7 @@ step_comes (event.OrderIn packet) outcome old new step =
     order_in_comes packet (order_in_packet (at_number old.orders packet)) outcome old new step step
 step_comes (event.ReplyIn packet) outcome old new step =
     reply_in_comes packet (reply_in_packet (at_number old.replies packet)) outcome old new step step
+step_comes (event.Own i) outcome old new step = own_comes i outcome old new step step
 step_comes (event.Restart node.Clear) outcome old new step = clear_restart_comes outcome old new step step
 step_comes (event.Restart node.Depot) outcome old new step = depot_restart_comes outcome old new step step
 

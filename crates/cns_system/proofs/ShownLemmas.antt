@@ -56,6 +56,10 @@ pub depot_when_added : (e : DepRecord) (r : Reply) (old new : World) → IsAtDep
 depot_when_added e r old new at (up, added, openings) replies reads =
     rw (added.0, openings, replies, at.clear, at.orders, map-append reply_spelt old.replies (reply_frame r ∷ []), reads) refl
 
+pub depot_when_instructed : (e : DepRecord) (old new : World) → IsAtDepot old new → depot.Added e old.depot new.depot → new.replies ≡ old.replies
+    → shown_of new ≡ depot_added e (shown_of old)
+depot_when_instructed e old new at (up, added, openings) replies = rw (added.0, openings, replies, at.clear, at.orders) refl
+
 pub depot_when_failed : (e : DepRecord) (old new : World) → IsAtDepot old new → depot.Failed e old.depot new.depot → new.replies ≡ old.replies
     → shown_of new ≡ depot_failed e (shown_of old)
 depot_when_failed e old new at (up, (log, risen, failed), openings) replies =

@@ -166,6 +166,7 @@ step_sound (event.OrderIn packet) outcome old new h accord = λ c d.
     order_in_sound (at_number old.orders packet) (order_in_packet (at_number old.orders packet)) outcome old new (packet_place old.orders packet) refl h (accord c d)
 step_sound (event.ReplyIn packet) outcome old new h accord = λ c d.
     reply_in_sound (at_number old.replies packet) (reply_in_packet (at_number old.replies packet)) outcome old new (packet_place old.replies packet) refl h (accord c d)
+step_sound (event.Own i) outcome old new h accord = λ c d. tt
 step_sound (event.Restart node.Clear) outcome old new h accord = λ c d. λ place e.
     restart_sound _ _ _ h.3.0 old.clear.clear.log new.clear.clear.log place c h.3.2.0.0 (sym h.3.1 ∙ e)
 step_sound (event.Restart node.Depot) outcome old new h accord = λ c d. λ place e.

@@ -168,6 +168,7 @@ step_spares (event.LotClose lot) outcome old new h = close_spares lot h.3.0 old.
 step_spares (event.Send number) outcome old new h = send_spares None number outcome old new h
 step_spares (event.OrderIn packet) outcome old new h = order_spares None (order_in_packet (at_number old.orders packet)) outcome old new h
 step_spares (event.ReplyIn packet) outcome old new h = reply_spares None (reply_in_packet (at_number old.replies packet)) outcome old new h
+step_spares (event.Own i) outcome old new h = node_same None old.clear new.clear h.0
 step_spares (event.Restart node.Clear) outcome old new h = spares_ended None old.clear.lots new.clear.lots h.3.2.1
 step_spares (event.Restart node.Depot) outcome old new h = node_same None old.clear new.clear h.0
 
@@ -302,5 +303,6 @@ step_twins (event.LotClose lot) outcome old new are h = close_twins lot h.3.0 ol
 step_twins (event.Send number) outcome old new are h = send_twins None number outcome old new h
 step_twins (event.OrderIn packet) outcome old new are h = order_twins None (order_in_packet (at_number old.orders packet)) outcome old new h
 step_twins (event.ReplyIn packet) outcome old new are h = reply_twins None (reply_in_packet (at_number old.replies packet)) outcome old new h
+step_twins (event.Own i) outcome old new are h = twins_node None old.clear new.clear h.0
 step_twins (event.Restart node.Clear) outcome old new are h = ended_twins None old.clear new.clear h.3.2.1
 step_twins (event.Restart node.Depot) outcome old new are h = twins_node None old.clear new.clear h.0

@@ -12,7 +12,9 @@ use cns_records::DepRecord;
 fn is_ordered(orders: &OrderBook, entry: &DepRecord) -> bool
     ensures { IsTrue result ↔ IfSome (executed_in entry.now) (IsOrdered orders.now.book.orders) }
 {
-    let DepRecord::Exec { order, moved } = entry;
+    let DepRecord::Exec { order, moved } = entry else {
+        return true;
+    };
     let Some(known) = orders.get(order.number) else {
         return false;
     };

@@ -1,4 +1,5 @@
 use cns_ids::{Cusip, CycleId, MemberNo, Shares};
+use cns_records::Instruction;
 use cns_trades::Trade;
 
 /// One of the two nodes.
@@ -73,6 +74,8 @@ pub enum Event {
     ReplyIn {
         packet: u64,
     },
+    /// A member's own deposit or withdrawal comes to the depository.
+    Own(Instruction),
     /// A node reads its journal again.
     Restart(NodeName),
 }

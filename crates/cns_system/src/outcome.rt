@@ -1,13 +1,14 @@
 ghost use Rattle.std.specs.Prelude.{◌≡◌};
-ghost use Rattle.cns_system.specs.Outcomes.{asked_outcome, close_outcome, cycle_outcome, done_outcome, open_outcome, pour_outcome, poured_outcome, reply_outcome, reserve_outcome, restart_outcome, trade_outcome};
+ghost use Rattle.cns_system.specs.Outcomes.{asked_outcome, close_outcome, cycle_outcome, done_outcome, open_outcome, own_outcome, pour_outcome, poured_outcome, reply_outcome, reserve_outcome, restart_outcome, trade_outcome};
 
 use crate::entry::Look;
 use crate::numbered::Opened;
 use cns_clearing::{Closed, Cycled, Taken};
+use cns_depository::{Own, OwnFault};
 use cns_journal::{ReplayFault, Restarted};
 use cns_movements::Reply;
 use cns_pool::Ticket;
-use cns_records::Refusal;
+use cns_records::{Instruction, Refusal};
 
 /// What an event came to.
 #[derive(Debug, Drop)]
@@ -40,6 +41,10 @@ pub enum Outcome {
     Confirmed(Reply),
     /// The order was confirmed by just this reply before.
     ConfirmedAgain(Reply),
+    /// The member's own instruction is carried out.
+    Instructed(Instruction),
+    /// Just this instruction was carried out before.
+    InstructedAgain(Instruction),
     /// The node is up with so many records, and `kept` where the record whose commit failed is one.
     Restarted { records: u64, kept: bool },
     /// The event was refused.
@@ -126,6 +131,16 @@ impl Outcome {
             Ok(Taken::Done) => Outcome::Confirmed(reply),
             Ok(Taken::Again) => Outcome::ConfirmedAgain(reply),
             Err(refusal) => Outcome::Refused(refusal),
+        }
+    }
+
+    pub(crate) fn of_own(instruction: Instruction, answer: Result<Own, OwnFault>) -> Outcome
+        ensures { result ≡ own_outcome instruction answer }
+    {
+        match answer {
+            Ok(Own::Done) => Outcome::Instructed(instruction),
+            Ok(Own::Again) => Outcome::InstructedAgain(instruction),
+            Err(fault) => Outcome::Refused(Refusal::from(fault)),
         }
     }
 

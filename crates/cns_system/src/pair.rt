@@ -225,6 +225,9 @@ impl<C: Keeper, D: Keeper> Pair<C, D> {
             Event::Send { number } => self.send(*number),
             Event::OrderIn { packet } => self.order_in(*packet),
             Event::ReplyIn { packet } => self.reply_in(*packet),
+            Event::Own(instruction) => {
+                Outcome::of_own(*instruction, self.depot.instruct(instruction))
+            }
             Event::Restart(NodeName::Clear) => Outcome::of_restart(self.clear.restart()),
             Event::Restart(NodeName::Depot) => Outcome::of_restart(self.depot.restart()),
         }
