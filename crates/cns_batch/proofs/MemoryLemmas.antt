@@ -23,15 +23,20 @@ use Rattle.cns_allocate.specs.declared.turns.Turn.{Turn}
 use Rattle.cns_allocate.specs.declared.turns.Turn.TheVariants as turn
 use Rattle.cns_records.specs.declared.clear_record.ClearRecord.{ClearRecord}
 use Rattle.cns_records.specs.declared.clear_record.ClearRecord.TheVariants as entry
+use Rattle.cns_records.specs.Instruction.{same_instruction}
 use Rattle.cns_records.specs.declared.dep_record.DepRecord.{DepRecord}
+use Rattle.cns_records.specs.declared.dep_record.DepRecord.TheVariants as dep
+use Rattle.cns_records.specs.declared.instruction.Instruction.{Instruction}
 use Rattle.cns_records.specs.declared.refusal.Refusal.{Refusal}
 use Rattle.cns_records.specs.declared.refusal.Refusal.TheVariants as refusal
 use Rattle.cns_clearing.specs.Answers.{allocation_of}
 use Rattle.cns_clearing.specs.Books.{are_spent, deliveries_in}
 use Rattle.cns_clearing.specs.Pools.{lot_of}
 use Rattle.cns_clearing.specs.declared.lot.Lot.{Lot}
-use Rattle.cns_depository.specs.Answers.{reply_to}
-use Rattle.cns_depository.specs.Stock.{executed_of, execution, movement, movement_of}
+use Rattle.cns_depository.specs.Answers.{own_fault_refusal, own_refused, reply_to}
+use Rattle.cns_depository.specs.Stock.{executed_of, execution, instructed_of, instruction_of, movement, movement_of, own_refusal}
+use Rattle.cns_depository.specs.declared.fault.OwnRefusal.{OwnRefusal}
+use Rattle.cns_depository.specs.declared.fault.OwnRefusal.TheVariants as why
 use Rattle.cns_depository.specs.declared.movement.Movement.{Movement}
 use Rattle.cns_system.specs.Decisions.{node_of}
 use Rattle.cns_system.specs.Happens.{Decision, Goes, NoMemory, DeviceFails, ClearReads, DepotReads, Judged, book, clear_commits, commits, going_lot, grows, happens, judged, settled, with_reply}
@@ -196,6 +201,23 @@ order_goes None d o w = commits_on d node.Depot w _ _ _ (λ e. absurd (cc e)) re
 order_goes (Some known) d o w =
     needs d node.Depot w (agrees_with known.order o) refusal.Conflict _ _ (λ e. absurd (cc e)) (grows_on d node.Depot w _ _ (λ e. absurd (cc e)) refl refl)
 
+abbrev instructed_by : Option Instruction → Option OwnRefusal → Decision → Instruction → Shown → Judged
+instructed_by held refused d i w = elim held [
+  | None ↦ elim refused [
+    | None ↦ commits d (outcomes.Instructed i, depot_added (dep.Own i) w) (depot_failed (dep.Own i) w)
+    | Some why ↦ Err (own_fault_refusal (own_refused why))
+  ]
+  | Some held ↦ need (same_instruction held i) refusal.Conflict >> Ok (outcomes.InstructedAgain i, w)
+]
+
+instruct_goes : (held : Option Instruction) (refused : Option OwnRefusal) (d : Decision) (i : Instruction) (w : Shown)
+    → IsSteady d node.Depot w (instructed_by held refused NoMemory i w) (instructed_by held refused d i w)
+instruct_goes None None d i w = commits_on d node.Depot w _ _ _ (λ e. absurd (cc e)) refl refl refl
+instruct_goes None (Some why.IssueSum) d i w = refuses d node.Depot w refusal.IssueSum (λ e. absurd (cc e))
+instruct_goes None (Some why.TooFew) d i w = refuses d node.Depot w refusal.TooFew (λ e. absurd (cc e))
+instruct_goes (Some held) refused d i w =
+    needs d node.Depot w (same_instruction held i) refusal.Conflict _ _ (λ e. absurd (cc e)) (goes_on d node.Depot w _ _ (λ e. absurd (cc e)) refl refl)
+
 abbrev confirmed_by : Confirm → Decision → Reply → Shown → Judged
 confirmed_by answer d r w = elim answer [
   | answers.Done ↦ clear_commits d (entry.Confirm r) (outcomes.Confirmed r) w
@@ -250,6 +272,9 @@ steady d (event.OrderIn packet) w plain =
 steady d (event.ReplyIn packet) w plain =
     found d node.Clear w (option_flatten (at_number w.replies packet)) refusal.NoPacket _ _ (λ e. absurd (cc e))
     (λ r. needs d node.Clear w (not w.clear.down) refusal.Down _ _ (λ e. absurd (cc e)) (reply_goes (confirm_answer (book w).orders r) d r w))
+steady d (event.Own i) w plain =
+    needs d node.Depot w (not w.depot.down) refusal.Down _ _ (λ e. absurd (cc e))
+    (instruct_goes (instruction_of (instructed_of w.depot.records) i.member i.number) (own_refusal w.openings w.depot.records i) d i w)
 steady d (event.Restart name) w plain = absurd plain
 
 -- ---- an event that is no restart

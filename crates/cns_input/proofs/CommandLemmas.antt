@@ -23,4 +23,4 @@ none_alone (row ∷ rows) word reads = by (same_text word (codes row.0)) (none_a
 pub others_alone : (word : List ℕ) → by_table (drop 2 commands) (word ∷ []) ≡ None
 others_alone word =
     none_alone (drop 2 commands) word
-    (refl, (refl, (refl, (refl, (refl, (refl, (refl, (refl, (refl, (refl, (refl, (refl, (refl, (refl, (refl, (refl, (refl, tt)))))))))))))))))
+    (refl, (refl, (refl, (refl, (refl, (refl, (refl, (refl, (refl, (refl, (refl, (refl, (refl, (refl, (refl, (refl, (refl, (refl, (refl, tt)))))))))))))))))))

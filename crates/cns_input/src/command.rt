@@ -2,9 +2,11 @@ ghost use Rattle.std.specs.Prelude.{◌≡◌, ◌==◌, ◌<◌, ◌∷◌, [],
 ghost use Rattle.std.specs.List.{position_from};
 ghost use Rattle.cns_trades.specs.Fields.{same_text};
 ghost use Rattle.cns_input.specs.Words.{words_after, words_of};
-ghost use Rattle.cns_input.specs.Script.{by_table, command_of as command_of_line, commands, events, none as none_of, issue_in, member_in, node_in, place_in, take_in};
+ghost use Rattle.cns_input.specs.Script.{by_table, command_of as command_of_line, commands, events, none as none_of, own_in, issue_in, member_in, move_no_in, asked_in, node_in, place_in, take_in};
 
 use cns_ids::{Cusip, CycleId, CycleKind, Day, MemberNo, Shares, read_number};
+use cns_movements::{Asked, MoveNo};
+use cns_records::{Instruction, Sort};
 use cns_system::{Event, NodeName};
 
 /// A line of the script.
@@ -108,6 +110,15 @@ fn three(rest: Option<&[u8]>) -> Option<(&[u8], &[u8], &[u8])>
     Some((word, next, last))
 }
 
+// The four words behind the first, where there are no others.
+fn four(rest: Option<&[u8]>) -> Option<(&[u8], &[u8], &[u8], &[u8])>
+    ensures { let words = words_after rest.entry in MatchOption result ((length words == 4) ≡ false) (λ t. words ≡ t.0.now ∷ t.1.now ∷ t.2.now ∷ t.3.now ∷ []) }
+{
+    let (word, rest) = split_word(rest?);
+    let (next, third, last) = three(rest)?;
+    Some((word, next, third, last))
+}
+
 // The number of an order, of a packet or of a lot.
 fn read_place(text: &[u8]) -> Option<u64>
     ensures { result ≡ place_in text.now }
@@ -125,6 +136,22 @@ fn read_issue(text: &[u8]) -> Option<Cusip>
     ensures { result ≡ issue_in text.now }
 {
     Cusip::read(text).ok()
+}
+
+// The number of a member's own instruction.
+#[tactic(auto, unfolding(cns_ids::specs::Number::number_in))]
+fn read_move_no(text: &[u8]) -> Option<MoveNo>
+    ensures { result ≡ move_no_in text.now }
+{
+    MoveNo::new(read_number(text, 1, MoveNo::MAX).ok()?)
+}
+
+// The shares of a member's own instruction.
+#[tactic(auto, unfolding(cns_ids::specs::Number::number_in))]
+fn read_asked(text: &[u8]) -> Option<Asked>
+    ensures { result ≡ asked_in text.now }
+{
+    Asked::new(read_number(text, 1, Asked::MAX).ok()?)
 }
 
 // What one of two words stands for.
@@ -156,9 +183,24 @@ fn read_take(text: &[u8]) -> Option<Command>
     read_number(text, 1, 1_000_000).ok().map(Command::Take)
 }
 
+// A member's own instruction of a sort.
+fn read_own(sort: Sort, rest: Option<&[u8]>) -> Option<Event>
+    ensures { result ≡ own_in sort (words_after rest.entry) }
+{
+    let (member, number, issue, shares) = four(rest)?;
+    Some(Event::Own(Instruction {
+        sort,
+        member: read_member(member)?,
+        number: read_move_no(number)?,
+        issue: read_issue(issue)?,
+        shares: read_asked(shares)?,
+    }))
+}
+
 // The event that a word and those behind it are: `SEND n`, `ORDER k`, `REPLY k`, `RESTART node`, `LOT cusip`,
 // `POUR lot`, `RESERVE lot member`, `SEAL lot`, `CLOSE lot`, `CYCLE NIGHT date` or `CYCLE DAY date`,
-// `EXEMPT member cusip shares`, or `PRIORITY member cusip ON` or `OFF`.
+// `EXEMPT member cusip shares`, `PRIORITY member cusip ON` or `OFF`, or `DEPOSIT member number cusip shares`
+// or `WITHDRAW ..`.
 fn read_event(word: &[u8], rest: Option<&[u8]>) -> Option<Event>
     ensures { result ≡ by_table events (word.now ∷ words_after rest.entry) }
 {
@@ -211,6 +253,10 @@ fn read_event(word: &[u8], rest: Option<&[u8]>) -> Option<Event>
             issue: read_issue(issue)?,
             on: read_one_of(on, b"ON", true, b"OFF", false)?,
         })
+    } else if is_word(word, b"DEPOSIT") {
+        read_own(Sort::Deposit, rest)
+    } else if is_word(word, b"WITHDRAW") {
+        read_own(Sort::Withdraw, rest)
     } else {
         None
     }

@@ -1,14 +1,16 @@
 //! The lines of events and what they came to.
 ghost use Rattle.std.specs.Prelude.{◌≡◌, ◌++◌, codes};
 ghost use Rattle.std.specs.Fmt.{decimal};
-ghost use Rattle.cns_report.specs.Outcomes.{event_line, yes_or_no};
+ghost use Rattle.cns_ids.specs.Member.{member_text};
+ghost use Rattle.cns_records.specs.Instruction.{sort_text};
+ghost use Rattle.cns_report.specs.Outcomes.{event_line, instruction_text, yes_or_no};
 ghost use Rattle.cns_report.specs.Refusals.{node_text, refusal_text, word_of};
 
 use crate::fault::refusal_name;
 use crate::put::{LF, Put, SPACE};
 use crate::text::Draft;
 use cns_movements::Reply;
-use cns_records::Refusal;
+use cns_records::{Instruction, Refusal};
 use cns_system::{Event, NodeName, Outcome};
 use std::alloc::AllocError;
 
@@ -68,8 +70,27 @@ impl Put for Word<'_> {
             Event::Send { .. } => draft.add(b"send"),
             Event::OrderIn { .. } => draft.add(b"order"),
             Event::ReplyIn { .. } => draft.add(b"reply"),
+            Event::Own(instruction) => instruction.sort.name().put(draft),
             Event::Restart(_) => draft.add(b"restart"),
         }
+    }
+}
+
+// `deposit MEMBER number N`, or `withdraw ..`.
+#[derive(Clone, Copy)]
+struct Instructed<'a>(&'a Instruction);
+
+impl Put for Instructed<'_> {
+    ghost text = { λ line. instruction_text line.0.now };
+
+    fn put(&self, draft: &mut Draft) -> Result<(), AllocError> {
+        let Instruction {
+            sort,
+            member,
+            number,
+            ..
+        } = *self.0;
+        (sort.name(), SPACE, member, " number ", number.number()).put(draft)
     }
 }
 
@@ -129,6 +150,10 @@ impl Put for EventLine<'_> {
             }
             Outcome::Confirmed(reply) => ("confirm ", moved(*reply), " done\n").put(draft),
             Outcome::ConfirmedAgain(reply) => ("confirm ", moved(*reply), " again\n").put(draft),
+            Outcome::Instructed(instruction) => (Instructed(instruction), " done\n").put(draft),
+            Outcome::InstructedAgain(instruction) => {
+                (Instructed(instruction), " again\n").put(draft)
+            }
             Outcome::Restarted { records, kept } => match self.event {
                 Event::Restart(node) => {
                     let told = ("restart ", node_word(*node), " records ", *records);

@@ -100,6 +100,8 @@ pub(crate) fn refusal_name(refusal: Refusal) -> &'static str
         Refusal::NoPacket => "NoPacket",
         Refusal::Conflict => "Conflict",
         Refusal::TooMuch => "TooMuch",
+        Refusal::IssueSum => "IssueSum",
+        Refusal::TooFew => "TooFew",
         Refusal::BadJournal { .. } => "BadJournal",
         Refusal::OutOfMemory => "OutOfMemory",
         Refusal::Device => "Device",

@@ -33,6 +33,9 @@ Commands of a script, one a line; blank lines and lines that begin with # are sk
   SEND n                        Put order n on the link
   ORDER k                       Let packet k of the link of orders arrive at the depository
   REPLY k                       Let packet k of the link of replies arrive at the book
+  DEPOSIT member n cusip shares, WITHDRAW member n cusip shares
+                                Bring shares from outside to a member, or take some out of
+                                its account, by the member's own instruction n
   PUMP                          Send each unconfirmed order, and let its packets arrive
   FAIL CLEAR|DEPOT KEEP|DROP    Let the next commit of a node fail; its record stands or not
   RESTART CLEAR|DEPOT           Let a node read its journal again
