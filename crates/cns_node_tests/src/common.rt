@@ -5,7 +5,7 @@ use cns_ids::{Cusip, CycleId, CycleKind, Day, MemberNo, Quantity, Shares};
 use cns_journal::{Keeper, ListKeeper, MAX_PAYLOAD};
 use cns_movements::{Asked, MoveKind, MoveNo, Order, Reply};
 use cns_pool::Ticket;
-use cns_records::{Allocation, ClearRecord, DepRecord, Drawn, DrawnList};
+use cns_records::{Allocation, ClearRecord, DepRecord, Drawn, DrawnList, Instruction, Sort};
 use cns_system::{Event, NodeName, System, Unopened};
 use cns_trades::{Opening, Trade, TradeId};
 use std::alloc::Global;
@@ -97,6 +97,20 @@ pub(crate) fn order_in(rt: &impl Abort, day: Text, kind: CycleKind, placed: &Pla
     let mut order = order_of(rt, placed);
     order.cycle = Some(cycle_of(rt, day, kind));
     order
+}
+
+// A member's own instruction: its sort, its member, its number, its issue and its shares.
+pub(crate) type Given = (Sort, u16, u64, Text, u64);
+
+pub(crate) fn instruction_of(rt: &impl Abort, given: &Given) -> Instruction {
+    let (sort, member, number, code, shares) = given;
+    Instruction {
+        sort: *sort,
+        member: member_of(rt, *member),
+        number: number_of(rt, *number),
+        issue: issue_of(rt, code),
+        shares: Asked::new(*shares).expect(rt, "shares"),
+    }
 }
 
 // The reply to the order of this number.
@@ -334,6 +348,7 @@ pub(crate) enum Deed {
     Send(u64),
     OrderIn(u64),
     ReplyIn(u64),
+    Own(Given),
     Restart(NodeName),
 }
 
@@ -367,6 +382,7 @@ pub(crate) fn event_of(rt: &impl Abort, deed: &Deed) -> Event {
         Deed::Send(number) => Event::Send { number: *number },
         Deed::OrderIn(packet) => Event::OrderIn { packet: *packet },
         Deed::ReplyIn(packet) => Event::ReplyIn { packet: *packet },
+        Deed::Own(given) => Event::Own(instruction_of(rt, given)),
         Deed::Restart(node) => Event::Restart(*node),
     }
 }

@@ -1,7 +1,8 @@
-use crate::common::{APPLE, MICROSOFT, Opened, Placed, opening_of};
-use cns_depository::{DepFault, OpeningFault, Openings};
+use crate::common::{APPLE, Given, MICROSOFT, Opened, Placed, opening_of};
+use cns_depository::{DepFault, OpeningFault, Openings, Own, OwnFault};
 use cns_ids::{CycleKind, Shares};
 use cns_movements::MoveKind;
+use cns_records::Sort;
 use story::{Holder, Moved, Step, Story, TWENTY, tell_all};
 
 mod journal;
@@ -134,10 +135,54 @@ const MOVED: &[Step] = &[
     Step::Balance((APPLE, Holder::Cns, 15)),
 ];
 
-static STORIES: [Story; 7] = [
+const FIFTEEN_IN: Given = (Sort::Deposit, 1, 5, APPLE, 15);
+
+const FIVE_OUT: Given = (Sort::Withdraw, 1, 6, APPLE, 5);
+
+const INSTRUCTIONS: &[Step] = &[
+    Step::Instruct(FIFTEEN_IN, Ok(Own::Done)),
+    Step::Instruct(FIFTEEN_IN, Ok(Own::Again)),
+    Step::Instructed(FIFTEEN_IN, true),
+    Step::Instruct((Sort::Deposit, 1, 5, APPLE, 16), Err(OwnFault::Conflict)),
+    Step::Instruct((Sort::Withdraw, 1, 5, APPLE, 15), Err(OwnFault::Conflict)),
+    Step::Instruct((Sort::Withdraw, 1, 6, APPLE, 36), Err(OwnFault::TooFew)),
+    Step::Instructed(FIVE_OUT, false),
+    Step::Instruct(FIVE_OUT, Ok(Own::Done)),
+    // The number of an order is not that of an instruction.
+    Step::Take((5, MoveKind::Cover, 1, APPLE, 60), Ok(Moved::Done(30))),
+    Step::Instruct((Sort::Withdraw, 1, 7, APPLE, 1), Err(OwnFault::TooFew)),
+    Step::Restart(3, false),
+    Step::Instruct(FIVE_OUT, Ok(Own::Again)),
+    Step::Balances(&[(APPLE, Holder::Cns, 30)]),
+];
+
+const FULL: &[Opened] = &[(1, APPLE, Shares::MAX)];
+
+const ISSUE_SUM: &[Step] = &[
+    Step::Instruct((Sort::Deposit, 2, 1, APPLE, 1), Err(OwnFault::IssueSum)),
+    Step::Instruct((Sort::Deposit, 2, 1, MICROSOFT, 1), Ok(Own::Done)),
+    Step::Instruct((Sort::Withdraw, 1, 1, APPLE, 4), Ok(Own::Done)),
+    Step::Instruct((Sort::Deposit, 2, 2, APPLE, 5), Err(OwnFault::IssueSum)),
+    Step::Instruct((Sort::Deposit, 2, 2, APPLE, 4), Ok(Own::Done)),
+];
+
+const INSTRUCTION_FAILS: &[Step] = &[
+    Step::Plan(true),
+    Step::Instruct(FIFTEEN_IN, Err(OwnFault::Device)),
+    Step::Instruct(FIFTEEN_IN, Err(OwnFault::Down)),
+    Step::Balance((APPLE, Holder::Member(1), 20)),
+    Step::Restart(1, true),
+    Step::Instruct(FIFTEEN_IN, Ok(Own::Again)),
+    Step::Balance((APPLE, Holder::Member(1), 35)),
+];
+
+static STORIES: [Story; 10] = [
     (TWENTY, &[A_COVER]),
     (TWENTY, &[PLAIN_FIRST]),
     (TWENTY, &[NIGHT_FIRST]),
+    (TWENTY, &[INSTRUCTIONS]),
+    (FULL, &[ISSUE_SUM]),
+    (TWENTY, &[INSTRUCTION_FAILS]),
     (LONG_AND_EMPTY, &[ORDERS]),
     (TWO_ISSUES, &[IN_TWO_ISSUES]),
     (

@@ -1,12 +1,13 @@
 use crate::common::{
-    assert_prints, assert_same, cycle_of, low_issue, member_of, order_in_cycle, order_of, reply_of,
-    shares_of, trade_of,
+    assert_prints, assert_same, cycle_of, low_issue, member_of, number_of, order_in_cycle,
+    order_of, reply_of, shares_of, trade_of,
 };
 use cns_ids::CycleKind;
 use cns_journal::RecordFault;
 use cns_movements::{Asked, MoveKind};
 use cns_records::{
-    Allocation, BadRecord, ClearRecord, DepRecord, Drawn, DrawnList, MAX_DRAWN, Refusal,
+    Allocation, BadRecord, ClearRecord, DepRecord, Drawn, DrawnList, Instruction, MAX_DRAWN,
+    Refusal, Sort,
 };
 use cns_trades::{Trade, Verdict};
 use std::alloc::Global;
@@ -24,6 +25,12 @@ static EXEC: [u8; 38] = [
 static EXEC_2: [u8; 43] = [
     2, 7, 1, 0, 0, 0, 0, 0, 0, 0, 7, 0x07, 0xe9, 3, 4, 0, 0, 1, 0x30, 0x33, 0x37, 0x38, 0x33, 0x33,
     0x31, 0x30, 0x30, 0, 0, 0, 0, 0, 0, 0, 60, 0, 0, 0, 0, 0, 0, 0, 20,
+];
+
+// Member 1 brings 15 shares of 037833100, by its instruction 5.
+static OWN: [u8; 30] = [
+    2, 8, 1, 0, 1, 0, 0, 0, 0, 0, 0, 0, 5, 0x30, 0x33, 0x37, 0x38, 0x33, 0x33, 0x31, 0x30, 0x30, 0,
+    0, 0, 0, 0, 0, 0, 15,
 ];
 
 // Trade A1 of 2025-03-04: member 2 buys 100 shares of 037833100 from member 1.
@@ -311,6 +318,52 @@ fn executions_of_a_cycle_both_ways(rt: HostRuntime) {
     assert_bad(&rt, rt.alloc(), &EXEC_2);
 }
 
+// An instruction of a sort, for the fifteen shares.
+fn own(rt: &impl Abort, sort: Sort) -> DepRecord {
+    DepRecord::Own(Instruction {
+        sort,
+        member: member_of(rt, 1),
+        number: number_of(rt, 5),
+        issue: low_issue(rt),
+        shares: Asked::new(15).expect(rt, "shares"),
+    })
+}
+
+#[test]
+fn instructions_both_ways(rt: HostRuntime) {
+    let payload = own(&rt, Sort::Deposit)
+        .write(rt.alloc())
+        .expect(&rt, "memory");
+    assert_same(&rt, &payload.as_slice(), &OWN.as_slice());
+    assert_same(&rt, &DepRecord::read(&OWN), &Ok(own(&rt, Sort::Deposit)));
+    let withdrawal = changed(&rt, rt.alloc(), &OWN, 2, 2);
+    assert_same(
+        &rt,
+        &DepRecord::read(&withdrawal),
+        &Ok(own(&rt, Sort::Withdraw)),
+    );
+    for len in 0..OWN.len() {
+        assert_exec_bad(&rt, &OWN[..len]);
+    }
+    assert_exec_bad(&rt, &longer(&rt, rt.alloc(), &OWN));
+    for (place, byte) in [
+        (0, 1),
+        (0, 3),
+        (1, 7),
+        (1, 9),
+        (2, 0),
+        (2, 3),
+        (4, 0),
+        (12, 0),
+        (21, 1),
+        (22, 14),
+        (29, 0),
+    ] {
+        assert_exec_bad(&rt, &changed(&rt, rt.alloc(), &OWN, place, byte));
+    }
+    assert_bad(&rt, rt.alloc(), &OWN);
+}
+
 // A payload, a place in it, and a byte that is bad there.
 static BAD_IN_CLEARING: [(&[u8], usize, u8); 21] = [
     (&CONFIRM, 0, 2),
@@ -381,7 +434,7 @@ fn what_faults_say(rt: HostRuntime) {
     assert_prints(&rt, rt.alloc(), &no_memory, "out of memory");
 }
 
-static REFUSALS: [Refusal; 22] = [
+static REFUSALS: [Refusal; 24] = [
     Refusal::Down,
     Refusal::Trade(Verdict::Full),
     Refusal::CycleOrder,
@@ -390,6 +443,8 @@ static REFUSALS: [Refusal; 22] = [
     Refusal::NoPacket,
     Refusal::Conflict,
     Refusal::TooMuch,
+    Refusal::IssueSum,
+    Refusal::TooFew,
     Refusal::BadJournal { place: 7 },
     Refusal::OutOfMemory,
     Refusal::Device,
@@ -407,15 +462,17 @@ static REFUSALS: [Refusal; 22] = [
 ];
 
 // What they say, each in its place.
-static SAID: [&str; 22] = [
+static SAID: [&str; 24] = [
     "the node is down",
     "the trade is not new",
     "the cycle is not later than the latest one",
     "movement numbers are spent",
     "no order has this number",
     "the link has no packet of this number",
-    "another order or confirmation has this number",
+    "another order, confirmation or instruction has this number",
     "the shares are more than the order asked for",
+    "the shares of the issue would pass 10^18",
+    "the account has fewer shares",
     "record 7 of the journal is bad",
     "out of memory",
     "the journal's device failed",

@@ -3,10 +3,10 @@
 //! A step is plain data: so a test is a table, and its proof is short.
 
 use crate::common::{
-    APPLE, Opened, Placed, Text, issue_of, member_of, number_of, openings_of, order_in, order_of,
-    reply_of, shares_of,
+    APPLE, Given, Opened, Placed, Text, instruction_of, issue_of, member_of, number_of,
+    openings_of, order_in, order_of, reply_of, shares_of,
 };
-use cns_depository::{Account, Answer, BalanceRow, DepFault, Depository};
+use cns_depository::{Account, Answer, BalanceRow, DepFault, Depository, Own, OwnFault};
 use cns_ids::CycleKind;
 use cns_journal::{ListKeeper, Restarted};
 use cns_movements::Order;
@@ -38,6 +38,9 @@ pub(super) enum Step {
     Take(Placed, Result<Moved, DepFault>),
     // The same with the cycle of this kind on 4 March 2025.
     TakeIn(CycleKind, Placed, Result<Moved, DepFault>),
+    Instruct(Given, Result<Own, OwnFault>),
+    // Whether just this instruction is the one of its number.
+    Instructed(Given, bool),
     // How many records the journal has, and whether the undecided one was kept.
     Restart(u64, bool),
     Down(bool),
@@ -104,6 +107,12 @@ fn order_then(rt: &impl Abort, kind: CycleKind, placed: &Placed) -> Order {
     order_in(rt, b"2025-03-04", kind, placed)
 }
 
+// Whether this is the instruction that was carried out under its number.
+fn instructed(rt: &impl Abort, node: &Node, given: &Given) -> bool {
+    let wanted = instruction_of(rt, given);
+    node.instructed(wanted.member, wanted.number) == Some(wanted)
+}
+
 // Whether a depository answers a step as it says.
 fn answers(rt: &impl Abort, alloc: Global, node: &mut Node, step: &Step) -> bool {
     match step {
@@ -114,6 +123,8 @@ fn answers(rt: &impl Abort, alloc: Global, node: &mut Node, step: &Step) -> bool
         Step::TakeIn(kind, placed, wanted) => {
             node.take_order(&order_then(rt, *kind, placed)) == answer_of(rt, placed.0, wanted)
         }
+        Step::Instruct(given, wanted) => node.instruct(&instruction_of(rt, given)) == *wanted,
+        Step::Instructed(given, wanted) => instructed(rt, node, given) == *wanted,
         Step::Restart(records, kept) => {
             let (records, kept) = (*records, *kept);
             node.restart() == Ok(Restarted { records, kept })

@@ -1,7 +1,7 @@
 //! What is told of events that happen to both nodes, and of outcomes.
 
-use crate::common::{Deed, assert_same, event_of, new_both};
-use cns_records::Refusal;
+use crate::common::{APPLE, Deed, assert_same, event_of, new_both};
+use cns_records::{Refusal, Sort};
 use cns_report::{Text, outcome_line};
 use cns_system::{Event, NodeName, Outcome};
 use std::alloc::Global;
@@ -23,7 +23,7 @@ pub(super) fn see_told(
 // An event, and what is told of it.
 type Told = (Deed, &'static str);
 
-static DAY: [Told; 26] = [
+static DAY: [Told; 30] = [
     // Two trades make member 1 short, and its cover is ordered.
     (Deed::Sell(b"A1", 2), "trade A1 accepted\n"),
     (Deed::Sell(b"A2", 3), "trade A2 accepted\n"),
@@ -42,6 +42,23 @@ static DAY: [Told; 26] = [
     (Deed::ReplyIn(1), "confirm 1 moved 50 done\n"),
     (Deed::ReplyIn(2), "confirm 1 moved 50 again\n"),
     (Deed::Send(9), "send refused UnknownMove\n"),
+    // A deposit is given twice, and a withdrawal that is too much, and one that is not.
+    (
+        Deed::Own((Sort::Deposit, 2, 1, APPLE, 5)),
+        "deposit 0002 number 1 done\n",
+    ),
+    (
+        Deed::Own((Sort::Deposit, 2, 1, APPLE, 5)),
+        "deposit 0002 number 1 again\n",
+    ),
+    (
+        Deed::Own((Sort::Withdraw, 2, 2, APPLE, 6)),
+        "withdraw refused TooFew\n",
+    ),
+    (
+        Deed::Own((Sort::Withdraw, 2, 2, APPLE, 5)),
+        "withdraw 0002 number 2 done\n",
+    ),
     // Members 3 and 2 draw tickets from a lot.
     (Deed::LotOpen, "lot 1 poured 50 longs 2\n"),
     (Deed::Reserve(1, 2), "reserve refused EarlierGroup\n"),
@@ -60,7 +77,7 @@ static DAY: [Told; 26] = [
     (Deed::LookPoured(1), "look refused StaleLot\n"),
     (
         Deed::Restart(NodeName::Depot),
-        "restart DEPOT records 1 kept no\n",
+        "restart DEPOT records 3 kept no\n",
     ),
     (
         Deed::Restart(NodeName::Clear),
@@ -81,7 +98,7 @@ fn a_day_is_told(rt: HostRuntime) {
 }
 
 // Events, and what is told of each where it is refused.
-static DOWN: [Told; 15] = [
+static DOWN: [Told; 17] = [
     (Deed::Sell(b"A1", 2), "trade A1 refused Down\n"),
     (Deed::Exempt(10), "exempt refused Down\n"),
     (Deed::Priority(3), "priority refused Down\n"),
@@ -96,6 +113,14 @@ static DOWN: [Told; 15] = [
     (Deed::Send(1), "send refused Down\n"),
     (Deed::OrderIn(7), "order refused Down\n"),
     (Deed::ReplyIn(7), "reply refused Down\n"),
+    (
+        Deed::Own((Sort::Deposit, 2, 1, APPLE, 5)),
+        "deposit refused Down\n",
+    ),
+    (
+        Deed::Own((Sort::Withdraw, 2, 1, APPLE, 5)),
+        "withdraw refused Down\n",
+    ),
     (Deed::Restart(NodeName::Depot), "restart refused Down\n"),
 ];
 
