@@ -217,6 +217,7 @@ Cycle = namedtuple('Cycle', 'date kind')
 Allocate = namedtuple('Allocate', 'issue poured tickets')
 Confirm = namedtuple('Confirm', 'number moved')
 Exec = namedtuple('Exec', 'order moved')
+Own = namedtuple('Own', 'sort member number issue shares')    # a member's own deposit or withdrawal
 
 Order = namedtuple('Order', 'number cycle kind member issue asked')
 Ticket = namedtuple('Ticket', 'member start asked')
@@ -346,18 +347,37 @@ def plan(records, orders, issue):
     return sorted(planned, key=lambda one: (one.group, one.member))
 
 
-def balance(openings, records, account, issue):
-    total = openings.get((issue, account), 0)
-    for record in records:
-        if isinstance(record, Exec) and record.order.issue == issue:
-            giver, taker = parties(record.order)
-            total += record.moved * ((taker == account) - (giver == account))
-    return total
-
-
 def parties(order):
     """The accounts that a movement goes from and to."""
     return (order.member, 0) if order.kind == 'COVER' else (0, order.member)
+
+
+def brought(own):
+    """What a member's own instruction adds to the member's balance."""
+    return own.shares if own.sort == 'DEPOSIT' else -own.shares
+
+
+def changes(record):
+    """The issue of a record of the depository, and what it adds to the balance of each account that it names."""
+    if isinstance(record, Own):
+        return record.issue, {record.member: brought(record)}
+    giver, taker = parties(record.order)
+    return record.order.issue, {giver: -record.moved, taker: record.moved}
+
+
+def balance(openings, records, account, issue):
+    total = openings.get((issue, account), 0)
+    for record in records:
+        where, added = changes(record)
+        if where == issue:
+            total += added.get(account, 0)
+    return total
+
+
+def issue_sum(openings, records, issue):
+    """All the shares of an issue: its openings and deposits, less its withdrawals."""
+    opened = [shares for (where, _), shares in openings.items() if where == issue]
+    return sum(opened) + sum(brought(own) for own in of_kind(Own, records) if own.issue == issue)
 
 
 # ---------------------------------------------------------------- the words that shake a run
@@ -630,6 +650,32 @@ class Book:
     def balance(self, account, issue):
         return balance(self.openings, self.depot.records, account, issue)
 
+    def issue_sum(self, issue):
+        return issue_sum(self.openings, self.depot.records, issue)
+
+    def accounts(self):
+        """Each issue and account that an opening or a record names, in their order."""
+        named = set(self.openings)
+        for record in self.depot.records:
+            issue, added = changes(record)
+            named |= {(issue, account) for account in added}
+        return sorted(named)
+
+    def instruct(self, own):
+        """`done`, or `again` where it was before."""
+        self.depot.check_up()
+        for held in of_kind(Own, self.depot.records):
+            if (held.member, held.number) == (own.member, own.number):
+                if held != own:
+                    raise Refused('Conflict')
+                return 'again'
+        if own.sort == 'DEPOSIT' and self.issue_sum(own.issue) + own.shares > SHARES_LIMIT:
+            raise Refused('IssueSum')
+        if own.sort == 'WITHDRAW' and self.balance(own.member, own.issue) < own.shares:
+            raise Refused('TooFew')
+        self.depot.commit(own)
+        return 'done'
+
     def order_in(self, packet):
         """`exec` or `again`, the reply, and the reply's packet."""
         if not 1 <= packet <= len(self.order_packets):
@@ -673,6 +719,7 @@ def read_take(text):
 
 SHARES = numbers(0, SHARES_LIMIT)
 ANY = numbers(0, COUNT_LIMIT)
+OWN = [read_member, numbers(1, NUMBER_LIMIT), read_cusip, numbers(1, SHARES_LIMIT)]
 
 # Each command, and the readers of its words.
 COMMANDS = {
@@ -685,6 +732,8 @@ COMMANDS = {
     b'ORDER': [ANY],
     b'REPLY': [ANY],
     b'PUMP': [],
+    b'DEPOSIT': OWN,
+    b'WITHDRAW': OWN,
     b'FAIL': [choice(SIDES), choice(FATE)],
     b'RESTART': [choice(SIDES)],
     b'LOT': [read_cusip],
@@ -830,6 +879,18 @@ class Run:
             if answered:
                 self.REPLY(answered)
 
+    def instruct(self, own):
+        word = own.sort.lower()
+        answered = self.event(word, self.book.instruct, own)
+        if answered:
+            self.say('%s %04d number %d %s', word, own.member, own.number, answered)
+
+    def DEPOSIT(self, *fields):
+        self.instruct(Own('DEPOSIT', *fields))
+
+    def WITHDRAW(self, *fields):
+        self.instruct(Own('WITHDRAW', *fields))
+
     def FAIL(self, side, stands):
         if self.journal:
             self.say('fail refused NotPlanned')
@@ -941,12 +1002,8 @@ class Run:
                 self.say('POOL %s free %d lent %d out %d', issue.decode(), *numbers)
 
     def say_balances(self):
-        book = self.book
-        accounts = set(book.openings)
-        for record in book.depot.records:
-            accounts |= {(record.order.issue, account) for account in parties(record.order)}
-        for issue, account in sorted(accounts):
-            shares = book.balance(account, issue)
+        for issue, account in self.book.accounts():
+            shares = self.book.balance(account, issue)
             if shares != 0:
                 self.say('BAL %s %04d %20d', issue.decode(), account, shares)
 

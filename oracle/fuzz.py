@@ -56,6 +56,11 @@ SHAKEN = True               # whether inputs are shaken, where the command line 
 FOLDER = b'{journal}'       # a word of a command line that stands for a new folder
 
 
+def own_line(own):
+    """The line that gives a member's own instruction."""
+    return b'%s %d %d %s %d' % (own.sort.encode(), own.member, own.number, own.issue, own.shares)
+
+
 class Maker:
     """Makes one input, which is shaken by this number where there is one, and run over journal files or not."""
 
@@ -242,10 +247,58 @@ class Maker:
         known = [(member, issue) for issue, member in cnsd_oracle.positions(records, self.book.orders())]
         known += [(record.member, record.issue) for record in records
                   if isinstance(record, (cnsd_oracle.Exempt, cnsd_oracle.Priority))]
+        return self.known_place(known)
+
+    def known_place(self, known):
+        """A member and an issue, mostly a known pair."""
         if known and self.chance(0.8) and not self.chance(self.fault):
             member, issue = self.rng.choice(known)
             return [b'%d' % member, issue]
         return [self.member(), self.issue()]
+
+    # Members' own instructions.
+
+    def own_place(self, name):
+        """Mostly of a member that has shares of the issue; of a deposit also of one that is short of it."""
+        book = self.book
+        known = [(account, issue) for issue, account in book.accounts()
+                 if account > 0 and book.balance(account, issue) > 0]
+        if name == b'DEPOSIT':
+            held = cnsd_oracle.positions(book.clear.records, book.orders())
+            known += [(member, issue) for (issue, member), position in held.items() if position < 0]
+        return self.known_place(known)
+
+    def own_number(self):
+        if self.chance(0.1):
+            return self.rng.choice([self.number(9), b'1000000', b'1000001'])
+        return self.zeros(b'%d' % self.rng.randint(1, 9))
+
+    def own_shares(self, name, member, issue):
+        """Few, or what the member has of the issue, what the issue has room for, or one more."""
+        if not member.isdigit() or self.chance(0.1):
+            return self.shares()
+        if name == b'DEPOSIT':
+            most, few = cnsd_oracle.SHARES_LIMIT - self.book.issue_sum(issue), [5, 10, 40, 100] * 2
+        else:
+            most, few = self.book.balance(int(member), issue), [1, 5, 10]
+        return b'%d' % self.rng.choice([most or 1, most + 1] + few)
+
+    def new_own(self, name):
+        member, issue = self.own_place(name)
+        return [name, member, self.own_number(), issue, self.own_shares(name, member, issue)]
+
+    def own(self, name):
+        """An instruction: a new one, or one that stands already, as it is or with another word."""
+        words = self.new_own(name)
+        held = cnsd_oracle.of_kind(cnsd_oracle.Own, self.book.depot.records)
+        if held and self.chance(0.5):
+            words[3] = self.rng.choice(ISSUES)
+            stands = own_line(self.rng.choice(held)).split(b' ')
+            place = self.rng.choice([place for place in range(5) if words[place] != stands[place]] or [0])
+            if self.chance(0.5):
+                stands[place] = words[place]
+            words = stands
+        return b' '.join(words)
 
     def planned_member(self, number):
         """Mostly a member that the lot has still to serve."""
@@ -261,6 +314,7 @@ class Maker:
         rng = self.rng
         known = [b'TAKE', b'TAKE', b'CYCLE', b'CYCLE', b'CYCLE', b'REPORT', b'EXEMPT', b'PRIORITY']
         known += [b'SEND', b'ORDER', b'ORDER', b'REPLY', b'REPLY', b'PUMP', b'PUMP']
+        known += [b'DEPOSIT', b'WITHDRAW']
         known += [b'FAIL', b'RESTART'] if self.chance(0.4) else []
         known += [b'LOT', b'POUR', b'RESERVE', b'RESERVE', b'LOOK', b'SEAL', b'CLOSE', b'ALLOCATE', b'ALLOCATE',
                   b'BESIDE', b'BESIDE']
@@ -269,6 +323,8 @@ class Maker:
             words = [rng.choice([b'ALL', self.number(4), self.number(4), b'1'])]
         elif name == b'CYCLE':
             return self.cycle()
+        elif name in (b'DEPOSIT', b'WITHDRAW'):
+            return self.own(name)
         elif name == b'EXEMPT':
             words = self.place() + [self.shares()]
         elif name == b'PRIORITY':
@@ -318,8 +374,8 @@ class Maker:
             return rng.choice([b' ', b' # x', b'[trades]', b'[script]', b'FOO', b'TAKE', b'CYCLE', b'"REPORT"',
                                b'\x00'])
         if kind == 8:
-            return b' '.join([rng.choice([b'DEPOSIT', b'WITHDRAW', b'GRANT', b'TAKEN']), self.member(), self.number(4),
-                              self.issue(), self.shares()])    # formed like a command
+            return b' '.join([rng.choice([b'DEPOSITS', b'WITHDRAWAL', b'GRANT', b'TAKEN']), self.member(),
+                              self.number(4), self.issue(), self.shares()])    # formed like a command
         if kind == 9:
             at = rng.randrange(len(line) + 1)
             return line[:at] + bytes([rng.choice([x for x in range(256) if x != 10])]) + line[at + 1:]
@@ -351,6 +407,16 @@ class Maker:
             lines += [b'%s %d' % (b'ORDER' if side == b'DEPOT' else b'REPLY', packets + extra) for extra in (0, 1, 5)]
         return lines + [b'RESTART ' + side] * self.rng.choice([0, 1, 1, 1, 2])
 
+    def own_story(self):
+        """Instructions between a cycle and its pump, or some that fail, given again before and after a restart."""
+        lines = [self.command(b'DEPOSIT', b'WITHDRAW') for _ in range(self.rng.randint(1, 4))]
+        if self.chance(0.5):
+            return [self.cycle()] + lines + [b'PUMP']
+        fail = b'FAIL DEPOT ' + self.rng.choice([b'KEEP', b'DROP'])
+        mixed = self.rng.sample(lines * 2, 2 * len(lines))
+        restarts = [b'RESTART DEPOT'] * self.rng.choice([0, 1, 1, 1])
+        return lines[:self.rng.randint(0, len(lines))] + [fail] + mixed + restarts + lines
+
     def lot_story(self):
         """A lot with steps of every kind in any order, by itself or beside an allocation."""
         issue = self.lot_issue()
@@ -368,7 +434,7 @@ class Maker:
         else:
             inner.sort(key=lambda line: self.chance(0.1))      # the plan's own order, with few exceptions
         kinds = [b'LOOK', b'LOOK', b'POUR', b'PUMP', b'SEAL', b'REPORT', b'CLOSE', b'LOT', b'CYCLE', b'TAKE',
-                 b'ALLOCATE', b'BESIDE', b'RESERVE', b'EXEMPT', b'PRIORITY']
+                 b'ALLOCATE', b'BESIDE', b'RESERVE', b'EXEMPT', b'PRIORITY', b'DEPOSIT', b'WITHDRAW']
         kinds += [b'RESTART', b'FAIL'] if self.chance(0.3) else []
         for _ in range(self.rng.randint(0, 4)):
             line = self.command(self.rng.choice(kinds))
@@ -395,10 +461,10 @@ class Maker:
         if self.chance(0.7):
             lines = self.start()
         end = len(lines) + rng.choice([3, 8, 15, 30])
-        stories = [self.failing_story] + [self.lot_story] * 4
+        stories = [self.failing_story, self.own_story] + [self.lot_story] * 4
         while len(lines) < end:
             self.look_at(lines)
-            if self.chance(0.15):
+            if self.chance(0.18):
                 lines += rng.choice(stories)()
             elif self.chance(0.06):
                 lines.append(rng.choice([b'', b'# a comment', b'#', b'#TAKE ALL']))
@@ -748,12 +814,21 @@ def tell(one, got):
 
 
 def kind_of(line):
-    """What is counted of a line: its first word, and the name of a refusal or fault."""
+    """What is counted of a line: its first word, the name of a refusal or fault, and what else tells kinds apart."""
     words = line.split(' ')
     for word in ('refused', 'fault'):
         if word in words:
             return ' '.join(words[:1] + [other for other in words[words.index(word):] if not other.isdigit()])
-    return words[0] + (' ' + words[2] if words[0] == 'order' else '')
+    place = {'order': 2, 'deposit': 4, 'withdraw': 4}.get(words[0])
+    return words[0] + (' ' + words[place] if place else '')
+
+
+def bad_commands(one, lines):
+    """What is counted of the bad lines that begin with the name of a command."""
+    numbers = [int(line.split(' ')[1]) for line in lines if line.startswith('line ')]
+    script = cnsd_oracle.split_sections(one.text)[2] if numbers else []
+    words = [script[number - 1].split(b' ')[0] for number in numbers]
+    return ['bad command: %s' % word.decode() for word in words if word in cnsd_oracle.COMMANDS]
 
 
 def kinds(one):
@@ -767,7 +842,7 @@ def kinds(one):
         return ['cusip: %s' % line.split(' ')[0] for line in lines]
     ended = 'exit status %d %s' % (one.want[0], one.want[2].decode('ascii'))
     how = ['run: shaken'] * (one.shake is not None) + ['run: over journal files'] * one.journal
-    return [ended.strip()] + how + [kind_of(line) for line in lines]
+    return [ended.strip()] + how + [kind_of(line) for line in lines] + bad_commands(one, lines)
 
 
 def input_arguments(description):

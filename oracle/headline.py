@@ -3,12 +3,13 @@
 
     headline.py PROGRAM --seed N --count K [--from F] [--no-shaken]
 
-Makes lawful inputs for `run` with lost, repeated and reordered packets, failures, restarts and lots, and a
-REPORT after each line of the script. Of each input it reads the outcome lines and the reports alone, and
-reckons by sums of its own what they have to be: which movements both nodes hold, each packet, each balance,
-each position, and the pool of each issue. The inputs are made as fuzz.py makes them, so that they have something
-to do; what is checked has no rule of cnsd_oracle.py. Two in five are run with `--shake` and a random number: of
-those cnsd_oracle.py gives the words, which say what is sent or arrives before a pump. With `--no-shaken` none is.
+Makes lawful inputs for `run` with lost, repeated and reordered packets, failures, restarts, lots, and members'
+own deposits and withdrawals, and a REPORT after each line of the script. Of each input it reads the outcome lines
+and the reports alone, and reckons by sums of its own what they have to be: which movements both nodes hold, each
+packet, what each deposit and withdrawal is answered, each balance, each position, and the pool of each issue. The
+inputs are made as fuzz.py makes them, so that they have something to do; what is checked has no rule of
+cnsd_oracle.py. Two in five are run with `--shake` and a random number: of those cnsd_oracle.py gives the words,
+which say what is sent or arrives before a pump. With `--no-shaken` none is.
 Input number i of a seed is always the same.
 
 At the end it is told what was met. The last line is `N passed, M failed`, where N are the inputs of which
@@ -28,11 +29,13 @@ from fuzz import Maker, found_program, input_arguments, shake_number  # noqa: E4
 
 SECONDS = 60                # that a run may take
 CNS = 0                     # the CNS account, through which each movement goes
+MOST = 10 ** 18             # shares that an issue may have
 # What no line says, since no order meets another one under its number, and no reply tells of another movement.
 NEVER = [('order', 'Conflict'), ('reply', 'Conflict'), ('reply', 'TooMuch'), ('reply', 'UnknownMove')]
 
 Order = collections.namedtuple('Order', 'kind member issue asked')
 Trade = collections.namedtuple('Trade', 'day buyer seller issue quantity')
+Own = collections.namedtuple('Own', 'sort member number issue shares')
 
 
 class Broken(Exception):
@@ -129,6 +132,7 @@ class Books:
         self.exempt = {}
         self.orders = []                                      # by number
         self.executed = {}                                    # what was moved, by number
+        self.owns = {}                                        # members' own instructions, by member and number
         self.confirmed = {}                                   # the same, as the clearing node has it
         self.order_packets, self.reply_packets = [], []       # the number; the number and what was moved
         self.lots = []                                        # by number: issue, poured, tickets, or None once ended
@@ -143,14 +147,23 @@ class Books:
         """What the movements of these moved, of the orders for which it is wanted."""
         return sum(moved for number, moved in where.items() if wanted(self.orders[number - 1]))
 
+    def owned(self, issue, member=None):
+        """What deposits brought, less what withdrawals took."""
+        return sum(own.shares if own.sort == 'DEPOSIT' else -own.shares for own in self.owns.values()
+                   if own.issue == issue and member in (None, own.member))
+
+    def issue_sum(self, issue):
+        """The openings of an issue, with its deposits, less its withdrawals."""
+        return sum(shares for (_, where), shares in self.opening.items() if where == issue) + self.owned(issue)
+
     def balance(self, account, issue):
-        """The opening, with what distinct movements brought, less what they took."""
+        """The opening, with what distinct movements and own instructions brought, less what they took."""
         if account == CNS:
             come, gone = 'COVER', 'DELIVERY'
         else:
             come, gone = 'DELIVERY', 'COVER'
         mine = (lambda order: order.issue == issue and account in (CNS, order.member))
-        return (self.opening[account, issue]
+        return (self.opening[account, issue] + self.owned(issue, account)
                 + self.moved(self.executed, lambda order: mine(order) and order.kind == come)
                 - self.moved(self.executed, lambda order: mine(order) and order.kind == gone))
 
@@ -209,6 +222,9 @@ class Books:
     def confirm(self, number, moved):
         self.confirmed[number] = moved
 
+    def instruct(self, own):
+        self.owns[own.member, own.number] = own
+
     def commit(self, node, change):
         self.records[node] += 1
         return change()
@@ -227,6 +243,19 @@ class Books:
         order = self.orders[number - 1]
         hold('same', moved <= order.asked, number, 'moved more than', order.asked)
         hold('same', order.kind == 'COVER' or moved == order.asked, 'delivery', number, 'moved', moved)
+
+    def answer(self, own):
+        """What an instruction is answered, or why it is refused."""
+        if 'DEPOT' in self.undecided:
+            return 'Down'
+        held = self.owns.get((own.member, own.number))
+        if held:
+            return 'again' if held == own else 'Conflict'
+        if own.sort == 'DEPOSIT' and self.issue_sum(own.issue) + own.shares > MOST:
+            return 'IssueSum'
+        if own.sort == 'WITHDRAW' and self.balance(own.member, own.issue) < own.shares:
+            return 'TooFew'
+        return 'Device' if 'DEPOT' in self.planned else 'done'
 
     def new_orders(self, given, told):
         """The orders that a line gives are those told after it, under the next numbers."""
@@ -259,13 +288,20 @@ class Books:
         hold('netted', positions == {place: held for place, held in wanted.items() if held}, positions, wanted)
 
     def check_stock(self, balances):
-        """Each balance is its opening and the distinct movements; none is below 0."""
+        """Each balance is its opening, the distinct movements and own instructions; none is below 0.
+
+        Those of an issue are together what was opened and what instructions brought, which is no more than it may have.
+        """
         places = {(issue, account) for account, issue in self.opening}
+        places |= {(own.issue, own.member) for own in self.owns.values()}
         for order in self.orders:
             places |= {(order.issue, order.member), (order.issue, CNS)}
         wanted = {place: self.balance(place[1], place[0]) for place in places}
         hold('stock', all(held >= 0 for held in wanted.values()), wanted)
         hold('stock', balances == {place: held for place, held in wanted.items() if held}, balances, wanted)
+        for issue in {issue for issue, _ in places}:
+            held = sum(shares for (where, _), shares in balances.items() if where == issue)
+            hold('stock', held == self.issue_sum(issue) <= MOST, issue, held, self.issue_sum(issue))
 
     def check_pool(self, issue, positions, pool):
         """Longs are shorts and free, lent and out together; no share is lost; deliveries are backed."""
@@ -445,6 +481,22 @@ class Reader:
             self.books.commit('CLEAR', lambda: self.books.confirm(number, moved))
         self.met('confirmed' if words[4] == 'done' else 'repeats at the clearing node')
 
+    def read_own(self, words, orders):
+        """What an instruction is answered, also where it is refused."""
+        sort, member, number, issue, shares = self.command
+        own = Own(sort, int(member), int(number), issue, int(shares))
+        answer = self.books.answer(own)
+        done = ['%04d' % own.member, 'number', str(own.number), answer]
+        wanted = [sort.lower()] + (done if answer in ('done', 'again') else ['refused', answer])
+        hold('stock', words == wanted, words, 'and not', wanted)
+        if answer == 'done':
+            self.books.commit('DEPOT', lambda: self.books.instruct(own))
+        elif answer == 'Device':
+            self.books.fail('DEPOT', lambda: self.books.instruct(own))
+        self.met('%s %s' % (wanted[0], answer))
+
+    read_deposit = read_withdraw = read_own
+
     def read_fail(self, words, orders):
         self.books.planned[self.command[1]] = self.command[2]
         self.met('failures planned')
@@ -464,6 +516,9 @@ class Reader:
 
     def read_refused(self, words, orders):
         books = self.books
+        if words[0] in ('deposit', 'withdraw'):
+            self.read_own(words, orders)
+            return
         hold('same', (words[0], words[-1]) not in NEVER, words)
         if words[0] == 'trade':
             trade = self.next_trade()

@@ -8,11 +8,13 @@ tells the payloads of a journal file, one a line, as hexadecimal digits. It shar
 import struct
 import sys
 
-from cnsd_oracle import Accept, Allocate, Confirm, Cycle, Exec, Exempt, Order, Priority, Ticket, Trade
+from cnsd_oracle import Accept, Allocate, Confirm, Cycle, Exec, Exempt, Order, Own, Priority, Ticket, Trade
 
 OPEN, CLOSED = b'\xa5', b'\x00'
 KINDS = {1: 'COVER', 2: 'DELIVERY'}
 KIND_BYTES = {name: byte for byte, name in KINDS.items()}
+SORTS = {1: 'DEPOSIT', 2: 'WITHDRAW'}
+SORT_BYTES = {name: byte for byte, name in SORTS.items()}
 
 
 def payloads(file):
@@ -87,26 +89,53 @@ def read_clear(payload):
     return record
 
 
+def read_exec(fields, has_cycle):
+    move, number = KINDS[fields.number(1)], fields.number(8)
+    cycle = Cycle(fields.date(), fields.number(1)) if has_cycle else None
+    order = Order(number, cycle, move, fields.number(2), fields.take(9), fields.number(8))
+    return Exec(order, fields.number(8))
+
+
+# What the fields of the depository's records are, by version and kind. An order has no cycle in version 1.
+DEPOSITORY = {
+    (1, 7): lambda f: read_exec(f, False),
+    (2, 7): lambda f: read_exec(f, True),
+    (2, 8): lambda f: Own(SORTS[f.number(1)], f.number(2), f.number(8), f.take(9), f.number(8)),
+}
+
+
 def read_depot(payload):
-    """The record of the depository that a payload is: of an order without a cycle in version 1, with one in 2."""
+    """The record of the depository that a payload is."""
     fields = Fields(payload)
     version, kind = fields.number(1), fields.number(1)
-    if version not in (1, 2) or kind != 7:
+    if (version, kind) not in DEPOSITORY:
         raise ValueError('a record of the depository is of another version or kind')
-    move, number = KINDS[fields.number(1)], fields.number(8)
-    cycle = Cycle(fields.date(), fields.number(1)) if version == 2 else None
-    order = Order(number, cycle, move, fields.number(2), fields.take(9), fields.number(8))
-    record = Exec(order, fields.number(8))
+    record = DEPOSITORY[version, kind](fields)
     fields.end()
     return record
 
 
+def version_of(record):
+    """The version that a record of the depository is spelled in."""
+    return 1 if isinstance(record, Exec) and record.order.cycle is None else 2
+
+
 def spell_depot(record):
     """The payload of a record of the depository."""
-    order, moved = record
-    head = struct.pack('>BBBQ', 2 if order.cycle else 1, 7, KIND_BYTES[order.kind], order.number)
+    return bytes([version_of(record)]) + (spell_own(record) if isinstance(record, Own) else spell_exec(*record))
+
+
+def spell_exec(order, moved):
+    """What stands behind the version."""
+    head = struct.pack('>BBQ', 7, KIND_BYTES[order.kind], order.number)
     cycle = struct.pack('>HBBB', *order.cycle.date, order.cycle.kind) if order.cycle else b''
     return head + cycle + struct.pack('>H', order.member) + order.issue + struct.pack('>QQ', order.asked, moved)
+
+
+def spell_own(own):
+    """The same of a member's own instruction."""
+    head = struct.pack('>BBHQ', 8, SORT_BYTES[own.sort], own.member, own.number)
+    return head + own.issue + struct.pack('>Q', own.shares)
 
 
 def main(words):

@@ -5,10 +5,11 @@
 
 Each input is made as `fuzz.py` makes texts for `run`, and its script is cut in two. The program runs the first
 part over journal files in a new folder. Then some of the depository's executions, drawn at random, lose their
-cycles: they stand in the journal as a program of version 1 would have left them. The program runs the second
-part over these, in half of the inputs behind lines that send some executed orders once more. After each part its lines have to be those of the oracle; the clearing node's journal has to hold
-the oracle's records; and the depository's has to be the oracle's to the byte: what was executed keeps its
-form, and what comes behind it is spelled with the cycle of its order.
+cycles: they stand in the journal as a program of version 1 would have left them. Members' own instructions, which
+version 1 had not, stay as they are. The program runs the second part over these, in half of the inputs behind lines
+that send some executed orders and give some instructions once more. After each part its lines have to be those of
+the oracle; the clearing node's journal has to hold the oracle's records; and the depository's has to be the oracle's
+to the byte: what stood in it keeps its form, and what comes behind that is spelled in version 2.
 
 Two in five inputs are shaken. The last line is `N passed, M failed`; before it stands what was met.
 """
@@ -24,6 +25,7 @@ sys.path.insert(0, os.path.dirname(os.path.abspath(__file__)))
 import cnsd_oracle  # noqa: E402
 import fuzz  # noqa: E402
 import journals  # noqa: E402
+from cnsd_oracle import Exec, Own  # noqa: E402
 
 
 class Difference(Exception):
@@ -41,12 +43,23 @@ def text_of(head, script):
     return head + b''.join(line + b'\n' for line in script)
 
 
+def some_of(kind, records, rng):
+    """Up to four of the records of a kind."""
+    them = cnsd_oracle.of_kind(kind, records)
+    return rng.sample(them, min(len(them), rng.randint(1, 4)))
+
+
 def sent_again(depot, rng):
     """Lines that send some executed orders once more, and let their packets and replies arrive."""
-    numbers = rng.sample([record.order.number for record in depot], min(len(depot), rng.randint(1, 4)))
+    numbers = [record.order.number for record in some_of(Exec, depot, rng)]
     lines = [b'SEND %d' % number for number in numbers]
     lines += [b'ORDER %d' % rng.randint(1, len(numbers)) for _ in numbers]
     return lines + [b'REPLY %d' % rng.randint(1, len(numbers)) for _ in numbers]
+
+
+def given_again(depot, rng):
+    """Lines that give some instructions once more."""
+    return [fuzz.own_line(own) for own in some_of(Own, depot, rng)]
 
 
 def lines_of(program, text, shake, folder):
@@ -83,20 +96,28 @@ def compare(program, text, shake, folder, clear, depot):
 
 def without_some_cycles(records, rng):
     share = rng.choice([0, 0.5, 0.5, 1])
-    return [record._replace(order=record.order._replace(cycle=None)) if rng.random() < share else record
-            for record in records]
+    return [record._replace(order=record.order._replace(cycle=None))
+            if isinstance(record, Exec) and rng.random() < share else record for record in records]
+
+
+def name_of(record):
+    return 'an execution' if isinstance(record, Exec) else 'an instruction'
 
 
 def met_in(run, depot, before):
-    """What a second part met, by how the execution was spelled that it met."""
-    met = ['a record of version %d' % (2 if record.order.cycle else 1) for record in depot[:before]]
-    numbers = {record.order.number: record.order.cycle for record in depot[:before]}
+    """What a second part met, by how the record of the first part was spelled that it met."""
+    first, second = depot[:before], depot[before:]
+    met = ['%s of version %d' % (name_of(record), journals.version_of(record)) for record in first]
+    versions = {record.order.number: journals.version_of(record) for record in cnsd_oracle.of_kind(Exec, first)}
+    instructions = {(own.member, own.number) for own in cnsd_oracle.of_kind(Own, first)}
     for line in run.out:
         words = line.split()
-        if words[0] in ('again', 'confirm') and int(words[1]) in numbers:
-            met.append('`%s` of an execution of version %d' % (words[0], 2 if numbers[int(words[1])] else 1))
-    met += ['an execution beside those of the first part'] * (len(depot) - before)
-    return met
+        if words[0] in ('again', 'confirm') and int(words[1]) in versions:
+            met.append('`%s` of an execution of version %d' % (words[0], versions[int(words[1])]))
+        if words[0] in ('deposit', 'withdraw') and words[-1] == 'again':
+            if (int(words[1]), int(words[3])) in instructions:
+                met.append('`again` of an instruction of the first part')
+    return met + ['%s beside the records of the first part' % name_of(record) for record in second]
 
 
 def is_good(text):
@@ -118,7 +139,7 @@ def run_one(program, seed, number, met):
         _, clear, depot = compare(program, text_of(head, first), shake, folder, [], [])
         depot = without_some_cycles(depot, rng)
         if depot and rng.random() < 0.5:
-            second = sent_again(depot, rng) + second
+            second = sent_again(depot, rng) + given_again(depot, rng) + second
         with open(os.path.join(folder, 'depot.journal'), 'wb') as file:
             file.write(journals.file_of([journals.spell_depot(record) for record in depot]))
         run, _, after = compare(program, text_of(head, second), shake, folder, clear, depot)

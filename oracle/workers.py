@@ -217,7 +217,7 @@ class Beside(fuzz.Maker):
         """A line that runs beside the lot of this number."""
         kinds = [b'LOOK'] * 5 + [b'POUR'] * 3 + [b'RESERVE'] * 3 + [b'SEAL', b'CLOSE', b'PUMP', b'PUMP', b'TAKE']
         kinds += [b'LOT', b'ALLOCATE', b'BESIDE', b'CYCLE', b'PRIORITY', b'EXEMPT', b'SEND', b'ORDER', b'REPLY']
-        kinds += [b'REPORT'] + [b'FAIL', b'RESTART', b'RESTART'] * self.chance(0.15)
+        kinds += [b'REPORT', b'DEPOSIT', b'WITHDRAW'] + [b'FAIL', b'RESTART', b'RESTART'] * self.chance(0.15)
         line = self.command(self.rng.choice(kinds))
         words = line.split(b' ')
         if words[0] in (b'RESERVE', b'LOOK', b'POUR', b'SEAL', b'CLOSE') and self.chance(0.9):

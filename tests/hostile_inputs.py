@@ -26,6 +26,7 @@ PIECES = [b'"', b'""', b',', b',,', b'\r', b'\n', b'\r\n', b'\n\n', b'\x00', b'\
           b'\xef\xbb\xbf', b'\xc3\xa9', b'\x1a', b'\x7f', b'\x80', b'\\', b"'", b'*', b'@', b'[script]\n', b'[trades]\n',
           b'\n[openings]\n']
 LINES = [b'TAKE n', b'TAKE ALL', b'EXEMPT m c n', b'PRIORITY m c ON', b'PRIORITY m c OFF', b'CYCLE NIGHT d', b'CYCLE DAY d',
+         b'DEPOSIT m n c n', b'WITHDRAW m n c n',
          b'LOT c', b'POUR n', b'RESERVE n m', b'LOOK n', b'SEAL n', b'CLOSE n', b'ALLOCATE c', b'BESIDE c n', b'SEND n',
          b'ORDER n', b'REPLY n', b'FAIL CLEAR KEEP', b'FAIL CLEAR DROP', b'FAIL DEPOT KEEP', b'FAIL DEPOT DROP',
          b'RESTART CLEAR', b'RESTART DEPOT', b'PUMP', b'REPORT']
