@@ -6,13 +6,15 @@
 netting   1,000,000 trades of 500 members in 2,000 issues, a night cycle and a report
 cycles    100,000 trades over 50 days, a night and a day cycle on each with exemptions and priorities, and a pump after each
 lots      20,000 trades in 200 issues over 5 days, with lots of every issue between pumps twice a day
+longs     one issue of which 9,000 members are long; over ten days a deposit of a twentieth of what is owed, a cycle, a pump, a
+          lot, and a pump
 link      200,000 lines, mostly SEND, ORDER and REPLY, repeated and out of order
 reading   rows as those of netting, and TAKE ALL
 letters, commas, unknown, reports, pumps, empty
           64 MiB of rows of one letter, of one row of commas, of lines that are no command, of REPORT and of PUMP on
           nothing, and of empty rows
 
---scale multiplies the trades (netting, reading), trades and issues (cycles, lots), lines (link) or bytes (the others).
+--scale multiplies the trades (netting, reading), trades and issues (cycles, lots), longs (longs), lines (link) or bytes (the others).
 """
 import argparse
 import datetime
@@ -139,6 +141,18 @@ def lots(rng, scale):
     return text_of(openings, rows, script)
 
 
+def longs(rng, scale):
+    issue, seller, calendar = '03783310' + check_digit('03783310'), 9_999, business_days(10)
+    asked = [rng.randrange(20, 1_000) for _ in range(int(9_000 * scale))]
+    rows = [trade('T%d' % member, calendar[0], (member, seller), issue, quantity) for member, quantity in enumerate(asked, 1)]
+    script = ['TAKE ALL']
+    for number, day in enumerate(calendar, 1):
+        # (most longs stay long)
+        script.append('DEPOSIT %d %d %s %d' % (seller, number, issue, sum(asked) // 20))
+        script += ['CYCLE NIGHT ' + day, 'PUMP', 'ALLOCATE ' + issue, 'PUMP']
+    return text_of([], rows, [*script, 'REPORT'])
+
+
 def link(rng, scale):
     lines = int(200_000 * scale)
     orders = max(1, lines // 20)
@@ -185,6 +199,7 @@ WORKS = {
     'netting': (netting, 'w1'),
     'cycles': (cycles, 'w2'),
     'lots': (lots, 'w3'),
+    'longs': (longs, 'w5'),
     'link': (link, 'w4'),
     'reading': (reading, 'w6'),
     'letters': (of_rows('x'), ''),
