@@ -1,7 +1,7 @@
 # The proved program, where `make build` and `make test` leave it.
 program := crates/cnsd/out/cnsd
 
-.PHONY: demo run test build fuzz bench works profile wrong crash limits stress calls hostile guided format
+.PHONY: demo run install test build fuzz bench works profile wrong crash limits stress calls hostile guided format
 
 # Runs the worked example by the program at hand, out/cnsd: the proved one where it is up to date, else an unproved build, made in a minute or two.
 demo:
@@ -11,6 +11,11 @@ demo:
 export INPUT
 run:
 	@if [ -z "$$INPUT" ]; then echo "usage: make run INPUT=FILE [ARGS='--workers N ..']" >&2; exit 2; fi; tests/run.sh $(program) "$$INPUT" $(ARGS)
+
+# Sets up the program at hand under PREFIX (/usr/local), with its manual page and its completion for bash; DESTDIR is put before PREFIX.
+export PREFIX DESTDIR
+install:
+	@install/install.sh $(program)
 
 # Everything: each proof from nothing, the edits that must fail, the tests, the folders of cases.
 test:
