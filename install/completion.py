@@ -6,13 +6,9 @@
 The script goes to standard output.
 """
 import re
-import subprocess
 import sys
 
-
-def said(program, *words):
-    """What a command of the program prints."""
-    return subprocess.run([program, *words], capture_output=True, text=True, check=True).stdout
+from page import said
 
 
 def words_under(head, text):
