@@ -141,5 +141,6 @@ part_of_program 'random inputs' oracle/fuzz.py "$program" --seed 1 --count 500
 part_of_program 'the headline in reports' oracle/headline.py "$program" --seed 1 --count 300
 part_of_program 'runs with workers' oracle/workers.py "$program" --seed 1 --count 100
 part_of_program 'what make install sets up' tests/check_install.py "$program"
+part_of_program 'the first commands of the README' tests/check_readme.py "$program"
 part_of_program 'journals of both versions' oracle/versions.py "$program" --seed 1 --count 200
 say_end
