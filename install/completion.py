@@ -8,7 +8,7 @@ The script goes to standard output.
 import re
 import sys
 
-from page import said
+from page import said, tell
 
 
 def words_under(head, text):
@@ -33,13 +33,5 @@ def script(program):
     return [*lines, '    esac', '}', 'complete -F _cnsd cnsd']
 
 
-def main():
-    if len(sys.argv) != 2:
-        print(__doc__, file=sys.stderr)
-        return 2
-    print('\n'.join(script(sys.argv[1])))
-    return 0
-
-
 if __name__ == '__main__':
-    sys.exit(main())
+    sys.exit(tell(script, __doc__))

@@ -91,13 +91,14 @@ def page(program):
     ]
 
 
-def main():
+def tell(lines_of, usage):
+    """Prints the lines that are made of the program which the command line names; answers the exit status."""
     if len(sys.argv) != 2:
-        print(__doc__, file=sys.stderr)
+        print(usage, file=sys.stderr)
         return 2
-    print('\n'.join(page(sys.argv[1])))
+    print('\n'.join(lines_of(sys.argv[1])))
     return 0
 
 
 if __name__ == '__main__':
-    sys.exit(main())
+    sys.exit(tell(page, __doc__))
