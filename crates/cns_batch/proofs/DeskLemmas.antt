@@ -26,14 +26,16 @@ use Rattle.cns_system.specs.declared.floor.Begun.{Begun}
 use Rattle.cns_system.specs.declared.event.Event.TheVariants as event
 use Rattle.cns_system.specs.declared.outcome.Outcome.{Outcome}
 use Rattle.cns_system.specs.declared.outcome.Outcome.TheVariants as outcomes
+use Rattle.cns_report.specs.Draft.{Written}
 use Rattle.cns_report.specs.Outcomes.{event_line, outcome_line}
 use Rattle.cns_batch.specs.Acts.{Act, Draws, Gives, Haul, Lets, Tells, ◌>>=◌, ◌>>◌, done, happened, single, tells}
 use Rattle.cns_batch.specs.ByWorkers.{ComesToPass, HasCome, LeadsAtDesk, lot_line, opened_as, after_seal, closed_by, closed_text, cut_text, cut_told, end_text, entered, hauled, not_drawn, refusal_of, sealed_and_closed, ticket_line}
 use Rattle.cns_batch.specs.Commands.{opened}
-use Rattle.cns_batch.specs.Runs.{BreaksOff, Came, Continues, Drew, Exchange, Follows, IsLed, Leads, Output, Place, Prints, Runs, Stops, Told, Writes, output_at, text_said}
+use Rattle.cns_batch.specs.declared.fault.OutputFault.{OutputFault}
+use Rattle.cns_batch.specs.Runs.{BreaksOff, Came, Continues, Drew, Exchange, Follows, IsLed, Leads, Output, Place, Prints, Puts, Runs, Stops, Told, Writes, output_at, text_said}
 use Rattle.cns_batch.specs.Runs as x
 use Rattle.cns_batch.proofs.CommandLemmas.{after_open}
-use Rattle.cns_batch.proofs.PrintLemmas.{breaks_after, breaks_front, prints_after, prints_fault}
+use Rattle.cns_batch.proofs.PutLemmas.{puts_after, puts_front}
 use Rattle.cns_batch.proofs.ActLemmas.{bind_follows, follows_more, text_more}
 
 -- ---- what comes to pass leads from any nodes to themselves
@@ -392,24 +394,23 @@ end_parts : (lot many : ℕ) (cut : Option Cut) (sealed : Bool) (told : List Out
     → first_text lot many told ++ (cut_text cut ++ closed_text lot sealed (drop many told)) ≡ end_text lot many cut sealed told
 end_parts lot many cut sealed told more = rw (lt-leb (length told) many more) refl
 
-pub end_breaks_tickets : {E : Type 0} (lot many : ℕ) (cut : Option Cut) (sealed : Bool) (told : List Outcome) (result : Result (Unit {0}) E) (p q : Output) → IsErr result → many < length told
-    → BreaksOff (first_text lot many told) p q.sent → Prints (end_text lot many cut sealed told) result p q
-end_breaks_tickets lot many cut sealed told result p q is more breaks =
-    prints_fault (end_text lot many cut sealed told) result p q is
-    (subst (λ l. BreaksOff l p q.sent) (end_parts lot many cut sealed told more)
-    (breaks_front p q.sent (first_text lot many told) (cut_text cut ++ closed_text lot sealed (drop many told)) breaks))
+pub end_breaks_tickets : (e : OutputFault) (lot many : ℕ) (cut : Option Cut) (sealed : Bool) (told : List Outcome) (p q : Written) (a b : Option (List ℕ)) → many < length told
+    → Puts (first_text lot many told) (Err e) p q a b → Puts (end_text lot many cut sealed told) (Err e) p q a b
+end_breaks_tickets e lot many cut sealed told p q a b more breaks =
+    subst (λ l. Puts l (Err e) p q a b) (end_parts lot many cut sealed told more)
+    (puts_front e p q a b (first_text lot many told) (cut_text cut ++ closed_text lot sealed (drop many told)) breaks)
 
-pub end_breaks_cut : {E : Type 0} (lot many : ℕ) (cut : Option Cut) (sealed : Bool) (told : List Outcome) (result : Result (Unit {0}) E) (p q r : Output) → IsErr result → many < length told
-    → Writes (first_text lot many told) p q → BreaksOff (cut_text cut) q r.sent → Prints (end_text lot many cut sealed told) result p r
-end_breaks_cut lot many cut sealed told result p q r is more writes breaks =
+pub end_breaks_cut : (e : OutputFault) (lot many : ℕ) (cut : Option Cut) (sealed : Bool) (told : List Outcome) (p q r : Written) (a b d : Option (List ℕ)) → many < length told
+    → Puts (first_text lot many told) (Ok tt) p q a b → Puts (cut_text cut) (Err e) q r b d → Puts (end_text lot many cut sealed told) (Err e) p r a d
+end_breaks_cut e lot many cut sealed told p q r a b d more first breaks =
     let closed = closed_text lot sealed (drop many told) in
-    prints_fault (end_text lot many cut sealed told) result p r is
-    (subst (λ l. BreaksOff l p r.sent) (end_parts lot many cut sealed told more)
-    (breaks_after p q r.sent (first_text lot many told) (cut_text cut ++ closed) writes (breaks_front q r.sent (cut_text cut) closed breaks)))
+    subst (λ l. Puts l (Err e) p r a d) (end_parts lot many cut sealed told more)
+    (puts_after (Err e) p q r a b d (first_text lot many told) (cut_text cut ++ closed) first (puts_front e q r b d (cut_text cut) closed breaks))
 
-pub end_prints : {E : Type 0} (lot many : ℕ) (cut : Option Cut) (sealed : Bool) (told : List Outcome) (result : Result (Unit {0}) E) (p q r s : Output) → many < length told
-    → Writes (first_text lot many told) p q → Writes (cut_text cut) q r → Prints (closed_text lot sealed (drop many told)) result r s → Prints (end_text lot many cut sealed told) result p s
-end_prints lot many cut sealed told result p q r s more first cuts closes =
+pub end_puts : (lot many : ℕ) (cut : Option Cut) (sealed : Bool) (told : List Outcome) (result : Result (Unit {0}) OutputFault) (p q r s : Written) (a b d e : Option (List ℕ)) → many < length told
+    → Puts (first_text lot many told) (Ok tt) p q a b → Puts (cut_text cut) (Ok tt) q r b d → Puts (closed_text lot sealed (drop many told)) result r s d e
+    → Puts (end_text lot many cut sealed told) result p s a e
+end_puts lot many cut sealed told result p q r s a b d e more first cuts closes =
     let closed = closed_text lot sealed (drop many told) in
-    subst (λ l. Prints l result p s) (end_parts lot many cut sealed told more)
-    (prints_after result p q s (first_text lot many told) (cut_text cut ++ closed) first (prints_after result q r s (cut_text cut) closed cuts closes))
+    subst (λ l. Puts l result p s a e) (end_parts lot many cut sealed told more)
+    (puts_after result p q s a b e (first_text lot many told) (cut_text cut ++ closed) first (puts_after result q r s b d e (cut_text cut) closed cuts closes))

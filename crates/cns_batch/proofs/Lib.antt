@@ -1,6 +1,7 @@
 pub mod FileLemmas
 pub mod WriteLemmas
 pub mod PrintLemmas
+pub mod PutLemmas
 pub mod ActLemmas
 pub mod CommandLemmas
 pub mod RunLemmas

@@ -38,7 +38,7 @@ nothing_given given (inr more) = absurd (none-some more.0 more.1)
 
 -- a log that is opened over an empty journal has no records, and what was known of its keeper is known still
 abbrev first_log : {R : Type 0} → LogState R
-first_log = record { records = []; tried = None; down = false; failures = 0; honest = true; foresight = record { next = Succeeds; stands = None } }
+first_log = record { records = []; tried = None; down = false; rejected = []; failures = 0; honest = true; foresight = record { next = Succeeds; stands = None } }
 
 first : {R : Type 0} (spelling : R → List ℕ) (allows : List R → R → Type 0) (log : LogState R) → IsOpened spelling allows new_keeper log → log ≡ first_log
 first {R} spelling allows log opened =
@@ -63,23 +63,23 @@ no_bad_place : {R : Type 0} (spelling : R → List ℕ) (allows : List R → R �
 no_bad_place spelling allows fits given place none bad =
     omega (arith, length-append (map spelling bad.before) (bad.payload ∷ bad.after), ap (λ (l : List (List ℕ)). length l) (sym bad.given_is ∙ none))
 
-reads : {R : Type 0} (spelling : R → List ℕ) (allows : List R → R → Type 0) (fits : R → Type 0) (new : KeeperState) (place : ℕ)
-    → Reread spelling allows fits (Err (replay.BadJournal place)) new_keeper new → ⊥
-reads spelling allows fits new place (given, reopened, bad) = no_bad_place spelling allows fits given place (nothing_given given (reopened.keeps refl).0) bad
+reads : {R : Type 0} (spelling : R → List ℕ) (allows : List R → R → Type 0) (fits : R → Type 0) (rejected : List (List ℕ)) (new : KeeperState) (place : ℕ)
+    → Reread spelling allows fits (Err (replay.BadJournal place)) rejected new_keeper new → ⊥
+reads spelling allows fits rejected new place (reopened, bad) = no_bad_place spelling allows fits rejected place (nothing_given rejected (reopened.keeps refl).0) bad
 
 nothing_agrees : (c : List ClearRecord) (p : List DepRecord) → c ≡ [] → p ≡ [] → Agree c p
 unfolding books_of
 nothing_agrees c p none nothing = rw (none, nothing) (record { ordered = All-nil (IsOrdered (orders_of []).orders); executed = All-nil (IsExecuted []) })
 
 pub none_unopened : (input : Input) (clear depot : KeeperState) → IsUnopened false input new_keeper new_keeper clear depot → ⊥
-none_unopened input clear depot (start.Clear (replay.BadJournal place), long, (unread, same)) = reads spelling IsAllowed HasPayload clear place unread
-none_unopened input clear depot (start.Clear replay.OutOfMemory, long, why) = absurd (cc long)
-none_unopened input clear depot (start.Clear replay.Device, long, (reopened, same)) = absurd (cc reopened.foreseen.0)
-none_unopened input clear depot (start.Depot (replay.BadJournal place), long, (returned, unread)) =
-    reads dep_spelling (IsExecutable input.openings) HasDepPayload depot place unread
-none_unopened input clear depot (start.Depot replay.OutOfMemory, long, why) = absurd (cc long)
-none_unopened input clear depot (start.Depot replay.Device, long, (returned, reopened)) = absurd (cc reopened.foreseen.0)
-none_unopened input clear depot (start.Disagree, long, (c, opened, (p, stocked, differs))) =
+none_unopened input clear depot (start.Clear (replay.BadJournal place), rejected, long, (unread, same)) = reads spelling IsAllowed HasPayload rejected clear place unread
+none_unopened input clear depot (start.Clear replay.OutOfMemory, rejected, long, why) = absurd (cc long)
+none_unopened input clear depot (start.Clear replay.Device, rejected, long, (reopened, same)) = absurd (cc reopened.foreseen.0)
+none_unopened input clear depot (start.Depot (replay.BadJournal place), rejected, long, (returned, unread)) =
+    reads dep_spelling (IsExecutable input.openings) HasDepPayload rejected depot place unread
+none_unopened input clear depot (start.Depot replay.OutOfMemory, rejected, long, why) = absurd (cc long)
+none_unopened input clear depot (start.Depot replay.Device, rejected, long, (returned, reopened)) = absurd (cc reopened.foreseen.0)
+none_unopened input clear depot (start.Disagree, rejected, long, (c, opened, (p, stocked, differs))) =
     differs
     (nothing_agrees c.log.records p.log.records (ap (λ (l : LogState ClearRecord). l.records) (first spelling IsAllowed c.log opened.0.0))
     (ap (λ (l : LogState DepRecord). l.records) (first dep_spelling (IsExecutable input.openings) p.log stocked.0.0)))

@@ -94,7 +94,7 @@ pub record AreTold {A : Type 0} (line : A → List ℕ) (rows : List A) (i : ℕ
 pub none_told : {A : Type 0} (line : A → List ℕ) (rows : List A) (p : Output) → AreTold line rows 0 p p
 none_told line rows p = record { told = []; rest_is = refl; writes = prints_nothing p }
 
-lines_left : {A : Type 0} (line : A → List ℕ) (rows : List A) (i : ℕ) (x : A) → i < length rows → x ≡ get_or rows i x
+pub lines_left : {A : Type 0} (line : A → List ℕ) (rows : List A) (i : ℕ) (x : A) → i < length rows → x ≡ get_or rows i x
     → flat_map line (drop i rows) ≡ line x ++ flat_map line (drop (i + 1) rows)
 lines_left line rows i x lt is = ap (flat_map line) (first_left rows i x lt is)
 

@@ -207,15 +207,15 @@ batch_leaves known result c d c' d' old new is_c is_d (bytes, all, kept) = (
 
 -- ---- what an answer says of the input, whatever was written
 
-said_unopened : (short : Bool) (bytes : List ℕ) (input : Input) (why : StartFault) (c d c' d' : KeeperState) → is_short why ≡ short → input_of bytes ≡ Ok input
-    → IsNotOpened input.openings why c d c' d' → SaysOf (Err (if short then fault.Memory else fault.Journal)) bytes c d
-said_unopened true bytes input why c d c' d' short is unopened = tt
-said_unopened false bytes input why c d c' d' short is unopened = (input, is, (c', d', (why, short, unopened)))
+said_unopened : (short : Bool) (bytes : List ℕ) (input : Input) (why : StartFault) (rejected : List (List ℕ)) (c d c' d' : KeeperState) → is_short why ≡ short → input_of bytes ≡ Ok input
+    → IsNotOpened input.openings why rejected c d c' d' → SaysOf (Err (if short then fault.Memory else fault.Journal)) bytes c d
+said_unopened true bytes input why rejected c d c' d' short is unopened = tt
+said_unopened false bytes input why rejected c d c' d' short is unopened = (input, is, (c', d', (why, rejected, short, unopened)))
 
-pub says_unopened : (known : Option (List ℕ)) (bytes : List ℕ) (input : Input) (why : StartFault) (c d c' d' : KeeperState) → IsInput known bytes → length bytes ≤ 67108864
-    → parts_of bytes ≡ Ok input → IsNotOpened input.openings why c d c' d' → (bytes : List ℕ) × IsInput known bytes × SaysOf (Err (fault_of_start why)) bytes c d
-says_unopened known bytes input why c d c' d' all le is unopened =
-    (bytes, all, said_unopened (is_short why) bytes input why c d c' d' refl (within bytes le ∙ is) unopened)
+pub says_unopened : (known : Option (List ℕ)) (bytes : List ℕ) (input : Input) (why : StartFault) (rejected : List (List ℕ)) (c d c' d' : KeeperState) → IsInput known bytes → length bytes ≤ 67108864
+    → parts_of bytes ≡ Ok input → IsNotOpened input.openings why rejected c d c' d' → (bytes : List ℕ) × IsInput known bytes × SaysOf (Err (fault_of_start why)) bytes c d
+says_unopened known bytes input why rejected c d c' d' all le is unopened =
+    (bytes, all, said_unopened (is_short why) bytes input why rejected c d c' d' refl (within bytes le ∙ is) unopened)
 
 said_ran : (ran : Result (Unit {0}) OutputFault) (bytes : List ℕ) (c d : KeeperState) → OpensBoth bytes c d → SaysOf (batch_result ran) bytes c d
 said_ran (Ok u) bytes c d opens = opens

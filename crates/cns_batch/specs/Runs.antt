@@ -1,11 +1,14 @@
 -- What the calls that run a script do: a way through an act, by what came of each thing that it asked, and what was written of its text.
-use Rattle.std.specs.Prelude.{◌≡◌, ℕ, Bool, List, [], ◌∷◌, ◌++◌, Option, Result, Ok, Err, take}
+use Rattle.std.specs.Prelude.{◌≡◌, ◌<◌, ◌≤◌, ℕ, ◌+◌, Bool, List, [], ◌∷◌, ◌++◌, Option, Result, Ok, Err, length, take}
 use Rattle.std.specs.Io.KnownBytes.{Appends}
 use Rattle.std.specs.List.{flat_map}
 use Rattle.cns_system.specs.Shown.{Shown}
 use Rattle.cns_system.specs.declared.event.Event.{Event}
 use Rattle.cns_system.specs.declared.event.NodeName.{NodeName}
 use Rattle.cns_system.specs.declared.outcome.Outcome.{Outcome}
+use Rattle.cns_report.specs.Draft.{Written}
+use Rattle.cns_batch.specs.declared.fault.OutputFault.{OutputFault}
+use Rattle.cns_batch.specs.declared.fault.OutputFault.TheVariants as fault
 use Rattle.cns_batch.specs.Acts.{Act, Draws, Gives, Haul, Lets, Looks, Plans, Tells}
 use Rattle.cns_batch.specs.declared.runner.Runner.{Runner}
 
@@ -28,6 +31,20 @@ BreaksOff text old sent = (size : ℕ) × Appends old.sent sent (take size (old.
 abbrev pub Prints : {E : Type 0} → List ℕ → Result (Unit {0}) E → Output → Output → Type 0
 Prints text (Ok _) old new = Writes text old new
 Prints text (Err e) old new = BreaksOff text old new.sent
+
+-- what a page that holds this text has told and not yet written, and what its writer holds
+abbrev pub output : Written → Option (List ℕ) → Output
+output page sent = record { held = page.text; sent = sent }
+
+-- memory is wanting only where a page has no room for a text
+abbrev pub HasNoRoom : List ℕ → Result (Unit {0}) OutputFault → Written → Type 0
+HasNoRoom text (Ok _) page = Unit {0}
+HasNoRoom text (Err fault.Memory) page = page.room < length page.text + length text
+HasNoRoom text (Err fault.Write) page = Unit {0}
+
+-- a call on a page tells a text, or breaks off; the page keeps the memory that it has
+abbrev pub Puts : List ℕ → Result (Unit {0}) OutputFault → Written → Written → Option (List ℕ) → Option (List ℕ) → Type 0
+Puts text result old new sent sent' = Prints text result (output old sent) (output new sent') × (old.room ≤ new.room) × HasNoRoom text result old
 
 -- ---- a way through an act
 
@@ -84,7 +101,7 @@ output_at p = record { held = p.held; sent = p.sent }
 
 -- the place of a runner, whose writer holds this
 abbrev pub at : {N : Type 0} → Runner N → Option (List ℕ) → Place N
-at run sent = record { nodes = run.nodes; held = run.page; sent = sent }
+at run sent = record { nodes = run.nodes; held = run.page.text; sent = sent }
 
 -- an act has come so far that another one is left of it
 pub record Continues {A N : Type 0} (leads : Exchange → N → N → Type 0) (act left : Act A) (old new : Place N) : Type 0 where

@@ -143,7 +143,7 @@ is_short _ = false
 -- both nodes were not opened, for want of memory or for another cause
 abbrev pub IsUnopened : Bool → Input → KeeperState → KeeperState → KeeperState → KeeperState → Type 0
 IsUnopened for_memory input clear depot clear' depot' =
-    (why : StartFault) × (is_short why ≡ for_memory) × IsNotOpened input.openings why clear depot clear' depot'
+    (why : StartFault) × (rejected : List (List ℕ)) × (is_short why ≡ for_memory) × IsNotOpened input.openings why rejected clear depot clear' depot'
 
 -- what a batch over the input leaves of both keepers and of what its writer holds, by its answer
 abbrev pub RunsInput : Result (Unit {0}) BatchFault → Option ℕ → Input → KeeperState → KeeperState → KeeperState → KeeperState → Option (List ℕ) → Option (List ℕ) → Type 0

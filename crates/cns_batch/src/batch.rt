@@ -77,7 +77,7 @@ pub(crate) fn start_fault(fault: StartFault) -> BatchFault
 fn read_rows(alloc: Global, openings: &[u8], trades: &[u8]) -> Result<Rows, BatchFault>
     ensures { MatchResult result
         (λ rows. (bytes script : List ℕ) → sections bytes ≡ Some (openings.now, trades.now, script)
-        → parts_of bytes ≡ Ok (record { openings = rows.openings; told = rows.told; rows = rows.trades; script = script }))
+        → parts_of bytes ≡ Ok (record { openings = rows.openings; told = rows.told.text; rows = rows.trades; script = script }))
         (λ e. (bytes script : List ℕ) → sections bytes ≡ Some (openings.now, trades.now, script) → Tells e (parts_of bytes)) }
 {
     let rows = match read_openings(alloc, openings) {
@@ -101,7 +101,7 @@ fn read_rows(alloc: Global, openings: &[u8], trades: &[u8]) -> Result<Rows, Batc
 fn read_front(alloc: Global, text: &[u8]) -> Result<(Rows, usize), BatchFault>
     ensures parts { MatchResult result
         (λ front. parts_of text.now
-        ≡ Ok (record { openings = front.0.openings; told = front.0.told; rows = front.0.trades; script = drop front.1 text.now }))
+        ≡ Ok (record { openings = front.0.openings; told = front.0.told.text; rows = front.0.trades; script = drop front.1 text.now }))
         (λ e. Tells e (parts_of text.now)) }
     ensures within { IfOk result (λ front. front.1 ≤ length text.now) }
 {
@@ -130,7 +130,7 @@ fn cut_front(text: &mut Vec<u8>, size: usize)
 pub(crate) fn read_parts(alloc: Global, mut text: Vec<u8>) -> Result<Parts, BatchFault>
     ensures { MatchResult result
         (λ parts. parts_of text.items
-        ≡ Ok (record { openings = parts.rows.openings; told = parts.rows.told; rows = parts.rows.trades; script = parts.script.items }))
+        ≡ Ok (record { openings = parts.rows.openings; told = parts.rows.told.text; rows = parts.rows.trades; script = parts.script.items }))
         (λ e. Tells e (parts_of text.items)) }
 {
     let (rows, start) = read_front(alloc, text.as_slice())?;
@@ -169,7 +169,7 @@ fn run_input<C: Keeper + Drop, D: Keeper + Drop, W: Write>(
     writer: &mut W,
 ) -> Kept<C, D>
     ensures { RunsInput result.result shake
-        (record { openings = rows.openings; told = rows.told; rows = rows.trades; script = script.now }) (C.state clear) (D.state depot) (C.state result.clear) (D.state result.depot)
+        (record { openings = rows.openings; told = rows.told.text; rows = rows.trades; script = script.now }) (C.state clear) (D.state depot) (C.state result.clear) (D.state result.depot)
         (W.contents writer.old) (W.contents writer.new) }
 {
     let Rows {

@@ -215,7 +215,7 @@ pub(crate) fn run_script<C: Keeper, D: Keeper, W: Write>(
 ) -> Told
     ensures runs { Runs LeadsInTurn (script_run served_in_turn 0 (commands_of 1 (raw_lines script.now)) supply.old) (leaves result supply.new)
         (at run.old (W.contents writer.old)) (at run.new (W.contents writer.new)) }
-    ensures none { OnOk result (run.new.page ≡ []) }
+    ensures none { OnOk result (run.new.page.text ≡ []) }
 {
     let mut commands = Commands::of(script);
     while let Some((number, command)) = commands.next_command() {

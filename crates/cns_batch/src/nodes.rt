@@ -6,7 +6,7 @@ ghost use Rattle.cns_system.specs.Shown.{Shown};
 ghost use Rattle.cns_batch.specs.Acts.{Draws};
 ghost use Rattle.cns_batch.specs.ByWorkers.{HasSeat, hauled, opened_as};
 ghost use Rattle.cns_batch.specs.Commands.{opened, report_text};
-ghost use Rattle.cns_batch.specs.Runs.{Came, Exchange, Planned, Prints, Runs, Showed};
+ghost use Rattle.cns_batch.specs.Runs.{Came, Exchange, Planned, Prints, Runs, Showed, output};
 
 use crate::fault::Told;
 use crate::page::Page;
@@ -40,7 +40,7 @@ pub(crate) trait Nodes: Sized {
     /// Tells the report.
     fn report<W: Write>(&self, alloc: Global, page: &mut Page, writer: &mut W) -> Told
         ensures { (w : Shown) × leads (Showed w) self.now self.now
-            × Prints (report_text w) result (record { held = page.old; sent = W.contents writer.old }) (record { held = page.new; sent = W.contents writer.new }) };
+            × Prints (report_text w) result (output page.old (W.contents writer.old)) (output page.new (W.contents writer.new)) };
 }
 
 /// Nodes of which workers draw the tickets of a lot. The nodes may change while a lot is served, so they are
@@ -55,7 +55,7 @@ pub(crate) trait Lots: Nodes {
         writer: &mut W,
     ) -> Told<Option<Begun>>
         ensures runs { Runs Self.leads (opened issue) (opened_as result)
-            (record { nodes = self.now; held = page.old; sent = W.contents writer.old }) (record { nodes = self.now; held = page.new; sent = W.contents writer.new }) }
+            (record { nodes = self.now; held = page.old.text; sent = W.contents writer.old }) (record { nodes = self.now; held = page.new.text; sent = W.contents writer.new }) }
         ensures seat { IfOk result (λ begun. IfSome begun HasSeat) };
 
     /// Enters what workers drew of a lot, and ends the lot.
@@ -68,5 +68,5 @@ pub(crate) trait Lots: Nodes {
         writer: &mut W,
     ) -> Told
         ensures { Runs Self.leads (Draws lot (hauled lot)) result
-            (record { nodes = self.now; held = page.old; sent = W.contents writer.old }) (record { nodes = self.now; held = page.new; sent = W.contents writer.new }) };
+            (record { nodes = self.now; held = page.old.text; sent = W.contents writer.old }) (record { nodes = self.now; held = page.new.text; sent = W.contents writer.new }) };
 }

@@ -14,7 +14,7 @@ fn take_opening(
     row: &OpeningRow,
     out: &mut Text,
 ) -> Result<(), AllocError>
-    ensures { OnOk result ((openings.new, out.new) ≡ told_opening (openings.old, out.old) (number, row.now)) }
+    ensures { OnOk result ((openings.new, out.new.text) ≡ told_opening (openings.old, out.old.text) (number, row.now)) }
 {
     match row {
         OpeningRow::Fault { row, fault } => {
@@ -35,7 +35,7 @@ pub(crate) fn take_openings(
     rows: &[OpeningRow],
     out: &mut Text,
 ) -> Result<Openings, AllocError>
-    ensures { IfOk result (λ openings. (openings, out.new) ≡ fold told_opening ([], out.old) (enumerate_from 1 rows.now)) }
+    ensures { IfOk result (λ openings. (openings, out.new.text) ≡ fold told_opening ([], out.old.text) (enumerate_from 1 rows.now)) }
 {
     let mut openings = Openings::new(alloc);
     let mut number = 1;

@@ -1,6 +1,6 @@
 //! What a run told and has not yet written.
 
-ghost use Rattle.std.specs.Prelude.{◌≡◌, [], OnOk, length};
+ghost use Rattle.std.specs.Prelude.{◌≡◌, [], IfErr, OnOk, length};
 ghost use Rattle.std.specs.List.{flat_map};
 ghost use Rattle.cns_report.specs.Lines.{line_text};
 ghost use Rattle.cns_report.specs.Outcomes.{outcome_line};
@@ -12,7 +12,8 @@ ghost use Rattle.cns_netting.specs.Rows.{rows_of};
 ghost use Rattle.cns_system.specs.Shown.{shown_of};
 ghost use Rattle.cns_batch.specs.ByWorkers.{closed_text, cut_text, end_text, lot_line, not_drawn, refusal_of as refusal_of_cut, ticket_line};
 ghost use Rattle.cns_batch.specs.Commands.{report_text};
-ghost use Rattle.cns_batch.specs.Runs.{Prints};
+ghost use Rattle.cns_batch.specs.declared.fault.OutputFault.TheVariants.{Write as write_fault};
+ghost use Rattle.cns_batch.specs.Runs.{Prints, Puts, output};
 
 use crate::fault::Told;
 use crate::output::write_text;
@@ -43,16 +44,16 @@ fn refusal_of(cut: Cut) -> Refusal
 }
 
 /// A text that is written where it has grown much, and at the end. Contracts see what was told and is not
-/// yet written.
+/// yet written, and for how much there is memory.
 #[derive(Drop)]
 pub(crate) struct Page {
     text: Text,
 }
 
 impl Model for Page {
-    ghost use Rattle.std.specs.Prelude.{List, ℕ};
+    ghost use Rattle.cns_report.specs.Draft.{Written};
 
-    ghost Value = { List ℕ };
+    ghost Value = { Written };
 
     ghost view = { λ p. p.text };
 }
@@ -67,8 +68,10 @@ impl Page {
 
     /// Writes what was told.
     pub(crate) fn flush<W: Write>(&mut self, writer: &mut W) -> Told
-        ensures prints { Prints [] result (record { held = self.old; sent = W.contents writer.old }) (record { held = self.new; sent = W.contents writer.new }) }
-        ensures none { OnOk result (self.new ≡ []) }
+        ensures prints { Prints [] result (output self.old (W.contents writer.old)) (output self.new (W.contents writer.new)) }
+        ensures none { OnOk result (self.new.text ≡ []) }
+        ensures room { self.new.room ≡ self.old.room }
+        ensures kind { IfErr result (λ e. e ≡ write_fault) }
     {
         write_text(writer, self.text.as_bytes())?;
         self.text.clear();
@@ -77,7 +80,9 @@ impl Page {
 
     /// Writes what was told where that is much.
     fn flush_when_full<W: Write>(&mut self, writer: &mut W) -> Told
-        ensures { Prints [] result (record { held = self.old; sent = W.contents writer.old }) (record { held = self.new; sent = W.contents writer.new }) }
+        ensures prints { Prints [] result (output self.old (W.contents writer.old)) (output self.new (W.contents writer.new)) }
+        ensures room { self.new.room ≡ self.old.room }
+        ensures kind { IfErr result (λ e. e ≡ write_fault) }
     {
         if self.text.len() < FULL {
             return Ok(());
@@ -92,7 +97,7 @@ impl Page {
         outcome: &Outcome,
         writer: &mut W,
     ) -> Told
-        ensures { Prints (outcome_line event.now outcome.now) result (record { held = self.old; sent = W.contents writer.old }) (record { held = self.new; sent = W.contents writer.new }) }
+        ensures { Puts (outcome_line event.now outcome.now) result self.old self.new (W.contents writer.old) (W.contents writer.new) }
     {
         self.told(&EventLine { event, outcome }, writer)?;
         self.rows(orders_of(outcome), writer)
@@ -100,7 +105,7 @@ impl Page {
 
     // Tells what is one line.
     fn told<T: Put, W: Write>(&mut self, told: &T, writer: &mut W) -> Told
-        ensures { Prints (T.text told.now) result (record { held = self.old; sent = W.contents writer.old }) (record { held = self.new; sent = W.contents writer.new }) }
+        ensures { Puts (T.text told.now) result self.old self.new (W.contents writer.old) (W.contents writer.new) }
     {
         self.text.tell(told)?;
         self.flush_when_full(writer)
@@ -108,7 +113,7 @@ impl Page {
 
     /// Tells a line.
     pub(crate) fn tell<W: Write>(&mut self, line: Line, writer: &mut W) -> Told
-        ensures { Prints (line_text line) result (record { held = self.old; sent = W.contents writer.old }) (record { held = self.new; sent = W.contents writer.new }) }
+        ensures { Puts (line_text line) result self.old self.new (W.contents writer.old) (W.contents writer.new) }
     {
         self.told(&line, writer)
     }
@@ -116,7 +121,7 @@ impl Page {
     // Tells the lines of rows, one by one.
     #[inline(never)]
     fn each<R: Put, W: Write>(&mut self, rows: &[R], writer: &mut W) -> Told
-        ensures { Prints (flat_map R.text rows.now) result (record { held = self.old; sent = W.contents writer.old }) (record { held = self.new; sent = W.contents writer.new }) }
+        ensures { Puts (flat_map R.text rows.now) result self.old self.new (W.contents writer.old) (W.contents writer.new) }
     {
         for row in rows {
             self.told(row, writer)?;
@@ -127,7 +132,7 @@ impl Page {
     // Tells the lines of rows, with no call where there are none.
     #[inline(always)]
     fn rows<R: Put, W: Write>(&mut self, rows: &[R], writer: &mut W) -> Told
-        ensures { Prints (flat_map R.text rows.now) result (record { held = self.old; sent = W.contents writer.old }) (record { held = self.new; sent = W.contents writer.new }) }
+        ensures { Puts (flat_map R.text rows.now) result self.old self.new (W.contents writer.old) (W.contents writer.new) }
     {
         if rows.is_empty() {
             return Ok(());
@@ -143,7 +148,7 @@ impl Page {
         writer: &mut W,
     ) -> Told
         ensures { Prints (cycle_report_text (latest_of clearing.now.log.records) (rows_of (history_of clearing.now.log.records)) (pools_of (orders_of clearing.now.log.records) clearing.now.lots))
-            result (record { held = self.old; sent = W.contents writer.old }) (record { held = self.new; sent = W.contents writer.new }) }
+            result (output self.old (W.contents writer.old)) (output self.new (W.contents writer.new)) }
     {
         let latest = clearing.latest();
         self.told(&ReportHead(latest), writer)?;
@@ -161,7 +166,7 @@ impl Page {
         depository: &Depository<D>,
         writer: &mut W,
     ) -> Told
-        ensures { Prints (flat_map balance_line (balance_rows depository.now.openings depository.now.log.records)) result (record { held = self.old; sent = W.contents writer.old }) (record { held = self.new; sent = W.contents writer.new }) }
+        ensures { Prints (flat_map balance_line (balance_rows depository.now.openings depository.now.log.records)) result (output self.old (W.contents writer.old)) (output self.new (W.contents writer.new)) }
     {
         let balances = depository.balances(alloc)?;
         self.rows(balances.as_slice(), writer)
@@ -174,7 +179,7 @@ impl Page {
         system: &System<C, D>,
         writer: &mut W,
     ) -> Told
-        ensures { Prints (report_text (shown_of system.now)) result (record { held = self.old; sent = W.contents writer.old }) (record { held = self.new; sent = W.contents writer.new }) }
+        ensures { Prints (report_text (shown_of system.now)) result (output self.old (W.contents writer.old)) (output self.new (W.contents writer.new)) }
     {
         self.cycle_report(alloc, system.clearing(), writer)?;
         self.balance_report(alloc, system.depository(), writer)?;
@@ -189,7 +194,7 @@ impl Page {
         longs: usize,
         writer: &mut W,
     ) -> Told
-        ensures { Prints (lot_line number poured longs) result (record { held = self.old; sent = W.contents writer.old }) (record { held = self.new; sent = W.contents writer.new }) }
+        ensures { Puts (lot_line number poured longs) result self.old self.new (W.contents writer.old) (W.contents writer.new) }
     {
         let opened = LotLine {
             number,
@@ -201,7 +206,7 @@ impl Page {
 
     // Tells that no ticket was drawn.
     fn not_drawn<W: Write>(&mut self, refusal: Refusal, writer: &mut W) -> Told
-        ensures { Prints (not_drawn refusal) result (record { held = self.old; sent = W.contents writer.old }) (record { held = self.new; sent = W.contents writer.new }) }
+        ensures { Puts (not_drawn refusal) result self.old self.new (W.contents writer.old) (W.contents writer.new) }
     {
         let word = "reserve";
         self.told(&RefusedLine { word, refusal }, writer)
@@ -209,7 +214,7 @@ impl Page {
 
     // Tells what entering a ticket of a lot came to.
     fn ticket<W: Write>(&mut self, lot: u64, outcome: &Outcome, writer: &mut W) -> Told
-        ensures { Prints (ticket_line lot outcome.now) result (record { held = self.old; sent = W.contents writer.old }) (record { held = self.new; sent = W.contents writer.new }) }
+        ensures { Puts (ticket_line lot outcome.now) result self.old self.new (W.contents writer.old) (W.contents writer.new) }
     {
         match outcome {
             Outcome::Drawn(ticket) => {
@@ -223,7 +228,7 @@ impl Page {
 
     // Tells what entering tickets of a lot came to.
     fn tickets<W: Write>(&mut self, lot: u64, entered: &[Outcome], writer: &mut W) -> Told
-        ensures { Prints (flat_map (ticket_line lot) entered.now) result (record { held = self.old; sent = W.contents writer.old }) (record { held = self.new; sent = W.contents writer.new }) }
+        ensures { Puts (flat_map (ticket_line lot) entered.now) result self.old self.new (W.contents writer.old) (W.contents writer.new) }
     {
         for outcome in entered {
             self.ticket(lot, outcome, writer)?;
@@ -234,7 +239,7 @@ impl Page {
     // Tells what the close of a lot came to, after a seal where there was one. A seal is not told unless it
     // is refused.
     fn close<W: Write>(&mut self, lot: u64, sealed: bool, last: &[Outcome], writer: &mut W) -> Told
-        ensures { Prints (closed_text lot sealed last.now) result (record { held = self.old; sent = W.contents writer.old }) (record { held = self.new; sent = W.contents writer.new }) }
+        ensures { Puts (closed_text lot sealed last.now) result self.old self.new (W.contents writer.old) (W.contents writer.new) }
     {
         match (sealed, last) {
             (_, []) | (true, [Outcome::Done]) => Ok(()),
@@ -247,7 +252,7 @@ impl Page {
 
     // Tells what cut workers off, where something did.
     fn cut<W: Write>(&mut self, cut: Option<Cut>, writer: &mut W) -> Told
-        ensures { Prints (cut_text cut) result (record { held = self.old; sent = W.contents writer.old }) (record { held = self.new; sent = W.contents writer.new }) }
+        ensures { Puts (cut_text cut) result self.old self.new (W.contents writer.old) (W.contents writer.new) }
     {
         match cut {
             Some(cut) => self.not_drawn(refusal_of(cut), writer),
@@ -265,7 +270,7 @@ impl Page {
         entered: &[Outcome],
         writer: &mut W,
     ) -> Told
-        ensures { Prints (end_text lot (length drawn.now.seat.tickets) drawn.now.cut sealed entered.now) result (record { held = self.old; sent = W.contents writer.old }) (record { held = self.new; sent = W.contents writer.new }) }
+        ensures { Puts (end_text lot (length drawn.now.seat.tickets) drawn.now.cut sealed entered.now) result self.old self.new (W.contents writer.old) (W.contents writer.new) }
     {
         let tickets = drawn.seat.tickets().len();
         if entered.len() <= tickets {

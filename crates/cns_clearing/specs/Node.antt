@@ -53,6 +53,6 @@ RestartLeaves result old new = LogRestarts spelling IsAllowed HasPayload result 
 abbrev pub IsOpened : KeeperState → ClearNode → Type 0
 IsOpened keeper node = log.IsOpened spelling IsAllowed keeper node.log × (node.lots ≡ [])
 
--- what a refused opening leaves of the keeper
-abbrev pub IsUnread : ReplayFault → KeeperState → KeeperState → Type 0
-IsUnread fault old new = Reread spelling IsAllowed HasPayload (Err fault) old new
+-- what a refused opening leaves of the keeper; where a payload is bad, these are all that were given
+abbrev pub IsUnread : ReplayFault → List (List ℕ) → KeeperState → KeeperState → Type 0
+IsUnread fault rejected old new = Reread spelling IsAllowed HasPayload (Err fault) rejected old new

@@ -1,4 +1,4 @@
-ghost use Rattle.std.specs.Prelude.{◌≡◌, ◌≢◌, ◌↔◌, ℕ, ◌≤◌, ◌^◌, ◌+◌, ◌++◌, ◌∷◌, IsTrue, true, false, [], length, map, option_map, IfOk, IfErr, None, OnErr, OnOk, if◌then◌else◌};
+ghost use Rattle.std.specs.Prelude.{◌≡◌, ◌≢◌, ◌↔◌, ℕ, ◌≤◌, ◌^◌, ◌+◌, ◌++◌, ◌∷◌, IsTrue, true, false, [], length, map, vec_items, option_map, IfOk, IfErr, None, OnErr, OnOk, if◌then◌else◌};
 ghost use Rattle.cns_records.specs.declared.clear_record.ClearRecord.TheVariants.{Exempt, Priority};
 ghost use Rattle.cns_records.specs.Clear.{AreWritable, spelling};
 ghost use Rattle.cns_movements.specs.Book.{next_orders};
@@ -58,7 +58,7 @@ impl<K: Keeper> Model for Clearing<K> {
 
 impl<K: Keeper> Clearing<K> {
     /// Reads the keeper's journal again, and opens a node that is up, with the records that it gives.
-    /// A refused opening hands the keeper back.
+    /// A refused opening hands the keeper back, at `BadJournal` with all payloads that it gave.
     ///
     /// Refuses `BadJournal` where a payload is no record, or of a record that may not stand after
     /// those before it. (This project's own rule.)
@@ -67,7 +67,7 @@ impl<K: Keeper> Clearing<K> {
     /// pass over its tickets, with look-ups for each.
     pub fn open(alloc: Global, keeper: K) -> Result<Clearing<K>, Refused<K>>
         ensures ok { IfOk result (IsOpened (K.state keeper)) }
-        ensures err { IfErr result (λ refused. IsUnread refused.fault (K.state keeper) (K.state refused.keeper)) }
+        ensures err { IfErr result (λ refused. IsUnread refused.fault (map vec_items refused.rejected.items) (K.state keeper) (K.state refused.keeper)) }
     {
         let mut books = Books::new(alloc);
         match RecordLog::open(alloc, keeper, &alloc, &mut books) {
@@ -310,7 +310,7 @@ impl<K: Keeper> Clearing<K> {
 
     /// Reads the journal again, and puts the node up. All lots end, also where the restart is refused,
     /// and their shares are free. A refused restart leaves the node down, with its records and the one
-    /// whose commit failed.
+    /// whose commit failed, and at `BadJournal` with the payloads that it read (`rejected`).
     ///
     /// Refuses `BadJournal` where a payload is no record, or of a record that may not stand after
     /// those before it. (This project's own rule.)
@@ -332,6 +332,14 @@ impl<K: Keeper> Clearing<K> {
                 Err(fault)
             }
         }
+    }
+
+    /// The payloads of the last reading that found a bad one, the first one first; none once a restart
+    /// succeeds.
+    pub fn rejected(&self) -> &[Vec<u8>]
+        ensures { map vec_items result.now ≡ self.now.log.rejected }
+    {
+        self.log.rejected()
     }
 
     /// Makes the next commit of the keeper fail, where the keeper plans failures. Its record stands

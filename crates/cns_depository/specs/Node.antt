@@ -1,5 +1,5 @@
 -- What contracts see of a depository (this project's own rules).
-use Rattle.std.specs.Prelude.{◌≡◌, Bool, false, List, Result, Ok, Err}
+use Rattle.std.specs.Prelude.{◌≡◌, ℕ, Bool, false, List, Result, Ok, Err}
 use Rattle.cns_journal.specs.Keeper.{KeeperState}
 use Rattle.cns_journal.specs.Replay.{Reread}
 use Rattle.cns_journal.specs.RecordLog.{IsLawfulLog, LogCommits, LogPlanned, LogRestarts, LogState}
@@ -47,6 +47,6 @@ RestartLeaves result old new =
 abbrev pub IsOpened : List Opening → KeeperState → DepNode → Type 0
 IsOpened openings keeper node = log.IsOpened dep_spelling (IsExecutable openings) keeper node.log × (node.openings ≡ openings)
 
--- what a refused opening leaves of the keeper
-abbrev pub IsUnread : List Opening → ReplayFault → KeeperState → KeeperState → Type 0
-IsUnread openings fault old new = Reread dep_spelling (IsExecutable openings) HasDepPayload (Err fault) old new
+-- what a refused opening leaves of the keeper; where a payload is bad, these are all that were given
+abbrev pub IsUnread : List Opening → ReplayFault → List (List ℕ) → KeeperState → KeeperState → Type 0
+IsUnread openings fault rejected old new = Reread dep_spelling (IsExecutable openings) HasDepPayload (Err fault) rejected old new

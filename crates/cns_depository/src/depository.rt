@@ -1,4 +1,4 @@
-ghost use Rattle.std.specs.Prelude.{◌≡◌, ◌+◌, ◌≤◌, true, false, option_map, reverse, IfOk, IfErr};
+ghost use Rattle.std.specs.Prelude.{◌≡◌, ◌+◌, ◌≤◌, true, false, map, option_map, reverse, vec_items, IfOk, IfErr};
 ghost use Rattle.cns_depository.specs.Openings.{opening_shares};
 ghost use Rattle.cns_depository.specs.Stock.{IsExecutable, IsLawfulDepot, IsNextMovement, execution, instructed_of, instruction_of, executed_of, movement_of, moved_in, moved_out, balance_of as balance_in};
 ghost use Rattle.cns_depository.specs.Balances.{balance_rows as balance_rows_of, AreComplete, AreAscending};
@@ -54,14 +54,15 @@ impl<K: Keeper> Model for Depository<K> {
 
 impl<K: Keeper> Depository<K> {
     /// Reads the keeper's journal again, and opens a depository that is up, with the records that it
-    /// gives. A refused opening hands the keeper back, and drops the openings.
+    /// gives. A refused opening hands the keeper back, at `BadJournal` with all payloads that it gave, and
+    /// drops the openings.
     ///
     /// Refuses `BadJournal` where a payload is no record of a movement that may stand after those
     /// before it, beginning from the openings. Costs a few look-ups for each payload. (This project's
     /// own rule.)
     pub fn open(alloc: Global, keeper: K, openings: Openings) -> Result<Depository<K>, Refused<K>>
         ensures ok { IfOk result (IsOpened openings (K.state keeper)) }
-        ensures err { IfErr result (λ refused. IsUnread openings refused.fault (K.state keeper) (K.state refused.keeper)) }
+        ensures err { IfErr result (λ refused. IsUnread openings refused.fault (map vec_items refused.rejected.items) (K.state keeper) (K.state refused.keeper)) }
     {
         let mut stock = Stock::new(alloc);
         match RecordLog::open(alloc, keeper, &openings, &mut stock) {
@@ -186,7 +187,8 @@ impl<K: Keeper> Depository<K> {
 
     /// Reads the journal again, and puts the depository up. A refused restart leaves it down and
     /// changes nothing else, except that it may then no longer be known beforehand whether the record
-    /// whose commit failed stands. How the next commit ends stays known in any case.
+    /// whose commit failed stands, and that at `BadJournal` the payloads that it read are kept (`rejected`).
+    /// How the next commit ends stays known in any case.
     ///
     /// Refuses `BadJournal` where a payload is no record of a movement that may stand after those
     /// before it. Costs a few look-ups for each payload. (This project's own rule.)
@@ -204,6 +206,14 @@ impl<K: Keeper> Depository<K> {
                 Err(fault)
             }
         }
+    }
+
+    /// The payloads of the last reading that found a bad one, the first one first; none once a restart
+    /// succeeds.
+    pub fn rejected(&self) -> &[Vec<u8>]
+        ensures { map vec_items result.now ≡ self.now.log.rejected }
+    {
+        self.log.rejected()
     }
 
     /// Makes the next commit of the keeper fail. Its record stands at the restart, or does not.

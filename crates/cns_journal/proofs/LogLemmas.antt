@@ -7,7 +7,7 @@ use Rattle.cns_journal.specs.Keeper.{Running, Journal, Foresight, IsReopened, Pl
 use Rattle.cns_journal.specs.declared.keeper.NotPlanned.{NotPlanned}
 use Rattle.std.specs.Prelude.{◌==◌}
 use Rattle.cns_journal.specs.RecordLog.{GivesBack, FitsTried, IsLawfulLog, IsLog, IsOpened, IsGivenUp, LogCommits, LogPlanned, LogState, LogRestarts, MayStand, Restarts}
-use Rattle.cns_journal.specs.Replay.{Reread, AreAllowed, AreFit, AreReplayed, IsBadPlace, IsAdmitted, AdmitLeaves, ReplayGives}
+use Rattle.cns_journal.specs.Replay.{Rejects, Reread, AreAllowed, AreFit, AreReplayed, IsBadPlace, IsAdmitted, AdmitLeaves, ReplayGives}
 use Rattle.cns_journal.specs.declared.record_log.CommitFault.{CommitFault}
 use Rattle.cns_journal.specs.declared.record_log.CommitFault.TheVariants as commit
 use Rattle.cns_journal.specs.declared.record_log.ReplayFault.{ReplayFault}
@@ -155,66 +155,77 @@ module _ {R : Type 0} (spelling : R → List ℕ) (allows : List R → R → Typ
         ap (λ (r : R). r ∷ xs) (injective x y fx.0 fy.0 head) ∙ ap (λ (l : List R). y ∷ l) (same_records xs ys fx.1 fy.1 tail)
 
     -- the value of a log with these parts
-    abbrev state_of : List R → Option R → Bool → KeeperState → LogState R
-    state_of items tried down k = record { records = reverse items; tried = tried; down = down; failures = k.run.failures; honest = k.honest; foresight = k.foresight }
+    abbrev state_of : List R → Option R → Bool → List (List ℕ) → KeeperState → LogState R
+    state_of items tried down rejected k = record {
+      records = reverse items;
+      tried = tried;
+      down = down;
+      rejected = rejected;
+      failures = k.run.failures;
+      honest = k.honest;
+      foresight = k.foresight;
+    }
 
-    put_down : (items : List R) (tried : Option R) (down : Bool) (old new : KeeperState)
+    put_down : (items : List R) (tried : Option R) (down : Bool) (rejected : List (List ℕ)) (old new : KeeperState)
         → new.run.failures ≡ old.run.failures → new.honest ≡ old.honest
-        → state_of items tried true new ≡ record (state_of items tried down old) { down = true; foresight = new.foresight }
-    put_down items tried down old new failed is =
-        ap (λ (f : ℕ). record { records = reverse items; tried = tried; down = true; failures = f; honest = new.honest; foresight = new.foresight }) failed
-        ∙ ap (λ (h : Bool). record { records = reverse items; tried = tried; down = true; failures = old.run.failures; honest = h; foresight = new.foresight }) is
+        → state_of items tried true rejected new ≡ record (state_of items tried down rejected old) { down = true; foresight = new.foresight }
+    put_down items tried down rejected old new failed is =
+        ap (λ (f : ℕ). record (state_of items tried true rejected new) { failures = f }) failed
+        ∙ ap (λ (h : Bool). record (state_of items tried true rejected new) { failures = old.run.failures; honest = h }) is
 
     -- what a refused restart leaves
-    restart_refused : (items : List R) (tried : Option R) (down : Bool) (old new : KeeperState) (fault : ReplayFault)
+    restart_refused : (items : List R) (tried : Option R) (down : Bool) (rejected rejected' : List (List ℕ)) (old new : KeeperState) (fault : ReplayFault)
         → IsLog spelling fits items tried down old
         → AreAllowed allows (reverse items) → MayStand allows (reverse items) tried
-        → Reread spelling allows fits (Err fault) old new
-        → LogRestarts spelling allows fits (Err fault) (state_of items tried down old) (state_of items tried true new)
-    restart_refused items tried down old new Device n allowed may r = (
-      ap (λ (h : Bool). record { records = reverse items; tried = tried; down = true; failures = new.run.failures; honest = h; foresight = new.foresight }) r.honest
-          ∙ ap (λ (f : Foresight). record { records = reverse items; tried = tried; down = true; failures = new.run.failures; honest = old.honest; foresight = f }) r.foreseen.1,
+        → Reread spelling allows fits (Err fault) rejected' old new → Rejects {A = List R} (Err fault) rejected rejected'
+        → LogRestarts spelling allows fits (Err fault) (state_of items tried down rejected old) (state_of items tried true rejected' new)
+    restart_refused items tried down rejected rejected' old new Device n allowed may r same = (
+      ap (λ (h : Bool). record (state_of items tried true rejected' new) { honest = h }) r.honest
+          ∙ ap (λ (f : Foresight). record (state_of items tried true rejected' new) { honest = old.honest; foresight = f }) r.foreseen.1
+          ∙ ap (λ (l : List (List ℕ)). record (state_of items tried true l new) { honest = old.honest; foresight = old.foresight }) same,
       r.leaves.1,
       r.foreseen.0,
     )
-    restart_refused items tried down old new (BadJournal place) n allowed may r = (
-      put_down items tried down old new (ap (λ (x : Running). x.failures) r.1.leaves.0) r.1.honest
-          ∙ ap (λ (f : Foresight). record { records = reverse items; tried = tried; down = true; failures = old.run.failures; honest = old.honest; foresight = f }) r.1.foreseen,
-      (r.0, r.2),
-      λ h. gives_back_good items tried r.0 place allowed n.all_fit may n.tried_fits (n.journal_down h r.0 (r.1.keeps h).0) r.2,
+    restart_refused items tried down rejected rejected' old new (BadJournal place) n allowed may r same = (
+      put_down items tried down rejected' old new (ap (λ (x : Running). x.failures) r.0.leaves.0) r.0.honest
+          ∙ ap (λ (f : Foresight). record (state_of items tried true rejected' old) { foresight = f }) r.0.foreseen,
+      r.1,
+      λ h. gives_back_good items tried rejected' place allowed n.all_fit may n.tried_fits (n.journal_down h rejected' (r.0.keeps h).0) r.1,
     )
-    restart_refused items tried down old new OutOfMemory n allowed may r =
+    restart_refused items tried down rejected rejected' old new OutOfMemory n allowed may r same =
+        let kept = ap (λ (l : List (List ℕ)). record (state_of items tried true l old) { foresight = new.foresight }) same in
         elim r [
-          | inl none ↦ (put_down items tried down old new (ap (λ (x : Running). x.failures) none.leaves) none.honest, ap (λ (f : Foresight). f.next) none.foreseen)
-          | inr some ↦ (put_down items tried down old new (ap (λ (x : Running). x.failures) some.1.leaves.0) some.1.honest, ap (λ (f : Foresight). f.next) some.1.foreseen)
+          | inl none ↦ (put_down items tried down rejected' old new (ap (λ (x : Running). x.failures) none.leaves) none.honest ∙ kept, ap (λ (f : Foresight). f.next) none.foreseen)
+          | inr some ↦ (put_down items tried down rejected' old new (ap (λ (x : Running). x.failures) some.1.leaves.0) some.1.honest ∙ kept, ap (λ (f : Foresight). f.next) some.1.foreseen)
         ]
 
-    pub restart_refused_at : (items : List R) (tried : Option R) (down : Bool) (old new : KeeperState) (fault : ReplayFault) (before : LogState R)
+    pub restart_refused_at : (items : List R) (tried : Option R) (down : Bool) (rejected rejected' : List (List ℕ)) (old new : KeeperState) (fault : ReplayFault) (before : LogState R)
         → IsLog spelling fits items tried down old
-        → IsLawfulLog allows before → Reread spelling allows fits (Err fault) old new → state_of items tried down old ≡ before
-        → LogRestarts spelling allows fits (Err fault) before (state_of items tried true new)
-    restart_refused_at items tried down old new fault before n lawful r seen =
-        let law : IsLawfulLog allows (state_of items tried down old) = subst (IsLawfulLog allows) (sym seen) lawful in
-        subst (λ (v : LogState R). LogRestarts spelling allows fits (Err fault) v (state_of items tried true new)) seen
-        (restart_refused items tried down old new fault n law.allowed law.tried r)
+        → IsLawfulLog allows before → Reread spelling allows fits (Err fault) rejected' old new → Rejects {A = List R} (Err fault) rejected rejected'
+        → state_of items tried down rejected old ≡ before
+        → LogRestarts spelling allows fits (Err fault) before (state_of items tried true rejected' new)
+    restart_refused_at items tried down rejected rejected' old new fault before n lawful r same seen =
+        let law : IsLawfulLog allows (state_of items tried down rejected old) = subst (IsLawfulLog allows) (sym seen) lawful in
+        subst (λ (v : LogState R). LogRestarts spelling allows fits (Err fault) v (state_of items tried true rejected' new)) seen
+        (restart_refused items tried down rejected rejected' old new fault n law.allowed law.tried r same)
 
     -- one more record came back, or none
-    restarts : (items items' : List R) (tried : Option R) (down : Bool) (old new : KeeperState) (kept : Bool)
+    restarts : (items items' : List R) (tried : Option R) (down : Bool) (rejected : List (List ℕ)) (old new : KeeperState) (kept : Bool)
         → AreFit fits items → AreFit fits items' → FitsTried fits tried → GivesBack spelling items tried (map spelling items')
         → kept ≡ (length items' == length items + 1)
-        → Restarts kept (state_of items tried down old) (state_of items' None false new)
-    restarts items items' tried down old new kept fit fit' tried_fits gives test =
+        → Restarts kept (state_of items tried down rejected old) (state_of items' None false [] new)
+    restarts items items' tried down rejected old new kept fit fit' tried_fits gives test =
         elim gives [
           | inl e ↦
               let is : items' ≡ items = same_records items' items fit' fit e in
               let none : kept ≡ false = test ∙ other (length items') (length items + 1) (let same : length items' ≡ length items = ap length is in omega arith) in
-              subst (λ (k : Bool). Restarts k (state_of items tried down old) (state_of items' None false new)) (sym none) (ap reverse is)
+              subst (λ (k : Bool). Restarts k (state_of items tried down rejected old) (state_of items' None false [] new)) (sym none) (ap reverse is)
           | inr more ↦
               let fits_u : FitsTried fits (Some more.0) = subst (FitsTried fits) more.1 tried_fits in
               let is : items' ≡ items ++ more.0 ∷ [] = same_records items' (items ++ more.0 ∷ []) fit' (fit_more fits items more.0 fit fits_u) more.2 in
               let size : length items' ≡ length items + 1 = ap length is ∙ length-append items (more.0 ∷ []) in
               let one : kept ≡ true = test ∙ same_number (length items') (length items + 1) size in
-              subst (λ (k : Bool). Restarts k (state_of items tried down old) (state_of items' None false new)) (sym one)
+              subst (λ (k : Bool). Restarts k (state_of items tried down rejected old) (state_of items' None false [] new)) (sym one)
               (more.0, more.1, ap reverse is ∙ reverse_more items more.0)
         ]
 
@@ -237,32 +248,34 @@ module _ {R : Type 0} (spelling : R → List ℕ) (allows : List R → R → Typ
         test ∙ other (length items') (length items + 1) (omega (arith, same, size, back))
 
     -- what a restart leaves that succeeds
-    restart_accepted : (items items' : List R) (tried : Option R) (down : Bool) (old new : KeeperState) (a b n : ℕ)
+    restart_accepted : (items items' : List R) (tried : Option R) (down : Bool) (rejected given : List (List ℕ)) (old new : KeeperState) (a b n : ℕ)
         → IsLog spelling fits items tried down old
-        → Reread spelling allows fits (Ok items') old new → a ≡ length items' → b ≡ length items → n ≡ length items'
-        → LogRestarts spelling allows fits (Ok (record { records = n; kept = a == b + 1 })) (state_of items tried down old) (state_of items' None false new)
-    restart_accepted items items' tried down old new a b n log r a_is b_is n_is =
+        → Reread spelling allows fits (Ok items') given old new → a ≡ length items' → b ≡ length items → n ≡ length items'
+        → LogRestarts spelling allows fits (Ok (record { records = n; kept = a == b + 1 })) (state_of items tried down rejected old) (state_of items' None false [] new)
+    restart_accepted items items' tried down rejected given old new a b n log r a_is b_is n_is =
         let test : (a == b + 1) ≡ (length items' == length items + 1) = ap (λ (x : ℕ). x == b + 1) a_is ∙ ap (λ (x : ℕ). length items' == x + 1) b_is in
         let shown : (length items' == length items + 1) ≡ (length (reverse items') == length (reverse items) + 1) =
         ap (λ (x : ℕ). x == length items + 1) (sym (length-reverse items')) ∙ ap (λ (x : ℕ). length (reverse items') == x + 1) (sym (length-reverse items)) in (
-          ap (λ (f : ℕ). record { records = reverse items'; tried = None; down = false; failures = f; honest = new.honest; foresight = new.foresight }) (ap (λ (x : Running). x.failures) r.0.leaves.0)
-              ∙ ap (λ (h : Bool). record { records = reverse items'; tried = None; down = false; failures = old.run.failures; honest = h; foresight = new.foresight }) r.0.honest
-              ∙ ap (λ (f : Foresight). record { records = reverse items'; tried = None; down = false; failures = old.run.failures; honest = old.honest; foresight = f }) r.0.foreseen,
+          ap (λ (f : ℕ). record (state_of items' None false [] new) { failures = f }) (ap (λ (x : Running). x.failures) r.0.leaves.0)
+              ∙ ap (λ (h : Bool). record (state_of items' None false [] new) { failures = old.run.failures; honest = h }) r.0.honest
+              ∙ ap (λ (f : Foresight). record (state_of items' None false [] old) { foresight = f }) r.0.foreseen,
           n_is ∙ sym (length-reverse items'),
           test ∙ shown,
           r.1.allowed,
-          λ h. restarts items items' tried down old new (a == b + 1) log.all_fit r.1.all_fit log.tried_fits
+          λ h. restarts items items' tried down rejected old new (a == b + 1) log.all_fit r.1.all_fit log.tried_fits
               (log.journal_down h (map spelling items') (r.0.keeps h).0) test,
           λ h stands is. kept_as_foreseen items items' tried old.journal old.foresight.stands (a == b + 1) stands (log.foreseen h) (r.0.stands h) test is,
         )
 
-    pub restart_accepted_at : (items items' : List R) (tried : Option R) (down : Bool) (old new : KeeperState) (a b n : ℕ) (before : LogState R)
+    pub restart_accepted_at : (items items' : List R) (tried : Option R) (down : Bool) (rejected rejected' : List (List ℕ)) (old new : KeeperState) (a b n : ℕ) (before : LogState R)
         → IsLog spelling fits items tried down old
-        → Reread spelling allows fits (Ok items') old new → a ≡ length items' → b ≡ length items → n ≡ length items' → state_of items tried down old ≡ before
-        → LogRestarts spelling allows fits (Ok (record { records = n; kept = a == b + 1 })) before (state_of items' None false new)
-    restart_accepted_at items items' tried down old new a b n before log r a_is b_is n_is seen =
-        subst (λ (v : LogState R). LogRestarts spelling allows fits (Ok (record { records = n; kept = a == b + 1 })) v (state_of items' None false new)) seen
-        (restart_accepted items items' tried down old new a b n log r a_is b_is n_is)
+        → Reread spelling allows fits (Ok items') rejected' old new → Rejects {A = List R} (Ok items') rejected rejected'
+        → a ≡ length items' → b ≡ length items → n ≡ length items' → state_of items tried down rejected old ≡ before
+        → LogRestarts spelling allows fits (Ok (record { records = n; kept = a == b + 1 })) before (state_of items' None false rejected' new)
+    restart_accepted_at items items' tried down rejected rejected' old new a b n before log r none a_is b_is n_is seen =
+        subst (λ (l : List (List ℕ)). LogRestarts spelling allows fits (Ok (record { records = n; kept = a == b + 1 })) before (state_of items' None false l new)) (sym none)
+        (subst (λ (v : LogState R). LogRestarts spelling allows fits (Ok (record { records = n; kept = a == b + 1 })) v (state_of items' None false [] new)) seen
+        (restart_accepted items items' tried down rejected rejected' old new a b n log r a_is b_is n_is))
 
   -- a refused reopening leaves the log down
   log_down : (items : List R) (tried : Option R) (down : Bool) (old new : KeeperState)
@@ -318,11 +331,11 @@ module _ {R : Type 0} (spelling : R → List ℕ) (allows : List R → R → Typ
       }
 
   -- what the keeper of a log has once it is given up
-  pub log_given_up : (items : List R) (tried : Option R) (down : Bool) (keeper : KeeperState) (log : LogState R)
+  pub log_given_up : (items : List R) (tried : Option R) (down : Bool) (rejected : List (List ℕ)) (keeper : KeeperState) (log : LogState R)
       → IsLog spelling fits items tried down keeper
-      → record { records = reverse items; tried = tried; down = down; failures = keeper.run.failures; honest = keeper.honest; foresight = keeper.foresight } ≡ log
+      → record { records = reverse items; tried = tried; down = down; rejected = rejected; failures = keeper.run.failures; honest = keeper.honest; foresight = keeper.foresight } ≡ log
       → IsGivenUp spelling log keeper
-  log_given_up items tried down keeper log n seen =
+  log_given_up items tried down rejected keeper log n seen =
       let back : reverse log.records ≡ items = ap (λ (l : LogState R). reverse l.records) (sym seen) ∙ reverse-reverse items in
       let honest : keeper.honest ≡ log.honest = ap (λ (l : LogState R). l.honest) seen in
       let same : log.tried ≡ tried = ap (λ (l : LogState R). l.tried) (sym seen) in
@@ -342,12 +355,12 @@ module _ {R : Type 0} (spelling : R → List ℕ) (allows : List R → R → Typ
         foresight = ap (λ (l : LogState R). l.foresight) seen;
       }
 
-  pub log_unread : (items : List R) (tried : Option R) (down : Bool) (old new : KeeperState) (fault : ReplayFault)
+  pub log_unread : (items : List R) (tried : Option R) (down : Bool) (rejected : List (List ℕ)) (old new : KeeperState) (fault : ReplayFault)
       → IsLog spelling fits items tried down old
-      → Reread spelling allows fits (Err fault) old new → IsLog spelling fits items tried true new
-  log_unread items tried down old new Device n r = log_down items tried down old new n r.honest r.keeps r.foreseen.1
-  log_unread items tried down old new (BadJournal place) n r = log_lost items tried down old new r.0 n r.1.honest r.1.keeps r.1.foreseen
-  log_unread items tried down old new OutOfMemory n r =
+      → Reread spelling allows fits (Err fault) rejected old new → IsLog spelling fits items tried true new
+  log_unread items tried down rejected old new Device n r = log_down items tried down old new n r.honest r.keeps r.foreseen.1
+  log_unread items tried down rejected old new (BadJournal place) n r = log_lost items tried down old new rejected n r.0.honest r.0.keeps r.0.foreseen
+  log_unread items tried down rejected old new OutOfMemory n r =
       elim r [
         | inl none ↦ log_down items tried down old new n none.honest none.keeps none.foreseen
         | inr some ↦ log_lost items tried down old new some.0 n some.1.honest some.1.keeps some.1.foreseen

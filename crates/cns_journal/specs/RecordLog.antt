@@ -9,12 +9,14 @@ use Rattle.cns_journal.specs.declared.record_log.ReplayFault.TheVariants as repl
 use Rattle.cns_journal.specs.declared.record_log.CommitFault.{CommitFault}
 use Rattle.cns_journal.specs.declared.record_log.CommitFault.TheVariants.{OutOfMemory, Device}
 
--- the records, the newest first; the record whose commit failed; whether the node is down; how often its keeper's device has
--- failed, whether its keeper is honest, and what is known beforehand of its keeper
+-- the records, the newest first; the record whose commit failed; whether the node is down; the payloads of the last reading that found a
+-- bad one, until one succeeds; how often its keeper's device has failed, whether its keeper is honest, and what is known beforehand of its
+-- keeper
 pub record LogState (R : Type 0) : Type 0 where
   pub records : List R
   pub tried : Option R
   pub down : Bool
+  pub rejected : List (List ℕ)
   pub failures : ℕ
   pub honest : Bool
   pub foresight : Foresight
@@ -68,18 +70,18 @@ Restarts false old new = new.records ≡ old.records
 Restarts true old new = (r : _) × (old.tried ≡ Some r) × (new.records ≡ r ∷ old.records)
 
 -- what a restart leaves, by its answer: a refused one puts the log down, and changes nothing else that it shows but what is known
--- beforehand of the record whose commit failed
+-- beforehand of the record whose commit failed, and the payloads that it read where one of them is bad
 abbrev pub LogRestarts : {R : Type 0} → (R → List ℕ) → (List R → R → Type 0) → (R → Type 0) → Result Restarted ReplayFault → LogState R → LogState R → Type 0
 LogRestarts spelling allows fits (Ok r) old new =
-    (new ≡ record old { records = new.records; tried = None; down = false; foresight = record old.foresight { stands = None } })
+    (new ≡ record old { records = new.records; tried = None; down = false; rejected = []; foresight = record old.foresight { stands = None } })
     × (r.records ≡ length new.records) × (r.kept ≡ (length new.records == length old.records + 1)) × AreAllowed allows new.records
     × (old.honest ≡ true → Restarts r.kept old new)
     × (old.honest ≡ true → (stands : Bool) → old.foresight.stands ≡ Some stands → r.kept ≡ stands)
 LogRestarts spelling allows fits (Err replay.OutOfMemory) old new =
     (new ≡ record old { down = true; foresight = new.foresight }) × (new.foresight.next ≡ old.foresight.next)
 LogRestarts spelling allows fits (Err (replay.BadJournal place)) old new =
-    (new ≡ record old { down = true; foresight = record old.foresight { stands = None } })
-    × ((given : List (List ℕ)) × IsBadPlace spelling allows fits given place) × (old.honest ≡ true → ⊥)
+    (new ≡ record old { down = true; rejected = new.rejected; foresight = record old.foresight { stands = None } })
+    × IsBadPlace spelling allows fits new.rejected place × (old.honest ≡ true → ⊥)
 LogRestarts spelling allows fits (Err replay.Device) old new =
     (new ≡ record old { down = true; failures = new.failures }) × HasRisen old.failures new.failures × (old.foresight.next ≡ Unforeseen)
 
@@ -89,6 +91,7 @@ pub record IsOpened {R : Type 0} (spelling : R → List ℕ) (allows : List R �
     records = log.records;
     tried = None;
     down = false;
+    rejected = [];
     failures = keeper.run.failures;
     honest = keeper.honest;
     foresight = record keeper.foresight { stands = None };

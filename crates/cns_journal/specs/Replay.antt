@@ -74,11 +74,17 @@ pub record Reopened (given : Result (List (List ℕ)) KeepFault) (old new : Keep
   pub foreseen : ReopenForeseen given old.foresight new.foresight
   pub stands : old.honest ≡ true → StandsAsForeseen old.foresight.stands given old.journal
 
--- what reading a keeper's journal again leaves of the keeper, by its answer
-abbrev pub Reread : {R : Type 0} → (R → List ℕ) → (List R → R → Type 0) → (R → Type 0) → Result (List R) ReplayFault → KeeperState → KeeperState → Type 0
-Reread spelling allows fits (Ok items) old new = Reopened (Ok (map spelling items)) old new × AreReplayed allows fits items
-Reread spelling allows fits (Err (BadJournal place)) old new =
-    (given : List (List ℕ)) × Reopened (Ok given) old new × IsBadPlace spelling allows fits given place
-Reread spelling allows fits (Err OutOfMemory) old new =
+-- what reading a keeper's journal again leaves of the keeper, by its answer; where a payload is bad, these are all that were given
+abbrev pub Reread : {R : Type 0} → (R → List ℕ) → (List R → R → Type 0) → (R → Type 0) → Result (List R) ReplayFault → List (List ℕ) → KeeperState → KeeperState → Type 0
+Reread spelling allows fits (Ok items) rejected old new = Reopened (Ok (map spelling items)) old new × AreReplayed allows fits items
+Reread spelling allows fits (Err (BadJournal place)) rejected old new = Reopened (Ok rejected) old new × IsBadPlace spelling allows fits rejected place
+Reread spelling allows fits (Err OutOfMemory) rejected old new =
     Reopened (Err keep.Memory) old new ⊎ ((given : List (List ℕ)) × Reopened (Ok given) old new)
-Reread spelling allows fits (Err Device) old new = Reopened (Err keep.Device) old new
+Reread spelling allows fits (Err Device) rejected old new = Reopened (Err keep.Device) old new
+
+-- what is kept of the payloads that the last reading rejected: none once a reading succeeds
+abbrev pub Rejects : {A : Type 0} → Result A ReplayFault → List (List ℕ) → List (List ℕ) → Type 0
+Rejects (Ok a) old new = new ≡ []
+Rejects (Err (BadJournal place)) old new = Unit {0}
+Rejects (Err OutOfMemory) old new = new ≡ old
+Rejects (Err Device) old new = new ≡ old

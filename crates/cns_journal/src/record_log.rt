@@ -1,7 +1,7 @@
 //! A node's records over the journal of its keeper.
 
 ghost use Rattle.std.specs.Prelude.{◌≡◌, ◌≤◌, ℕ, List, [], ◌∷◌, true, false, Err, IfErr, IfOk, OnOk, length, map, option_map, reverse, slice_get, vec_items};
-ghost use Rattle.cns_journal.specs.Replay.{AdmitLeaves, Admits, ReplayGives, Reread, records_by};
+ghost use Rattle.cns_journal.specs.Replay.{AdmitLeaves, Admits, Rejects, ReplayGives, Reread, records_by};
 ghost use Rattle.cns_journal.specs.RecordLog.{HaveOwnPayloads, IsLawfulLog, IsGivenUp, IsOpened, LogCommits, LogPlanned, LogRestarts};
 
 use crate::keeper::{KeepFault, Keeper, MAX_PAYLOAD, NotPlanned};
@@ -150,16 +150,18 @@ fn replay<L: Ledger>(
     Ok(records)
 }
 
-// Reads a keeper's journal again.
+// Reads a keeper's journal again, and keeps what it read where a payload is bad.
 fn reread<K: Keeper, L: Ledger>(
     alloc: Global,
     keeper: &mut K,
+    rejected: &mut Vec<Vec<u8>>,
     context: &L::Context,
     ledger: &mut L,
 ) -> Result<Vec<L::Record>, ReplayFault>
     requires payloads { HaveOwnPayloads L.Record.spelling L.Record.fits }
     requires comes { L.comes_to ledger.old [] }
-    ensures reread { Reread L.Record.spelling (L.allows context.now) L.Record.fits (records_by result) (K.state keeper.old) (K.state keeper.new) }
+    ensures reread { Reread L.Record.spelling (L.allows context.now) L.Record.fits (records_by result) (map vec_items rejected.new.items) (K.state keeper.old) (K.state keeper.new) }
+    ensures rejects { Rejects (records_by result) (map vec_items rejected.old.items) (map vec_items rejected.new.items) }
     ensures comes { IfOk result (λ records. L.comes_to ledger.new (reverse records.items)) }
 {
     let payloads = match keeper.reopen() {
@@ -167,7 +169,17 @@ fn reread<K: Keeper, L: Ledger>(
         Err(KeepFault::Device) => return Err(ReplayFault::Device),
         Err(_) => return Err(ReplayFault::OutOfMemory),
     };
-    replay(alloc, context, ledger, payloads.as_slice())
+    match replay(alloc, context, ledger, payloads.as_slice()) {
+        Ok(records) => {
+            *rejected = Vec::new(alloc);
+            Ok(records)
+        }
+        Err(ReplayFault::BadJournal { place }) => {
+            *rejected = payloads;
+            Err(ReplayFault::BadJournal { place })
+        }
+        Err(fault) => Err(fault),
+    }
 }
 
 /// Why a record is not added.
@@ -198,11 +210,13 @@ pub struct RecordLog<K: Keeper, R: Record> {
     records: Vec<R>,
     tried: Option<R>,
     down: bool,
+    // The payloads of the last reading that found a bad one, until one succeeds.
+    rejected: Vec<Vec<u8>>,
     alloc: Global,
 }
 
 impl<K: Keeper, R: Record> Model for RecordLog<K, R> {
-    ghost use Rattle.std.specs.Prelude.{reverse};
+    ghost use Rattle.std.specs.Prelude.{map, reverse, vec_items};
     ghost use Rattle.cns_journal.specs.RecordLog.{LogState, IsLog};
 
     ghost Value = { LogState R };
@@ -211,6 +225,7 @@ impl<K: Keeper, R: Record> Model for RecordLog<K, R> {
       records = reverse l.records.items;
       tried = l.tried;
       down = l.down;
+      rejected = map vec_items l.rejected.items;
       failures = (K.state l.keeper).run.failures;
       honest = (K.state l.keeper).honest;
       foresight = (K.state l.keeper).foresight;
@@ -219,13 +234,15 @@ impl<K: Keeper, R: Record> Model for RecordLog<K, R> {
     ghost invariant = { λ l. IsLog R.spelling R.fits l.records.items l.tried l.down (K.state l.keeper) };
 }
 
-/// A refused opening: why, and the keeper as its reopening left it.
+/// A refused opening: why, what was read, and the keeper as its reopening left it.
 #[derive(Drop)]
 pub struct Refused<K> {
     /// The keeper, after its reopening.
     pub keeper: K,
     /// Why the log was not opened.
     pub fault: ReplayFault,
+    /// At `BadJournal` the payloads that the keeper gave, the first one first; else none.
+    pub rejected: Vec<Vec<u8>>,
 }
 
 impl<K: Keeper, R: Record> RecordLog<K, R> {
@@ -243,18 +260,27 @@ impl<K: Keeper, R: Record> RecordLog<K, R> {
         requires payloads { HaveOwnPayloads R.spelling R.fits }
         requires comes { L.comes_to ledger.old [] }
         ensures ok { IfOk result (IsOpened R.spelling (L.allows context.now) (K.state keeper)) }
-        ensures err { IfErr result (λ refused. Reread R.spelling (L.allows context.now) R.fits (Err refused.fault) (K.state keeper) (K.state refused.keeper)) }
+        ensures err { IfErr result (λ refused. Reread R.spelling (L.allows context.now) R.fits (Err refused.fault) (map vec_items refused.rejected.items) (K.state keeper) (K.state refused.keeper)) }
+        ensures none { IfErr result (λ refused. Rejects {A = Unit {0}} (Err refused.fault) [] (map vec_items refused.rejected.items)) }
         ensures comes { IfOk result (λ log. L.comes_to ledger.new log.records) }
     {
-        let records = match reread(alloc, &mut keeper, context, ledger) {
+        let mut rejected = Vec::new(alloc);
+        let records = match reread(alloc, &mut keeper, &mut rejected, context, ledger) {
             Ok(records) => records,
-            Err(fault) => return Err(Refused { keeper, fault }),
+            Err(fault) => {
+                return Err(Refused {
+                    keeper,
+                    fault,
+                    rejected,
+                });
+            }
         };
         Ok(RecordLog {
             keeper,
             records,
             tried: None,
             down: false,
+            rejected,
             alloc,
         })
     }
@@ -279,6 +305,14 @@ impl<K: Keeper, R: Record> RecordLog<K, R> {
         ensures { option_map (λ r. r.now) result ≡ slice_get self.now.records 0 }
     {
         self.records.as_slice().last()
+    }
+
+    /// The payloads of the last reading that found a bad one, the first one first; none once a restart
+    /// succeeds.
+    pub fn rejected(&self) -> &[Vec<u8>]
+        ensures { map vec_items result.now ≡ self.now.rejected }
+    {
+        self.rejected.as_slice()
     }
 
     /// Makes the next commit of the keeper fail. Its record stands at the restart, or does not.
@@ -327,7 +361,8 @@ impl<K: Keeper, R: Record> RecordLog<K, R> {
         }
     }
 
-    /// Reads the journal again, and puts the log up.
+    /// Reads the journal again, and puts the log up. At `BadJournal` the log keeps what it read
+    /// (`rejected`).
     pub fn restart<L: Ledger<Record = R>>(
         &mut self,
         context: &L::Context,
@@ -340,7 +375,13 @@ impl<K: Keeper, R: Record> RecordLog<K, R> {
         ensures comes { OnOk result (L.comes_to ledger.new self.new.records) }
     {
         self.down = true;
-        let records = match reread(self.alloc, &mut self.keeper, context, ledger) {
+        let records = match reread(
+            self.alloc,
+            &mut self.keeper,
+            &mut self.rejected,
+            context,
+            ledger,
+        ) {
             Ok(records) => records,
             Err(fault) => return Err(fault),
         };

@@ -1,4 +1,4 @@
-ghost use Rattle.std.specs.Prelude.{◌≡◌, ◌++◌, OnOk, OnErr};
+ghost use Rattle.std.specs.Prelude.{◌≡◌, ◌+◌, ◌<◌, ◌≤◌, ◌++◌, length, OnOk, OnErr};
 ghost use Rattle.cns_report.specs.Outcomes.{orders_of, outcome_line};
 
 use crate::event::EventLine;
@@ -11,8 +11,10 @@ use std::alloc::AllocError;
 /// Adds what is told of an event and what it came to: its line (`EventLine`), and after that of a cycle or of
 /// a lot's close the lines of the orders. Where memory is wanting, `out` is left as it was.
 pub fn outcome_line(out: &mut Text, event: &Event, outcome: &Outcome) -> Result<(), AllocError>
-    ensures line { OnOk result (out.new ≡ out.old ++ outcome_line event.now outcome.now) }
-    ensures err { OnErr result (out.new ≡ out.old) }
+    ensures line { OnOk result (out.new.text ≡ out.old.text ++ outcome_line event.now outcome.now) }
+    ensures err { OnErr result (out.new.text ≡ out.old.text) }
+    ensures room { out.old.room ≤ out.new.room }
+    ensures full { OnErr result (out.old.room < length out.old.text + length (outcome_line event.now outcome.now)) }
 {
     let line = EventLine { event, outcome };
     out.tell(&(line, Rows(orders_of(outcome))))

@@ -1,5 +1,5 @@
 //! What is told as a text, piece after piece.
-ghost use Rattle.std.specs.Prelude.{◌≡◌, ◌∷◌, [], ◌++◌, List, OnOk, ℕ};
+ghost use Rattle.std.specs.Prelude.{◌≡◌, ◌+◌, ◌<◌, ◌≤◌, ◌∷◌, [], ◌++◌, List, OnErr, OnOk, length, ℕ};
 ghost use Rattle.std.specs.Fmt.{decimal};
 ghost use Rattle.cns_ids.specs.Cusip.{cusip_text};
 ghost use Rattle.cns_ids.specs.Cycle.{kind_text as cycle_kind_text};
@@ -19,10 +19,13 @@ pub trait Put {
     /// The bytes of the text.
     ghost text: { Self → List ℕ };
 
-    /// Adds the text to what is begun, or a part of it where memory is wanting.
+    /// Adds the text to what is begun, or a part of it where memory is wanting: only where there is no room
+    /// for all of it.
     fn put(&self, draft: &mut Draft) -> Result<(), AllocError>
         ensures whole { draft.new.whole ≡ draft.old.whole }
-        ensures begun { OnOk result (draft.new.begun ≡ draft.old.begun ++ text self.now) };
+        ensures begun { OnOk result (draft.new.begun ≡ draft.old.begun ++ text self.now) }
+        ensures room { draft.old.room ≤ draft.new.room }
+        ensures full { OnErr result (draft.old.room < length draft.old.whole + length draft.old.begun + length (text self.now)) };
 }
 
 impl Put for &str {
@@ -58,6 +61,8 @@ impl Put for Byte {
 fn put_number<I: Integer>(draft: &mut Draft, number: I) -> Result<(), AllocError>
     ensures whole { draft.new.whole ≡ draft.old.whole }
     ensures begun { OnOk result (draft.new.begun ≡ draft.old.begun ++ I.text number) }
+    ensures room { draft.old.room ≤ draft.new.room }
+    ensures full { OnErr result (draft.old.room < length draft.old.whole + length draft.old.begun + length (I.text number)) }
 {
     let mut buffer = Buffer::new();
     draft.add(buffer.format(number).as_bytes())

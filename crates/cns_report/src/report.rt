@@ -1,4 +1,4 @@
-ghost use Rattle.std.specs.Prelude.{◌≡◌, ◌++◌, OnOk, OnErr, codes};
+ghost use Rattle.std.specs.Prelude.{◌≡◌, ◌+◌, ◌<◌, ◌≤◌, ◌++◌, length, OnOk, OnErr, codes};
 ghost use Rattle.std.specs.List.{flat_map};
 ghost use Rattle.cns_report.specs.Report.{balance_line, cycle_report_text, report_head};
 
@@ -42,8 +42,10 @@ impl Put for ReportEnd {
 /// The depository's part of the report: the balances other than 0, which the caller hands in by
 /// issue, then account.
 pub fn write_balance_report(out: &mut Text, rows: &[BalanceRow]) -> Result<(), AllocError>
-    ensures ok { OnOk result (out.new ≡ out.old ++ flat_map balance_line rows.now) }
-    ensures err { OnErr result (out.new ≡ out.old) }
+    ensures ok { OnOk result (out.new.text ≡ out.old.text ++ flat_map balance_line rows.now) }
+    ensures err { OnErr result (out.new.text ≡ out.old.text) }
+    ensures room { out.old.room ≤ out.new.room }
+    ensures full { OnErr result (out.old.room < length out.old.text + length (flat_map balance_line rows.now)) }
 {
     out.tell(&Rows(rows))
 }
@@ -57,16 +59,20 @@ pub fn write_cycle_report(
     positions: &[PositionRow],
     pools: &[PoolRow],
 ) -> Result<(), AllocError>
-    ensures ok { OnOk result (out.new ≡ out.old ++ cycle_report_text latest positions.now pools.now) }
-    ensures err { OnErr result (out.new ≡ out.old) }
+    ensures ok { OnOk result (out.new.text ≡ out.old.text ++ cycle_report_text latest positions.now pools.now) }
+    ensures err { OnErr result (out.new.text ≡ out.old.text) }
+    ensures room { out.old.room ≤ out.new.room }
+    ensures full { OnErr result (out.old.room < length out.old.text + length (cycle_report_text latest positions.now pools.now)) }
 {
     out.tell(&(ReportHead(latest), Rows(positions), Rows(pools)))
 }
 
 /// The report's last line: `END`.
 pub fn write_report_end(out: &mut Text) -> Result<(), AllocError>
-    ensures ok { OnOk result (out.new ≡ out.old ++ codes "END\n") }
-    ensures err { OnErr result (out.new ≡ out.old) }
+    ensures ok { OnOk result (out.new.text ≡ out.old.text ++ codes "END\n") }
+    ensures err { OnErr result (out.new.text ≡ out.old.text) }
+    ensures room { out.old.room ≤ out.new.room }
+    ensures full { OnErr result (out.old.room < length out.old.text + length (codes "END\n")) }
 {
     out.tell(&ReportEnd)
 }

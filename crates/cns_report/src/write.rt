@@ -1,4 +1,4 @@
-ghost use Rattle.std.specs.Prelude.{◌≡◌, ◌++◌, OnOk, OnErr};
+ghost use Rattle.std.specs.Prelude.{◌≡◌, ◌+◌, ◌<◌, ◌≤◌, ◌++◌, length, OnOk, OnErr};
 ghost use Rattle.cns_report.specs.Lines.{line_text};
 
 use crate::line::Line;
@@ -7,8 +7,10 @@ use std::alloc::AllocError;
 
 /// Adds a line to `out`, or nothing where memory is wanting.
 pub fn write_line(out: &mut Text, line: Line) -> Result<(), AllocError>
-    ensures ok { OnOk result (out.new ≡ out.old ++ line_text line) }
-    ensures err { OnErr result (out.new ≡ out.old) }
+    ensures ok { OnOk result (out.new.text ≡ out.old.text ++ line_text line) }
+    ensures err { OnErr result (out.new.text ≡ out.old.text) }
+    ensures room { out.old.room ≤ out.new.room }
+    ensures full { OnErr result (out.old.room < length out.old.text + length (line_text line)) }
 {
     out.tell(&line)
 }

@@ -163,51 +163,51 @@ abbrev depot_with : Shown → LogShown DepRecord → Shown
 depot_with w log = record w { depot = log }
 
 -- the clearing node with the records that it read, and as a refused restart leaves it
-clear_read : (foresight : Foresight) (old new : World) → IsAtClear old new
-    → new.clear.clear.log ≡ record old.clear.clear.log { records = new.clear.clear.log.records; tried = None; down = false; foresight = foresight }
+clear_read : (rejected : List (List ℕ)) (foresight : Foresight) (old new : World) → IsAtClear old new
+    → new.clear.clear.log ≡ record old.clear.clear.log { records = new.clear.clear.log.records; tried = None; down = false; rejected = rejected; foresight = foresight }
     → new.clear.clear.lots ≡ [] → new.clear.lots ≡ map with_end old.clear.lots
     → shown_of new ≡ clear_with (shown_of old) (record { records = new.clear.clear.log.records; tried = None; down = false })
-clear_read foresight old new at log none ended =
+clear_read rejected foresight old new at log none ended =
     let tried = ap (λ (l : LogState ClearRecord). l.tried) log in
     let down = ap (λ (l : LogState ClearRecord). l.down) log in rw (tried, down, none, ended, at.depot, at.orders, at.replies) refl
 
-clear_not_read : (failures : ℕ) (foresight : Foresight) (old new : World) → IsAtClear old new
-    → new.clear.clear.log ≡ record old.clear.clear.log { down = true; failures = failures; foresight = foresight }
+clear_not_read : (rejected : List (List ℕ)) (failures : ℕ) (foresight : Foresight) (old new : World) → IsAtClear old new
+    → new.clear.clear.log ≡ record old.clear.clear.log { down = true; rejected = rejected; failures = failures; foresight = foresight }
     → new.clear.clear.lots ≡ [] → new.clear.lots ≡ map with_end old.clear.lots
     → shown_of new ≡ clear_with (shown_of old) (record (log_shown old.clear.clear.log) { down = true })
-clear_not_read failures foresight old new at log none ended = rw (log, none, ended, at.depot, at.orders, at.replies) refl
+clear_not_read rejected failures foresight old new at log none ended = rw (log, none, ended, at.depot, at.orders, at.replies) refl
 
 clear_restart_by : (d : Decision) (result : Result Restarted ReplayFault) (old new : World) → IsAtClear old new → ClearRestarts result old.clear new.clear
     → Fits d (event.Restart node.Clear) (restart_outcome result) (shown_of new)
     → happens d (event.Restart node.Clear) (shown_of old) ≡ (restart_outcome result, shown_of new)
 unfolding happens judged
-clear_restart_by d (Ok r) old new at ((left, none), ended) fits = rw (fits, clear_read _ old new at left.0 none ended, left.1, left.2) refl
-clear_restart_by d (Err replay.OutOfMemory) old new at ((left, none), ended) fits = rw (fits, clear_not_read _ _ old new at left.0 none ended) refl
-clear_restart_by d (Err (replay.BadJournal place)) old new at ((left, none), ended) fits = rw (fits, clear_not_read _ _ old new at left.0 none ended) refl
-clear_restart_by d (Err replay.Device) old new at ((left, none), ended) fits = rw (fits, clear_not_read _ _ old new at left.0 none ended) refl
+clear_restart_by d (Ok r) old new at ((left, none), ended) fits = rw (fits, clear_read _ _ old new at left.0 none ended, left.1, left.2) refl
+clear_restart_by d (Err replay.OutOfMemory) old new at ((left, none), ended) fits = rw (fits, clear_not_read _ _ _ old new at left.0 none ended) refl
+clear_restart_by d (Err (replay.BadJournal place)) old new at ((left, none), ended) fits = rw (fits, clear_not_read _ _ _ old new at left.0 none ended) refl
+clear_restart_by d (Err replay.Device) old new at ((left, none), ended) fits = rw (fits, clear_not_read _ _ _ old new at left.0 none ended) refl
 
 -- the depository likewise
-depot_read : (foresight : Foresight) (old new : World) → IsAtDepot old new → new.replies ≡ old.replies
-    → new.depot.log ≡ record old.depot.log { records = new.depot.log.records; tried = None; down = false; foresight = foresight }
+depot_read : (rejected : List (List ℕ)) (foresight : Foresight) (old new : World) → IsAtDepot old new → new.replies ≡ old.replies
+    → new.depot.log ≡ record old.depot.log { records = new.depot.log.records; tried = None; down = false; rejected = rejected; foresight = foresight }
     → new.depot.openings ≡ old.depot.openings
     → shown_of new ≡ depot_with (shown_of old) (record { records = new.depot.log.records; tried = None; down = false })
-depot_read foresight old new at replies log openings =
+depot_read rejected foresight old new at replies log openings =
     let tried = ap (λ (l : LogState DepRecord). l.tried) log in
     let down = ap (λ (l : LogState DepRecord). l.down) log in rw (tried, down, openings, at.clear, at.orders, replies) refl
 
-depot_not_read : (failures : ℕ) (foresight : Foresight) (old new : World) → IsAtDepot old new → new.replies ≡ old.replies
-    → new.depot.log ≡ record old.depot.log { down = true; failures = failures; foresight = foresight }
+depot_not_read : (rejected : List (List ℕ)) (failures : ℕ) (foresight : Foresight) (old new : World) → IsAtDepot old new → new.replies ≡ old.replies
+    → new.depot.log ≡ record old.depot.log { down = true; rejected = rejected; failures = failures; foresight = foresight }
     → new.depot.openings ≡ old.depot.openings → shown_of new ≡ depot_with (shown_of old) (record (log_shown old.depot.log) { down = true })
-depot_not_read failures foresight old new at replies log openings = rw (log, openings, at.clear, at.orders, replies) refl
+depot_not_read rejected failures foresight old new at replies log openings = rw (log, openings, at.clear, at.orders, replies) refl
 
 depot_restart_by : (d : Decision) (result : Result Restarted ReplayFault) (old new : World) → IsAtDepot old new → new.replies ≡ old.replies
     → DepotRestartLeaves result old.depot new.depot → Fits d (event.Restart node.Depot) (restart_outcome result) (shown_of new)
     → happens d (event.Restart node.Depot) (shown_of old) ≡ (restart_outcome result, shown_of new)
 unfolding happens judged
-depot_restart_by d (Ok r) old new at replies (left, openings) fits = rw (fits, depot_read _ old new at replies left.0 openings, left.1, left.2) refl
-depot_restart_by d (Err replay.OutOfMemory) old new at replies (left, openings) fits = rw (fits, depot_not_read _ _ old new at replies left.0 openings) refl
-depot_restart_by d (Err (replay.BadJournal place)) old new at replies (left, openings) fits = rw (fits, depot_not_read _ _ old new at replies left.0 openings) refl
-depot_restart_by d (Err replay.Device) old new at replies (left, openings) fits = rw (fits, depot_not_read _ _ old new at replies left.0 openings) refl
+depot_restart_by d (Ok r) old new at replies (left, openings) fits = rw (fits, depot_read _ _ old new at replies left.0 openings, left.1, left.2) refl
+depot_restart_by d (Err replay.OutOfMemory) old new at replies (left, openings) fits = rw (fits, depot_not_read _ _ _ old new at replies left.0 openings) refl
+depot_restart_by d (Err (replay.BadJournal place)) old new at replies (left, openings) fits = rw (fits, depot_not_read _ _ _ old new at replies left.0 openings) refl
+depot_restart_by d (Err replay.Device) old new at replies (left, openings) fits = rw (fits, depot_not_read _ _ _ old new at replies left.0 openings) refl
 
 -- ---- all events
 

@@ -60,7 +60,7 @@ module _ {R : Type 0} (P : LogState R → Type 0) (Fits : List R → R → Type 
     now : {X : Type 0} (f : LogState R → X) → f new ≡ f (record old { down = true; foresight = new.foresight })
     now f = ap f h.0
   restart_keeps spelling allows fits (Err (replay.BadJournal place)) old new h = refused old new (now (λ l. l.honest)) (now (λ l. l.records)) (now (λ l. l.tried)) (now (λ l. l.down)) where
-    now : {X : Type 0} (f : LogState R → X) → f new ≡ f (record old { down = true; foresight = record old.foresight { stands = None } })
+    now : {X : Type 0} (f : LogState R → X) → f new ≡ f (record old { down = true; rejected = new.rejected; foresight = record old.foresight { stands = None } })
     now f = ap f h.0
   restart_keeps spelling allows fits (Err replay.Device) old new h = refused old new (now (λ l. l.honest)) (now (λ l. l.records)) (now (λ l. l.tried)) (now (λ l. l.down)) where
     now : {X : Type 0} (f : LogState R → X) → f new ≡ f (record old { down = true; failures = new.failures })

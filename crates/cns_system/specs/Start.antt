@@ -1,5 +1,5 @@
 -- What the opening of both nodes gives (this project's own rule).
-use Rattle.std.specs.Prelude.{◌≡◌, List, []}
+use Rattle.std.specs.Prelude.{◌≡◌, ℕ, List, []}
 use Rattle.cns_trades.specs.declared.opening.Opening.{Opening}
 use Rattle.cns_journal.specs.RecordLog.{IsGivenUp}
 use Rattle.cns_journal.specs.Keeper.{KeeperState}
@@ -28,11 +28,12 @@ IsClearReturned before after node = IsOpened before node × IsGivenUp spelling n
 abbrev pub IsDepotReturned : List Opening → KeeperState → KeeperState → DepNode → Type 0
 IsDepotReturned openings before after node = IsDepotOpened openings before node × IsGivenUp dep_spelling node.log after
 
--- why both nodes are not opened, by what the keepers of the clearing node and of the depository give, and what is left of these
-abbrev pub IsNotOpened : List Opening → StartFault → KeeperState → KeeperState → KeeperState → KeeperState → Type 0
-IsNotOpened openings (start.Clear fault) clear depot clear' depot' = IsUnread fault clear clear' × (depot' ≡ depot)
-IsNotOpened openings (start.Depot fault) clear depot clear' depot' =
-    ((c : ClearNode) × IsClearReturned clear clear' c) × IsDepotUnread openings fault depot depot'
-IsNotOpened openings start.Disagree clear depot clear' depot' =
+-- why both nodes are not opened, by what the keepers of the clearing node and of the depository give, and what is left of these; where a
+-- payload is bad, these are all that its keeper gave
+abbrev pub IsNotOpened : List Opening → StartFault → List (List ℕ) → KeeperState → KeeperState → KeeperState → KeeperState → Type 0
+IsNotOpened openings (start.Clear fault) rejected clear depot clear' depot' = IsUnread fault rejected clear clear' × (depot' ≡ depot)
+IsNotOpened openings (start.Depot fault) rejected clear depot clear' depot' =
+    ((c : ClearNode) × IsClearReturned clear clear' c) × IsDepotUnread openings fault rejected depot depot'
+IsNotOpened openings start.Disagree rejected clear depot clear' depot' =
     (c : ClearNode) × IsClearReturned clear clear' c
     × ((p : DepNode) × IsDepotReturned openings depot depot' p × (Agree c.log.records p.log.records → ⊥))

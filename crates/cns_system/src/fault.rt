@@ -15,11 +15,14 @@ pub enum StartFault {
     Disagree,
 }
 
-/// A refused opening: why, and both keepers, each as its reopening left it where it was reopened.
+/// A refused opening: why, what was read, and both keepers, each as its reopening left it where it was
+/// reopened.
 #[derive(Drop)]
 pub struct Unopened<C, D> {
     /// Why the nodes are not opened.
     pub fault: StartFault,
+    /// At `BadJournal` the payloads that the keeper of that node gave, the first one first; else none.
+    pub rejected: Vec<Vec<u8>>,
     /// The keeper of the clearing node.
     pub clear: C,
     /// The keeper of the depository.

@@ -1,4 +1,4 @@
-ghost use Rattle.std.specs.Prelude.{◌≡◌, ◌<◌, ◌+◌, ◌++◌, ◌∷◌, [], length, Some, IfOk, IfErr};
+ghost use Rattle.std.specs.Prelude.{◌≡◌, ◌<◌, ◌+◌, ◌++◌, ◌∷◌, [], length, map, vec_items, Some, IfOk, IfErr};
 ghost use Rattle.cns_clearing.specs.Answers.{CycleLeaves, ReplyLeaves, SettingLeaves, TradeLeaves};
 ghost use Rattle.cns_records.specs.Clear.{spelling};
 ghost use Rattle.cns_records.specs.Dep.{dep_spelling};
@@ -62,7 +62,7 @@ impl<C: Keeper + Drop, D: Keeper + Drop> Pair<C, D> {
         openings: Openings,
     ) -> Result<Pair<C, D>, Unopened<C, D>>
         ensures ok { IfOk result (IsStarted openings (C.state clear) (D.state depot)) }
-        ensures err { IfErr result (λ refused. IsNotOpened openings refused.fault (C.state clear) (D.state depot) (C.state refused.clear) (D.state refused.depot)) }
+        ensures err { IfErr result (λ refused. IsNotOpened openings refused.fault (map vec_items refused.rejected.items) (C.state clear) (D.state depot) (C.state refused.clear) (D.state refused.depot)) }
     {
         // The openings are dropped by name at an exit: the check takes a call of `drop` as one step, and
         // walks through each field of a value that leaves its scope.
@@ -72,6 +72,7 @@ impl<C: Keeper + Drop, D: Keeper + Drop> Pair<C, D> {
                 drop(openings);
                 return Err(Unopened {
                     fault: StartFault::Clear(refused.fault),
+                    rejected: refused.rejected,
                     clear: refused.keeper,
                     depot,
                 });
@@ -82,6 +83,7 @@ impl<C: Keeper + Drop, D: Keeper + Drop> Pair<C, D> {
             Err(refused) => {
                 return Err(Unopened {
                     fault: StartFault::Depot(refused.fault),
+                    rejected: refused.rejected,
                     clear: clear_keeper(clear),
                     depot: refused.keeper,
                 });
@@ -90,6 +92,7 @@ impl<C: Keeper + Drop, D: Keeper + Drop> Pair<C, D> {
         if !agree(&clear, &depot) {
             return Err(Unopened {
                 fault: StartFault::Disagree,
+                rejected: Vec::new(alloc),
                 clear: clear_keeper(clear),
                 depot: depot_keeper(depot),
             });

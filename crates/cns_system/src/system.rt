@@ -1,4 +1,4 @@
-ghost use Rattle.std.specs.Prelude.{◌≡◌, IfOk, IfErr, OnErr};
+ghost use Rattle.std.specs.Prelude.{◌≡◌, map, vec_items, IfOk, IfErr, OnErr};
 ghost use Rattle.cns_records.specs.Clear.{spelling};
 ghost use Rattle.cns_records.specs.Dep.{dep_spelling};
 ghost use Rattle.cns_system.specs.Accord.{IsInAccord, StaysSound};
@@ -84,7 +84,7 @@ impl<C: Keeper + Drop, D: Keeper + Drop> System<C, D> {
         openings: Openings,
     ) -> Result<System<C, D>, Unopened<C, D>>
         ensures ok { IfOk result (IsStarted openings (C.state clear) (D.state depot)) }
-        ensures err { IfErr result (λ refused. IsNotOpened openings refused.fault (C.state clear) (D.state depot) (C.state refused.clear) (D.state refused.depot)) }
+        ensures err { IfErr result (λ refused. IsNotOpened openings refused.fault (map vec_items refused.rejected.items) (C.state clear) (D.state depot) (C.state refused.clear) (D.state refused.depot)) }
         ensures accord { IfOk result IsInAccord }
 
         // The headline.

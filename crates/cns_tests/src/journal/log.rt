@@ -86,8 +86,9 @@ fn keeper_of(alloc: Global, payloads: &[&[u8]]) -> Option<ListKeeper> {
     None
 }
 
-// The answer of an opening over this keeper: how many records there are.
-fn opened(alloc: Global, keeper: ListKeeper) -> Result<usize, ReplayFault> {
+// The answer of an opening over this keeper: how many records there are, or why not, and how many payloads
+// come back with that.
+fn opened(alloc: Global, keeper: ListKeeper) -> Result<usize, (ReplayFault, usize)> {
     let mut count = Count { marks: 0 };
     match Log::open(alloc, keeper, &LIMIT, &mut count) {
         Ok(log) => {
@@ -96,14 +97,14 @@ fn opened(alloc: Global, keeper: ListKeeper) -> Result<usize, ReplayFault> {
             Ok(records)
         }
         Err(refused) => {
-            let fault = refused.fault;
+            let told = (refused.fault, refused.rejected.len());
             drop(refused);
-            Err(fault)
+            Err(told)
         }
     }
 }
 
-// The payloads of a journal, and the answer of an opening over it.
+// The payloads of a journal, which all come back where one is bad, and the answer of an opening over it.
 type Opening = (&'static [&'static [u8]], Result<usize, ReplayFault>);
 
 static OPENINGS: [Opening; 5] = [
@@ -125,7 +126,7 @@ fn opens(alloc: Global, opening: &Opening) -> bool {
     let Some(keeper) = keeper_of(alloc, payloads) else {
         return false;
     };
-    opened(alloc, keeper) == wanted
+    opened(alloc, keeper) == wanted.map_err(|fault| (fault, payloads.len()))
 }
 
 #[test]

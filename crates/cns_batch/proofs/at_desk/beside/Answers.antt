@@ -27,7 +27,7 @@ returns-clause-runs g c =
     let lot = Some (opened_of c.in-Some.begun) in
     let begun = rw c.in-Some.is at c.in_ok-begun.ensures.runs in
     let other = c.serve_while-drawn.new.other in
-    let p : Place g.row.N.Denot = record { nodes = c.args.run.now.nodes; held = c.begin.new.page; sent = g.W.Write.contents c.begin.new.writer } in
+    let p : Place g.row.N.Denot = record { nodes = c.args.run.now.nodes; held = c.begin.new.page.text; sent = g.W.Write.contents c.begin.new.writer } in
     let ran : Runs g.N.Nodes.leads (all_run served_by_workers (Some c.in-Some.begun.lot) cs s) (leaves c.serve_while-drawn.result.1 other.7.now) p (at other.3.now (g.W.Write.contents other.8.now)) =
     c.serve_while-drawn.ensures.met.1.0 in
     let supply_back : other.7.now ≡ c.supply-1.given.0 = search rules in

@@ -5,7 +5,7 @@ use Rattle.cns_batch.proofs.batch.run_input.Goals as goal
 
 pub returns : goal.returns
 returns g c =
-    let input : Input = record { openings = c.args.rows.openings; told = c.args.rows.told; rows = c.args.rows.trades; script = c.args.script.now } in
+    let input : Input = record { openings = c.args.rows.openings; told = c.args.rows.told.text; rows = c.args.rows.trades; script = c.args.script.now } in
     let q = at c.run_script-ran.new.run (g.W.Write.contents c.run_script-ran.new.writer) in
     let runs = rw (c.supply_of-supply.ensures, c.new.ensures) at c.run_script-ran.ensures.runs in
     rw c.batch_result.ensures

@@ -14,7 +14,7 @@ returns-in_err-bytes-clause-says g c =
 pub returns-in-Err-clause-says : goal.returns-in-Err-clause-says
 returns-in-Err-clause-says g c =
     rw c.start_fault.ensures
-    (says_unopened _ c.in_ok-bytes.bytes.items _ c.in-Err.refused.fault _ _ _ _ c.in_ok-bytes.ensures.text c.in_ok-bytes.ensures.size c.in_ok-openings.ensures c.in-Err.ensures.err)
+    (says_unopened _ c.in_ok-bytes.bytes.items _ c.in-Err.refused.fault _ _ _ _ _ c.in_ok-bytes.ensures.text c.in_ok-bytes.ensures.size c.in_ok-openings.ensures c.in-Err.ensures.err)
 
 pub returns-clause-says : goal.returns-clause-says
 returns-clause-says g c =
@@ -40,7 +40,7 @@ returns-in_err-bytes-clause-workers g c =
 pub returns-clause-workers : goal.returns-clause-workers
 returns-clause-workers g c =
     let parts = c.in_ok-openings.field-0 in
-    let input : Input = record { openings = parts.rows.openings; told = parts.rows.told; rows = parts.rows.trades; script = parts.script.items } in
+    let input : Input = record { openings = parts.rows.openings; told = parts.rows.told.text; rows = parts.rows.trades; script = parts.script.items } in
     let q = at c.run_script-ran.new.run (g.W.Write.contents c.run_script-ran.new.writer) in
     let runs = rw (c.supply_of-supply.ensures, c.new-2.ensures, c.as_slice.ensures.value) at c.run_script-ran.ensures.runs in
     λ some. rw c.batch_result.ensures

@@ -15,4 +15,4 @@ returns g c =
     (rw c.deref_mut.ensures.value c.lock-floor.ensures)
     (rw (c.deref_mut.ensures.value, ← c.deref.ensures, ← c.is_some-cut.ensures) c.is_sealed-sealed.ensures)
     (rw (c.tickets.ensures, c.is_some-cut.ensures) at c.in_ok-entered.ensures.ok)
-    (rw c.as_slice.ensures.value at c.end-told.ensures)
+    (rw c.as_slice.ensures.value at c.end-told.ensures).0

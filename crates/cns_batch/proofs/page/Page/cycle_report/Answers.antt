@@ -4,40 +4,40 @@ use Rattle.cns_clearing.specs.Pools.{rows_of as pools_of}
 use Rattle.cns_netting.specs.Rows.{rows_of}
 use Rattle.std.specs.List.{flat_map}
 use Rattle.cns_report.specs.Report.{cycle_report_text, pool_line, position_line, report_head}
-use Rattle.cns_batch.specs.Runs.{Output}
+use Rattle.cns_batch.specs.Runs.{Output, output}
 use Rattle.cns_batch.proofs.PrintLemmas.{breaks_after, breaks_front, breaks_here, prints_after, prints_fault, writes_more}
 use Rattle.cns_batch.proofs.page.Page.cycle_report.Goals as goal
 
 pub returns-in_err-told : goal.returns-in_err-told
 unfolding cycle_report_text
 returns-in_err-told g c =
-    let p : Output = record { held = c.args.self.now; sent = g.W.Write.contents c.args.writer.now } in
+    let p : Output = output c.args.self.now (g.W.Write.contents c.args.writer.now) in
     let records = c.args.clearing.now.log.records in
     let head = report_head c.latest-latest.result in
     let positions = flat_map position_line (rows_of (history_of records)) in
     let pools = flat_map pool_line (pools_of (orders_of records) c.args.clearing.now.lots) in
     rw (← c.latest-latest.ensures)
     (prints_fault (head ++ positions ++ pools) c.from_residual.result p _ c.from_residual.ensures.0
-    (breaks_front p _ (head ++ positions) pools (breaks_front p _ head positions c.in_err-told.ensures)))
+    (breaks_front p _ (head ++ positions) pools (breaks_front p _ head positions c.in_err-told.ensures.0)))
 
 pub returns-in_err-positions : goal.returns-in_err-positions
 unfolding cycle_report_text
 returns-in_err-positions g c =
-    let p : Output = record { held = c.args.self.now; sent = g.W.Write.contents c.args.writer.now } in
-    let q : Output = record { held = c.told.new.self; sent = g.W.Write.contents c.told.new.writer } in
+    let p : Output = output c.args.self.now (g.W.Write.contents c.args.writer.now) in
+    let q : Output = output c.told.new.self (g.W.Write.contents c.told.new.writer) in
     let records = c.args.clearing.now.log.records in
     let head = report_head c.latest-latest.result in
     let positions = flat_map position_line (rows_of (history_of records)) in
     let pools = flat_map pool_line (pools_of (orders_of records) c.args.clearing.now.lots) in
     rw (← c.latest-latest.ensures)
     (prints_fault (head ++ positions ++ pools) c.from_residual-in_err-positions.result p q c.from_residual-in_err-positions.ensures.0
-    (breaks_front p q.sent (head ++ positions) pools (breaks_after p q q.sent head positions c.in_ok-told.ensures (breaks_here positions q))))
+    (breaks_front p q.sent (head ++ positions) pools (breaks_after p q q.sent head positions c.in_ok-told.ensures.0 (breaks_here positions q))))
 
 pub returns-in_err-rows : goal.returns-in_err-rows
 unfolding cycle_report_text
 returns-in_err-rows g c =
-    let p : Output = record { held = c.args.self.now; sent = g.W.Write.contents c.args.writer.now } in
-    let q : Output = record { held = c.told.new.self; sent = g.W.Write.contents c.told.new.writer } in
+    let p : Output = output c.args.self.now (g.W.Write.contents c.args.writer.now) in
+    let q : Output = output c.told.new.self (g.W.Write.contents c.told.new.writer) in
     let records = c.args.clearing.now.log.records in
     let head = report_head c.latest-latest.result in
     let positions = flat_map position_line c.as_slice.result.now in
@@ -45,14 +45,14 @@ returns-in_err-rows g c =
     let rows : c.as_slice.result.now ≡ rows_of (history_of records) = c.as_slice.ensures.value ∙ c.in_ok-positions.ensures ∙ ap rows_of c.book.ensures.history in
     rw (← c.latest-latest.ensures, ← rows)
     (prints_fault (head ++ positions ++ pools) c.from_residual-in_err-rows.result p _ c.from_residual-in_err-rows.ensures.0
-    (breaks_front p _ (head ++ positions) pools (breaks_after p q _ head positions c.in_ok-told.ensures c.in_err-rows.ensures)))
+    (breaks_front p _ (head ++ positions) pools (breaks_after p q _ head positions c.in_ok-told.ensures.0 c.in_err-rows.ensures.0)))
 
 pub returns-in_err-pools : goal.returns-in_err-pools
 unfolding cycle_report_text
 returns-in_err-pools g c =
-    let p : Output = record { held = c.args.self.now; sent = g.W.Write.contents c.args.writer.now } in
-    let q : Output = record { held = c.told.new.self; sent = g.W.Write.contents c.told.new.writer } in
-    let r : Output = record { held = c.rows-2.new.self; sent = g.W.Write.contents c.rows-2.new.writer } in
+    let p : Output = output c.args.self.now (g.W.Write.contents c.args.writer.now) in
+    let q : Output = output c.told.new.self (g.W.Write.contents c.told.new.writer) in
+    let r : Output = output c.rows-2.new.self (g.W.Write.contents c.rows-2.new.writer) in
     let records = c.args.clearing.now.log.records in
     let head = report_head c.latest-latest.result in
     let positions = flat_map position_line c.as_slice.result.now in
@@ -60,14 +60,14 @@ returns-in_err-pools g c =
     let rows : c.as_slice.result.now ≡ rows_of (history_of records) = c.as_slice.ensures.value ∙ c.in_ok-positions.ensures ∙ ap rows_of c.book.ensures.history in
     rw (← c.latest-latest.ensures, ← rows)
     (prints_fault (head ++ positions ++ pools) c.from_residual-in_err-pools.result p r c.from_residual-in_err-pools.ensures.0
-    (breaks_after p r r.sent (head ++ positions) pools (writes_more p q r head positions c.in_ok-told.ensures c.in_ok-rows.ensures) (breaks_here pools r)))
+    (breaks_after p r r.sent (head ++ positions) pools (writes_more p q r head positions c.in_ok-told.ensures.0 c.in_ok-rows.ensures.0) (breaks_here pools r)))
 
 pub returns : goal.returns
 unfolding cycle_report_text
 returns g c =
-    let p : Output = record { held = c.args.self.now; sent = g.W.Write.contents c.args.writer.now } in
-    let q : Output = record { held = c.told.new.self; sent = g.W.Write.contents c.told.new.writer } in
-    let r : Output = record { held = c.rows-2.new.self; sent = g.W.Write.contents c.rows-2.new.writer } in
+    let p : Output = output c.args.self.now (g.W.Write.contents c.args.writer.now) in
+    let q : Output = output c.told.new.self (g.W.Write.contents c.told.new.writer) in
+    let r : Output = output c.rows-2.new.self (g.W.Write.contents c.rows-2.new.writer) in
     let records = c.args.clearing.now.log.records in
     let head = report_head c.latest-latest.result in
     let positions = flat_map position_line c.as_slice.result.now in
@@ -75,4 +75,4 @@ returns g c =
     let rows : c.as_slice.result.now ≡ rows_of (history_of records) = c.as_slice.ensures.value ∙ c.in_ok-positions.ensures ∙ ap rows_of c.book.ensures.history in
     let pool_rows : c.as_slice-2.result.now ≡ pools_of (orders_of records) c.args.clearing.now.lots = c.as_slice-2.ensures ∙ c.in_ok-pools.ensures in
     rw (← c.latest-latest.ensures, ← rows, ← pool_rows)
-    (prints_after c.rows-3.result p r _ (head ++ positions) pools (writes_more p q r head positions c.in_ok-told.ensures c.in_ok-rows.ensures) c.rows-3.ensures)
+    (prints_after c.rows-3.result p r _ (head ++ positions) pools (writes_more p q r head positions c.in_ok-told.ensures.0 c.in_ok-rows.ensures.0) c.rows-3.ensures.0)

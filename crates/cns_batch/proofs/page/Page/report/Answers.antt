@@ -6,7 +6,7 @@ use Rattle.cns_clearing.specs.Pools.{rows_of as pools_of}
 use Rattle.cns_depository.specs.Balances.{balance_rows}
 use Rattle.cns_netting.specs.Rows.{rows_of}
 use Rattle.cns_report.specs.Report.{balance_line, cycle_report_text}
-use Rattle.cns_batch.specs.Runs.{Output}
+use Rattle.cns_batch.specs.Runs.{Output, output}
 use Rattle.cns_batch.proofs.PrintLemmas.{breaks_after, breaks_front, prints_after, prints_fault, writes_more}
 use Rattle.cns_batch.proofs.page.Page.report.Goals as goal
 
@@ -15,7 +15,7 @@ last = codes "END\n"
 
 pub returns-in_err-cycle_report : goal.returns-in_err-cycle_report
 returns-in_err-cycle_report g c =
-    let p : Output = record { held = c.args.self.now; sent = g.W.Write.contents c.args.writer.now } in
+    let p : Output = output c.args.self.now (g.W.Write.contents c.args.writer.now) in
     let node = c.args.system.now.clear.clear in
     let records = node.log.records in
     let depot = c.args.system.now.depot in
@@ -26,8 +26,8 @@ returns-in_err-cycle_report g c =
 
 pub returns-in_err-balance_report : goal.returns-in_err-balance_report
 returns-in_err-balance_report g c =
-    let p : Output = record { held = c.args.self.now; sent = g.W.Write.contents c.args.writer.now } in
-    let q : Output = record { held = c.cycle_report.new.self; sent = g.W.Write.contents c.cycle_report.new.writer } in
+    let p : Output = output c.args.self.now (g.W.Write.contents c.args.writer.now) in
+    let q : Output = output c.cycle_report.new.self (g.W.Write.contents c.cycle_report.new.writer) in
     let node = c.args.system.now.clear.clear in
     let records = node.log.records in
     let depot = c.args.system.now.depot in
@@ -39,13 +39,13 @@ returns-in_err-balance_report g c =
 
 pub returns : goal.returns
 returns g c =
-    let p : Output = record { held = c.args.self.now; sent = g.W.Write.contents c.args.writer.now } in
-    let q : Output = record { held = c.cycle_report.new.self; sent = g.W.Write.contents c.cycle_report.new.writer } in
-    let r : Output = record { held = c.balance_report.new.self; sent = g.W.Write.contents c.balance_report.new.writer } in
+    let p : Output = output c.args.self.now (g.W.Write.contents c.args.writer.now) in
+    let q : Output = output c.cycle_report.new.self (g.W.Write.contents c.cycle_report.new.writer) in
+    let r : Output = output c.balance_report.new.self (g.W.Write.contents c.balance_report.new.writer) in
     let node = c.args.system.now.clear.clear in
     let records = node.log.records in
     let depot = c.args.system.now.depot in
     let first = cycle_report_text (latest_of records) (rows_of (history_of records)) (pools_of (orders_of records) node.lots) in
     let balances = flat_map balance_line (balance_rows depot.openings depot.log.records) in
     prints_after c.told.result p r _ (first ++ balances) last
-    (writes_more p q r first balances (rw c.clearing.ensures at c.in_ok-cycle_report.ensures) (rw c.depository.ensures at c.in_ok-balance_report.ensures)) c.told.ensures
+    (writes_more p q r first balances (rw c.clearing.ensures at c.in_ok-cycle_report.ensures) (rw c.depository.ensures at c.in_ok-balance_report.ensures)) c.told.ensures.0

@@ -4,4 +4,4 @@ use Rattle.cns_batch.proofs.ActLemmas.{prints_runs}
 use Rattle.cns_batch.proofs.runner.Runner.tell.Goals as goal
 
 pub returns : goal.returns
-returns g c = prints_runs _ (line_text c.args.line) c.tell.result _ _ c.tell.ensures refl
+returns g c = prints_runs _ (line_text c.args.line) c.tell.result _ _ c.tell.ensures.0 refl

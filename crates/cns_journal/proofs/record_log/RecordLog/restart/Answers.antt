@@ -4,15 +4,15 @@ use Rattle.cns_journal.proofs.record_log.RecordLog.restart.Goals as goal
 
 pub invariant_of-self : goal.invariant_of-self
 invariant_of-self g c =
-    log_unread _ (g.L.Ledger.allows c.args.context.now) _ _ _ _ _ _ c.in-Err.fault c.self.invariant c.in-Err.ensures.reread
+    log_unread _ (g.L.Ledger.allows c.args.context.now) _ _ _ _ _ _ _ c.in-Err.fault c.self.invariant c.in-Err.ensures.reread
 
 pub returns-in-Err-clause-leaves : goal.returns-in-Err-clause-leaves
 returns-in-Err-clause-leaves g c =
-    restart_refused_at _ (g.L.Ledger.allows c.args.context.now) _ c.requires.payloads _ _ _ _ _ c.in-Err.fault c.args.self.now c.self.invariant c.requires.lawful c.in-Err.ensures.reread c.self.view_is
+    restart_refused_at _ (g.L.Ledger.allows c.args.context.now) _ c.requires.payloads _ _ _ _ _ _ _ c.in-Err.fault c.args.self.now c.self.invariant c.requires.lawful c.in-Err.ensures.reread c.in-Err.ensures.rejects c.self.view_is
 
 pub returns-clause-leaves : goal.returns-clause-leaves
 returns-clause-leaves g c =
     let after : c.len.result ≡ length c.in-Ok.records.items = search rules in
     let before : c.len-2.result ≡ length c.self.inside.records.items = search rules in
     let count : c.len-3.result ≡ length c.in-Ok.records.items = search rules in
-    restart_accepted_at _ (g.L.Ledger.allows c.args.context.now) _ c.requires.payloads _ _ _ _ _ _ _ _ _ c.args.self.now c.self.invariant c.in-Ok.ensures.reread after before count c.self.view_is
+    restart_accepted_at _ (g.L.Ledger.allows c.args.context.now) _ c.requires.payloads _ _ _ _ _ _ _ _ _ _ _ c.args.self.now c.self.invariant c.in-Ok.ensures.reread c.in-Ok.ensures.rejects after before count c.self.view_is
