@@ -1,0 +1,5 @@
+pub mod KeptLemmas
+pub mod SectionLemmas
+pub mod ScriptLemmas
+pub mod TextLemmas
+pub mod CleanLemmas

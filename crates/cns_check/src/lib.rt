@@ -1,0 +1,26 @@
+//! What is wrong with an input, all of it: its heads, its headers, each fault of each row, and the lines of
+//! its script.
+//!
+//! A check runs nothing. It tells at least what a run would tell of the rows and of the lines that are no commands.
+#![tactic(auto)]
+
+mod clean;
+mod excerpt;
+mod field;
+mod finding;
+mod form;
+mod found;
+mod heads;
+mod lines;
+mod openings;
+mod rows;
+mod script;
+mod text;
+mod trades;
+mod words;
+
+pub use clean::{clean_texts_alone_have_no_findings, first_fault_is_that_of_a_run};
+pub use finding::{Finding, Head, Part, Table};
+pub use found::{Findings, Found};
+pub use text::check;
+pub use words::{count_line, found_line};

@@ -1,0 +1,8 @@
+//! Inputs by name: the one text that files of openings, of trades and of a script make.
+#![tactic(auto)]
+
+mod line;
+mod named;
+
+pub use line::has_line;
+pub use named::{NamedFault, text_of_files};

@@ -1,0 +1,4 @@
+pub mod LineLemmas
+pub mod CountLemmas
+pub mod TallyLemmas
+pub mod SumLemmas
