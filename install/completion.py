@@ -24,7 +24,8 @@ def script(program):
     lines = ['# Completion of cnsd for bash, made by install/completion.py.', '_cnsd() {',
              '    local word=${COMP_WORDS[COMP_CWORD]} before=${COMP_WORDS[COMP_CWORD-1]}', '    COMPREPLY=()',
              '    case $before in', '        --journal)', '            COMPREPLY=($(compgen -d -- "$word"))', '            return', '            ;;',
-             '        --workers | --shake)', '            return', '            ;;', '    esac',
+             '        --workers | --shake)', '            return', '            ;;',
+             '        --openings | --trades | --script)', '            COMPREPLY=($(compgen -f -- "$word"))', '            return', '            ;;', '    esac',
              '    ((COMP_CWORD > 1)) || {', '        COMPREPLY=($(compgen -W "%s" -- "$word"))' % ' '.join([*commands, *words_under('Options', whole)]),
              '        return', '    }', '    case ${COMP_WORDS[1]} in']
     for command in commands:

@@ -73,11 +73,11 @@ def of_markdown(text):
 
 def page(program):
     """The lines of the page."""
-    whole, run, cusip = said(program, '--help'), said(program, 'run', '--help'), said(program, 'cusip', '--help')
+    whole, run, check, cusip = [said(program, *words) for words in (['--help'], ['run', '--help'], ['check', '--help'], ['cusip', '--help'])]
     name, version = said(program, '--version').split()
     about = whole.splitlines()[0]
     options, teaches = run.split('\n\nThe input is', 1)
-    usages = [re.search(r'^Usage: (.*)$', text, re.M)[1] for text in (run, cusip)]
+    usages = [re.search(r'^Usage: (.*)$', text, re.M)[1] for text in (run, check, cusip)]
     with open(FAULTS, encoding='utf-8') as faults:
         told = faults.read()
     return [
@@ -86,7 +86,8 @@ def page(program):
         '.SH SYNOPSIS', *(line for usage in usages for line in ('.B ' + plain(usage), '.br')),
         '.SH DESCRIPTION', *as_it_stands(options),
         '.PP', *as_it_stands('The input is' + teaches),
-        '.SH ONE CUSIP', *as_it_stands(cusip),
+        '.SH CHECKS', *as_it_stands(check),
+        '.SH CUSIPS', *as_it_stands(cusip),
         '.SH FAULTS', *of_markdown(told),
     ]
 

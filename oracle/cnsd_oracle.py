@@ -134,18 +134,22 @@ def split_sections(text):
     return b''.join(lines[1:trades]), b''.join(lines[trades + 1:script]), said[script + 1:]
 
 
-def csv_records(text):
-    """The records of a text as the `csv` crate reads them."""
+def numbered_records(text):
+    """The records of a text as the `csv` crate reads them, each with the line in which it begins."""
     if text.startswith(b'\xef\xbb\xbf'):
         text = text[3:]
     if b'"' not in text and b'\r' not in text:
-        return [line.split(b',') for line in text.split(b'\n') if line]
+        return [(number, line.split(b',')) for number, line in enumerate(text.split(b'\n'), 1) if line]
     records, fields, field = [], [], bytearray()
     state = 'record'          # before a record's first byte
+    line = began = 1
     for byte in text:
         char = bytes([byte])
+        here, line = line, line + (char == b'\n')
         if state == 'record' and char in b'\r\n':
             continue
+        if state == 'record':
+            began = here
         if state == 'quoted':
             if char == b'"':
                 state = 'quote'
@@ -164,15 +168,19 @@ def csv_records(text):
             field = bytearray()
             state = 'field'   # before a field's first byte
         elif char in b'\r\n':
-            records.append(fields + [bytes(field)])
+            records.append((began, fields + [bytes(field)]))
             fields, field = [], bytearray()
             state = 'record'
         else:
             field += char
             state = 'plain'
     if state != 'record':
-        records.append(fields + [bytes(field)])
+        records.append((began, fields + [bytes(field)]))
     return records
+
+
+def csv_records(text):
+    return [fields for _, fields in numbered_records(text)]
 
 
 def rows_under(header, text):

@@ -588,7 +588,8 @@ def cusip_text(rng):
 def cusip_input(rng):
     text = cusip_text(rng)
     dashes = [b'--'] if text.startswith(b'-') or rng.random() < 0.3 else []
-    return Input([b'cusip'] + dashes + [text], b'', cnsd_oracle.answer_cusip(text))
+    none_read = (0, b'', b'')           # `-` stands for the lines of standard input, of which there are none
+    return Input([b'cusip'] + dashes + [text], b'', none_read if text == b'-' else cnsd_oracle.answer_cusip(text))
 
 
 def command_line(rng):
@@ -598,9 +599,10 @@ def command_line(rng):
     text = cusip_text(rng)
     plain, word, option = b'x' + text, rng.choice(NO_COMMANDS), rng.choice(NO_OPTIONS)
     faulty = [[], [word], [option], [word] * 50, [word, b'run'], [option, b'run'],
-              [b'run', word], [b'run', option], [b'run', b'run'], [b'run', b'--', plain], [b'run', option, b'4'],
+              [b'run', word, word], [b'run', option], [b'run', b'run', b'run'], [b'run', b'--', plain, text], [b'run', option, b'4'],
+              [b'run', word, b'--script', word], [b'check', option], [b'check', word, word], [b'check', b'--strict'],
               [b'run'] + rng.choice(NO_VALUES), [b'run'] + rng.choice(NO_VALUES),
-              [b'cusip'], [b'cusip', b'--'], [b'cusip', plain, plain], [b'cusip', b'--', text, text],
+              [b'cusip'], [b'cusip', b'--'],
               [b'cusip', option], [b'cusip', plain, option], [b'cusip', option, plain],
               [b'cusip', plain + b'\xff'], [b'cusip', b'--', b'\xc3' + plain]]
     words = rng.choice(faulty)

@@ -135,9 +135,12 @@ part 'rt ci' rt ci
 part_of_program 'examples' tests/run_cases.sh "$program" examples
 part_of_program 'tests/cases' tests/run_cases.sh "$program" tests/cases
 part_of_program 'tests/version-1' tests/run_cases.sh "$program" tests/version-1
+part_of_program 'tests/faults' tests/run_cases.sh "$program" tests/faults
 part_of_program 'refused memory' tests/refuse_memory.sh "$program"
 part_of_program 'refused lines once more' tests/refuse_again.sh "$program"
 part_of_program 'random inputs' oracle/fuzz.py "$program" --seed 1 --count 500
+part_of_program 'strict runs and inputs by name' tests/check_strict.py "$program"
+part_of_program 'what check tells' oracle/check.py "$program" --seed 1 --count 500
 part_of_program 'the headline in reports' oracle/headline.py "$program" --seed 1 --count 300
 part_of_program 'runs with workers' oracle/workers.py "$program" --seed 1 --count 100
 part_of_program 'what make install sets up' tests/check_install.py "$program"

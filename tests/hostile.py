@@ -76,7 +76,7 @@ FAILURES = [b'cnsd: journal failed\n', b'cnsd: output failed\n', b'cnsd: out of 
 JOURNAL = b'cnsd: journal failed\n'
 CLOSING_WORDS = {b'restart', b'REPORT', b'POS', b'POOL', b'BAL', b'END', b''}
 REFUSED = (rb'refused (?:Down|SameMember|Same|Conflict|Full|Device|CycleOrder|LotsOpen|NumbersSpent|LotAlready|LotsSpent|NoLot|StaleLot|'
-           rb'LotBusy|NotLong|EarlierGroup|Sealed|Unserved|UnknownMove|NoPacket|TooMuch|NotPlanned)')
+           rb'LotBusy|NotLong|EarlierGroup|Sealed|Unserved|UnknownMove|NoPacket|TooMuch|TooFew|IssueSum|NotPlanned)')
 ROW = (rb'fault (?:Fields|Id|(?:Buyer|Seller|Account|Quantity|Shares) (?:BadNumber|OutOfRange)|Settle BadDate|Double|IssueSum|'
        rb'Cusip (?:Length|BadChar [1-9]|CheckDigit \d))')
 LINES = re.compile(
@@ -85,10 +85,13 @@ LINES = re.compile(
     rb'lot \d+ poured \d+ longs \d+|pour \d+|ticket \d{4} start \d+ asked \d+|look poured \d+ asked \d+ sealed (?:yes|no)|'
     rb'close granted \d+|send \d+ packet \d+|(?:exec|again) \d+ moved \d+ packet \d+|confirm \d+ moved \d+ (?:done|again)|'
     rb'restart (?:CLEAR|DEPOT) records \d+ kept (?:yes|no)|'
-    rb'(?:exempt|priority|cycle|lot|pour|reserve|look|seal|close|send|order|reply|fail|restart) ' + REFUSED + rb'|'
+    rb'(?:deposit|withdraw) \d{4} number \d+ (?:done|again)|'
+    rb'(?:exempt|priority|cycle|lot|pour|reserve|look|seal|close|send|order|reply|deposit|withdraw|fail|restart) ' + REFUSED + rb'|'
     rb'REPORT cycle (?:none|\d{4}-\d\d-\d\d (?:NIGHT|DAY))|POS [0-9A-Z*@#]{9} \d{4} [ \d-]{20}|'
     rb'POOL [0-9A-Z*@#]{9} free \d+ lent \d+ out \d+|BAL [0-9A-Z*@#]{9} \d{4} [ \d-]{20}|END)\n)*')
-CUSIP_ANSWER = re.compile(rb'(?:Length|BadChar [1-9]|CheckDigit \d)\n')
+COUNTS = re.compile(rb'cnsd: \d+ rows? faulty, \d+ trades? refused, \d+ bad lines?, \d+ events? refused, \d+ device failures?\n')
+TOLD = re.compile(rb'(?:[^\n]+:\d+: [^\n]+\n)+\d+ faults?: \d+ of heads and headers, \d+ of openings, \d+ of trades, \d+ of the script(?:; \d+ of these are not shown)?\n')
+CUSIP_ANSWER = re.compile(rb'(?:(?:ok|Length|BadChar [1-9]|CheckDigit \d)\n)+')
 
 
 def time_bound(size):
@@ -197,12 +200,18 @@ def judge_end(words, size, ended):
         return 'signal %d' % (status - 1000)
     if status == 121:
         return None                              # the command line is longer than the system takes
-    if status > 3:
+    if status > 4 or (status == 4 and b'--strict' not in words):
         return 'status %d' % status
     if spent > time_bound(size):
         return '%d microseconds for %d bytes' % (spent, size)
     if memory > memory_bound(size):
         return '%d KiB for %d bytes' % (memory, size)
+    if b'--strict' in words and COUNTS.fullmatch(err):
+        return None if status != 1 and status != 2 and LINES.fullmatch(out) else 'status %d of a strict run with %r' % (status, err)
+    if words[:1] == [b'check'] and status == 1 and out:
+        return None if TOLD.fullmatch(out) and not err else 'a check with %r and standard error %r' % (out[-200:], err[:200])
+    if words[:1] == [b'check'] and status == 2 and err.startswith(b'cnsd: ') and not out:
+        return None
     if status == 0 and err:
         return 'status 0 with standard error %r' % err[:200]
     if status == 1:

@@ -1,15 +1,23 @@
 -- The command line, and what it asks for by what clap's definitions make of its words.
-use Rattle.std.specs.Prelude.{◌≡◌, ◌⊎◌, ◌<◌, ◌^◌, ℕ, List, Option, Some, None, true, codes, option_map, string_bytes, if◌then◌else◌}
+use Rattle.std.specs.Prelude.{◌≡◌, ◌⊎◌, ◌<◌, ◌^◌, ◌==◌, ◌||◌, ℕ, Bool, not, List, [], Option, Some, None, true, false, codes, is_some, length, map, option_map, string_bytes, unwrap_or, if◌then◌else◌}
 use Rattle.std.specs.Str.{bytes_eq}
 use Rattle.std.specs.Str.Parse.{IsNumeral, digits_value, without_leading_plus}
-use Rattle.clap.specs.Words.{App, Row, Rule, Text, first_of, new_app, new_rule, with_rule, with_subcommand}
+use Rattle.clap.specs.Words.{App, Row, Rule, Text, all_of, first_of, new_app, new_rule, with_rule, with_subcommand}
+use Rattle.clap.specs.Lexer.{usize_max}
 use Rattle.clap.specs.Simple.{on_top}
-use Rattle.clap.specs.declared.builder.action.ArgAction.TheVariants.{Set}
+use Rattle.clap.specs.declared.builder.command.Command.{Command}
+use Rattle.clap.specs.declared.builder.command.Command.TheViews.{out-Command}
+use Rattle.std.specs.Option.{option_map_or}
+use Rattle.clap.specs.declared.builder.action.ArgAction.TheVariants.{Append, Set, SetTrue}
 use Rattle.clap.specs.declared.builder.value_parser.ValueParser.TheVariants as vp
+use Rattle.cnsd.specs.declared.arguments.Manner.{Manner}
+use Rattle.cnsd.specs.declared.arguments.Names.{Names}
+use Rattle.cnsd.specs.declared.arguments.Source.{Source}
+use Rattle.cnsd.specs.declared.arguments.Source.TheVariants as source
 use Rattle.cnsd.specs.declared.arguments.Request.{Request}
 use Rattle.cnsd.specs.declared.arguments.Request.TheVariants as request
 
--- run [--workers N] [--shake NUMBER] [--journal DIR]
+-- run [--workers N] [--shake NUMBER] [--journal DIR] [--strict]
 abbrev pub workers_rule : Rule
 workers_rule = record (new_rule (codes "workers")) { long = Some (codes "workers"); action = Some Set; value_names = 1; parser = Some (vp.Unsigned 0 64) }
 
@@ -19,21 +27,48 @@ shake_rule = record (new_rule (codes "shake")) { long = Some (codes "shake"); ac
 abbrev pub journal_rule : Rule
 journal_rule = record (new_rule (codes "journal")) { long = Some (codes "journal"); action = Some Set; value_names = 1 }
 
-abbrev pub run_app : App
-run_app = with_rule (with_rule (with_rule (new_app (codes "run")) workers_rule) shake_rule) journal_rule
+abbrev pub strict_rule : Rule
+strict_rule = record (new_rule (codes "strict")) { long = Some (codes "strict"); action = Some SetTrue }
 
--- cusip TEXT
+-- [FILE] [--openings FILE] [--trades FILE].. [--script FILE]
+abbrev pub file_rule : Rule
+file_rule = record (new_rule (codes "file")) { action = Some Set; value_names = 1 }
+
+abbrev pub openings_rule : Rule
+openings_rule = record (new_rule (codes "openings")) { long = Some (codes "openings"); action = Some Set; value_names = 1 }
+
+abbrev pub trades_rule : Rule
+trades_rule = record (new_rule (codes "trades")) { long = Some (codes "trades"); action = Some Append; value_names = 1 }
+
+abbrev pub script_rule : Rule
+script_rule = record (new_rule (codes "script")) { long = Some (codes "script"); action = Some Set; value_names = 1 }
+
+-- whether a command has a global argument
+abbrev pub has_globals : Command → Bool
+has_globals c = (out-Command c).has_globals
+
+abbrev pub with_source : App → App
+with_source app = with_rule (with_rule (with_rule (with_rule app file_rule) openings_rule) trades_rule) script_rule
+
+abbrev pub run_app : App
+run_app = with_source (with_rule (with_rule (with_rule (with_rule (new_app (codes "run")) workers_rule) shake_rule) journal_rule) strict_rule)
+
+-- check [FILE] ..
+abbrev pub check_app : App
+check_app = with_source (new_app (codes "check"))
+
+-- cusip TEXT..
 abbrev pub text_rule : Rule
-text_rule = record (new_rule (codes "text")) { action = Some Set; value_names = 1; required = true }
+text_rule = record (new_rule (codes "text")) { action = Some Append; value_names = 1; required = true; range = Some (record { start_inclusive = 1; end_inclusive = usize_max }) }
 
 abbrev pub cusip_app : App
 cusip_app = with_rule (new_app (codes "cusip")) text_rule
 
--- cnsd run, and cnsd cusip
+-- cnsd run, cnsd check and cnsd cusip
 abbrev pub cnsd_app : App
 cnsd_app =
     let top = on_top (λ s. record s { has_version = true; subcommand_required = true; arg_required_else_help = true }) (new_app (codes "cnsd")) in
-    with_subcommand (with_subcommand top run_app.top) cusip_app.top
+    with_subcommand (with_subcommand (with_subcommand top run_app.top) check_app.top) cusip_app.top
 
 -- the first value of an argument of a subcommand, where the words name that one
 abbrev pub value_in : Text → Text → Option (Text × List Row) → Option Text
@@ -53,13 +88,55 @@ abbrev pub IsShakeIn : Option Text → Option ℕ → Type 0
 IsShakeIn None shake = shake ≡ None
 IsShakeIn (Some t) shake = (n : ℕ) × (shake ≡ Some n) × IsCountIn (Some t) n
 
--- what is asked for: whether a text is a CUSIP, where the words give one, and else a batch, by so many workers, shaken by a number where
--- they give one, and over the journals in a folder where they give one
-abbrev pub AsksFor : Option (Text × List Row) → Request → Type 0
-AsksFor used (request.Run folder workers shake) = (value_in (codes "cusip") (codes "text") used ≡ None)
-    × (option_map string_bytes folder ≡ value_in (codes "run") (codes "journal") used)
-    × IsCountIn (value_in (codes "run") (codes "workers") used) workers
-    × IsShakeIn (value_in (codes "run") (codes "shake") used) shake
-AsksFor used (request.Cusip text) = value_in (codes "cusip") (codes "text") used ≡ Some (string_bytes text)
-AsksFor used request.Told = ⊥
-AsksFor used request.Faulty = ⊥
+-- all values of an argument of a subcommand, where the words name that one
+abbrev pub all_in : Text → Text → Option (Text × List Row) → List Text
+all_in subcommand id None = []
+all_in subcommand id (Some used) = if bytes_eq used.0 subcommand then unwrap_or (all_of id used.1) [] else []
+
+-- whether the words name a subcommand
+abbrev pub is_asked : Text → Option (Text × List Row) → Bool
+is_asked subcommand used = option_map_or (λ (u : Text × List Row). bytes_eq u.0 subcommand) used false
+
+-- the names of the files of which a subcommand's text is made
+abbrev pub AreNamesIn : Text → Option (Text × List Row) → Names → Type 0
+AreNamesIn subcommand used names = (option_map string_bytes names.openings ≡ value_in subcommand (codes "openings") used)
+    × (map string_bytes names.trades.items ≡ all_in subcommand (codes "trades") used)
+    × (option_map string_bytes names.script ≡ value_in subcommand (codes "script") used)
+
+abbrev pub names_any : Names → Bool
+names_any names = is_some names.openings || (not (length names.trades.items == 0) || is_some names.script)
+
+-- where a text comes from, by the input and the files that are named: the files that make it, where there are some, and else the input, or
+-- standard input where none is named; None where both are
+abbrev pub IsSourceOf : Option Text → Names → Option Source → Type 0
+IsSourceOf None names (Some (source.Named named)) = (named ≡ names) × (names_any names ≡ true)
+IsSourceOf None names (Some source.Standard) = names_any names ≡ false
+IsSourceOf (Some file) names (Some (source.File name)) = (string_bytes name ≡ file) × (names_any names ≡ false)
+IsSourceOf (Some file) names None = names_any names ≡ true
+IsSourceOf _ names _ = ⊥
+
+-- where the text of a subcommand comes from
+unfoldable pub IsSourceIn : Text → Option (Text × List Row) → Option Source → Type 0
+IsSourceIn subcommand used source = (names : Names) × AreNamesIn subcommand used names × IsSourceOf (value_in subcommand (codes "file") used) names source
+
+-- how a batch is run: by so many workers, shaken by a number where the words give one, over the journals in a folder where they give one, and
+-- strictly where they say so
+unfoldable pub IsMannerIn : Option (Text × List Row) → Manner → Type 0
+IsMannerIn used manner = (option_map string_bytes manner.journal ≡ value_in (codes "run") (codes "journal") used)
+    × IsCountIn (value_in (codes "run") (codes "workers") used) manner.workers
+    × IsShakeIn (value_in (codes "run") (codes "shake") used) manner.shake
+    × (manner.strict ≡ option_map_or (λ t. bytes_eq t (codes "true")) (value_in (codes "run") (codes "strict") used) false)
+
+-- what is asked for: whether texts are CUSIPs, where the words give some; what is wrong with a text, where they ask for a check; and else a
+-- batch. None where they name an input and files that make one
+unfoldable pub AsksFor : Option (Text × List Row) → Option Request → Type 0
+AsksFor used (Some (request.Cusips texts)) = (is_some (value_in (codes "cusip") (codes "text") used) ≡ true) × (map string_bytes texts.items ≡ all_in (codes "cusip") (codes "text") used)
+AsksFor used (Some (request.Check source)) =
+    (is_some (value_in (codes "cusip") (codes "text") used) ≡ false) × (is_asked (codes "check") used ≡ true) × IsSourceIn (codes "check") used (Some source)
+AsksFor used (Some (request.Run source manner)) =
+    (is_some (value_in (codes "cusip") (codes "text") used) ≡ false) × (is_asked (codes "check") used ≡ false) × IsSourceIn (codes "run") used (Some source) × IsMannerIn used manner
+AsksFor used (Some request.Told) = ⊥
+AsksFor used (Some request.Faulty) = ⊥
+AsksFor used None =
+    (is_some (value_in (codes "cusip") (codes "text") used) ≡ false)
+    × (((is_asked (codes "check") used ≡ true) × IsSourceIn (codes "check") used None) ⊎ ((is_asked (codes "check") used ≡ false) × IsSourceIn (codes "run") used None))

@@ -1,6 +1,8 @@
-ghost use Rattle.std.specs.Prelude.{◌≡◌, false, IfOk, codes, map, option_map};
-ghost use Rattle.clap.specs.Words.{FailsBy, app_of, fault_of, rule_of, subcommand_of, subcommand_rows_of};
-ghost use Rattle.cnsd.specs.CommandLine.{AsksFor, IsCountIn, IsShakeIn, cnsd_app, journal_rule, shake_rule, text_rule, value_in, workers_rule};
+ghost use Rattle.std.specs.Prelude.{◌≡◌, false, [], IfOk, codes, is_some, map, option_map, string_bytes, unwrap_or};
+ghost use Rattle.std.specs.Option.{option_map_or};
+ghost use Rattle.std.specs.Str.{bytes_eq};
+ghost use Rattle.clap.specs.Words.{FailsBy, all_of, app_of, fault_of, found_of, rows_of, rule_of, subcommand_of, subcommand_rows_of};
+ghost use Rattle.cnsd.specs.CommandLine.{AsksFor, IsCountIn, AreNamesIn, IsMannerIn, IsShakeIn, IsSourceIn, IsSourceOf, all_in, is_asked as is_asked_in, check_app, cnsd_app, cusip_app, file_rule, has_globals, journal_rule, names_any, openings_rule, run_app, script_rule, shake_rule, strict_rule, with_source as source_app, text_rule, trades_rule, value_in, workers_rule};
 
 use crate::help;
 use clap::builder::ValueParser;
@@ -12,19 +14,54 @@ use std::alloc::{AllocError, Global};
 use std::rt::Env;
 use std::{env, io};
 
+/// Where a text comes from.
+#[derive(PartialEq, Eq, Debug, Drop)]
+pub(crate) enum Source {
+    /// Standard input.
+    Standard,
+    /// A file of this name.
+    File(String),
+    /// The text that files of these names make.
+    Named(Names),
+}
+
+/// The names of a file of openings, of files of trades and of a file of a script.
+#[derive(PartialEq, Eq, Debug, Drop)]
+pub(crate) struct Names {
+    pub(crate) openings: Option<String>,
+    pub(crate) trades: Vec<String>,
+    pub(crate) script: Option<String>,
+}
+
+impl Names {
+    // Whether a file is named.
+    fn any(&self) -> bool
+        ensures { result ≡ names_any self.now }
+    {
+        self.openings.is_some() || !self.trades.is_empty() || self.script.is_some()
+    }
+}
+
+/// How a batch is to be run: over the journals in this folder where one is given, and else over keepers in
+/// memory. So many workers serve its lots; where there are none, its single events do. It is shaken by this
+/// number where one is given. Where it is strict, the lines that tell of what was not taken are counted.
+#[derive(PartialEq, Eq, Debug, Drop)]
+pub(crate) struct Manner {
+    pub(crate) journal: Option<String>,
+    pub(crate) workers: usize,
+    pub(crate) shake: Option<u64>,
+    pub(crate) strict: bool,
+}
+
 /// What the command line asks for.
 #[derive(PartialEq, Eq, Debug, Drop)]
 pub(crate) enum Request {
-    /// `cnsd run`: one batch from standard input to standard output, over the journals in this folder
-    /// where one is given, and else over keepers in memory. So many workers serve its lots; where there
-    /// are none, its single events do. It is shaken by this number where one is given.
-    Run {
-        journal: Option<String>,
-        workers: usize,
-        shake: Option<u64>,
-    },
-    /// `cnsd cusip TEXT`: whether this text is a CUSIP.
-    Cusip(String),
+    /// `cnsd run`: one batch of a text to standard output.
+    Run { source: Source, manner: Manner },
+    /// `cnsd check`: what is wrong with a text.
+    Check(Source),
+    /// `cnsd cusip TEXT..`: whether these texts are CUSIPs.
+    Cusips(Vec<String>),
     /// Help or the version, which was printed.
     Told,
     /// Nothing that there is; the fault was printed.
@@ -69,6 +106,66 @@ fn shake_option<'a>(alloc: Global) -> Arg<'a>
         .action(ArgAction::Set)
 }
 
+// The flag of `run` that has it count what was not taken.
+fn strict_flag<'a>(alloc: Global) -> Arg<'a>
+    ensures rule { rule_of result ≡ strict_rule }
+    ensures local { result.global ≡ false }
+{
+    Arg::new(alloc, "strict")
+        .long("strict")
+        .help(
+            "Count what was not taken, on standard error, and tell by the exit status that there is some",
+        )
+        .action(ArgAction::SetTrue)
+}
+
+// The argument of `run` and of `check` for the file of an input.
+fn file_argument<'a>(alloc: Global) -> Arg<'a>
+    ensures rule { rule_of result ≡ file_rule }
+    ensures local { result.global ≡ false }
+{
+    Arg::new(alloc, "file")
+        .value_name("FILE")
+        .help("The input; standard input if left out")
+        .action(ArgAction::Set)
+}
+
+// Their option for the file of the openings.
+fn openings_option<'a>(alloc: Global) -> Arg<'a>
+    ensures rule { rule_of result ≡ openings_rule }
+    ensures local { result.global ≡ false }
+{
+    Arg::new(alloc, "openings")
+        .long("openings")
+        .value_name("FILE")
+        .help("The rows of [openings], in place of an input")
+        .action(ArgAction::Set)
+}
+
+// Their option for a file of trades, of which there may be several.
+fn trades_option<'a>(alloc: Global) -> Arg<'a>
+    ensures rule { rule_of result ≡ trades_rule }
+    ensures local { result.global ≡ false }
+{
+    Arg::new(alloc, "trades")
+        .long("trades")
+        .value_name("FILE")
+        .help("Rows of [trades], in place of an input; several files are read one after another")
+        .action(ArgAction::Append)
+}
+
+// Their option for the file of the script.
+fn script_option<'a>(alloc: Global) -> Arg<'a>
+    ensures rule { rule_of result ≡ script_rule }
+    ensures local { result.global ≡ false }
+{
+    Arg::new(alloc, "script")
+        .long("script")
+        .value_name("FILE")
+        .help("The lines of [script], in place of an input")
+        .action(ArgAction::Set)
+}
+
 // The argument of `cusip`.
 fn text_argument<'a>(alloc: Global) -> Arg<'a>
     ensures rule { rule_of result ≡ text_rule }
@@ -76,33 +173,69 @@ fn text_argument<'a>(alloc: Global) -> Arg<'a>
 {
     Arg::new(alloc, "text")
         .value_name("TEXT")
-        .help("The text, such as 037833100")
+        .help("The text, such as 037833100; - for each line of standard input")
         .required(true)
-        .action(ArgAction::Set)
+        .num_args(1..)
+        .action(ArgAction::Append)
+}
+
+// A command with the arguments that say where its text comes from.
+fn with_source<'a>(command: Command<'a>, alloc: Global) -> Result<Command<'a>, AllocError>
+    ensures { IfOk result (λ c. has_globals command.entry ≡ false → (app_of c ≡ source_app (app_of command.entry)) × (has_globals c ≡ false)) }
+{
+    command
+        .arg(file_argument(alloc))?
+        .arg(openings_option(alloc))?
+        .arg(trades_option(alloc))?
+        .arg(script_option(alloc))
+}
+
+// `cnsd run`.
+fn run_command<'a>(alloc: Global) -> Result<Command<'a>, AllocError>
+    ensures { IfOk result (λ c. (app_of c ≡ run_app) × (has_globals c ≡ false)) }
+{
+    let run = Command::new(alloc, "run")
+        .about("Reads openings, trades and a script, and writes what they come to")
+        .after_help(help::RUN)
+        .arg(workers_option(alloc))?
+        .arg(shake_option(alloc))?
+        .arg(journal_option(alloc))?
+        .arg(strict_flag(alloc))?;
+    with_source(run, alloc)
+}
+
+// `cnsd check`.
+fn check_command<'a>(alloc: Global) -> Result<Command<'a>, AllocError>
+    ensures { IfOk result (λ c. (app_of c ≡ check_app) × (has_globals c ≡ false)) }
+{
+    let check = Command::new(alloc, "check")
+        .about("Tells all that is wrong with an input, and runs nothing")
+        .after_help(help::CHECK);
+    with_source(check, alloc)
+}
+
+// `cnsd cusip`.
+fn cusip_command<'a>(alloc: Global) -> Result<Command<'a>, AllocError>
+    ensures { IfOk result (λ c. (app_of c ≡ cusip_app) × (has_globals c ≡ false)) }
+{
+    Command::new(alloc, "cusip")
+        .about("Reads texts as CUSIPs, and writes `ok` or its first fault for each")
+        .after_help(help::CUSIP)
+        .arg(text_argument(alloc))
 }
 
 // The command line that there is.
 fn command<'a>(alloc: Global) -> Result<Command<'a>, AllocError>
     ensures { IfOk result (λ c. app_of c ≡ cnsd_app) }
 {
-    let batch = Command::new(alloc, "run")
-        .about(
-            "Reads openings, trades and a script from standard input, and writes what they come to",
-        )
-        .after_help(help::RUN)
-        .arg(workers_option(alloc))?
-        .arg(shake_option(alloc))?
-        .arg(journal_option(alloc))?;
-    let cusip = Command::new(alloc, "cusip")
-        .about("Reads a text as a CUSIP, and writes `ok` or its first fault")
-        .arg(text_argument(alloc))?;
     Command::new(alloc, "cnsd")
         .about("A Continuous Net Settlement book and a depository's stock record")
         .version("0.1.0")
         .subcommand_required(true)
         .arg_required_else_help(true)
-        .subcommand(batch)?
-        .subcommand(cusip)
+        .subcommand(run_command(alloc)?)?
+        .subcommand(check_command(alloc)?)?
+        .subcommand(cusip_command(alloc)?)
 }
 
 // The first value of an argument of a subcommand, where the words name that one.
@@ -132,28 +265,152 @@ fn shake_in(matches: &ArgMatches) -> Option<u64>
     }
 }
 
-// What the matches of a command line ask for; the library refuses a `cusip` with no text.
-fn request_of(alloc: Global, matches: &ArgMatches) -> Result<Request, AllocError>
-    ensures { IfOk result (AsksFor (subcommand_rows_of matches.now)) }
+// Whether the words ask for a strict run.
+fn is_strict_in(matches: &ArgMatches) -> bool
+    ensures { result ≡ option_map_or (λ t. bytes_eq t (codes "true")) (value_in (codes "run") (codes "strict") (subcommand_rows_of matches.now)) false }
 {
-    if let Some(text) = value_in(matches, "cusip", "text") {
-        return Ok(Request::Cusip(String::from_str(alloc, text)?));
+    matches!(value_in(matches, "run", "strict"), Some(text) if text == "true")
+}
+
+// The value of an argument of a subcommand, owned.
+fn owned_in(
+    alloc: Global,
+    matches: &ArgMatches,
+    subcommand: &str,
+    id: &str,
+) -> Result<Option<String>, AllocError>
+    ensures { IfOk result (λ o. option_map string_bytes o ≡ value_in subcommand.now id.now (subcommand_rows_of matches.now)) }
+{
+    match value_in(matches, subcommand, id) {
+        Some(text) => Ok(Some(String::from_str(alloc, text)?)),
+        None => Ok(None),
     }
-    let workers = workers_in(matches);
-    let shake = shake_in(matches);
-    let journal = match value_in(matches, "run", "journal") {
-        Some(folder) => Some(String::from_str(alloc, folder)?),
-        None => None,
-    };
-    Ok(Request::Run {
-        journal,
-        workers,
-        shake,
+}
+
+// Texts, owned.
+fn owned(alloc: Global, texts: &[&str]) -> Result<Vec<String>, AllocError>
+    ensures { IfOk result (λ all. map string_bytes all.items ≡ map (λ v. v.now) texts.now) }
+{
+    let mut all = Vec::new(alloc);
+    for text in texts {
+        all.push(String::from_str(alloc, text)?)?;
+    }
+    Ok(all)
+}
+
+// All values of an argument, owned; none where it has no entry.
+fn values_of(alloc: Global, matches: &ArgMatches, id: &str) -> Result<Vec<String>, AllocError>
+    ensures { IfOk result (λ all. map string_bytes all.items ≡ unwrap_or (all_of id.now (rows_of (found_of matches.now))) []) }
+{
+    match matches.get_strs(id) {
+        Some(values) => owned(alloc, values),
+        None => Ok(Vec::new(alloc)),
+    }
+}
+
+// All values of an argument of a subcommand, where the words name that one.
+fn values_in(
+    alloc: Global,
+    matches: &ArgMatches,
+    subcommand: &str,
+    id: &str,
+) -> Result<Vec<String>, AllocError>
+    ensures { IfOk result (λ all. map string_bytes all.items ≡ all_in subcommand.now id.now (subcommand_rows_of matches.now)) }
+{
+    match matches.subcommand_matches(subcommand) {
+        Some(matches) => values_of(alloc, matches, id),
+        None => Ok(Vec::new(alloc)),
+    }
+}
+
+// Whether an argument of a subcommand is given, where the words name that one.
+fn is_given(matches: &ArgMatches, subcommand: &str, id: &str) -> bool
+    ensures { result ≡ is_some (value_in subcommand.now id.now (subcommand_rows_of matches.now)) }
+{
+    value_in(matches, subcommand, id).is_some()
+}
+
+// Whether the words name a subcommand.
+fn is_asked(matches: &ArgMatches, subcommand: &str) -> bool
+    ensures { result ≡ is_asked_in subcommand.now (subcommand_rows_of matches.now) }
+{
+    matches.subcommand_matches(subcommand).is_some()
+}
+
+// The names of the files of which the words have a subcommand's text be made.
+fn names_in(alloc: Global, matches: &ArgMatches, subcommand: &str) -> Result<Names, AllocError>
+    ensures { IfOk result (AreNamesIn subcommand.now (subcommand_rows_of matches.now)) }
+{
+    let openings = owned_in(alloc, matches, subcommand, "openings")?;
+    let trades = values_in(alloc, matches, subcommand, "trades")?;
+    let script = owned_in(alloc, matches, subcommand, "script")?;
+    Ok(Names {
+        openings,
+        trades,
+        script,
     })
 }
 
+// Where a text comes from, by the input and the files that are named; None where both are.
+fn source_of(file: Option<String>, names: Names) -> Option<Source>
+    ensures { IsSourceOf (option_map string_bytes file) names result }
+{
+    match (file, names.any()) {
+        (Some(_), true) => None,
+        (Some(file), false) => Some(Source::File(file)),
+        (None, true) => Some(Source::Named(names)),
+        (None, false) => Some(Source::Standard),
+    }
+}
+
+// Where the words have the text of a subcommand come from; None where they name an input and files.
+fn source_in(
+    alloc: Global,
+    matches: &ArgMatches,
+    subcommand: &str,
+) -> Result<Option<Source>, AllocError>
+    ensures { IfOk result (IsSourceIn subcommand.now (subcommand_rows_of matches.now)) }
+{
+    let file = owned_in(alloc, matches, subcommand, "file")?;
+    let names = names_in(alloc, matches, subcommand)?;
+    Ok(source_of(file, names))
+}
+
+// How the words have a batch be run.
+fn manner_in(alloc: Global, matches: &ArgMatches) -> Result<Manner, AllocError>
+    ensures { IfOk result (IsMannerIn (subcommand_rows_of matches.now)) }
+{
+    Ok(Manner {
+        journal: owned_in(alloc, matches, "run", "journal")?,
+        workers: workers_in(matches),
+        shake: shake_in(matches),
+        strict: is_strict_in(matches),
+    })
+}
+
+// What the matches of a command line ask for; None where they name an input and its parts.
+fn request_of(alloc: Global, matches: &ArgMatches) -> Result<Option<Request>, AllocError>
+    ensures { IfOk result (AsksFor (subcommand_rows_of matches.now)) }
+{
+    if is_given(matches, "cusip", "text") {
+        let texts = values_in(alloc, matches, "cusip", "text")?;
+        return Ok(Some(Request::Cusips(texts)));
+    }
+    if is_asked(matches, "check") {
+        let Some(source) = source_in(alloc, matches, "check")? else {
+            return Ok(None);
+        };
+        return Ok(Some(Request::Check(source)));
+    }
+    let Some(source) = source_in(alloc, matches, "run")? else {
+        return Ok(None);
+    };
+    let manner = manner_in(alloc, matches)?;
+    Ok(Some(Request::Run { source, manner }))
+}
+
 // Reads words as a command line; help, the version and faults come as the library's own errors.
-fn parse<'a>(alloc: Global, words: &'a [&'a str]) -> Result<Request, Error>
+fn parse<'a>(alloc: Global, words: &'a [&'a str]) -> Result<Option<Request>, Error>
     ensures asks { IfOk result (AsksFor (subcommand_of cnsd_app (map (λ w. w.now) words.now))) }
     ensures fails { FailsBy (fault_of cnsd_app (map (λ w. w.now) words.now)) result }
 {
@@ -213,7 +470,13 @@ pub(crate) fn read_request<R: Env + AllocGlobal + Print + Eprint>(
         return Err(BatchFault::Memory);
     };
     match parse(rt.alloc(), texts.as_slice()) {
-        Ok(request) => Ok(request),
+        Ok(Some(request)) => Ok(request),
+        Ok(None) => {
+            let _ = rt.eprintln(
+                "cnsd: an input is one FILE, or is made by --openings, --trades and --script",
+            );
+            Ok(Request::Faulty)
+        }
         Err(error) => told(rt, &error),
     }
 }

@@ -49,8 +49,42 @@ With --shake NUMBER each PUMP is preceded by 16 draws of a random generator that
 draws an order, and sends it; or a packet of either link, and lets it arrive; or nothing. So packets come
 again and out of turn. One NUMBER gives one run; the draws print lines as SEND, ORDER and REPLY do.
 
+With --openings, --trades and --script the input is the text that these files make: each head, and behind it
+what stands in its files. Of several files of trades the header of the first one counts, and the others have
+the same. A part that is left out is empty.
+
+With --strict the text is the same, and a line of counts on standard error ends it.
+
 Exit status:
   0  all was read, run and written
   1  the command line is wrong
   2  the input cannot be read, is too long, or has bad sections or bad rows
-  3  there was no memory, the output failed, or a journal failed";
+  3  there was no memory, the output failed, or a journal failed; with --strict also: a device failed
+  4  with --strict: a row is faulty, or a trade, a line of the script or an event was refused";
+
+/// What `cnsd check --help` teaches after the options.
+pub(crate) const CHECK: &str = "\
+Each line of the output is FILE:LINE: what stands there: what was wanted. The last line counts them; of the rows
+of a section, and of the lines of a script, the first 1000 are told. Where nothing is wrong nothing is written.
+
+Told are heads and headers that are not as they must be, each fault of each row, openings that do not hold, and
+lines of the script that are no commands. Whether a trade or an event is refused, only a run says.
+
+Exit status:
+  0  nothing is wrong
+  1  something is, or the command line is wrong
+  2  a file cannot be read, or the input is too long
+  3  there was no memory, or the output failed";
+
+/// What `cnsd cusip --help` teaches after the options.
+pub(crate) const CUSIP: &str = "\
+For each text one line: ok, or its first fault.
+  Length        it does not have nine characters
+  BadChar P     the character in place P, counted from 1, may not stand there
+  CheckDigit D  the last digit does not fit the first eight; D is the digit that would. So CheckDigit 0 asks for
+                a 0, and does not say that the digit 0 is wrong. More often one of the eight is mistyped
+
+Exit status:
+  0  all are CUSIPs
+  1  one is none, or the command line is wrong
+  3  there was no memory, or the output failed";

@@ -1,0 +1,159 @@
+//! One batch, of whatever text and in whatever manner.
+
+ghost use Rattle.std.specs.Prelude.{◌≡◌, ◌<◌};
+
+use crate::arguments::{Manner, Names, Source};
+use crate::journal::{Journals, open_journals};
+use crate::source::{open_file, text_of_names};
+use crate::strict::{status_of, tell_counts};
+use cns_allocate::OpenGate;
+use cns_batch::{run_batch, run_batch_kept, run_desk};
+use cns_input::{BatchFault, Steps};
+use cns_journal::{Keeper, ListKeeper};
+use cns_tally::Tally;
+use std::io;
+use std::io::{Read, Write};
+use std::sync::Wait;
+use std::sync::ledger::{Blank, Ledger};
+use std::thread::Threads;
+
+// One batch over these keepers, by workers in threads where there are any, and shaken where a number is given.
+fn run_beside<
+    H: Threads + Wait + Sync,
+    L: Ledger,
+    R: Read,
+    W: Write,
+    C: Keeper + Drop,
+    D: Keeper + Drop,
+>(
+    rt: &HostRuntime,
+    threads: &H,
+    steps: &mut Steps<L>,
+    reader: &mut R,
+    writer: &mut W,
+    manner: &Manner,
+    clear: C,
+    depot: D,
+) -> Result<(), BatchFault> {
+    run_desk(
+        threads,
+        rt.alloc(),
+        reader,
+        writer,
+        steps,
+        manner.workers,
+        manner.shake,
+        clear,
+        depot,
+        &OpenGate,
+    )
+}
+
+// One batch over keepers in memory.
+fn run_in_memory<H: Threads + Wait + Sync, L: Ledger, R: Read, W: Write>(
+    rt: &HostRuntime,
+    threads: &H,
+    steps: &mut Steps<L>,
+    reader: &mut R,
+    writer: &mut W,
+    manner: &Manner,
+) -> Result<(), BatchFault> {
+    let alloc = rt.alloc();
+    if manner.workers == 0 && manner.shake.is_none() {
+        return run_batch(alloc, reader, writer, steps);
+    }
+    let (clear, depot) = (ListKeeper::new(alloc), ListKeeper::new(alloc));
+    run_beside(rt, threads, steps, reader, writer, manner, clear, depot)
+}
+
+// The same over the journals in a folder.
+fn run_in_folder<H: Threads + Wait + Sync, L: Ledger, R: Read, W: Write>(
+    rt: &HostRuntime,
+    threads: &H,
+    steps: &mut Steps<L>,
+    reader: &mut R,
+    writer: &mut W,
+    manner: &Manner,
+    folder: &str,
+) -> Result<(), BatchFault> {
+    let Journals { clear, depot } = open_journals(rt, folder)?;
+    if manner.workers == 0 && manner.shake.is_none() {
+        return run_batch_kept(rt.alloc(), reader, writer, steps, clear, depot).result;
+    }
+    run_beside(rt, threads, steps, reader, writer, manner, clear, depot)
+}
+
+// One batch from a reader to a writer, over the journals in a folder where one is given.
+fn run_to<H: Threads + Wait + Sync, L: Ledger, R: Read, W: Write>(
+    rt: &HostRuntime,
+    threads: &H,
+    steps: &mut Steps<L>,
+    reader: &mut R,
+    writer: &mut W,
+    manner: &Manner,
+) -> Result<(), BatchFault> {
+    match &manner.journal {
+        Some(folder) => run_in_folder(rt, threads, steps, reader, writer, manner, folder.as_str()),
+        None => run_in_memory(rt, threads, steps, reader, writer, manner),
+    }
+}
+
+// One batch from a reader to standard output. Where it is strict, what was not taken is counted on standard
+// error, and told by the exit status.
+fn run_from<H: Threads + Wait + Sync, L: Ledger, R: Read>(
+    rt: &HostRuntime,
+    threads: &H,
+    steps: &mut Steps<L>,
+    reader: &mut R,
+    manner: &Manner,
+) -> Result<u8, BatchFault> {
+    if !manner.strict {
+        let mut writer = io::writer(rt);
+        run_to(rt, threads, steps, reader, &mut writer, manner)?;
+        return Ok(0);
+    }
+    let mut tally = Tally::new(io::writer(rt));
+    run_to(rt, threads, steps, reader, &mut tally, manner)?;
+    let counts = tally.counts();
+    tell_counts(rt, &counts)?;
+    Ok(status_of(&counts))
+}
+
+// One batch of the text that files make.
+fn run_named<H: Threads + Wait + Sync, L: Ledger>(
+    rt: &HostRuntime,
+    threads: &H,
+    steps: &mut Steps<L>,
+    names: &Names,
+    manner: &Manner,
+) -> Result<u8, BatchFault> {
+    let text = text_of_names(rt, steps, names)?;
+    let mut reader = text.as_slice();
+    run_from(rt, threads, steps, &mut reader, manner)
+}
+
+/// One batch of a text to standard output; its exit status. Nobody asks how many reads it makes.
+pub(crate) fn run_source<H: Threads + Wait + Sync, L: Ledger>(
+    rt: &HostRuntime,
+    threads: &H,
+    blank: Blank,
+    source: &Source,
+    manner: &Manner,
+) -> Result<u8, BatchFault>
+    requires name { blank.name ≡ L.name }
+    requires parts { blank.parts ≡ L.parts }
+    requires some { 0 < L.parts }
+{
+    let mut steps = Steps::<L>::new(blank);
+    match source {
+        Source::Standard => {
+            let mut reader = rt.reader();
+            run_from(rt, threads, &mut steps, &mut reader, manner)
+        }
+        Source::File(name) => {
+            let mut file = open_file(rt, name.as_str())?;
+            run_from(rt, threads, &mut steps, &mut file, manner)
+        }
+        Source::Named(names) => run_named(rt, threads, &mut steps, names, manner),
+    }
+}
