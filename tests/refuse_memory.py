@@ -4,7 +4,7 @@
     refuse_memory.sh PROGRAM [FILE..]
 
 Each FILE is an input of `run`, or of the words in the file NAME.args beside a NAME.in; without one they are
-all of examples/, CASES of tests/cases/, and OVER_JOURNALS once more with journals in files. `cusip 037833100`
+all of examples/, CASES of tests/cases/, CHECKS of tests/faults/, and OVER_JOURNALS once more with journals in files. `cusip 037833100`
 comes with them. A first run counts the requests, then for each of them there is a run in which it, and no
 other, gets no memory (refuse_memory.c, preloaded). Such a run must end within 20 seconds, in one of
 these ways:
@@ -40,6 +40,7 @@ HERE = os.path.dirname(os.path.abspath(__file__))
 EXAMPLES = os.path.join(HERE, '..', 'examples')
 CASES = ['two-trades-netted', 'cover-moved-in-part', 'earlier-longs-first', 'cycle-failed-and-kept', 'cycle-failed-and-dropped',
          'execution-failed-and-kept', 'restart-before-a-close', 'workers-before-a-report']
+CHECKS = ['several-faults-in-one-row', 'opening-twice', 'header-missing', 'all-heads-missing', 'beside-in-beside', 'command-misspelt', 'good']
 OVER_JOURNALS = [os.path.join(EXAMPLES, name) for name in ['cover-in-part', 'planned-failures', 'restarts-keep', 'lot-poured-twice']]
 OVER_JOURNALS += [os.path.join(HERE, 'cases', name) for name in ['cover-moved-in-part', 'execution-failed-and-kept']]
 # A restart without memory leaves the node down, its lots ended and its records there; workers that find no memory before their first
@@ -76,6 +77,7 @@ def inputs_of(paths):
         return [(os.path.basename(path), words_of(path), path) for path in paths]
     found = sorted(glob.glob(os.path.join(EXAMPLES, '*.in')))
     found += [os.path.join(HERE, 'cases', name + '.in') for name in CASES]
+    found += [os.path.join(HERE, 'faults', name + '.in') for name in CHECKS]
     over = [path + '.in' for path in OVER_JOURNALS]
     return inputs_of(found) + [(os.path.basename(path) + ' over journals', ['run', '--journal', JOURNAL], path) for path in over]
 
