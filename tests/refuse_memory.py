@@ -77,7 +77,6 @@ def inputs_of(paths):
         return [(os.path.basename(path), words_of(path), path) for path in paths]
     found = sorted(glob.glob(os.path.join(EXAMPLES, '*.in')))
     found += [os.path.join(HERE, 'cases', name + '.in') for name in CASES]
-    found += [os.path.join(HERE, 'faults', name + '.in') for name in CHECKS]
     over = [path + '.in' for path in OVER_JOURNALS]
     return inputs_of(found) + [(os.path.basename(path) + ' over journals', ['run', '--journal', JOURNAL], path) for path in over]
 
@@ -212,6 +211,8 @@ def judge_all(program, words, preloaded, folder, pool):
     """Of the inputs or scenarios that the words name, how many refusals came to what they should, and how many did not."""
     passed = failed = 0
     inputs = inputs_of(words)
+    if not words:
+        inputs += inputs_of([os.path.join(HERE, 'faults', name + '.in') for name in CHECKS])
     inputs.append(('cusip %s' % CUSIP, ['cusip', CUSIP], os.devnull))
     for name, arguments, path in inputs:
         try:
