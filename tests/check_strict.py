@@ -117,6 +117,11 @@ def named_faults(program, folder):
         yield 'a file of trades with a head is taken'
     if run(program, ['--openings', file('second', b'[trades]')] + commands) != (2, b'', b'cnsd: bad sections\n'):
         yield 'a file of openings with a head is taken'
+    for end in (b'', b'\r', b'\r\n'):
+        if run(program, ['--openings', file('second', b'account,cusip,shares\n[trades]' + end)] + commands) != (2, b'', b'cnsd: bad sections\n'):
+            yield 'a file of openings that ends with a head and %r is taken' % end
+        if run(program, ['--trades', first, '--trades', file('second', header + b'\n[script]' + end)] + commands) != (2, b'', b'cnsd: bad sections\n'):
+            yield 'a further file of trades that ends with a head and %r is taken' % end
     openings = file('openings', b'account,cusip,shares\n1,037833100,x\n2,037833100,5')
     words = ['--openings', openings, '--trades', file('first', header + b'\n' + rows[0] + b'\na,,,,,'), '--trades', file('second', header + b'\nb,,,,,\n'),
              '--script', file('script', b'TAKE ALL\nREPORTS')]

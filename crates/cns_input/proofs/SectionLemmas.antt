@@ -9,7 +9,7 @@ use Rattle.memchr.specs.Find.{NoneBefore, Nowhere, Passes, is_byte}
 use Rattle.cns_trades.specs.Fields.{same_text}
 use Rattle.cns_input.specs.Sections.{line_size, line_text, raw_lines, sections, split_at_head}
 
-joined_lines : (xs : List ℕ) → concat (raw_lines xs) ≡ xs
+pub joined_lines : (xs : List ℕ) → concat (raw_lines xs) ≡ xs
 unfolding raw_lines
 joined_lines [] = refl
 joined_lines (c ∷ cs) = by (c == 10) (raw_lines cs) (joined_lines cs)
@@ -68,14 +68,14 @@ lines_step c (d ∷ ds) = by (c == 10) (line_size (d ∷ ds)) (lines_step d ds)
 
 -- ---- lines, split at a head
 
-abbrev is_head : List ℕ → List ℕ → Bool
+abbrev pub is_head : List ℕ → List ℕ → Bool
 is_head head line = same_text (line_text line) head
 
 -- the bytes before a line and after it
-abbrev parts_at : List (List ℕ) → ℕ → List ℕ × List ℕ
+abbrev pub parts_at : List (List ℕ) → ℕ → List ℕ × List ℕ
 parts_at lines place = (concat (take place lines), concat (drop (place + 1) lines))
 
-abbrev find_head : List ℕ → List (List ℕ) → Option (List ℕ × List ℕ)
+abbrev pub find_head : List ℕ → List (List ℕ) → Option (List ℕ × List ℕ)
 find_head head lines = option_and_then (λ place. Some (parts_at lines place)) (position_from (is_head head) 0 lines)
 
 -- with more bytes at the front
@@ -92,7 +92,7 @@ position_later t i (x ∷ xs) = by (t x) (position_later t (i + 1) xs)
     by false more = more
 
 -- by the first line
-find_step : (head l : List ℕ) (ls : List (List ℕ)) → find_head head (l ∷ ls) ≡ (if is_head head l then Some ([], concat ls) else with_front l (find_head head ls))
+pub find_step : (head l : List ℕ) (ls : List (List ℕ)) → find_head head (l ∷ ls) ≡ (if is_head head l then Some ([], concat ls) else with_front l (find_head head ls))
 find_step head l ls = by (is_head head l) (position_from (is_head head) 0 ls) (position_later (is_head head) 0 ls)
   where
     by : (b : Bool) (o : Option ℕ) → position_from (is_head head) (0 + 1) ls ≡ option_map suc o

@@ -15,16 +15,16 @@ pub agree_by_first : {X : Type 0} (f : X → List ℕ) (files further : List X) 
 agree_by_first f files further file any split is = rw split (ap not (is ∙ any_of_mapped f (begins_otherwise (first_line (f file))) further))
 
 module _ (openings : List ℕ) (trades : List (List ℕ)) (script : List ℕ) where
-  pub head_in_openings : has_line (codes "[trades]") openings ≡ true → text_of_files openings trades script ≡ Err fault.Head
+  pub head_in_openings : has_line (codes "[trades]") (ended openings) ≡ true → text_of_files openings trades script ≡ Err fault.Head
   head_in_openings is = rw is refl
 
-  pub head_in_trades : has_line (codes "[trades]") openings ≡ false → list_any (has_line (codes "[script]")) trades ≡ true → text_of_files openings trades script ≡ Err fault.Head
+  pub head_in_trades : has_line (codes "[trades]") (ended openings) ≡ false → list_any (λ file. has_line (codes "[script]") (ended file)) trades ≡ true → text_of_files openings trades script ≡ Err fault.Head
   head_in_trades none is = rw (none, is) refl
 
-  pub headers_differ : has_line (codes "[trades]") openings ≡ false → list_any (has_line (codes "[script]")) trades ≡ false → do_headers_agree trades ≡ false
+  pub headers_differ : has_line (codes "[trades]") (ended openings) ≡ false → list_any (λ file. has_line (codes "[script]") (ended file)) trades ≡ false → do_headers_agree trades ≡ false
       → text_of_files openings trades script ≡ Err fault.Header
   headers_differ none nowhere differ = rw (none, nowhere, differ) refl
 
-  pub text_is_made : has_line (codes "[trades]") openings ≡ false → list_any (has_line (codes "[script]")) trades ≡ false → do_headers_agree trades ≡ true
+  pub text_is_made : has_line (codes "[trades]") (ended openings) ≡ false → list_any (λ file. has_line (codes "[script]") (ended file)) trades ≡ false → do_headers_agree trades ≡ true
       → text_of_files openings trades script ≡ Ok (codes "[openings]\n" ++ ended openings ++ codes "[trades]\n" ++ rows_of_all trades ++ codes "[script]\n" ++ script)
   text_is_made none nowhere agree = rw (none, nowhere, agree) refl

@@ -1,10 +1,10 @@
 -- The text that files of openings, of trades and of a script make (this project's own rule).
-use Rattle.std.specs.Prelude.{◌≡◌, ℕ, ◌==◌, ◌||◌, not, Bool, true, List, [], ◌∷◌, ◌++◌, length, take, drop, codes, flat_map, Result, Ok, Err, is_ok, if◌then◌else◌}
+use Rattle.std.specs.Prelude.{◌≡◌, ℕ, ◌==◌, ◌||◌, not, Bool, true, List, [], ◌∷◌, ◌++◌, length, take, drop, codes, flat_map, Result, Ok, Err, is_ok, Some, if◌then◌else◌}
 use Rattle.std.specs.Io.BufRead.{ends_with_byte}
 use Rattle.std.specs.List.{list_any, starts_with}
 use Rattle.cns_ids.specs.Steps.{◌>>◌, need}
 use Rattle.cns_trades.specs.Fields.{same_text}
-use Rattle.cns_input.specs.Sections.{line_size, line_text, raw_lines}
+use Rattle.cns_input.specs.Sections.{line_size, line_text, raw_lines, sections}
 use Rattle.cns_named.specs.declared.named.NamedFault.{NamedFault}
 use Rattle.cns_named.specs.declared.named.NamedFault.TheVariants as fault
 
@@ -41,11 +41,12 @@ abbrev pub do_headers_agree : List (List ℕ) → Bool
 do_headers_agree [] = true
 do_headers_agree (file ∷ files) = not (list_any (begins_otherwise (first_line file)) files)
 
--- the text that files make, or why they make none: three lines are the heads of what stands in the files
+-- the text that files make, or why they make none: three lines are the heads of what stands in the files, of which none has a line, the last one with
+-- its LF, that would end its section
 abbrev pub text_of_files : List ℕ → List (List ℕ) → List ℕ → Result (List ℕ) NamedFault
 text_of_files openings trades script =
-    need (not (has_line (codes "[trades]") openings)) fault.Head
-    >> need (not (list_any (has_line (codes "[script]")) trades)) fault.Head
+    need (not (has_line (codes "[trades]") (ended openings))) fault.Head
+    >> need (not (list_any (λ file. has_line (codes "[script]") (ended file)) trades)) fault.Head
     >> need (do_headers_agree trades) fault.Header
     >> Ok (codes "[openings]\n" ++ ended openings ++ codes "[trades]\n" ++ rows_of_all trades ++ codes "[script]\n" ++ script)
 
@@ -54,3 +55,8 @@ abbrev pub TellsOf : NamedFault → Result (List ℕ) NamedFault → Type 0
 TellsOf fault.Head made = made ≡ Err fault.Head
 TellsOf fault.Header made = made ≡ Err fault.Header
 TellsOf fault.OutOfMemory made = is_ok made ≡ true
+
+-- the sections of the text that files make are what stands in the files, each last line with its LF
+abbrev pub SectionsAreOfFiles : Type 0
+SectionsAreOfFiles = (openings : List ℕ) (trades : List (List ℕ)) (script text : List ℕ) → text_of_files openings trades script ≡ Ok text
+    → sections text ≡ Some (ended openings, rows_of_all trades, script)

@@ -5,4 +5,4 @@ mod line;
 mod named;
 
 pub use line::has_line;
-pub use named::{NamedFault, text_of_files};
+pub use named::{NamedFault, sections_are_of_files, text_of_files};

@@ -1,8 +1,8 @@
 ghost use Rattle.std.specs.Prelude.{◌≡◌, ◌++◌, map, flat_map, codes, Ok, Err, OnOk, IfOk, MatchResult};
-ghost use Rattle.cns_named.specs.Named.{behind_first, ended, has_line as has_line_in, begins_otherwise as begins_otherwise_of, rows_of_all, do_headers_agree, TellsOf, text_of_files as text_of};
+ghost use Rattle.cns_named.specs.Named.{SectionsAreOfFiles, TellsOf, begins_otherwise as begins_otherwise_of, behind_first, do_headers_agree, ended, has_line as has_line_in, rows_of_all, text_of_files as text_of};
 ghost use Rattle.std.specs.List.{list_any};
 
-use crate::line::{has_line, split_first_line};
+use crate::line::{has_line_once_ended, split_first_line};
 use std::alloc::{AllocError, Global};
 use thiserror::Error;
 
@@ -30,11 +30,13 @@ impl From<AllocError> for NamedFault {
     }
 }
 
-// Whether some file has this line.
+// Whether some file has this line, each last line with its LF.
 fn any_has_line(files: &[Vec<u8>], wanted: &[u8]) -> bool
-    ensures { result ≡ list_any (λ f. has_line_in wanted.now f.items) files.now }
+    ensures { result ≡ list_any (λ f. has_line_in wanted.now (ended f.items)) files.now }
 {
-    files.iter().any(|file| has_line(file.as_slice(), wanted))
+    files
+        .iter()
+        .any(|file| has_line_once_ended(file.as_slice(), wanted))
 }
 
 // Whether a text begins with another line.
@@ -124,7 +126,7 @@ fn joined(
 /// front of what stands in its files. A last line gets the LF that it lacks. The rows of a further file of
 /// trades stand behind those of the one before it, without its header.
 ///
-/// Refuses `Head` where a file has a line that would begin the next section, then `Header` where the first
+/// Refuses `Head` where a file has a line that would begin the next section, also as its last one without an LF, then `Header` where the first
 /// line of a further file of trades is not the first one's, and `OutOfMemory`. (This project's own rule.)
 pub fn text_of_files(
     alloc: Global,
@@ -135,7 +137,7 @@ pub fn text_of_files(
     ensures { MatchResult result (λ t. text_of openings.now (map (λ f. f.items) trades.now) script.now ≡ Ok t.items)
         (λ e. TellsOf e (text_of openings.now (map (λ f. f.items) trades.now) script.now)) }
 {
-    if has_line(openings, b"[trades]") || any_has_line(trades, b"[script]") {
+    if has_line_once_ended(openings, b"[trades]") || any_has_line(trades, b"[script]") {
         return Err(NamedFault::Head);
     }
     if !headers_agree(trades) {
@@ -143,3 +145,9 @@ pub fn text_of_files(
     }
     Ok(joined(alloc, openings, trades, script)?)
 }
+
+/// A law, by a call that does nothing: the sections of the text that files make are what stands in the files,
+/// the last line of each with its LF. So what is claimed of a text is claimed of the files that make it.
+pub fn sections_are_of_files()
+    ensures { SectionsAreOfFiles }
+{}
