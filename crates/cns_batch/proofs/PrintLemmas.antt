@@ -2,7 +2,7 @@
 use Rattle.std.proofs.Common.{◌≡◌, ◌<◌, ◌≤◌, ℕ, suc, zero, ◌+◌, get_or, List, [], ◌∷◌, ◌++◌, length, take, drop, Option, Some, None, Result, Ok, Err, refl, sym, ap, ◌∙◌, subst, append_assoc, arith}
 use Rattle.std.proofs.lemmas.List.{append-nil, drop_all, drop_more}
 use Rattle.std.specs.Result.{IsErr}
-use Rattle.std.specs.Io.KnownBytes.{Appends}
+use Rattle.std.specs.Io.KnownBytes.{Appends, Keeps}
 use Rattle.std.specs.List.{flat_map}
 use Rattle.cns_batch.specs.Runs.{BreaksOff, Output, Prints, Writes}
 
@@ -71,6 +71,16 @@ flush_writes p q all none = (p.held, all, ap (λ l. p.held ++ l) none)
 
 pub flush_breaks : (p : Output) (sent : Option (List ℕ)) (size : ℕ) → Appends p.sent sent (take size p.held) → BreaksOff [] p sent
 flush_breaks p sent size part = (size, subst (λ l. Appends p.sent sent (take size l)) (sym (append-nil p.held)) part)
+
+-- the writer keeps what it holds, and nothing is told
+keeps_appends : (a b : Option (List ℕ)) → Keeps a b → Appends a b []
+keeps_appends None b keeps = tt
+keeps_appends (Some xs) None keeps = absurd keeps
+keeps_appends (Some xs) (Some ys) keeps = keeps ∙ sym (append-nil xs)
+
+pub prints_kept : {E : Type 0} (result : Result (Unit {0}) E) (p q : Output) → Keeps p.sent q.sent → q.held ≡ p.held → Prints [] result p q
+prints_kept (Ok u) p q keeps same = ([], keeps_appends p.sent q.sent keeps, same ∙ sym (append-nil p.held))
+prints_kept (Err e) p q keeps same = (0, keeps_appends p.sent q.sent keeps)
 
 -- a text is held, and then written where much is held
 holds : (text : List ℕ) (p q : Output) → q ≡ record p { held = p.held ++ text } → Writes text p q

@@ -179,6 +179,27 @@ fn run_command<N: Lots, G: Gate + Sync, R: Threads + Sync, W: Write>(
     }
 }
 
+// Does the same, and ends the line.
+fn run_line<N: Lots, G: Gate + Sync, R: Threads + Sync, W: Write>(
+    rt: &R,
+    gate: &G,
+    workers: usize,
+    run: &mut Runner<N>,
+    busy: Option<u64>,
+    number: u64,
+    command: &Command,
+    supply: &mut Supply,
+    writer: &mut W,
+) -> Told
+    ensures { Runs N.leads (command_run served_by_workers busy number command.now supply.old) (leaves result supply.new)
+        (at run.old (W.contents writer.old)) (at run.new (W.contents writer.new)) }
+{
+    run_command(
+        rt, gate, workers, run, busy, number, command, supply, writer,
+    )?;
+    run.page.end_line(writer)
+}
+
 // Runs so many of the next commands, or all where fewer are left, beside the lot of a number where one is
 // served beside them.
 fn run_next<N: Lots, G: Gate + Sync, R: Threads + Sync, W: Write>(
@@ -200,7 +221,7 @@ fn run_next<N: Lots, G: Gate + Sync, R: Threads + Sync, W: Write>(
         let Some((number, command)) = commands.next_command() else {
             return Ok(());
         };
-        run_command(
+        run_line(
             rt, gate, workers, run, busy, number, &command, supply, writer,
         )?;
     }
@@ -325,9 +346,10 @@ fn run_first<N: Lots, G: Gate + Sync, R: Threads + Sync, W: Write>(
         Command::Beside { issue, lines } => {
             beside(
                 rt, gate, workers, run, *issue, *lines, commands, supply, writer,
-            )
+            )?;
+            run.page.end_line(writer)
         }
-        command => run_command(
+        command => run_line(
             rt, gate, workers, run, None, number, command, supply, writer,
         ),
     }

@@ -11,6 +11,7 @@ ghost use Rattle.cns_batch.specs.Text.{BatchLeaves, KeptLeaves, RunsInput, Tells
 use crate::fault::Told;
 use crate::in_turn;
 use crate::opening::take_openings;
+use crate::pace::Pace;
 use crate::page::Page;
 use crate::runner::Runner;
 use crate::supply::Supply;
@@ -164,6 +165,7 @@ fn run_input<C: Keeper + Drop, D: Keeper + Drop, W: Write>(
     rows: Rows,
     script: &[u8],
     shake: Option<u64>,
+    pace: Pace,
     clear: C,
     depot: D,
     writer: &mut W,
@@ -190,7 +192,7 @@ fn run_input<C: Keeper + Drop, D: Keeper + Drop, W: Write>(
     let mut supply = supply_of(trades, shake);
     let mut runner = Runner {
         nodes: system,
-        page: Page::new(told),
+        page: Page::new(told, pace),
         alloc,
     };
     let ran = in_turn::run_script(&mut runner, script, &mut supply, writer);
@@ -202,13 +204,14 @@ fn run_input<C: Keeper + Drop, D: Keeper + Drop, W: Write>(
     }
 }
 
-// Does what `run_batch_kept` says, with the link shaken before each pump where a number is given.
+// Does what `run_batch_kept` says, at a pace, with the link shaken before each pump where a number is given.
 pub(crate) fn run_shaken<R: Read, W: Write, L: Ledger, C: Keeper + Drop, D: Keeper + Drop>(
     alloc: Global,
     reader: &mut R,
     writer: &mut W,
     steps: &mut Steps<L>,
     shake: Option<u64>,
+    pace: Pace,
     clear: C,
     depot: D,
 ) -> Kept<C, D>
@@ -231,7 +234,16 @@ pub(crate) fn run_shaken<R: Read, W: Write, L: Ledger, C: Keeper + Drop, D: Keep
     };
     match read_parts(alloc, bytes) {
         Ok(Parts { rows, script }) => {
-            run_input(alloc, rows, script.as_slice(), shake, clear, depot, writer)
+            run_input(
+                alloc,
+                rows,
+                script.as_slice(),
+                shake,
+                pace,
+                clear,
+                depot,
+                writer,
+            )
         }
         Err(fault) => Kept {
             result: Err(fault),
@@ -249,7 +261,8 @@ pub(crate) fn run_shaken<R: Read, W: Write, L: Ledger, C: Keeper + Drop, D: Keep
 /// so before `Sections` and `Csv`. `Journal` comes after these, exactly where the nodes were not opened for
 /// another cause than want of memory. At `Write` and `Memory` a first part of the text was written, or
 /// none. Where the script ran, each keeper comes back as its node gives it up in the scene that the script
-/// left, at Ok the last one. `steps` counts the read calls, at most 67,108,866.
+/// left, at Ok the last one. What a line of the script tells is written, and the writer flushed, as the line
+/// ends. `steps` counts the read calls, at most 67,108,866.
 pub fn run_batch_kept<R: Read, W: Write, L: Ledger, C: Keeper + Drop, D: Keeper + Drop>(
     alloc: Global,
     reader: &mut R,
@@ -265,7 +278,16 @@ pub fn run_batch_kept<R: Read, W: Write, L: Ledger, C: Keeper + Drop, D: Keeper 
     ensures end { OnOk result.result (IsAtEnd (R.remaining reader.new)) }
     ensures reads { steps.new ≤ steps.old + 67108866 }
 {
-    run_shaken(alloc, reader, writer, steps, None, clear, depot)
+    run_shaken(
+        alloc,
+        reader,
+        writer,
+        steps,
+        None,
+        Pace::ByLine,
+        clear,
+        depot,
+    )
 }
 
 /// Reads an input text to its end, and writes what its script tells of its trades, over keepers in memory.
@@ -289,11 +311,13 @@ pub fn run_batch<R: Read, W: Write, L: Ledger>(
         result,
         clear,
         depot,
-    } = run_batch_kept(
+    } = run_shaken(
         alloc,
         reader,
         writer,
         steps,
+        None,
+        Pace::WhenFull,
         ListKeeper::new(alloc),
         ListKeeper::new(alloc),
     );

@@ -7,6 +7,7 @@ ghost use Rattle.cns_batch.specs.Text.{LeavesSomeKeepers, SaysOf, WritesByWorker
 
 use crate::at_desk::{self, AtDesk};
 use crate::batch::{Parts, Rows, batch_result, read_parts, run_shaken, start_fault, supply_of};
+use crate::pace::Pace;
 use crate::page::Page;
 use crate::runner::Runner;
 use cns_allocate::Gate;
@@ -35,6 +36,8 @@ use std::thread::Threads;
 /// With `Read`, `TooLong`, `Sections`, `Csv` and `Journal`, each told where `run_batch_kept` tells it,
 /// nothing was written. At `Write` and `Memory` a first part of the text was written, or none. `steps`
 /// counts the read calls, at most 67,108,866.
+///
+/// What it tells is written where it has grown much, and at the end.
 pub fn run_desk<
     I: Read,
     W: Write,
@@ -65,8 +68,55 @@ pub fn run_desk<
     ensures end { OnOk result (IsAtEnd (I.remaining reader.new)) }
     ensures reads { steps.new ≤ steps.old + 67108866 }
 {
+    run_paced(
+        rt,
+        alloc,
+        reader,
+        writer,
+        steps,
+        workers,
+        shake,
+        Pace::WhenFull,
+        clear,
+        depot,
+        gate,
+    )
+}
+
+/// Does what `run_desk` does, and writes what it tells at a pace.
+pub fn run_paced<
+    I: Read,
+    W: Write,
+    L: Ledger,
+    C: Keeper + Drop,
+    D: Keeper + Drop,
+    G: Gate + Sync,
+    R: Threads + Wait + Sync,
+>(
+    rt: &R,
+    alloc: Global,
+    reader: &mut I,
+    writer: &mut W,
+    steps: &mut Steps<L>,
+    workers: usize,
+    shake: Option<u64>,
+    pace: Pace,
+    clear: C,
+    depot: D,
+    gate: &G,
+) -> Result<(), BatchFault>
+    ensures says { (bytes : List ℕ) × IsInput (I.remaining reader.old) bytes × SaysOf result bytes (C.state clear) (D.state depot) }
+    ensures plain { workers ≡ 0 → (bytes : List ℕ) × IsInput (I.remaining reader.old) bytes
+        × LeavesSomeKeepers result shake bytes (C.state clear) (D.state depot) (W.contents writer.old) (W.contents writer.new) }
+    ensures workers { 0 < workers → (bytes : List ℕ) × IsInput (I.remaining reader.old) bytes
+        × WritesByWorkers result shake bytes (W.contents writer.old) (W.contents writer.new) }
+    ensures given { HasGiven result (I.remaining reader.old) (I.remaining reader.new) }
+    ensures none { IfErr result (λ e. WritesNothing e → W.contents writer.new ≡ W.contents writer.old) }
+    ensures end { OnOk result (IsAtEnd (I.remaining reader.new)) }
+    ensures reads { steps.new ≤ steps.old + 67108866 }
+{
     if workers == 0 {
-        let kept = run_shaken(alloc, reader, writer, steps, shake, clear, depot);
+        let kept = run_shaken(alloc, reader, writer, steps, shake, pace, clear, depot);
         return kept.result;
     }
     let bytes = read_input(alloc, reader, steps)?;
@@ -88,7 +138,7 @@ pub fn run_desk<
             desk: Desk::new(alloc, system),
             handle: rt,
         },
-        page: Page::new(told),
+        page: Page::new(told, pace),
         alloc,
     };
     let ran = at_desk::run_script(

@@ -143,6 +143,23 @@ fn run_command<C: Keeper, D: Keeper, W: Write>(
     }
 }
 
+// Does the same, and ends the line.
+#[inline(always)]
+fn run_line<C: Keeper, D: Keeper, W: Write>(
+    run: &mut Runner<System<C, D>>,
+    busy: Option<u64>,
+    number: u64,
+    command: &Command,
+    supply: &mut Supply,
+    writer: &mut W,
+) -> Told
+    ensures { Runs LeadsInTurn (command_run served_in_turn busy number command.now supply.old) (leaves result supply.new)
+        (at run.old (W.contents writer.old)) (at run.new (W.contents writer.new)) }
+{
+    run_command(run, busy, number, command, supply, writer)?;
+    run.page.end_line(writer)
+}
+
 // Runs so many of the next commands, or all where fewer are left, beside the lot of a number where one is
 // served beside them.
 fn run_next<C: Keeper, D: Keeper, W: Write>(
@@ -161,7 +178,7 @@ fn run_next<C: Keeper, D: Keeper, W: Write>(
         let Some((number, command)) = commands.next_command() else {
             return Ok(());
         };
-        run_command(run, busy, number, &command, supply, writer)?;
+        run_line(run, busy, number, &command, supply, writer)?;
     }
     Ok(())
 }
@@ -200,9 +217,10 @@ fn run_first<C: Keeper, D: Keeper, W: Write>(
 {
     match command {
         Command::Beside { issue, lines } => {
-            beside(run, *issue, *lines, commands, supply, writer)
+            beside(run, *issue, *lines, commands, supply, writer)?;
+            run.page.end_line(writer)
         }
-        command => run_command(run, None, number, command, supply, writer),
+        command => run_line(run, None, number, command, supply, writer),
     }
 }
 

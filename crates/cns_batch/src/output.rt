@@ -1,5 +1,5 @@
 ghost use Rattle.std.specs.Prelude.{◌≡◌, ℕ, ◌+◌, ◌-◌, ◌≤◌, length, take, drop, OnOk, OnErr, IfErr};
-ghost use Rattle.std.specs.Io.KnownBytes.{Appends};
+ghost use Rattle.std.specs.Io.KnownBytes.{Appends, Keeps};
 ghost use Rattle.cns_batch.specs.declared.fault.OutputFault.TheVariants.{Write as write_fault};
 
 use crate::fault::{OutputFault, Told};
@@ -20,4 +20,15 @@ pub(crate) fn write_text<W: Write>(writer: &mut W, text: &[u8]) -> Told
         }
     }
     Ok(())
+}
+
+// Has a writer hand on what it holds.
+pub(crate) fn hand_on<W: Write>(writer: &mut W) -> Told
+    ensures keeps { Keeps (W.contents writer.old) (W.contents writer.new) }
+    ensures kind { IfErr result (λ e. e ≡ write_fault) }
+{
+    match writer.flush() {
+        Ok(()) => Ok(()),
+        Err(_) => Err(OutputFault::Write),
+    }
 }

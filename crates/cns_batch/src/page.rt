@@ -16,7 +16,8 @@ ghost use Rattle.cns_batch.specs.declared.fault.OutputFault.TheVariants.{Write a
 ghost use Rattle.cns_batch.specs.Runs.{Prints, Puts, output};
 
 use crate::fault::Told;
-use crate::output::write_text;
+use crate::output::{hand_on, write_text};
+use crate::pace::Pace;
 use cns_clearing::Clearing;
 use cns_depository::Depository;
 use cns_ids::Cusip;
@@ -48,6 +49,7 @@ fn refusal_of(cut: Cut) -> Refusal
 #[derive(Drop)]
 pub(crate) struct Page {
     text: Text,
+    pace: Pace,
 }
 
 impl Model for Page {
@@ -59,11 +61,11 @@ impl Model for Page {
 }
 
 impl Page {
-    /// A text that is to be written first.
-    pub(crate) fn new(text: Text) -> Page
+    /// A text that is to be written first, at a pace.
+    pub(crate) fn new(text: Text, pace: Pace) -> Page
         ensures { result ≡ text }
     {
-        Page { text }
+        Page { text, pace }
     }
 
     /// Writes what was told.
@@ -88,6 +90,25 @@ impl Page {
             return Ok(());
         }
         self.flush(writer)
+    }
+
+    // Writes what was told, and has the writer hand it on.
+    fn pass_on<W: Write>(&mut self, writer: &mut W) -> Told
+        ensures { Prints [] result (output self.old (W.contents writer.old)) (output self.new (W.contents writer.new)) }
+    {
+        self.flush(writer)?;
+        hand_on(writer)
+    }
+
+    /// Ends a line of the script. Its text is written where that is the pace.
+    #[inline(always)]
+    pub(crate) fn end_line<W: Write>(&mut self, writer: &mut W) -> Told
+        ensures { Prints [] result (output self.old (W.contents writer.old)) (output self.new (W.contents writer.new)) }
+    {
+        match self.pace {
+            Pace::WhenFull => Ok(()),
+            Pace::ByLine => self.pass_on(writer),
+        }
     }
 
     /// Tells what an event came to.

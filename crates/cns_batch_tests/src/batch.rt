@@ -147,12 +147,12 @@ fn a_failed_write_leaves_a_first_part_of_the_line(rt: HostRuntime) {
     }
 }
 
-fn kept_by<L: Ledger, C: Keeper + Drop, D: Keeper + Drop>(
+fn kept_by<L: Ledger, W: Write, C: Keeper + Drop, D: Keeper + Drop>(
     alloc: Global,
     blank: Blank,
     input: &[u8],
     keepers: (C, D),
-    out: &mut Vec<u8>,
+    out: &mut W,
 ) -> Kept<C, D>
     requires name { blank.name ≡ L.name }
     requires parts { blank.parts ≡ L.parts }
@@ -171,13 +171,13 @@ fn kept_by<L: Ledger, C: Keeper + Drop, D: Keeper + Drop>(
 }
 
 // What an input comes to over these keepers, and both keepers then.
-pub(crate) fn kept<C: Keeper + Drop, D: Keeper + Drop>(
+pub(crate) fn kept<W: Write, C: Keeper + Drop, D: Keeper + Drop>(
     alloc: Global,
     input: &[u8],
     keepers: (C, D),
-    out: &mut Vec<u8>,
+    out: &mut W,
 ) -> Kept<C, D> {
-    kept_by::<Brand, C, D>(alloc, Blank::new(1), input, keepers, out)
+    kept_by::<Brand, W, C, D>(alloc, Blank::new(1), input, keepers, out)
 }
 
 // Of 60 shares that member 1 sells, 25 are exempt, and it has 20.

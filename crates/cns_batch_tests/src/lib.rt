@@ -9,4 +9,6 @@ mod desk;
 #[cfg(test)]
 mod disk;
 #[cfg(test)]
+mod pace;
+#[cfg(test)]
 mod story;

@@ -29,18 +29,18 @@ pub returns-in_default-clause-passed : goal.returns-in_default-clause-passed
 returns-in_default-clause-passed g c =
     left_none c.loop-command._command c.args.count (left_of c.args.commands.now) (left_of c.loop-command.commands) _ c.loop-command.invariant.0 c.loop-command.invariant.1 c.in_default.ensures.0 c.in_default.ensures.1
 
-pub returns-in_err-run_command-clause-runs : goal.returns-in_err-run_command-clause-runs
-returns-in_err-run_command-clause-runs g c =
+pub returns-in_err-run_line-clause-runs : goal.returns-in_err-run_line-clause-runs
+returns-in_err-run_line-clause-runs g c =
     leaves_fault _ (all_run served_in_turn c.args.busy (take c.args.count (left_of c.args.commands.now)) c.args.supply.now) c.from_residual.result _ _ _ c.from_residual.ensures.0
     (next_stops served_in_turn c.args.busy c.args.count c.loop-command._command (c.in-Some.number, c.in-Some.command) (left_of c.args.commands.now) (left_of c.loop-command.commands) _ c.args.supply.now c.loop-command.supply
-    _ _ _ c.loop-command-test.true c.in-Some.ensures c.loop-command.invariant.2 c.in_err-run_command.ensures)
+    _ _ _ c.loop-command-test.true c.in-Some.ensures c.loop-command.invariant.2 c.in_err-run_line.ensures)
 
 pub loop-command-preserved : goal.loop-command-preserved
 loop-command-preserved g c = (
   omega (arith, c.loop-command-test.true),
   left_next c.loop-command._command (c.in-Some.number, c.in-Some.command) (left_of c.args.commands.now) (left_of c.loop-command.commands) _ c.loop-command.invariant.1 c.in-Some.ensures,
   next_ran served_in_turn c.args.busy c.args.count c.loop-command._command (c.in-Some.number, c.in-Some.command) (left_of c.args.commands.now) (left_of c.loop-command.commands) _ c.args.supply.now
-      c.loop-command.supply _ _ _ _ c.loop-command-test.true c.in-Some.ensures c.loop-command.invariant.2 c.in_ok-run_command.ensures,
+      c.loop-command.supply _ _ _ _ c.loop-command-test.true c.in-Some.ensures c.loop-command.invariant.2 c.in_ok-run_line.ensures,
 )
 
 pub returns-clause-runs : goal.returns-clause-runs

@@ -4,7 +4,7 @@ use Rattle.cns_batch.specs.Runs.{at}
 use Rattle.cns_batch.specs.Text.{Input}
 use Rattle.cns_batch.proofs.TextLemmas.{given_after, ran_other, run_may_write, says_ran, says_unopened, says_unread}
 use Rattle.cns_batch.proofs.WorkerLemmas.{workers_ran, workers_unread}
-use Rattle.cns_batch.proofs.desk.run_desk.Goals as goal
+use Rattle.cns_batch.proofs.desk.run_paced.Goals as goal
 
 pub returns-in_err-bytes-clause-says : goal.returns-in_err-bytes-clause-says
 returns-in_err-bytes-clause-says g c =
