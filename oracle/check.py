@@ -1,6 +1,7 @@
 #!/usr/bin/env python3
 """Tries `check` on random inputs: it must tell each fault of each row, each opening that does not hold, each header that is
-none and each line that is no command, at the line where it stands, and nothing else.
+none and each line that is no command, at the line where it stands, and nothing else; behind heads that are wrong too, once each line
+that names a head is taken for it. It must note each id of a trade that comes again.
 
     check.py PROGRAM --seed N --count K [--from F]
 
@@ -10,6 +11,7 @@ N is not.
 """
 import collections
 import random
+import re
 import subprocess
 import sys
 import tempfile
@@ -17,6 +19,9 @@ import tempfile
 import cnsd_oracle
 import fuzz
 
+# What may stand in a line beside the name of a head, and the heads by their names.
+BESIDE = b'\t\n\r "():[]{}\xbb\xbf\xef'
+HEADS = {b'openings': b'[openings]\n', b'opening': b'[openings]\n', b'trades': b'[trades]\n', b'trade': b'[trades]\n', b'script': b'[script]\n', b'scripts': b'[script]\n'}
 OPENINGS = b'account,cusip,shares'.split(b',')
 TRADES = b'trade,settle,buyer,seller,cusip,quantity'.split(b',')
 MOST = 1000             # of a part that are told one by one
@@ -100,6 +105,42 @@ def wanted(text):
     return [line for part in parts for line in part]
 
 
+def mended(text):
+    """A text in which each line that names a head is that head."""
+    lines = re.findall(rb'[^\n]*\n|[^\n]+', text)
+    return b''.join(HEADS.get(line.translate(None, BESIDE).lower(), line) for line in lines)
+
+
+def noted(text):
+    """What is to be noted of ids that come again: the line of each such row, and that of the first one with the id."""
+    try:
+        openings, trades, _ = cnsd_oracle.split_sections(text)
+    except cnsd_oracle.BadInput:
+        return []
+    first, again = {}, []
+    for number, row in cnsd_oracle.numbered_records(trades)[1:]:
+        try:
+            name = cnsd_oracle.read_id(row[0])
+        except cnsd_oracle.Fault:
+            continue
+        line = 2 + openings.count(b'\n') + number
+        if name in first:
+            again.append((line, first[name]))
+        else:
+            first[name] = line
+    return again
+
+
+def notes(error):
+    """The lines that notes tell of; None where they are not of their form."""
+    *lines, last = error.split(b'\n')
+    if last:
+        return None
+    found = [re.fullmatch(rb'-:(\d+): note: trade `\w+` stands in line (\d+) too: .*', line) for line in lines[:-1]]
+    counted = not lines or lines[-1].startswith(b'%d id' % len(found))
+    return [(int(note[1]), int(note[2])) for note in found] if all(found) and counted else None
+
+
 def told(out):
     """The lines that a check's output tells of; None where it is not of that form."""
     *lines, last = out.split(b'\n')
@@ -111,10 +152,11 @@ def told(out):
 def is_right(text, status, out, error):
     """Whether what a check did is right."""
     want = wanted(text)
-    if error or status != (0 if want == [] else 1):
+    if notes(error) != noted(text) or status != (0 if want == [] else 1):
         return False
     if want is None:
-        return told(out) is not None and (b': no line is `[' in out or b': the first line is `' in out)
+        heads = len(re.findall(rb'^-:\d+: (?:no line is `\[|the first line is `)', out, re.M))
+        return 1 <= heads <= 3 and told(out) is not None and told(out)[heads:] == (wanted(mended(text)) or [])
     return out == b'' if not want else told(out) == want
 
 

@@ -23,7 +23,7 @@ use Rattle.cns_depository.specs.Openings.{opening_fault}
 use Rattle.cns_depository.specs.declared.openings.OpeningFault.{OpeningFault}
 use Rattle.cns_input.specs.Sections.{raw_lines, sections}
 use Rattle.cns_check.specs.Clean.{AreOpenings, AreTrades, IsClean, IsFirst, IsTable}
-use Rattle.cns_check.specs.Findings.{against_opening, against_trade, all_against, bad_lines, commands_from, has_head, in_heads, in_opening, in_openings, in_row, in_script, in_section, in_sections, in_text, in_trades, records_of}
+use Rattle.cns_check.specs.Findings.{against_opening, against_trade, all_against, bad_lines, commands_from, has_head, in_heads, in_mended, in_opening, in_openings, in_row, in_script, in_section, in_sections, in_text, in_trades, records_of}
 use Rattle.cns_check.specs.declared.finding.Finding.{Finding}
 use Rattle.cns_check.specs.declared.finding.Finding.TheVariants as finding
 use Rattle.cns_check.specs.declared.finding.Head.TheVariants as head
@@ -227,8 +227,8 @@ nothing_found text = (by (sections text) refl, λ clean. sym (of_sections text c
   where
     by : (parts : Option (List ℕ × List ℕ × List ℕ)) → sections text ≡ parts → in_text text ≡ [] → IsClean text
     by None is none =
-        let heads : in_text text ≡ in_heads text = rw (is, in_text) refl in
-        absurd (heads_found text (sym heads ∙ none))
+        let heads : in_text text ≡ in_heads text ++ in_mended text = rw (is, in_text) refl in
+        absurd (heads_found text (left_none (in_heads text) (in_mended text) (sym heads ∙ none)))
     by (Some (o, t, s)) is none =
         let clean = (nothing_in_sections o t s).0 (of_sections text o t s (sym is) ∙ none) in
         (o, t, s, is, clean.0, clean.1, clean.2)

@@ -3,3 +3,5 @@ pub mod SectionLemmas
 pub mod ScriptLemmas
 pub mod TextLemmas
 pub mod CleanLemmas
+pub mod RepeatLemmas
+pub mod MendedLemmas

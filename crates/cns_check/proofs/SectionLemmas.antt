@@ -46,7 +46,7 @@ enumerate_from-one n (y ∷ ys) x =
     let same : n + 1 + length ys ≡ n + suc (length ys) = omega arith in
     rw (more, same) refl
 
-numbered-one : (rows : List Fields) (f : Fields) (n : ℕ) → n ≡ length rows + 1 → enumerate_from 1 (rows ++ f ∷ []) ≡ enumerate_from 1 rows ++ (n, f) ∷ []
+pub numbered-one : (rows : List Fields) (f : Fields) (n : ℕ) → n ≡ length rows + 1 → enumerate_from 1 (rows ++ f ∷ []) ≡ enumerate_from 1 rows ++ (n, f) ∷ []
 numbered-one rows f n is =
     let at : 1 + length rows ≡ n = omega (arith, is) in
     enumerate_from-one 1 rows f ∙ ap (λ k. enumerate_from 1 rows ++ (k, f) ∷ []) at

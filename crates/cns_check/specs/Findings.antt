@@ -20,6 +20,7 @@ use Rattle.cns_input.specs.Sections.{line_text, raw_lines, sections}
 use Rattle.cns_input.specs.declared.command.Command.{Command}
 use Rattle.cns_input.specs.declared.command.Command.TheVariants as command
 use Rattle.cns_named.specs.Named.{has_line}
+use Rattle.cns_check.specs.Mended.{mended}
 use Rattle.cns_check.specs.declared.finding.Finding.{Finding}
 use Rattle.cns_check.specs.declared.finding.Finding.TheVariants as finding
 use Rattle.cns_check.specs.declared.finding.Head.{Head}
@@ -126,6 +127,10 @@ in_sections openings trades script =
     ++ in_section table.Trades is_trade_header in_trades (records_of trades)
     ++ in_script script
 
--- all that is found in a text: in its heads where it has no sections, and else in these
+-- what is found in the sections that a text has once its heads are mended; nothing where it still has none
+abbrev pub in_mended : List ℕ → List Finding
+in_mended text = elim (sections (mended text)) [ None ↦ [] | Some (openings, trades, script) ↦ in_sections openings trades script ]
+
+-- all that is found in a text: in its heads where it has no sections, and in those that it has once they are mended; and else in its sections
 abbrev pub in_text : List ℕ → List Finding
-in_text text = elim (sections text) [ None ↦ in_heads text | Some (openings, trades, script) ↦ in_sections openings trades script ]
+in_text text = elim (sections text) [ None ↦ in_heads text ++ in_mended text | Some (openings, trades, script) ↦ in_sections openings trades script ]

@@ -59,13 +59,13 @@ pub enum Part {
 
 impl Head {
     /// The line without its end.
-    pub fn text(self) -> &'static [u8]
+    pub fn text(self) -> &'static str
         ensures { result.now ≡ head_text self }
     {
         match self {
-            Head::Openings => b"[openings]",
-            Head::Trades => b"[trades]",
-            Head::Script => b"[script]",
+            Head::Openings => "[openings]",
+            Head::Trades => "[trades]",
+            Head::Script => "[script]",
         }
     }
 }

@@ -56,8 +56,8 @@ impl<'a> Place<'a> {
     }
 }
 
-// How many of a part are kept.
-const MOST: u64 = 1000;
+/// How many of a part are kept.
+pub(crate) const MOST_OF_A_PART: u64 = 1000;
 
 impl Findings {
     /// Nothing yet.
@@ -103,7 +103,7 @@ impl Findings {
     fn keep(&mut self, alloc: Global, finding: Finding, place: &Place<'_>) -> Result<(), AllocError>
         ensures { OnOk result (KeepsOne finding self.old self.new) }
     {
-        if self.count(finding.part()) >= MOST {
+        if self.count(finding.part()) >= MOST_OF_A_PART {
             return Ok(());
         }
         let text = excerpt(alloc, place.text)?;

@@ -5,13 +5,14 @@ ghost use Rattle.cns_check.specs.declared.finding.Finding.{Finding};
 
 use crate::finding::{Finding, Head};
 use crate::found::{Findings, Place};
+use crate::mended::is_named;
 use cns_input::{line_size, line_text};
 use cns_named::has_line;
 use std::alloc::{AllocError, Global};
 
 // Whether a line looks like a head: it has the head's letters, or begins like it behind a bracket.
 fn looks_like(line: &[u8], head: Head) -> bool {
-    let wanted = head.text();
+    let wanted = head.text().as_bytes();
     let mut bracket = false;
     let mut at = 1usize;
     for byte in line {
@@ -28,14 +29,14 @@ fn looks_like(line: &[u8], head: Head) -> bool {
     at.saturating_add(1) == wanted.len() || (bracket && at > 2)
 }
 
-// The first line that looks like a head, and its number; the first number and no bytes where none does.
+// The first line that names a head or looks like it, and its number; the first number and no bytes where none does.
 fn nearest(text: &[u8], head: Head) -> (u64, &[u8]) {
     let mut rest = text;
     let mut number = 0u64;
     while !rest.is_empty() {
         let (line, after) = rest.split_at(line_size(rest));
         number = number.saturating_add(1);
-        if looks_like(line, head) {
+        if is_named(head, line) || looks_like(line, head) {
             return (number, line_text(line));
         }
         rest = after;
@@ -53,7 +54,7 @@ fn check_head(
     ensures missing { IfOk result (λ missing. missing ≡ not (has_head text.now head)) }
     ensures adds { OnOk result ((before : List Finding) → IsOf found.old before → IsOf found.new (before ++ no_head text.now head)) }
 {
-    if has_line(text, head.text()) {
+    if has_line(text, head.text().as_bytes()) {
         return Ok(false);
     }
     let (line, there) = nearest(text, head);

@@ -20,6 +20,11 @@ pub(crate) fn line_ends(text: &[u8]) -> u64 {
     count
 }
 
+/// The line of a text in which its trades begin, behind these openings and the two heads.
+pub(crate) fn trades_line(openings: &[u8]) -> u64 {
+    line_ends(openings).saturating_add(3)
+}
+
 impl<'a> Lines<'a> {
     /// A text that begins in this line.
     pub(crate) fn new(text: &'a [u8], line: u64) -> Lines<'a> {

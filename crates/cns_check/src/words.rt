@@ -4,23 +4,15 @@
 use crate::excerpt::shown;
 use crate::finding::{Finding, Head, Part, Table};
 use crate::form::wanted_of_line;
-use crate::found::{Findings, Found};
+use crate::found::{Findings, Found, MOST_OF_A_PART};
+use crate::repeat::{Repeat, Repeats};
 use cns_depository::OpeningFault;
 use cns_ids::{CusipFault, ReadFault};
 use cns_input::{line_size, line_text};
 use cns_trades::RowFault;
 use std::alloc::{AllocError, Global};
 
-// A head as it is to stand.
-fn head_word(head: Head) -> &'static str {
-    match head {
-        Head::Openings => "[openings]",
-        Head::Trades => "[trades]",
-        Head::Script => "[script]",
-    }
-}
-
-// A row of a section, and its header.
+// A row of a section.
 fn row_word(table: Table) -> &'static str {
     match table {
         Table::Openings => "opening",
@@ -28,11 +20,16 @@ fn row_word(table: Table) -> &'static str {
     }
 }
 
-fn header_of(table: Table) -> &'static str {
-    match table {
-        Table::Openings => "account,cusip,shares",
-        Table::Trades => "trade,settle,buyer,seller,cusip,quantity",
+// The header of a section, as it is to stand.
+fn header_of(alloc: Global, table: Table) -> Result<String, AllocError> {
+    let mut header = String::new(alloc);
+    for word in table.header() {
+        if !header.is_empty() {
+            header.push(',')?;
+        }
+        header.push_str(word)?;
     }
+    Ok(header)
 }
 
 // The field that has a fault.
@@ -117,13 +114,25 @@ fn told_of_head(
     found: &Found,
     there: &String,
 ) -> Result<String, AllocError> {
-    let head = head_word(head);
+    let head = head.text();
     let wanted =
         "the head alone in its line, with small letters and brackets, and nothing before or behind it";
     if found.text.is_empty() {
         return format!(in alloc; "no line is `{head}`: {wanted}");
     }
-    format!(in alloc; "no line is `{head}`, and here stands `{there}`: {wanted}")
+    let unseen = unseen_of(found.text.as_slice());
+    format!(in alloc; "no line is `{head}`, and here stands `{there}`: {wanted}{unseen}")
+}
+
+// What is said of bytes beside a head that an editor does not show.
+fn unseen_of(line: &[u8]) -> &'static str {
+    if line.starts_with(&[0xEF, 0xBB, 0xBF]) {
+        "; \\xef\\xbb\\xbf is a byte order mark: save the text as UTF-8 without one"
+    } else if line.ends_with(b"\r") {
+        "; \\x0d is a carriage return that no line feed follows"
+    } else {
+        ""
+    }
 }
 
 // The same of a first record that is not the header.
@@ -133,7 +142,7 @@ fn told_of_header(
     found: &Found,
     there: &String,
 ) -> Result<String, AllocError> {
-    let wanted = header_of(table);
+    let wanted = header_of(alloc, table)?;
     let place = found.place;
     let count = found.fields;
     let fields = if count == 1 { "field" } else { "fields" };
@@ -156,7 +165,7 @@ fn told_of_row(
     if matches!(fault, RowFault::Fields) {
         let count = found.fields;
         let fields = if count == 1 { "field" } else { "fields" };
-        let header = header_of(table);
+        let header = header_of(alloc, table)?;
         return format!(in alloc; "{row} `{id}` has {count} {fields}: {header}{open}");
     }
     let field = field_word(fault);
@@ -246,7 +255,7 @@ pub fn found_line(
 
 // How many more there are of a part than are kept.
 fn more_of(count: u64) -> u64 {
-    count.saturating_sub(1000)
+    count.saturating_sub(MOST_OF_A_PART)
 }
 
 /// The last line: how much is wrong, of which part, and how much of it was not told one by one.
@@ -270,4 +279,48 @@ pub fn count_line(alloc: Global, found: &Findings) -> Result<String, AllocError>
         return format!(in alloc; "{counts}\n");
     }
     format!(in alloc; "{counts}; {more} of these are not shown\n")
+}
+
+// The file of an earlier row, where it is another one.
+fn other_file(alloc: Global, name: &str, earlier_name: &str) -> Result<String, AllocError> {
+    if name == earlier_name {
+        return Ok(String::new(alloc));
+    }
+    format!(in alloc; " of {earlier_name}")
+}
+
+/// The line that notes a row of trades whose id an earlier row has, with the line of the first of these. Each of
+/// the two stands in a file of its name, before whose first line so many stand in the text.
+pub fn repeat_line(
+    alloc: Global,
+    name: &str,
+    before: u64,
+    earlier_name: &str,
+    earlier_before: u64,
+    repeat: &Repeat,
+) -> Result<String, AllocError> {
+    let id = repeat.id;
+    let earlier = repeat.earlier_line.saturating_sub(earlier_before);
+    let file = other_file(alloc, name, earlier_name)?;
+    let told = format!(in alloc;
+        "note: trade `{id}` stands in line {earlier}{file} too: a run takes the first that is accepted, and refuses the other"
+    )?;
+    line_of(
+        alloc,
+        name,
+        repeat.line.saturating_sub(before),
+        told.as_str(),
+    )
+}
+
+/// The last line of the notes: how many rows of trades have an id that an earlier one has, and how many of these
+/// were not told one by one.
+pub fn repeats_line(alloc: Global, repeats: &Repeats) -> Result<String, AllocError> {
+    let count = repeats.count;
+    let come = if count == 1 { "id comes" } else { "ids come" };
+    let more = more_of(count);
+    if more == 0 {
+        return format!(in alloc; "{count} {come} again\n");
+    }
+    format!(in alloc; "{count} {come} again; {more} of these are not shown\n")
 }

@@ -1,4 +1,3 @@
 pub mod LineLemmas
 pub mod CountLemmas
 pub mod TallyLemmas
-pub mod SumLemmas
