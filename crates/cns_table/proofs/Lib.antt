@@ -1,0 +1,3 @@
+pub mod WordLemmas
+pub mod RunLemmas
+pub mod RowLemmas

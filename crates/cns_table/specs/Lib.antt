@@ -1,0 +1,9 @@
+pub mod Text
+pub mod Words
+pub mod Row
+pub mod Head
+pub mod Place
+pub mod Faults
+pub mod Sheet
+pub mod Table
+pub mod Run
