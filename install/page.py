@@ -73,11 +73,11 @@ def of_markdown(text):
 
 def page(program):
     """The lines of the page."""
-    whole, run, check, cusip = [said(program, *words) for words in (['--help'], ['run', '--help'], ['check', '--help'], ['cusip', '--help'])]
-    name, version = said(program, '--version').split()
+    whole, run, check, table, cusip = [said(program, *words, '--help') for words in ([], ['run'], ['check'], ['table'], ['cusip'])]
+    name, version = said(program, '--version').split()[:2]
     about = whole.splitlines()[0]
     options, teaches = run.split('\n\nThe input is', 1)
-    usages = [re.search(r'^Usage: (.*)$', text, re.M)[1] for text in (run, check, cusip)]
+    usages = [re.search(r'^Usage: (.*)$', text, re.M)[1] for text in (run, check, table, cusip)]
     with open(FAULTS, encoding='utf-8') as faults:
         told = faults.read()
     return [
@@ -87,6 +87,7 @@ def page(program):
         '.SH DESCRIPTION', *as_it_stands(options),
         '.PP', *as_it_stands('The input is' + teaches),
         '.SH CHECKS', *as_it_stands(check),
+        '.SH TABLES', *as_it_stands(table),
         '.SH CUSIPS', *as_it_stands(cusip),
         '.SH FAULTS', *of_markdown(told),
     ]

@@ -534,8 +534,8 @@ FAULTY = (1, b'', None)
 NO_FOLDER = [b'run', b'--journal', b'4']
 JOURNAL_FAILED = (3, b'', b'cnsd: journal failed\n')
 HELP = (0, None, b'')
-HELPS = [[b'--help'], [b'-h'], [b'help'], [b'help', b'run'], [b'help', b'cusip'], [b'run', b'--help'], [b'run', b'-h'],
-         [b'cusip', b'--help'], [b'cusip', b'-h'], [b'--version'], [b'-V']]
+HELPS = [[b'--help'], [b'-h'], [b'help'], [b'help', b'run'], [b'help', b'check'], [b'help', b'table'], [b'help', b'cusip'], [b'run', b'--help'],
+         [b'run', b'-h'], [b'check', b'--help'], [b'table', b'--help'], [b'table', b'-h'], [b'cusip', b'--help'], [b'cusip', b'-h'], [b'--version'], [b'-V']]
 NO_COMMANDS = [b'ru', b'RUN', b'Run', b'runs', b'run ', b' run', b'cusi', b'CUSIP', b'cusips', b'cusip=037833100',
                b'', b' ', b'-', b'x', b'037833100', b'r\xc3\xbcn', b'\xff', b'run\xff', b'version', b'start', b'\n',
                b'run\n', b'[openings]', b'plain.in']

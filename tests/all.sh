@@ -141,6 +141,8 @@ part_of_program 'refused lines once more' tests/refuse_again.sh "$program"
 part_of_program 'random inputs' oracle/fuzz.py "$program" --seed 1 --count 500
 part_of_program 'strict runs and inputs by name' tests/check_strict.py "$program"
 part_of_program 'what check tells' oracle/check.py "$program" --seed 1 --count 500
+part_of_program 'reports as tables' tests/check_table.py "$program"
+part_of_program 'runs that are followed' tests/check_follow.py "$program"
 part_of_program 'the headline in reports' oracle/headline.py "$program" --seed 1 --count 300
 part_of_program 'runs with workers' oracle/workers.py "$program" --seed 1 --count 100
 part_of_program 'what make install sets up' tests/check_install.py "$program"

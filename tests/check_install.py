@@ -1,7 +1,7 @@
 #!/usr/bin/env python3
 """tests/check_install.py PROGRAM: what `make install` sets up, and whether docs/FAULTS.md has each name that a line may end with.
 
-The names are those of the definitions of refusals and faults (crates/cns_report/specs), and the messages those of BatchFault. Each stands
+The names are those of the definitions of refusals and faults (crates/cns_report/specs), and the messages those of BatchFault and TableFault. Each stands
 in a table of the page, and the page names no other. Then the manual page and the completion are made of PROGRAM and set up in a folder:
 the page has each option, command and fault, groff finds nothing to warn of where it is there, and bash completes words.
 The last line is `N passed, M failed`; the exit status is 0 where M is 0.
@@ -17,6 +17,8 @@ TOP = os.path.dirname(os.path.dirname(os.path.abspath(__file__)))
 SPECS = os.path.join(TOP, 'crates', 'cns_report', 'specs')
 # Names of the definitions that no line has: a new trade is accepted.
 NEVER = {'New'}
+# What a program at hand says of itself.
+VERSION = r'cnsd \d+\.\d+\.\d+ \((the proved program|a build that proves nothing), of .+, by .+\)\n'
 
 
 def text_of(*parts):
@@ -36,8 +38,9 @@ def defined():
         behind = numbers if 'read_fault_text e' in line else cusips if 'cusip_fault_text e' in line else None
         names |= {field} if behind is None else {f'{field} {name}' for name in behind}
     names.add('NotPlanned')
-    messages = set(re.findall(r'#\[error\("(cnsd: [^"]*)"\)\]', text_of('crates', 'cns_input', 'src', 'fault.rt')))
-    return names - NEVER, messages
+    faults = [text_of('crates', crate, 'src', 'fault.rt') for crate in ('cns_input', 'cns_table')]
+    messages = set(re.findall(r'#\[error\("(cnsd: [^"]*)"\)\]', '\n'.join(faults)))
+    return names - NEVER, {message.replace('{0}', 'N') for message in messages}
 
 
 def told():
@@ -96,7 +99,7 @@ def main():
 def check_files(check, root, names):
     """Checks what was set up."""
     version = subprocess.run([f'{root}/bin/cnsd', '--version'], capture_output=True, text=True, check=False)
-    check(version.returncode == 0 and version.stdout.startswith('cnsd '), 'the program does not run')
+    check(version.returncode == 0 and re.fullmatch(VERSION, version.stdout), f'the program does not say what it is: {version.stdout}')
     page = f'{root}/share/man/man1/cnsd.1'
     with open(page, encoding='utf-8') as lines:
         text = re.sub(r'\\f[BR]|\\&', '', lines.read()).replace('\\-', '-')
@@ -106,7 +109,7 @@ def check_files(check, root, names):
         warned = subprocess.run(['groff', '-man', '-Tutf8', '-ww', page], capture_output=True, text=True, check=False)
         check(warned.returncode == 0 and not warned.stderr, f'groff warns: {warned.stderr}')
     script = f'{root}/share/bash-completion/completions/cnsd'
-    for words, wanted in [(['cnsd', ''], {'run', 'cusip', '--help', '--version'}), (['cnsd', 'ru'], {'run'}),
+    for words, wanted in [(['cnsd', ''], {'run', 'check', 'table', 'cusip', '--help', '--version'}), (['cnsd', 'ru'], {'run'}),
                           (['cnsd', 'run', '--'], {'--journal', '--workers', '--shake', '--help'}), (['cnsd', 'cusip', '--h'], {'--help'}),
                           (['cnsd', 'run', '--workers', ''], set())]:
         check(wanted <= set(completes(script, words)) and (wanted or not completes(script, words)), f'{words} is not completed by {wanted}')

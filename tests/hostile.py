@@ -89,6 +89,11 @@ LINES = re.compile(
     rb'(?:exempt|priority|cycle|lot|pour|reserve|look|seal|close|send|order|reply|deposit|withdraw|fail|restart) ' + REFUSED + rb'|'
     rb'REPORT cycle (?:none|\d{4}-\d\d-\d\d (?:NIGHT|DAY))|POS [0-9A-Z*@#]{9} \d{4} [ \d-]{20}|'
     rb'POOL [0-9A-Z*@#]{9} free \d+ lent \d+ out \d+|BAL [0-9A-Z*@#]{9} \d{4} [ \d-]{20}|END)\n)*')
+# What stands on standard error beside a fault: notes of a check, how far a run is, and what is wrong with a text that is no table's.
+NOTES = re.compile(rb'\A(?:-:\d+: note: trade `\w+` stands in line \d+ too: [^\n]*\n)+\d+ ids? comes? again[^\n]*\n')
+PROGRESS = re.compile(rb'^cnsd: \d+ commands run, \d+ bytes written\n', re.M)
+NO_TABLE = re.compile(rb'cnsd: (?:line \d+ is no line of a report|the last report has no END)\n')
+TABLE_HEAD = b'report,date,kind,row,cusip,account,free,lent,out,shares\n'
 COUNTS = re.compile(rb'cnsd: \d+ rows? faulty, \d+ trades? refused, \d+ bad lines?, \d+ events? refused, \d+ device failures?\n')
 TOLD = re.compile(rb'(?:[^\n]+:\d+: [^\n]+\n)+\d+ faults?: \d+ of heads and headers, \d+ of openings, \d+ of trades, \d+ of the script(?:; \d+ of these are not shown)?\n')
 CUSIP_ANSWER = re.compile(rb'(?:(?:ok|Length|BadChar [1-9]|CheckDigit \d)\n)+')
@@ -190,6 +195,15 @@ def is_run(words):
         all(value in OPTIONS.get(name, ()) for name, value in zip(names, values))
 
 
+def judge_table(status, out, err):
+    """None, or what is wrong with how `table` ended."""
+    if status == 2 and (err in FAULTS or NO_TABLE.fullmatch(err)):
+        return None if out in (b'', TABLE_HEAD) or out.startswith(TABLE_HEAD) else 'a table with no head: %r' % out[:200]
+    if status == 0 and not err and out.startswith(TABLE_HEAD):
+        return None
+    return 'status %d of a table with standard error %r' % (status, err[:200])
+
+
 def judge_end(words, size, ended):
     """None, or what is wrong with how a run ended."""
     status, spent, memory, out, err = ended
@@ -206,6 +220,12 @@ def judge_end(words, size, ended):
         return '%d microseconds for %d bytes' % (spent, size)
     if memory > memory_bound(size):
         return '%d KiB for %d bytes' % (memory, size)
+    if words[:1] == [b'check']:
+        err = NOTES.sub(b'', err)
+    if b'--progress' in words:
+        err = PROGRESS.sub(b'', err)
+    if words in ([b'table'], [b'table', b'--last']) and status in (0, 2):
+        return judge_table(status, out, err)
     if b'--strict' in words and COUNTS.fullmatch(err):
         return None if status != 1 and status != 2 and LINES.fullmatch(out) else 'status %d of a strict run with %r' % (status, err)
     if words[:1] == [b'check'] and status == 1 and out:

@@ -392,8 +392,8 @@ class Changer:
         if kind < 0.5:
             return with_want(fuzz.command_line(rng))
         words = list(rng.choice([[b'run'], [b'run', b'--journal', b'j'], [b'run', b'--workers', b'2'], [b'run', b'--shake', b'7'], [b'cusip', b'037833100'],
-                                 [b'run', b'--workers=1', b'--journal=j'], [b'run', b'--strict'], [b'check'], [b'check', b'--trades', b'missing'], [b'help', b'run'], [b'cusip', b'--', b'-37833100']]))
-        pool = [b'run', b'check', b'cusip', b'help', b'--strict', b'--openings', b'--trades', b'--script=missing', b'--journal', b'--journal=', b'--journal=j', b'j', b'--workers', b'--workers=', b'--shake', b'--shake=', b'-', b'--',
+                                 [b'run', b'--workers=1', b'--journal=j'], [b'run', b'--strict'], [b'run', b'--progress', b'--progress'], [b'check'], [b'check', b'--trades', b'missing'], [b'table'], [b'table', b'--last'], [b'help', b'run'], [b'cusip', b'--', b'-37833100']]))
+        pool = [b'run', b'check', b'table', b'cusip', b'help', b'--strict', b'--progress', b'--last', b'--openings', b'--trades', b'--script=missing', b'--journal', b'--journal=', b'--journal=j', b'j', b'--workers', b'--workers=', b'--shake', b'--shake=', b'-', b'--',
                 b'--help', b'-h', b'-V', b'--version', b'0', b'1', b'2', b'3', b'-1', b'+1', b'02', b'64', b'65', b'18446744073709551615', b'18446744073709551616', b'two', b'',
                 b' ', b'\xff', b'.', b'missing', b'x' * 5000, b'x' * 131000] + fuzz.NO_COMMANDS + fuzz.NO_OPTIONS
         for _ in range(rng.choice([1, 1, 2, 3, 8])):

@@ -4,6 +4,7 @@
 # Where the program stands, proved or not, and what it is.
 at_hand=out/cnsd
 about=out/about
+proved='the proved program'
 
 # is_up_to_date PROGRAM: whether it is built, and neither crates.txt nor a file under a crate's src, specs or
 # proofs is newer. A folder counts too: it is newer where a file was taken out of it.
@@ -22,9 +23,15 @@ tell_about() {
     printf '%s, of %s, by %s\n' "$1" "$commit" "$(rt version)"
 }
 
-# put_at_hand FILE WHAT: makes a file the program at hand.
+# put_at_hand FILE WHAT: makes a file the program at hand, which says in its version what it is.
 put_at_hand() {
-    cp -p "$1" "$at_hand.new" && chmod +x "$at_hand.new" && tell_about "$2" >"$about" && mv "$at_hand.new" "$at_hand"
+    cp "$1" "$at_hand.new" && chmod +x "$at_hand.new" && tell_about "$2" >"$about" && tests/record_build.py "$at_hand.new" "$(<"$about")" &&
+        mv "$at_hand.new" "$at_hand"
+}
+
+# is_at_hand PROVED: whether the program at hand was made of the proved one as it stands.
+is_at_hand() {
+    [[ -x $at_hand && -s $about && ! $1 -nt $at_hand && $(<"$about") == "$proved,"* ]]
 }
 
 # build_unproved: makes the program at hand by a build that proves nothing. Where it fails the status is 1, and why is told on standard
@@ -45,7 +52,7 @@ build_unproved() {
 have_program() {
     mkdir -p out || return 1
     if is_up_to_date "$1"; then
-        cmp -s "$1" "$at_hand" || put_at_hand "$1" 'the proved program'
+        is_at_hand "$1" || put_at_hand "$1" "$proved"
     elif ! is_up_to_date "$at_hand" || [[ ! -s $about ]]; then
         echo "the program is built, unproved, which takes a minute or two; for the proved one: make build" >&2
         build_unproved

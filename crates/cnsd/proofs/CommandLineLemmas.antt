@@ -2,12 +2,12 @@
 use Rattle.std.proofs.Common.{rules, ◌≡◌, ◌∙◌, ◌||◌, ap₂, Bool, List, [], Option, Some, None, refl, option_map, unwrap_or, true, false}
 use Rattle.std.proofs.lemmas.Option.{none-some}
 use Rattle.clap.specs.Built.{AddsArg}
-use Rattle.clap.specs.Words.{Row, Text, all_of, first_of}
+use Rattle.clap.specs.Words.{Row, Text, all_of, count_of, first_of}
 use Rattle.clap.specs.declared.builder.arg.Arg.{Arg}
 use Rattle.clap.specs.declared.builder.command.Command.{Command}
 use Rattle.clap.specs.declared.builder.command.Command.TheOpen.{Command-F}
 use Rattle.clap.specs.declared.builder.command.Command.TheViews.{out-Command}
-use Rattle.cnsd.specs.CommandLine.{all_in, is_asked, value_in}
+use Rattle.cnsd.specs.CommandLine.{all_in, is_asked, times_in, value_in}
 
 module _ {X : Type 0} (part : X → Text × List Row) (name id : Text) where
   -- where the words name the subcommand, it is among the subcommand's own matches
@@ -32,6 +32,16 @@ module _ {X : Type 0} (part : X → Text × List Row) (name id : Text) where
   pub all_of_other : (used : Option X) → (option_map (λ x. (part x).0) used ≡ Some name → ⊥) → all_in name id (option_map part used) ≡ []
   all_of_other None other = refl
   all_of_other (Some x) other = search rules
+
+  pub times_of_named : (used : Option X) (rows : List Row)
+      → option_map (λ x. (part x).0) used ≡ Some name → option_map (λ p. p.1) (option_map part used) ≡ Some rows
+      → times_in name id (option_map part used) ≡ count_of id rows
+  times_of_named None rows named e = absurd (none-some _ named)
+  times_of_named (Some x) rows named e = search rules
+
+  pub times_of_other : (used : Option X) → (option_map (λ x. (part x).0) used ≡ Some name → ⊥) → times_in name id (option_map part used) ≡ 0
+  times_of_other None other = refl
+  times_of_other (Some x) other = search rules
 
   pub asked_of_named : (used : Option X) → option_map (λ x. (part x).0) used ≡ Some name → is_asked name (option_map part used) ≡ true
   asked_of_named None named = absurd (none-some _ named)

@@ -2,13 +2,13 @@
 use Rattle.std.specs.Prelude.{◌≡◌, ◌⊎◌, ◌<◌, ◌^◌, ◌==◌, ◌||◌, ℕ, Bool, not, List, [], Option, Some, None, true, false, codes, is_some, length, map, option_map, string_bytes, unwrap_or, if◌then◌else◌}
 use Rattle.std.specs.Str.{bytes_eq}
 use Rattle.std.specs.Str.Parse.{IsNumeral, digits_value, without_leading_plus}
-use Rattle.clap.specs.Words.{App, Row, Rule, Text, all_of, first_of, new_app, new_rule, with_rule, with_subcommand}
+use Rattle.clap.specs.Words.{App, Row, Rule, Text, all_of, count_of, first_of, new_app, new_rule, with_rule, with_subcommand}
 use Rattle.clap.specs.Lexer.{usize_max}
 use Rattle.clap.specs.Simple.{on_top}
 use Rattle.clap.specs.declared.builder.command.Command.{Command}
 use Rattle.clap.specs.declared.builder.command.Command.TheViews.{out-Command}
 use Rattle.std.specs.Option.{option_map_or}
-use Rattle.clap.specs.declared.builder.action.ArgAction.TheVariants.{Append, Set, SetTrue}
+use Rattle.clap.specs.declared.builder.action.ArgAction.TheVariants.{Append, Count, Set, SetTrue}
 use Rattle.clap.specs.declared.builder.value_parser.ValueParser.TheVariants as vp
 use Rattle.cnsd.specs.declared.arguments.Manner.{Manner}
 use Rattle.cnsd.specs.declared.arguments.Names.{Names}
@@ -17,7 +17,7 @@ use Rattle.cnsd.specs.declared.arguments.Source.TheVariants as source
 use Rattle.cnsd.specs.declared.arguments.Request.{Request}
 use Rattle.cnsd.specs.declared.arguments.Request.TheVariants as request
 
--- run [--workers N] [--shake NUMBER] [--journal DIR] [--strict]
+-- run [--workers N] [--shake NUMBER] [--journal DIR] [--strict] [--progress]..
 abbrev pub workers_rule : Rule
 workers_rule = record (new_rule (codes "workers")) { long = Some (codes "workers"); action = Some Set; value_names = 1; parser = Some (vp.Unsigned 0 64) }
 
@@ -29,6 +29,9 @@ journal_rule = record (new_rule (codes "journal")) { long = Some (codes "journal
 
 abbrev pub strict_rule : Rule
 strict_rule = record (new_rule (codes "strict")) { long = Some (codes "strict"); action = Some SetTrue }
+
+abbrev pub progress_rule : Rule
+progress_rule = record (new_rule (codes "progress")) { long = Some (codes "progress"); action = Some Count }
 
 -- [FILE] [--openings FILE] [--trades FILE].. [--script FILE]
 abbrev pub file_rule : Rule
@@ -51,11 +54,18 @@ abbrev pub with_source : App → App
 with_source app = with_rule (with_rule (with_rule (with_rule app file_rule) openings_rule) trades_rule) script_rule
 
 abbrev pub run_app : App
-run_app = with_source (with_rule (with_rule (with_rule (with_rule (new_app (codes "run")) workers_rule) shake_rule) journal_rule) strict_rule)
+run_app = with_source (with_rule (with_rule (with_rule (with_rule (with_rule (new_app (codes "run")) workers_rule) shake_rule) journal_rule) strict_rule) progress_rule)
 
 -- check [FILE] ..
 abbrev pub check_app : App
 check_app = with_source (new_app (codes "check"))
+
+-- table [--last]
+abbrev pub last_rule : Rule
+last_rule = record (new_rule (codes "last")) { long = Some (codes "last"); action = Some SetTrue }
+
+abbrev pub table_app : App
+table_app = with_rule (new_app (codes "table")) last_rule
 
 -- cusip TEXT..
 abbrev pub text_rule : Rule
@@ -64,11 +74,11 @@ text_rule = record (new_rule (codes "text")) { action = Some Append; value_names
 abbrev pub cusip_app : App
 cusip_app = with_rule (new_app (codes "cusip")) text_rule
 
--- cnsd run, cnsd check and cnsd cusip
+-- cnsd run, cnsd check, cnsd table and cnsd cusip
 abbrev pub cnsd_app : App
 cnsd_app =
     let top = on_top (λ s. record s { has_version = true; subcommand_required = true; arg_required_else_help = true }) (new_app (codes "cnsd")) in
-    with_subcommand (with_subcommand (with_subcommand top run_app.top) check_app.top) cusip_app.top
+    with_subcommand (with_subcommand (with_subcommand (with_subcommand top run_app.top) check_app.top) table_app.top) cusip_app.top
 
 -- the first value of an argument of a subcommand, where the words name that one
 abbrev pub value_in : Text → Text → Option (Text × List Row) → Option Text
@@ -92,6 +102,14 @@ IsShakeIn (Some t) shake = (n : ℕ) × (shake ≡ Some n) × IsCountIn (Some t)
 abbrev pub all_in : Text → Text → Option (Text × List Row) → List Text
 all_in subcommand id None = []
 all_in subcommand id (Some used) = if bytes_eq used.0 subcommand then unwrap_or (all_of id used.1) [] else []
+
+-- whether a flag of a subcommand is set, and how often one was given, where the words name that one
+abbrev pub is_set : Text → Text → Option (Text × List Row) → Bool
+is_set subcommand id used = option_map_or (λ t. bytes_eq t (codes "true")) (value_in subcommand id used) false
+
+abbrev pub times_in : Text → Text → Option (Text × List Row) → ℕ
+times_in subcommand id None = 0
+times_in subcommand id (Some used) = if bytes_eq used.0 subcommand then count_of id used.1 else 0
 
 -- whether the words name a subcommand
 abbrev pub is_asked : Text → Option (Text × List Row) → Bool
@@ -119,24 +137,30 @@ IsSourceOf _ names _ = ⊥
 unfoldable pub IsSourceIn : Text → Option (Text × List Row) → Option Source → Type 0
 IsSourceIn subcommand used source = (names : Names) × AreNamesIn subcommand used names × IsSourceOf (value_in subcommand (codes "file") used) names source
 
--- how a batch is run: by so many workers, shaken by a number where the words give one, over the journals in a folder where they give one, and
--- strictly where they say so
+-- how a batch is run: by so many workers, shaken by a number where the words give one, over the journals in a folder where they give one,
+-- strictly where they say so, and with as much told of how far it is as they ask for
 unfoldable pub IsMannerIn : Option (Text × List Row) → Manner → Type 0
 IsMannerIn used manner = (option_map string_bytes manner.journal ≡ value_in (codes "run") (codes "journal") used)
     × IsCountIn (value_in (codes "run") (codes "workers") used) manner.workers
     × IsShakeIn (value_in (codes "run") (codes "shake") used) manner.shake
-    × (manner.strict ≡ option_map_or (λ t. bytes_eq t (codes "true")) (value_in (codes "run") (codes "strict") used) false)
+    × (manner.strict ≡ is_set (codes "run") (codes "strict") used)
+    × (manner.progress ≡ times_in (codes "run") (codes "progress") used)
 
--- what is asked for: whether texts are CUSIPs, where the words give some; what is wrong with a text, where they ask for a check; and else a
--- batch. None where they name an input and files that make one
+-- what is asked for: whether texts are CUSIPs, where the words give some; what is wrong with a text, where they ask for a check; the reports of
+-- a run, where they ask for a table; and else a batch. None where they name an input and files that make one
 unfoldable pub AsksFor : Option (Text × List Row) → Option Request → Type 0
 AsksFor used (Some (request.Cusips texts)) = (is_some (value_in (codes "cusip") (codes "text") used) ≡ true) × (map string_bytes texts.items ≡ all_in (codes "cusip") (codes "text") used)
 AsksFor used (Some (request.Check source)) =
     (is_some (value_in (codes "cusip") (codes "text") used) ≡ false) × (is_asked (codes "check") used ≡ true) × IsSourceIn (codes "check") used (Some source)
+AsksFor used (Some (request.Table last)) =
+    (is_some (value_in (codes "cusip") (codes "text") used) ≡ false) × (is_asked (codes "check") used ≡ false) × (is_asked (codes "table") used ≡ true)
+    × (last ≡ is_set (codes "table") (codes "last") used)
 AsksFor used (Some (request.Run source manner)) =
-    (is_some (value_in (codes "cusip") (codes "text") used) ≡ false) × (is_asked (codes "check") used ≡ false) × IsSourceIn (codes "run") used (Some source) × IsMannerIn used manner
+    (is_some (value_in (codes "cusip") (codes "text") used) ≡ false) × (is_asked (codes "check") used ≡ false) × (is_asked (codes "table") used ≡ false)
+    × IsSourceIn (codes "run") used (Some source) × IsMannerIn used manner
 AsksFor used (Some request.Told) = ⊥
 AsksFor used (Some request.Faulty) = ⊥
 AsksFor used None =
     (is_some (value_in (codes "cusip") (codes "text") used) ≡ false)
-    × (((is_asked (codes "check") used ≡ true) × IsSourceIn (codes "check") used None) ⊎ ((is_asked (codes "check") used ≡ false) × IsSourceIn (codes "run") used None))
+    × (((is_asked (codes "check") used ≡ true) × IsSourceIn (codes "check") used None)
+    ⊎ ((is_asked (codes "check") used ≡ false) × (is_asked (codes "table") used ≡ false) × IsSourceIn (codes "run") used None))

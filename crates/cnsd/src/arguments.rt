@@ -1,10 +1,9 @@
 ghost use Rattle.std.specs.Prelude.{◌≡◌, false, [], IfOk, codes, is_some, map, option_map, string_bytes, unwrap_or};
-ghost use Rattle.std.specs.Option.{option_map_or};
-ghost use Rattle.std.specs.Str.{bytes_eq};
 ghost use Rattle.clap.specs.Words.{FailsBy, all_of, app_of, fault_of, found_of, rows_of, rule_of, subcommand_of, subcommand_rows_of};
-ghost use Rattle.cnsd.specs.CommandLine.{AsksFor, IsCountIn, AreNamesIn, IsMannerIn, IsShakeIn, IsSourceIn, IsSourceOf, all_in, is_asked as is_asked_in, check_app, cnsd_app, cusip_app, file_rule, has_globals, journal_rule, names_any, openings_rule, run_app, script_rule, shake_rule, strict_rule, with_source as source_app, text_rule, trades_rule, value_in, workers_rule};
+ghost use Rattle.cnsd.specs.CommandLine.{AsksFor, IsCountIn, AreNamesIn, IsMannerIn, IsShakeIn, IsSourceIn, IsSourceOf, all_in, is_asked as is_asked_in, check_app, cnsd_app, cusip_app, file_rule, has_globals, is_set as is_set_in, journal_rule, last_rule, names_any, openings_rule, progress_rule, run_app, script_rule, shake_rule, strict_rule, table_app, times_in as times_in_of, with_source as source_app, text_rule, trades_rule, value_in, workers_rule};
 
 use crate::help;
+use crate::version::VERSION;
 use clap::builder::ValueParser;
 use clap::error::ErrorKind;
 use clap::{Arg, ArgAction, ArgMatches, Command, Error};
@@ -44,13 +43,15 @@ impl Names {
 
 /// How a batch is to be run: over the journals in this folder where one is given, and else over keepers in
 /// memory. So many workers serve its lots; where there are none, its single events do. It is shaken by this
-/// number where one is given. Where it is strict, the lines that tell of what was not taken are counted.
+/// number where one is given. Where it is strict, the lines that tell of what was not taken are counted. How far
+/// it is, is told on standard error where that was asked for once and is a terminal, or was asked for twice.
 #[derive(PartialEq, Eq, Debug, Drop)]
 pub(crate) struct Manner {
     pub(crate) journal: Option<String>,
     pub(crate) workers: usize,
     pub(crate) shake: Option<u64>,
     pub(crate) strict: bool,
+    pub(crate) progress: u8,
 }
 
 /// What the command line asks for.
@@ -60,6 +61,8 @@ pub(crate) enum Request {
     Run { source: Source, manner: Manner },
     /// `cnsd check`: what is wrong with a text.
     Check(Source),
+    /// `cnsd table`: the reports of a run as a table, or its last report alone.
+    Table { last: bool },
     /// `cnsd cusip TEXT..`: whether these texts are CUSIPs.
     Cusips(Vec<String>),
     /// Help or the version, which was printed.
@@ -116,6 +119,30 @@ fn strict_flag<'a>(alloc: Global) -> Arg<'a>
         .help(
             "Count what was not taken, on standard error, and tell by the exit status that there is some",
         )
+        .action(ArgAction::SetTrue)
+}
+
+// The flag of `run` that has it tell how far it is.
+fn progress_flag<'a>(alloc: Global) -> Arg<'a>
+    ensures rule { rule_of result ≡ progress_rule }
+    ensures local { result.global ≡ false }
+{
+    Arg::new(alloc, "progress")
+        .long("progress")
+        .help(
+            "Tell how far it is on standard error, where that is a terminal; given twice, wherever it is",
+        )
+        .action(ArgAction::Count)
+}
+
+// The flag of `table` for the last report alone.
+fn last_flag<'a>(alloc: Global) -> Arg<'a>
+    ensures rule { rule_of result ≡ last_rule }
+    ensures local { result.global ≡ false }
+{
+    Arg::new(alloc, "last")
+        .long("last")
+        .help("Only the last report")
         .action(ArgAction::SetTrue)
 }
 
@@ -200,7 +227,8 @@ fn run_command<'a>(alloc: Global) -> Result<Command<'a>, AllocError>
         .arg(workers_option(alloc))?
         .arg(shake_option(alloc))?
         .arg(journal_option(alloc))?
-        .arg(strict_flag(alloc))?;
+        .arg(strict_flag(alloc))?
+        .arg(progress_flag(alloc))?;
     with_source(run, alloc)
 }
 
@@ -212,6 +240,16 @@ fn check_command<'a>(alloc: Global) -> Result<Command<'a>, AllocError>
         .about("Tells all that is wrong with an input, and runs nothing")
         .after_help(help::CHECK);
     with_source(check, alloc)
+}
+
+// `cnsd table`.
+fn table_command<'a>(alloc: Global) -> Result<Command<'a>, AllocError>
+    ensures { IfOk result (λ c. (app_of c ≡ table_app) × (has_globals c ≡ false)) }
+{
+    Command::new(alloc, "table")
+        .about("Reads what `cnsd run` wrote on standard input, and writes its reports as CSV")
+        .after_help(help::TABLE)
+        .arg(last_flag(alloc))
 }
 
 // `cnsd cusip`.
@@ -230,11 +268,12 @@ fn command<'a>(alloc: Global) -> Result<Command<'a>, AllocError>
 {
     Command::new(alloc, "cnsd")
         .about("A Continuous Net Settlement book and a depository's stock record")
-        .version("0.1.0")
+        .version(VERSION.trim_end())
         .subcommand_required(true)
         .arg_required_else_help(true)
         .subcommand(run_command(alloc)?)?
         .subcommand(check_command(alloc)?)?
+        .subcommand(table_command(alloc)?)?
         .subcommand(cusip_command(alloc)?)
 }
 
@@ -265,11 +304,21 @@ fn shake_in(matches: &ArgMatches) -> Option<u64>
     }
 }
 
-// Whether the words ask for a strict run.
-fn is_strict_in(matches: &ArgMatches) -> bool
-    ensures { result ≡ option_map_or (λ t. bytes_eq t (codes "true")) (value_in (codes "run") (codes "strict") (subcommand_rows_of matches.now)) false }
+// Whether a flag of a subcommand is set, where the words name that one.
+fn is_set(matches: &ArgMatches, subcommand: &str, id: &str) -> bool
+    ensures { result ≡ is_set_in subcommand.now id.now (subcommand_rows_of matches.now) }
 {
-    matches!(value_in(matches, "run", "strict"), Some(text) if text == "true")
+    matches!(value_in(matches, subcommand, id), Some(text) if text == "true")
+}
+
+// How often a flag of a subcommand was given, where the words name that one.
+fn times_in(matches: &ArgMatches, subcommand: &str, id: &str) -> u8
+    ensures { result ≡ times_in_of subcommand.now id.now (subcommand_rows_of matches.now) }
+{
+    match matches.subcommand_matches(subcommand) {
+        Some(matches) => matches.get_count(id),
+        None => 0,
+    }
 }
 
 // The value of an argument of a subcommand, owned.
@@ -384,7 +433,8 @@ fn manner_in(alloc: Global, matches: &ArgMatches) -> Result<Manner, AllocError>
         journal: owned_in(alloc, matches, "run", "journal")?,
         workers: workers_in(matches),
         shake: shake_in(matches),
-        strict: is_strict_in(matches),
+        strict: is_set(matches, "run", "strict"),
+        progress: times_in(matches, "run", "progress"),
     })
 }
 
@@ -401,6 +451,10 @@ fn request_of(alloc: Global, matches: &ArgMatches) -> Result<Option<Request>, Al
             return Ok(None);
         };
         return Ok(Some(Request::Check(source)));
+    }
+    if is_asked(matches, "table") {
+        let last = is_set(matches, "table", "last");
+        return Ok(Some(Request::Table { last }));
     }
     let Some(source) = source_in(alloc, matches, "run")? else {
         return Ok(None);

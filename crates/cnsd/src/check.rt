@@ -3,8 +3,10 @@
 ghost use Rattle.std.specs.Prelude.{◌≡◌, ◌<◌};
 
 use crate::arguments::{Names, Source};
-use crate::source::{Texts, named_fault, open_file, texts_of_names};
-use cns_check::{Findings, check, count_line, found_line};
+use crate::source::{AWAITED, Texts, named_fault, open_file, tell_awaited, texts_of_names};
+use cns_check::{
+    Findings, Repeats, check, count_line, found_line, repeat_line, repeats, repeats_line,
+};
 use cns_input::{BatchFault, Steps, read_input};
 use cns_named::text_of_files;
 use std::alloc::{AllocError, Global};
@@ -84,6 +86,17 @@ fn write_line<W: Write>(writer: &mut W, line: &str) -> Result<(), BatchFault> {
     }
 }
 
+// The file in which a line of the text stands, and how many more lines stand before it in the text than in the file.
+fn file_of<'a>(files: &[Stretch<'a>], line: u64) -> (&'a str, u64) {
+    let mut found = ("-", 0);
+    for file in files {
+        if file.first <= line {
+            found = (file.name, file.before);
+        }
+    }
+    found
+}
+
 // Tells all that was found, by the files in which it stands; the exit status.
 fn tell(rt: &HostRuntime, found: &Findings, files: &[Stretch<'_>]) -> Result<u8, BatchFault> {
     let mut writer = io::writer(rt);
@@ -91,14 +104,7 @@ fn tell(rt: &HostRuntime, found: &Findings, files: &[Stretch<'_>]) -> Result<u8,
         return Ok(0);
     }
     for one in &found.first {
-        let mut name = "-";
-        let mut before = 0;
-        for file in files {
-            if file.first <= one.line {
-                name = file.name;
-                before = file.before;
-            }
-        }
+        let (name, before) = file_of(files, one.line);
         let line = found_line(rt.alloc(), name, before, one)?;
         write_line(&mut writer, line.as_str())?;
     }
@@ -107,15 +113,31 @@ fn tell(rt: &HostRuntime, found: &Findings, files: &[Stretch<'_>]) -> Result<u8,
     Ok(1)
 }
 
-// Looks at a text of one name.
-fn check_text(rt: &HostRuntime, name: &str, text: &[u8]) -> Result<u8, BatchFault> {
+// Notes on standard error which trades have an id that an earlier one has. That is no fault of the text: a run
+// refuses the later trade.
+fn note(rt: &HostRuntime, repeats: &Repeats, files: &[Stretch<'_>]) -> Result<(), BatchFault> {
+    if repeats.first.is_empty() {
+        return Ok(());
+    }
+    for one in &repeats.first {
+        let (name, before) = file_of(files, one.line);
+        let (earlier, earlier_before) = file_of(files, one.earlier_line);
+        let line = repeat_line(rt.alloc(), name, before, earlier, earlier_before, one)?;
+        let _ = rt.eprint(line.as_str());
+    }
+    let line = repeats_line(rt.alloc(), repeats)?;
+    let _ = rt.eprint(line.as_str());
+    Ok(())
+}
+
+// Looks at a text that files make.
+fn check_text(rt: &HostRuntime, text: &[u8], files: &[Stretch<'_>]) -> Result<u8, BatchFault> {
     let found = check(rt.alloc(), text)?;
-    let files = [Stretch {
-        name,
-        first: 0,
-        before: 0,
-    }];
-    tell(rt, &found, &files)
+    let status = tell(rt, &found, files)?;
+    drop(found);
+    let repeats = repeats(rt.alloc(), text)?;
+    note(rt, &repeats, files)?;
+    Ok(status)
 }
 
 // Looks at what a reader gives.
@@ -126,7 +148,12 @@ fn check_from<R: Read, L: Ledger>(
     reader: &mut R,
 ) -> Result<u8, BatchFault> {
     let text = read_input(rt.alloc(), reader, steps)?;
-    check_text(rt, name, text.as_slice())
+    let whole = Stretch {
+        name,
+        first: 0,
+        before: 0,
+    };
+    check_text(rt, text.as_slice(), &[whole])
 }
 
 // Looks at the text that files make.
@@ -146,8 +173,7 @@ fn check_named<L: Ledger>(
         Err(fault) => return Err(named_fault(fault)),
     };
     let files = stretches(rt.alloc(), names, &texts)?;
-    let found = check(rt.alloc(), text.as_slice())?;
-    tell(rt, &found, files.as_slice())
+    check_text(rt, text.as_slice(), files.as_slice())
 }
 
 // Why a file cannot be read, where it cannot.
@@ -207,6 +233,7 @@ pub(crate) fn check_source<L: Ledger>(
     }
     match source {
         Source::Standard => {
+            tell_awaited(rt, AWAITED);
             let mut reader = rt.reader();
             check_from(rt, &mut steps, "-", &mut reader)
         }

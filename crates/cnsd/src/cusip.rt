@@ -2,6 +2,7 @@
 
 ghost use Rattle.std.specs.Prelude.{◌≡◌, ◌<◌, IfSome, length};
 
+use crate::source::tell_awaited;
 use cns_batch::check_cusip;
 use cns_input::{BatchFault, Steps, line_size, line_text, read_input};
 use std::alloc::Global;
@@ -37,6 +38,7 @@ fn check_standard<W: Write, L: Ledger>(
     steps: &mut Steps<L>,
     writer: &mut W,
 ) -> Result<bool, BatchFault> {
+    tell_awaited(rt, "cnsd: texts are awaited here, one a line, up to Ctrl-D");
     let mut reader = rt.reader();
     let text = read_input(rt.alloc(), &mut reader, steps)?;
     check_lines(rt.alloc(), text.as_slice(), writer)

@@ -55,6 +55,9 @@ the same. A part that is left out is empty.
 
 With --strict the text is the same, and a line of counts on standard error ends it.
 
+With --journal, and with --progress, what a line of the script tells is written as the line ends; else the text
+is written where it has grown by 64 KiB, and at the end.
+
 Exit status:
   0  all was read, run and written
   1  the command line is wrong
@@ -68,12 +71,31 @@ Each line of the output is FILE:LINE: what stands there: what was wanted. The la
 of a section, and of the lines of a script, the first 1000 are told. Where nothing is wrong nothing is written.
 
 Told are heads and headers that are not as they must be, each fault of each row, openings that do not hold, and
-lines of the script that are no commands. Whether a trade or an event is refused, only a run says.
+lines of the script that are no commands; where heads are missing, what stands behind lines that name them, such
+as Trades:, is told too. Whether a trade or an event is refused, only a run says. Trades with an id that an
+earlier one has are noted on standard error: a run refuses the later one.
 
 Exit status:
   0  nothing is wrong
   1  something is, or the command line is wrong
   2  a file cannot be read, or the input is too long
+  3  there was no memory, or the output failed";
+
+/// What `cnsd table --help` teaches after the options.
+pub(crate) const TABLE: &str = "\
+The first row names the columns: report,date,kind,row,cusip,account,free,lent,out,shares. Each line of a report
+that tells a position (row POS), a pool (POOL) or a balance (BAL) is a row. report is the number of the report in
+the text, date and kind are those of its cycle, and empty where it has none. A pool has its free, lent and out
+shares, the others their shares. CUSIPs and accounts stand in quotes: have a spreadsheet read quoted fields as
+text, or it drops the zeros in front. Lines outside of reports are passed over.
+
+  cnsd run FILE | cnsd table --last > table.csv
+
+Exit status:
+  0  all was read and written
+  1  the command line is wrong
+  2  the text cannot be read, or is not what a run wrote: a line in a report is none of a report, or the last
+     report has no END
   3  there was no memory, or the output failed";
 
 /// What `cnsd cusip --help` teaches after the options.

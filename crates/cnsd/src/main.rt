@@ -1,6 +1,6 @@
 //! A Continuous Net Settlement book: `cnsd run` reads one text of trades and a script, and writes what the
-//! script's commands tell to standard output. `cnsd check` tells what is wrong with such a text, and
-//! `cnsd cusip` says of texts whether they are CUSIPs.
+//! script's commands tell to standard output. `cnsd check` tells what is wrong with such a text, `cnsd table`
+//! makes a table of the reports of a run, and `cnsd cusip` says of texts whether they are CUSIPs.
 #![tactic(auto)]
 
 ghost use Rattle.std.specs.Prelude.{◌≡◌, ◌<◌};
@@ -10,9 +10,12 @@ mod check;
 mod cusip;
 mod help;
 mod journal;
+mod progress;
 mod run;
 mod source;
 mod strict;
+mod table;
+mod version;
 
 use arguments::{Request, read_request};
 use check::check_source;
@@ -22,6 +25,7 @@ use run::run_source;
 use std::marker::Brand;
 use std::process::ExitCode;
 use std::sync::ledger::Blank;
+use table::table_reports;
 
 // Tells a fault on standard error, and gives its exit status.
 fn tell_fault(rt: &HostRuntime, fault: BatchFault) -> ExitCode {
@@ -47,6 +51,7 @@ fn main(rt: HostRuntime) -> ExitCode {
             let ended = check_source::<Brand>(&rt, Blank::new(1), &source);
             exit_status(&rt, ended)
         }
+        Ok(Request::Table { last }) => table_reports(&rt, last),
         Ok(Request::Cusips(texts)) => {
             let ended = check_texts::<Brand>(&rt, Blank::new(1), texts.as_slice());
             exit_status(&rt, ended)

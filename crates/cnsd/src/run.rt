@@ -4,10 +4,11 @@ ghost use Rattle.std.specs.Prelude.{◌≡◌, ◌<◌};
 
 use crate::arguments::{Manner, Names, Source};
 use crate::journal::{Journals, open_journals};
-use crate::source::{open_file, text_of_names};
+use crate::progress::Progress;
+use crate::source::{AWAITED, open_file, tell_awaited, text_of_names};
 use crate::strict::{status_of, tell_counts};
 use cns_allocate::OpenGate;
-use cns_batch::{run_batch, run_batch_kept, run_desk};
+use cns_batch::{Pace, run_batch, run_batch_kept, run_paced};
 use cns_input::{BatchFault, Steps};
 use cns_journal::{Keeper, ListKeeper};
 use cns_tally::Tally;
@@ -16,6 +17,21 @@ use std::io::{Read, Write};
 use std::sync::Wait;
 use std::sync::ledger::{Blank, Ledger};
 use std::thread::Threads;
+
+// At which pace what is told is written: line by line where the journals are kept, so that who follows the run
+// sees what is committed, and where it is told how far the run is.
+fn pace_of(manner: &Manner) -> Pace {
+    if manner.journal.is_some() || manner.progress > 0 {
+        Pace::ByLine
+    } else {
+        Pace::WhenFull
+    }
+}
+
+// Whether a batch has no workers, and is not shaken.
+fn is_plain(manner: &Manner) -> bool {
+    manner.workers == 0 && manner.shake.is_none()
+}
 
 // One batch over these keepers, by workers in threads where there are any, and shaken where a number is given.
 fn run_beside<
@@ -35,7 +51,7 @@ fn run_beside<
     clear: C,
     depot: D,
 ) -> Result<(), BatchFault> {
-    run_desk(
+    run_paced(
         threads,
         rt.alloc(),
         reader,
@@ -43,6 +59,7 @@ fn run_beside<
         steps,
         manner.workers,
         manner.shake,
+        pace_of(manner),
         clear,
         depot,
         &OpenGate,
@@ -59,7 +76,7 @@ fn run_in_memory<H: Threads + Wait + Sync, L: Ledger, R: Read, W: Write>(
     manner: &Manner,
 ) -> Result<(), BatchFault> {
     let alloc = rt.alloc();
-    if manner.workers == 0 && manner.shake.is_none() {
+    if is_plain(manner) && pace_of(manner) == Pace::WhenFull {
         return run_batch(alloc, reader, writer, steps);
     }
     let (clear, depot) = (ListKeeper::new(alloc), ListKeeper::new(alloc));
@@ -77,7 +94,7 @@ fn run_in_folder<H: Threads + Wait + Sync, L: Ledger, R: Read, W: Write>(
     folder: &str,
 ) -> Result<(), BatchFault> {
     let Journals { clear, depot } = open_journals(rt, folder)?;
-    if manner.workers == 0 && manner.shake.is_none() {
+    if is_plain(manner) {
         return run_batch_kept(rt.alloc(), reader, writer, steps, clear, depot).result;
     }
     run_beside(rt, threads, steps, reader, writer, manner, clear, depot)
@@ -98,8 +115,25 @@ fn run_to<H: Threads + Wait + Sync, L: Ledger, R: Read, W: Write>(
     }
 }
 
-// One batch from a reader to standard output. Where it is strict, what was not taken is counted on standard
-// error, and told by the exit status.
+// One batch from a reader to standard output; what was not taken is counted on standard error, and told by the
+// exit status.
+fn run_strictly<H: Threads + Wait + Sync, L: Ledger, R: Read>(
+    rt: &HostRuntime,
+    threads: &H,
+    steps: &mut Steps<L>,
+    reader: &mut R,
+    manner: &Manner,
+) -> Result<u8, BatchFault> {
+    let mut writer = Progress::new(rt, Tally::new(io::writer(rt)), manner.progress);
+    let ended = run_to(rt, threads, steps, reader, &mut writer, manner);
+    let tally = writer.finish();
+    ended?;
+    let counts = tally.counts();
+    tell_counts(rt, &counts)?;
+    Ok(status_of(&counts))
+}
+
+// One batch from a reader to standard output; its exit status.
 fn run_from<H: Threads + Wait + Sync, L: Ledger, R: Read>(
     rt: &HostRuntime,
     threads: &H,
@@ -107,16 +141,14 @@ fn run_from<H: Threads + Wait + Sync, L: Ledger, R: Read>(
     reader: &mut R,
     manner: &Manner,
 ) -> Result<u8, BatchFault> {
-    if !manner.strict {
-        let mut writer = io::writer(rt);
-        run_to(rt, threads, steps, reader, &mut writer, manner)?;
-        return Ok(0);
+    if manner.strict {
+        return run_strictly(rt, threads, steps, reader, manner);
     }
-    let mut tally = Tally::new(io::writer(rt));
-    run_to(rt, threads, steps, reader, &mut tally, manner)?;
-    let counts = tally.counts();
-    tell_counts(rt, &counts)?;
-    Ok(status_of(&counts))
+    let mut writer = Progress::new(rt, io::writer(rt), manner.progress);
+    let ended = run_to(rt, threads, steps, reader, &mut writer, manner);
+    let _ = writer.finish();
+    ended?;
+    Ok(0)
 }
 
 // One batch of the text that files make.
@@ -147,6 +179,7 @@ pub(crate) fn run_source<H: Threads + Wait + Sync, L: Ledger>(
     let mut steps = Steps::<L>::new(blank);
     match source {
         Source::Standard => {
+            tell_awaited(rt, AWAITED);
             let mut reader = rt.reader();
             run_from(rt, threads, &mut steps, &mut reader, manner)
         }

@@ -4,6 +4,7 @@ use crate::arguments::Names;
 use cns_input::{BatchFault, Steps, read_input};
 use cns_named::{NamedFault, text_of_files};
 use std::fs::File;
+use std::io::IsTerminal;
 use std::rt::Files;
 use std::sync::ledger::Ledger;
 
@@ -14,6 +15,17 @@ pub(crate) struct Texts {
     pub(crate) trades: Vec<Vec<u8>>,
     pub(crate) script: Vec<u8>,
 }
+
+/// Says on standard error what is awaited from standard input, where that is a terminal.
+pub(crate) fn tell_awaited(rt: &HostRuntime, awaited: &str) {
+    if rt.stdin().is_terminal() {
+        let _ = rt.eprintln(awaited);
+    }
+}
+
+/// What is awaited where the text is read from standard input.
+pub(crate) const AWAITED: &str =
+    "cnsd: an input is awaited here, up to Ctrl-D; a FILE may be named in its place";
 
 /// Opens a file for reading.
 pub(crate) fn open_file<R: Files<File = File>>(rt: &R, name: &str) -> Result<File, BatchFault> {

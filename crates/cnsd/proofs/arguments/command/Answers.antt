@@ -16,4 +16,5 @@ returns c =
     ap app_of_fields c.arg_required_else_help.ensures ∙ ap (on_top (λ s. record s { arg_required_else_help = true })) top_is in
     let with_run = c.in_ok-subcommand.ensures.shape c.in_ok-run_command.ensures.1 ∙ ap₂ with_subcommand helpful_is (ap (λ (a : App). a.top) c.in_ok-run_command.ensures.0) in
     let with_check = c.in_ok-subcommand-2.ensures.shape c.in_ok-check_command.ensures.1 ∙ ap₂ with_subcommand with_run (ap (λ (a : App). a.top) c.in_ok-check_command.ensures.0) in
-    IfOk-weaker c.subcommand-3.result _ _ (λ r h. h.shape c.in_ok-cusip_command.ensures.1 ∙ ap₂ with_subcommand with_check (ap (λ (a : App). a.top) c.in_ok-cusip_command.ensures.0)) c.subcommand-3.ensures
+    let with_table = c.in_ok-subcommand-3.ensures.shape c.in_ok-table_command.ensures.1 ∙ ap₂ with_subcommand with_check (ap (λ (a : App). a.top) c.in_ok-table_command.ensures.0) in
+    IfOk-weaker c.subcommand-4.result _ _ (λ r h. h.shape c.in_ok-cusip_command.ensures.1 ∙ ap₂ with_subcommand with_table (ap (λ (a : App). a.top) c.in_ok-cusip_command.ensures.0)) c.subcommand-4.ensures

@@ -23,17 +23,33 @@ returns-then-is_asked c = (
   subst (IsSourceIn (codes "check") (subcommand_rows_of c.args.matches.now)) c.in-Some.is c.in_ok-source.ensures,
 )
 
+pub returns-then-is_asked-2 : goal.returns-then-is_asked-2
+unfolding AsksFor
+returns-then-is_asked-2 c = (
+  sym c.is_given.ensures ∙ c.if-is_given.false,
+  sym c.is_asked.ensures ∙ c.if-is_asked.false,
+  sym c.is_asked-2.ensures ∙ c.if-is_asked-2.true,
+  c.is_set-last.ensures,
+)
+
 pub returns-in_default-2 : goal.returns-in_default-2
 unfolding AsksFor
 returns-in_default-2 c =
-    let none = nothing_else c.in_ok-source-2.field-0 c.in_default-2.not-Some in
-    (sym c.is_given.ensures ∙ c.if-is_given.false, inr (sym c.is_asked.ensures ∙ c.if-is_asked.false, subst (IsSourceIn (codes "run") (subcommand_rows_of c.args.matches.now)) none c.in_ok-source-2.ensures))
+    let none = nothing_else c.in_ok-source-2.field-0 c.in_default-2.not-Some in (
+      sym c.is_given.ensures ∙ c.if-is_given.false,
+      inr (
+        sym c.is_asked.ensures ∙ c.if-is_asked.false,
+        sym c.is_asked-2.ensures ∙ c.if-is_asked-2.false,
+        subst (IsSourceIn (codes "run") (subcommand_rows_of c.args.matches.now)) none c.in_ok-source-2.ensures,
+      ),
+    )
 
 pub returns : goal.returns
 unfolding AsksFor
 returns c = (
   sym c.is_given.ensures ∙ c.if-is_given.false,
   sym c.is_asked.ensures ∙ c.if-is_asked.false,
+  sym c.is_asked-2.ensures ∙ c.if-is_asked-2.false,
   subst (IsSourceIn (codes "run") (subcommand_rows_of c.args.matches.now)) c.in-Some-2.is c.in_ok-source-2.ensures,
   c.in_ok-manner.ensures,
 )
