@@ -114,26 +114,25 @@ fn desk<L: Ledger, H: Threads + Wait + Sync>(
     }
 }
 
-// By how many workers, at which pace, and the lines that are told each time that the writer is flushed.
-type Paced = (usize, Option<Pace>, &'static [usize]);
-
-static PACED: [Paced; 6] = [
-    (0, None, &[]),
-    (2, None, &[]),
-    (0, Some(Pace::WhenFull), &[]),
-    (2, Some(Pace::WhenFull), &[]),
-    (0, Some(Pace::ByLine), &TOLD),
-    (2, Some(Pace::ByLine), &TOLD),
+// By how many workers, at which pace, and whether the writer is flushed as each line of the script ends, or never.
+static PACED: [(usize, Option<Pace>, bool); 6] = [
+    (0, None, false),
+    (2, None, false),
+    (0, Some(Pace::WhenFull), false),
+    (2, Some(Pace::WhenFull), false),
+    (0, Some(Pace::ByLine), true),
+    (2, Some(Pace::ByLine), true),
 ];
 
 #[test]
 fn a_run_is_written_at_its_pace(rt: HostRuntime) {
-    for (workers, pace, told) in &PACED {
+    for (workers, pace, by_line) in &PACED {
         let mut out = Noting::new(rt.alloc());
         let blank = Blank::new(1);
         let ended = desk::<Brand, _>(&rt, rt.alloc(), blank, *workers, *pace, &mut out);
+        let told = if *by_line { TOLD.as_slice() } else { &[] };
         assert!(&rt;
-            ended == Ok(()) && out.lines.as_slice() == *told,
+            ended == Ok(()) && out.lines.as_slice() == told,
             "{workers} workers"
         );
     }
