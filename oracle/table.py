@@ -63,17 +63,9 @@ def rows_of(text):
         raise Refused('the last report has no END')
 
 
-def main(words):
-    last = '--last' in words
-    names = [word for word in words if word != '--last']
-    if names:
-        with open(names[0], 'rb') as file:
-            text = file.read()
-    else:
-        text = sys.stdin.buffer.read()
-    out = sys.stdout.buffer
-    out.write(COLUMNS + b'\n')
-    held = []
+def answer(text, last):
+    """The exit status, the table, and what is told on standard error."""
+    rows, held = [COLUMNS], []
     try:
         for _number, row in rows_of(text):
             if row is None:
@@ -81,14 +73,23 @@ def main(words):
             elif last:
                 held.append(row)
             else:
-                out.write(row + b'\n')
+                rows.append(row)
     except Refused as fault:
-        out.flush()
-        print('cnsd: %s' % fault, file=sys.stderr)
-        return 2
-    for row in held:
-        out.write(row + b'\n')
-    return 0
+        return 2, b'\n'.join(rows) + b'\n', b'cnsd: %s\n' % str(fault).encode()
+    return 0, b'\n'.join(rows + held) + b'\n', b''
+
+
+def main(words):
+    names = [word for word in words if word != '--last']
+    if names:
+        with open(names[0], 'rb') as file:
+            text = file.read()
+    else:
+        text = sys.stdin.buffer.read()
+    status, out, told = answer(text, '--last' in words)
+    sys.stdout.buffer.write(out)
+    sys.stderr.buffer.write(told)
+    return status
 
 
 if __name__ == '__main__':
