@@ -14,7 +14,7 @@ from page import said, tell
 def words_under(head, text):
     """The first words of the lines of a part of a help text."""
     part = re.search(r'^%s:\n((?:  .*\n)*)' % head, text, re.M)
-    return re.findall(r'^  +(?:-\w, )?(\S+)', part[1], re.M) if part else []
+    return [word.rstrip('.') for word in re.findall(r'^  +(?:-\w, )?(\S+)', part[1], re.M)] if part else []
 
 
 def script(program):

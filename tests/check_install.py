@@ -110,7 +110,7 @@ def check_files(check, root, names):
         check(warned.returncode == 0 and not warned.stderr, f'groff warns: {warned.stderr}')
     script = f'{root}/share/bash-completion/completions/cnsd'
     for words, wanted in [(['cnsd', ''], {'run', 'check', 'table', 'cusip', '--help', '--version'}), (['cnsd', 'ru'], {'run'}),
-                          (['cnsd', 'run', '--'], {'--journal', '--workers', '--shake', '--help'}), (['cnsd', 'cusip', '--h'], {'--help'}),
+                          (['cnsd', 'run', '--'], {'--journal', '--workers', '--shake', '--progress', '--help'}), (['cnsd', 'cusip', '--h'], {'--help'}),
                           (['cnsd', 'run', '--workers', ''], set())]:
         check(wanted <= set(completes(script, words)) and (wanted or not completes(script, words)), f'{words} is not completed by {wanted}')
 

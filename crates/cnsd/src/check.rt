@@ -4,9 +4,7 @@ ghost use Rattle.std.specs.Prelude.{◌≡◌, ◌<◌};
 
 use crate::arguments::{Names, Source};
 use crate::source::{AWAITED, Texts, named_fault, open_file, tell_awaited, texts_of_names};
-use cns_check::{
-    Findings, Repeats, check, count_line, found_line, repeat_line, repeats, repeats_line,
-};
+use cns_check::{Findings, check, count_line, found_line, repeat_line, repeats, repeats_line};
 use cns_input::{BatchFault, Steps, read_input};
 use cns_named::text_of_files;
 use std::alloc::{AllocError, Global};
@@ -113,9 +111,11 @@ fn tell(rt: &HostRuntime, found: &Findings, files: &[Stretch<'_>]) -> Result<u8,
     Ok(1)
 }
 
-// Notes on standard error which trades have an id that an earlier one has. That is no fault of the text: a run
-// refuses the later trade.
-fn note(rt: &HostRuntime, repeats: &Repeats, files: &[Stretch<'_>]) -> Result<(), BatchFault> {
+// Notes on standard error which trades of a text have an id that an earlier one has. That is no fault of the text:
+// a run refuses the later trade.
+#[inline(never)]
+fn note(rt: &HostRuntime, text: &[u8], files: &[Stretch<'_>]) -> Result<(), BatchFault> {
+    let repeats = repeats(rt.alloc(), text)?;
     if repeats.first.is_empty() {
         return Ok(());
     }
@@ -125,18 +125,22 @@ fn note(rt: &HostRuntime, repeats: &Repeats, files: &[Stretch<'_>]) -> Result<()
         let line = repeat_line(rt.alloc(), name, before, earlier, earlier_before, one)?;
         let _ = rt.eprint(line.as_str());
     }
-    let line = repeats_line(rt.alloc(), repeats)?;
+    let line = repeats_line(rt.alloc(), &repeats)?;
     let _ = rt.eprint(line.as_str());
     Ok(())
 }
 
+// Tells on standard output all that is wrong with a text; the exit status.
+#[inline(never)]
+fn find(rt: &HostRuntime, text: &[u8], files: &[Stretch<'_>]) -> Result<u8, BatchFault> {
+    let found = check(rt.alloc(), text)?;
+    tell(rt, &found, files)
+}
+
 // Looks at a text that files make.
 fn check_text(rt: &HostRuntime, text: &[u8], files: &[Stretch<'_>]) -> Result<u8, BatchFault> {
-    let found = check(rt.alloc(), text)?;
-    let status = tell(rt, &found, files)?;
-    drop(found);
-    let repeats = repeats(rt.alloc(), text)?;
-    note(rt, &repeats, files)?;
+    let status = find(rt, text, files)?;
+    note(rt, text, files)?;
     Ok(status)
 }
 
@@ -218,6 +222,7 @@ fn are_readable(rt: &HostRuntime, source: &Source) -> Result<bool, BatchFault> {
 
 /// Tells on standard output all that is wrong with a text; the exit status, 0 where nothing is, and 2 where a
 /// file of the text cannot be read.
+#[inline(never)]
 pub(crate) fn check_source<L: Ledger>(
     rt: &HostRuntime,
     blank: Blank,

@@ -46,6 +46,7 @@ fn check_standard<W: Write, L: Ledger>(
 
 /// Tells of each text on standard output whether it is a CUSIP, and of each line of standard input where the
 /// text is `-`; the exit status, 0 where all are.
+#[inline(never)]
 pub(crate) fn check_texts<L: Ledger>(
     rt: &HostRuntime,
     blank: Blank,

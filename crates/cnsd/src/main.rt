@@ -41,6 +41,7 @@ fn exit_status(rt: &HostRuntime, ended: Result<u8, BatchFault>) -> ExitCode {
     }
 }
 
+// Each request is served in a frame of its own: one frame for all of them would not fit a small stack.
 fn main(rt: HostRuntime) -> ExitCode {
     match read_request(&rt) {
         Ok(Request::Run { source, manner }) => {

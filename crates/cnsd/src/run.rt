@@ -117,6 +117,7 @@ fn run_to<H: Threads + Wait + Sync, L: Ledger, R: Read, W: Write>(
 
 // One batch from a reader to standard output; what was not taken is counted on standard error, and told by the
 // exit status.
+#[inline(never)]
 fn run_strictly<H: Threads + Wait + Sync, L: Ledger, R: Read>(
     rt: &HostRuntime,
     threads: &H,
@@ -134,6 +135,7 @@ fn run_strictly<H: Threads + Wait + Sync, L: Ledger, R: Read>(
 }
 
 // One batch from a reader to standard output; its exit status.
+#[inline(never)]
 fn run_from<H: Threads + Wait + Sync, L: Ledger, R: Read>(
     rt: &HostRuntime,
     threads: &H,
@@ -165,6 +167,7 @@ fn run_named<H: Threads + Wait + Sync, L: Ledger>(
 }
 
 /// One batch of a text to standard output; its exit status. Nobody asks how many reads it makes.
+#[inline(never)]
 pub(crate) fn run_source<H: Threads + Wait + Sync, L: Ledger>(
     rt: &HostRuntime,
     threads: &H,

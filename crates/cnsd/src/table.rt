@@ -7,6 +7,7 @@ use std::process::ExitCode;
 
 /// Reads what a run wrote from standard input, and writes its reports as CSV to standard output, or its last
 /// report alone; the exit status. A fault is told on standard error.
+#[inline(never)]
 pub(crate) fn table_reports(rt: &HostRuntime, last: bool) -> ExitCode {
     tell_awaited(rt, "cnsd: what a run wrote is awaited here, up to Ctrl-D");
     let reports = if last { Reports::Last } else { Reports::All };
