@@ -136,6 +136,8 @@ part_of_program 'examples' tests/run_cases.sh "$program" examples
 part_of_program 'tests/cases' tests/run_cases.sh "$program" tests/cases
 part_of_program 'tests/version-1' tests/run_cases.sh "$program" tests/version-1
 part_of_program 'tests/faults' tests/run_cases.sh "$program" tests/faults
+part_of_program 'tests/audit' tests/run_cases.sh "$program" tests/audit
+part_of_program 'journals that are read' tests/check_journals.py "$program"
 part_of_program 'refused memory' tests/refuse_memory.sh "$program"
 part_of_program 'refused lines once more' tests/refuse_again.sh "$program"
 part_of_program 'random inputs' oracle/fuzz.py "$program" --seed 1 --count 500
@@ -147,5 +149,6 @@ part_of_program 'the headline in reports' oracle/headline.py "$program" --seed 1
 part_of_program 'runs with workers' oracle/workers.py "$program" --seed 1 --count 100
 part_of_program 'what make install sets up' tests/check_install.py "$program"
 part_of_program 'the first commands of the README' tests/check_readme.py "$program"
+part_of_program 'what journals tell' oracle/audit.py "$program" --seed 1 --count 60
 part_of_program 'journals of both versions' oracle/versions.py "$program" --seed 1 --count 200
 say_end

@@ -1,5 +1,5 @@
 -- The command line, and what it asks for by what clap's definitions make of its words.
-use Rattle.std.specs.Prelude.{◌≡◌, ◌⊎◌, ◌<◌, ◌^◌, ◌==◌, ◌||◌, ℕ, Bool, not, List, [], Option, Some, None, true, false, codes, is_some, length, map, option_map, string_bytes, unwrap_or, if◌then◌else◌}
+use Rattle.std.specs.Prelude.{◌≡◌, ◌⊎◌, ◌<◌, ◌^◌, ◌==◌, ◌&&◌, ◌||◌, ℕ, Bool, not, List, [], Option, Some, None, true, false, codes, is_some, length, map, option_map, string_bytes, unwrap_or, if◌then◌else◌}
 use Rattle.std.specs.Str.{bytes_eq}
 use Rattle.std.specs.Str.Parse.{IsNumeral, digits_value, without_leading_plus}
 use Rattle.clap.specs.Words.{App, Row, Rule, Text, all_of, count_of, first_of, new_app, new_rule, with_rule, with_subcommand}
@@ -10,6 +10,9 @@ use Rattle.clap.specs.declared.builder.command.Command.TheViews.{out-Command}
 use Rattle.std.specs.Option.{option_map_or}
 use Rattle.clap.specs.declared.builder.action.ArgAction.TheVariants.{Append, Count, Set, SetTrue}
 use Rattle.clap.specs.declared.builder.value_parser.ValueParser.TheVariants as vp
+use Rattle.cnsd.specs.declared.arguments.Audit.{Audit}
+use Rattle.cnsd.specs.declared.arguments.Audit.TheVariants as audit
+use Rattle.cnsd.specs.declared.arguments.Folder.{Folder}
 use Rattle.cnsd.specs.declared.arguments.Manner.{Manner}
 use Rattle.cnsd.specs.declared.arguments.Names.{Names}
 use Rattle.cnsd.specs.declared.arguments.Source.{Source}
@@ -17,7 +20,14 @@ use Rattle.cnsd.specs.declared.arguments.Source.TheVariants as source
 use Rattle.cnsd.specs.declared.arguments.Request.{Request}
 use Rattle.cnsd.specs.declared.arguments.Request.TheVariants as request
 
--- run [--workers N] [--shake NUMBER] [--journal DIR] [--strict] [--progress]..
+-- an argument that is named by its place, and a flag
+abbrev pub required_rule : Text → Rule
+required_rule id = record (new_rule id) { action = Some Set; value_names = 1; required = true }
+
+abbrev pub flag_rule : Text → Rule
+flag_rule id = record (new_rule id) { long = Some id; action = Some SetTrue }
+
+-- run [--workers N] [--shake NUMBER] [--journal DIR] [--strict] [--progress].. [--intact]
 abbrev pub workers_rule : Rule
 workers_rule = record (new_rule (codes "workers")) { long = Some (codes "workers"); action = Some Set; value_names = 1; parser = Some (vp.Unsigned 0 64) }
 
@@ -54,7 +64,8 @@ abbrev pub with_source : App → App
 with_source app = with_rule (with_rule (with_rule (with_rule app file_rule) openings_rule) trades_rule) script_rule
 
 abbrev pub run_app : App
-run_app = with_source (with_rule (with_rule (with_rule (with_rule (with_rule (new_app (codes "run")) workers_rule) shake_rule) journal_rule) strict_rule) progress_rule)
+run_app =
+    with_source (with_rule (with_rule (with_rule (with_rule (with_rule (with_rule (new_app (codes "run")) workers_rule) shake_rule) journal_rule) strict_rule) progress_rule) (flag_rule (codes "intact")))
 
 -- check [FILE] ..
 abbrev pub check_app : App
@@ -74,11 +85,22 @@ text_rule = record (new_rule (codes "text")) { action = Some Append; value_names
 abbrev pub cusip_app : App
 cusip_app = with_rule (new_app (codes "cusip")) text_rule
 
--- cnsd run, cnsd check, cnsd table and cnsd cusip
+-- journal WHAT PATH [--csv] [--verbose] [--openings FILE]
+abbrev pub journal_app : App
+journal_app =
+    with_rule (with_rule (with_rule (with_rule (with_rule (new_app (codes "journal")) (required_rule (codes "what"))) (required_rule (codes "path"))) (flag_rule (codes "csv"))) (flag_rule (codes "verbose")))
+    openings_rule
+
+-- explain DIR MEMBER CUSIP [--openings FILE]
+abbrev pub explain_app : App
+explain_app =
+    with_rule (with_rule (with_rule (with_rule (new_app (codes "explain")) (required_rule (codes "folder"))) (required_rule (codes "member"))) (required_rule (codes "issue"))) openings_rule
+
+-- cnsd run, cnsd check, cnsd table, cnsd journal, cnsd explain and cnsd cusip
 abbrev pub cnsd_app : App
 cnsd_app =
     let top = on_top (λ s. record s { has_version = true; subcommand_required = true; arg_required_else_help = true }) (new_app (codes "cnsd")) in
-    with_subcommand (with_subcommand (with_subcommand (with_subcommand top run_app.top) check_app.top) table_app.top) cusip_app.top
+    with_subcommand (with_subcommand (with_subcommand (with_subcommand (with_subcommand (with_subcommand top run_app.top) check_app.top) table_app.top) journal_app.top) explain_app.top) cusip_app.top
 
 -- the first value of an argument of a subcommand, where the words name that one
 abbrev pub value_in : Text → Text → Option (Text × List Row) → Option Text
@@ -138,16 +160,50 @@ unfoldable pub IsSourceIn : Text → Option (Text × List Row) → Option Source
 IsSourceIn subcommand used source = (names : Names) × AreNamesIn subcommand used names × IsSourceOf (value_in subcommand (codes "file") used) names source
 
 -- how a batch is run: by so many workers, shaken by a number where the words give one, over the journals in a folder where they give one,
--- strictly where they say so, and with as much told of how far it is as they ask for
+-- strictly where they say so, with as much told of how far it is as they ask for, and over intact journals alone where they ask for that
 unfoldable pub IsMannerIn : Option (Text × List Row) → Manner → Type 0
 IsMannerIn used manner = (option_map string_bytes manner.journal ≡ value_in (codes "run") (codes "journal") used)
     × IsCountIn (value_in (codes "run") (codes "workers") used) manner.workers
     × IsShakeIn (value_in (codes "run") (codes "shake") used) manner.shake
     × (manner.strict ≡ is_set (codes "run") (codes "strict") used)
     × (manner.progress ≡ times_in (codes "run") (codes "progress") used)
+    × (manner.intact ≡ is_set (codes "run") (codes "intact") used)
+
+-- the folder of journals that is named, with the file of openings where one is
+abbrev pub required_in : Text → Text → Option (Text × List Row) → Text
+required_in subcommand id used = unwrap_or (value_in subcommand id used) []
+
+abbrev pub IsFolderIn : Text → Text → Option (Text × List Row) → Folder → Type 0
+IsFolderIn subcommand id used folder =
+    (string_bytes folder.name ≡ required_in subcommand id used) × (option_map string_bytes folder.openings ≡ value_in subcommand (codes "openings") used)
+
+-- what the words of journal ask for: a dump, without an option of a check; or a check, without that of a dump
+abbrev pub asks_dump : Option (Text × List Row) → Bool
+asks_dump used =
+    bytes_eq (required_in (codes "journal") (codes "what") used) (codes "dump") && not (is_set (codes "journal") (codes "verbose") used)
+    && not (is_some (value_in (codes "journal") (codes "openings") used))
+
+abbrev pub asks_check : Option (Text × List Row) → Bool
+asks_check used = bytes_eq (required_in (codes "journal") (codes "what") used) (codes "check") && not (is_set (codes "journal") (codes "csv") used)
+
+unfoldable pub AsksForJournal : Option (Text × List Row) → Option Audit → Type 0
+AsksForJournal used (Some (audit.Dump file csv)) =
+    (asks_dump used ≡ true) × (string_bytes file ≡ required_in (codes "journal") (codes "path") used) × (csv ≡ is_set (codes "journal") (codes "csv") used)
+AsksForJournal used (Some (audit.Check folder verbose)) =
+    (asks_dump used ≡ false) × (asks_check used ≡ true) × IsFolderIn (codes "journal") (codes "path") used folder × (verbose ≡ is_set (codes "journal") (codes "verbose") used)
+AsksForJournal used (Some (audit.Explain folder member issue)) = ⊥
+AsksForJournal used None = (asks_dump used ≡ false) × (asks_check used ≡ false)
+
+-- what the words of explain ask for
+unfoldable pub AsksForExplanation : Option (Text × List Row) → Audit → Type 0
+AsksForExplanation used (audit.Explain folder member issue) =
+    IsFolderIn (codes "explain") (codes "folder") used folder × (string_bytes member ≡ required_in (codes "explain") (codes "member") used)
+    × (string_bytes issue ≡ required_in (codes "explain") (codes "issue") used)
+AsksForExplanation used _ = ⊥
 
 -- what is asked for: whether texts are CUSIPs, where the words give some; what is wrong with a text, where they ask for a check; the reports of
--- a run, where they ask for a table; and else a batch. None where they name an input and files that make one
+-- a run, where they ask for a table; what journals hold, where they ask for these or for an explanation; and else a batch. None where they name
+-- an input and files that make one, or of journals neither a dump nor a check
 unfoldable pub AsksFor : Option (Text × List Row) → Option Request → Type 0
 AsksFor used (Some (request.Cusips texts)) = (is_some (value_in (codes "cusip") (codes "text") used) ≡ true) × (map string_bytes texts.items ≡ all_in (codes "cusip") (codes "text") used)
 AsksFor used (Some (request.Check source)) =
@@ -155,12 +211,19 @@ AsksFor used (Some (request.Check source)) =
 AsksFor used (Some (request.Table last)) =
     (is_some (value_in (codes "cusip") (codes "text") used) ≡ false) × (is_asked (codes "check") used ≡ false) × (is_asked (codes "table") used ≡ true)
     × (last ≡ is_set (codes "table") (codes "last") used)
+AsksFor used (Some (request.Audit asked)) =
+    (is_some (value_in (codes "cusip") (codes "text") used) ≡ false) × (is_asked (codes "check") used ≡ false) × (is_asked (codes "table") used ≡ false)
+    × (((is_asked (codes "journal") used ≡ true) × AsksForJournal used (Some asked))
+    ⊎ ((is_asked (codes "journal") used ≡ false) × (is_asked (codes "explain") used ≡ true) × AsksForExplanation used asked))
 AsksFor used (Some (request.Run source manner)) =
     (is_some (value_in (codes "cusip") (codes "text") used) ≡ false) × (is_asked (codes "check") used ≡ false) × (is_asked (codes "table") used ≡ false)
+    × (is_asked (codes "journal") used ≡ false) × (is_asked (codes "explain") used ≡ false)
     × IsSourceIn (codes "run") used (Some source) × IsMannerIn used manner
 AsksFor used (Some request.Told) = ⊥
 AsksFor used (Some request.Faulty) = ⊥
 AsksFor used None =
     (is_some (value_in (codes "cusip") (codes "text") used) ≡ false)
     × (((is_asked (codes "check") used ≡ true) × IsSourceIn (codes "check") used None)
-    ⊎ ((is_asked (codes "check") used ≡ false) × (is_asked (codes "table") used ≡ false) × IsSourceIn (codes "run") used None))
+    ⊎ ((is_asked (codes "check") used ≡ false) × (is_asked (codes "table") used ≡ false) × (is_asked (codes "journal") used ≡ true) × AsksForJournal used None)
+    ⊎ ((is_asked (codes "check") used ≡ false) × (is_asked (codes "table") used ≡ false) × (is_asked (codes "journal") used ≡ false) × (is_asked (codes "explain") used ≡ false)
+    × IsSourceIn (codes "run") used None))

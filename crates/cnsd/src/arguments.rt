@@ -1,6 +1,7 @@
 ghost use Rattle.std.specs.Prelude.{◌≡◌, false, [], IfOk, codes, is_some, map, option_map, string_bytes, unwrap_or};
+ghost use Rattle.std.specs.Str.{bytes_eq};
 ghost use Rattle.clap.specs.Words.{FailsBy, all_of, app_of, fault_of, found_of, rows_of, rule_of, subcommand_of, subcommand_rows_of};
-ghost use Rattle.cnsd.specs.CommandLine.{AsksFor, IsCountIn, AreNamesIn, IsMannerIn, IsShakeIn, IsSourceIn, IsSourceOf, all_in, is_asked as is_asked_in, check_app, cnsd_app, cusip_app, file_rule, has_globals, is_set as is_set_in, journal_rule, last_rule, names_any, openings_rule, progress_rule, run_app, script_rule, shake_rule, strict_rule, table_app, times_in as times_in_of, with_source as source_app, text_rule, trades_rule, value_in, workers_rule};
+ghost use Rattle.cnsd.specs.CommandLine.{AsksFor, AsksForExplanation, AsksForJournal, IsFolderIn, asks_check as asks_check_in, asks_dump as asks_dump_in, explain_app, flag_rule, journal_app, required_in as required_in_of, required_rule, IsCountIn, AreNamesIn, IsMannerIn, IsShakeIn, IsSourceIn, IsSourceOf, all_in, is_asked as is_asked_in, check_app, cnsd_app, cusip_app, file_rule, has_globals, is_set as is_set_in, journal_rule, last_rule, names_any, openings_rule, progress_rule, run_app, script_rule, shake_rule, strict_rule, table_app, times_in as times_in_of, with_source as source_app, text_rule, trades_rule, value_in, workers_rule};
 
 use crate::help;
 use crate::version::VERSION;
@@ -44,7 +45,8 @@ impl Names {
 /// How a batch is to be run: over the journals in this folder where one is given, and else over keepers in
 /// memory. So many workers serve its lots; where there are none, its single events do. It is shaken by this
 /// number where one is given. Where it is strict, the lines that tell of what was not taken are counted. How far
-/// it is, is told on standard error where that was asked for once and is a terminal, or was asked for twice.
+/// it is, is told on standard error where that was asked for once and is a terminal, or was asked for twice. Where it is
+/// to be intact, journals with damage, and openings other than those of the first such run in the folder, are refused.
 #[derive(PartialEq, Eq, Debug, Drop)]
 pub(crate) struct Manner {
     pub(crate) journal: Option<String>,
@@ -52,6 +54,35 @@ pub(crate) struct Manner {
     pub(crate) shake: Option<u64>,
     pub(crate) strict: bool,
     pub(crate) progress: u8,
+    pub(crate) intact: bool,
+}
+
+/// A folder of journals, and the file of the openings where one is named.
+#[derive(PartialEq, Eq, Debug, Drop)]
+pub(crate) struct Folder {
+    pub(crate) name: String,
+    pub(crate) openings: Option<String>,
+}
+
+/// What is to be read from journals.
+#[derive(PartialEq, Eq, Debug, Drop)]
+pub(crate) enum Audit {
+    /// `cnsd journal dump FILE`: what the file of a journal holds, as CSV or in lines.
+    Dump {
+        file: String,
+        csv: bool,
+    },
+    /// `cnsd journal check DIR`: what is wrong with both journals of a folder.
+    Check {
+        folder: Folder,
+        verbose: bool,
+    },
+    /// `cnsd explain DIR MEMBER CUSIP`: what a position and a balance come from.
+    Explain {
+        folder: Folder,
+        member: String,
+        issue: String,
+    },
 }
 
 /// What the command line asks for.
@@ -65,6 +96,8 @@ pub(crate) enum Request {
     Table { last: bool },
     /// `cnsd cusip TEXT..`: whether these texts are CUSIPs.
     Cusips(Vec<String>),
+    /// `cnsd journal` and `cnsd explain`: what journals hold.
+    Audit(Audit),
     /// Help or the version, which was printed.
     Told,
     /// Nothing that there is; the fault was printed.
@@ -206,6 +239,43 @@ fn text_argument<'a>(alloc: Global) -> Arg<'a>
         .action(ArgAction::Append)
 }
 
+// A required argument that is named by its place.
+fn required_argument<'a>(alloc: Global, id: &'a str, name: &'a str, help: &'a str) -> Arg<'a>
+    ensures rule { rule_of result ≡ required_rule id.entry.now }
+    ensures local { result.global ≡ false }
+{
+    Arg::new(alloc, id)
+        .value_name(name)
+        .help(help)
+        .required(true)
+        .action(ArgAction::Set)
+}
+
+// A flag.
+fn flag<'a>(alloc: Global, id: &'a str, help: &'a str) -> Arg<'a>
+    ensures rule { rule_of result ≡ flag_rule id.entry.now }
+    ensures local { result.global ≡ false }
+{
+    Arg::new(alloc, id)
+        .long(id)
+        .help(help)
+        .action(ArgAction::SetTrue)
+}
+
+// The option of `journal` and of `explain` for the file of the openings.
+fn begins_option<'a>(alloc: Global) -> Arg<'a>
+    ensures rule { rule_of result ≡ openings_rule }
+    ensures local { result.global ≡ false }
+{
+    Arg::new(alloc, "openings")
+        .long("openings")
+        .value_name("FILE")
+        .help(
+            "The rows of [openings] with which the journals began; the folder's openings.csv if left out",
+        )
+        .action(ArgAction::Set)
+}
+
 // A command with the arguments that say where its text comes from.
 fn with_source<'a>(command: Command<'a>, alloc: Global) -> Result<Command<'a>, AllocError>
     ensures { IfOk result (λ c. has_globals command.entry ≡ false → (app_of c ≡ source_app (app_of command.entry)) × (has_globals c ≡ false)) }
@@ -228,7 +298,12 @@ fn run_command<'a>(alloc: Global) -> Result<Command<'a>, AllocError>
         .arg(shake_option(alloc))?
         .arg(journal_option(alloc))?
         .arg(strict_flag(alloc))?
-        .arg(progress_flag(alloc))?;
+        .arg(progress_flag(alloc))?
+        .arg(flag(
+            alloc,
+            "intact",
+            "With --journal: refuse journals with damage, and openings other than those of the first such run",
+        ))?;
     with_source(run, alloc)
 }
 
@@ -250,6 +325,42 @@ fn table_command<'a>(alloc: Global) -> Result<Command<'a>, AllocError>
         .about("Reads what `cnsd run` wrote on standard input, and writes its reports as CSV")
         .after_help(help::TABLE)
         .arg(last_flag(alloc))
+}
+
+// `cnsd journal`.
+fn journal_command<'a>(alloc: Global) -> Result<Command<'a>, AllocError>
+    ensures { IfOk result (λ c. (app_of c ≡ journal_app) × (has_globals c ≡ false)) }
+{
+    Command::new(alloc, "journal")
+        .about("Reads journals: dump FILE tells what one holds, check DIR what is wrong with both")
+        .after_help(help::JOURNAL)
+        .arg(required_argument(alloc, "what", "WHAT", "dump or check"))?
+        .arg(required_argument(
+            alloc,
+            "path",
+            "PATH",
+            "The file of a journal, or the folder of both",
+        ))?
+        .arg(flag(alloc, "csv", "Of a dump: as CSV"))?
+        .arg(flag(
+            alloc,
+            "verbose",
+            "Of a check: the sums of each issue, and each balance",
+        ))?
+        .arg(begins_option(alloc))
+}
+
+// `cnsd explain`.
+fn explain_command<'a>(alloc: Global) -> Result<Command<'a>, AllocError>
+    ensures { IfOk result (λ c. (app_of c ≡ explain_app) × (has_globals c ≡ false)) }
+{
+    Command::new(alloc, "explain")
+        .about("Tells what a member's position and balance in an issue come from")
+        .after_help(help::EXPLAIN)
+        .arg(required_argument(alloc, "folder", "DIR", "The folder of both journals"))?
+        .arg(required_argument(alloc, "member", "MEMBER", "The member's number"))?
+        .arg(required_argument(alloc, "issue", "CUSIP", "The issue"))?
+        .arg(begins_option(alloc))
 }
 
 // `cnsd cusip`.
@@ -274,6 +385,8 @@ fn command<'a>(alloc: Global) -> Result<Command<'a>, AllocError>
         .subcommand(run_command(alloc)?)?
         .subcommand(check_command(alloc)?)?
         .subcommand(table_command(alloc)?)?
+        .subcommand(journal_command(alloc)?)?
+        .subcommand(explain_command(alloc)?)?
         .subcommand(cusip_command(alloc)?)
 }
 
@@ -435,6 +548,85 @@ fn manner_in(alloc: Global, matches: &ArgMatches) -> Result<Manner, AllocError>
         shake: shake_in(matches),
         strict: is_set(matches, "run", "strict"),
         progress: times_in(matches, "run", "progress"),
+        intact: is_set(matches, "run", "intact"),
+    })
+}
+
+// The value of a required argument of a subcommand, owned.
+fn required_in(
+    alloc: Global,
+    matches: &ArgMatches,
+    subcommand: &str,
+    id: &str,
+) -> Result<String, AllocError>
+    ensures { IfOk result (λ text. string_bytes text ≡ unwrap_or (value_in subcommand.now id.now (subcommand_rows_of matches.now)) []) }
+{
+    String::from_str(alloc, value_in(matches, subcommand, id).unwrap_or(""))
+}
+
+// The folder of journals that the words name.
+fn folder_in(
+    alloc: Global,
+    matches: &ArgMatches,
+    subcommand: &str,
+    id: &str,
+) -> Result<Folder, AllocError>
+    ensures { IfOk result (IsFolderIn subcommand.now id.now (subcommand_rows_of matches.now)) }
+{
+    Ok(Folder {
+        name: required_in(alloc, matches, subcommand, id)?,
+        openings: owned_in(alloc, matches, subcommand, "openings")?,
+    })
+}
+
+// Whether the words of `journal` ask for this.
+fn is_what(matches: &ArgMatches, what: &str) -> bool
+    ensures { result ≡ bytes_eq (required_in_of (codes "journal") (codes "what") (subcommand_rows_of matches.now)) what.now }
+{
+    value_in(matches, "journal", "what").unwrap_or("") == what
+}
+
+// Whether they ask for a dump, without an option of a check.
+fn asks_dump(matches: &ArgMatches) -> bool
+    ensures { result ≡ asks_dump_in (subcommand_rows_of matches.now) }
+{
+    is_what(matches, "dump")
+        && !is_set(matches, "journal", "verbose")
+        && !is_given(matches, "journal", "openings")
+}
+
+// Whether they ask for a check, without an option of a dump.
+fn asks_check(matches: &ArgMatches) -> bool
+    ensures { result ≡ asks_check_in (subcommand_rows_of matches.now) }
+{
+    is_what(matches, "check") && !is_set(matches, "journal", "csv")
+}
+
+// What the words of `journal` ask for; None where that is neither of both.
+fn journal_request(alloc: Global, matches: &ArgMatches) -> Result<Option<Audit>, AllocError>
+    ensures { IfOk result (AsksForJournal (subcommand_rows_of matches.now)) }
+{
+    if asks_dump(matches) {
+        let file = required_in(alloc, matches, "journal", "path")?;
+        let csv = is_set(matches, "journal", "csv");
+        return Ok(Some(Audit::Dump { file, csv }));
+    }
+    if asks_check(matches) {
+        let folder = folder_in(alloc, matches, "journal", "path")?;
+        let verbose = is_set(matches, "journal", "verbose");
+        return Ok(Some(Audit::Check { folder, verbose }));
+    }
+    Ok(None)
+}
+
+// What the words of `explain` ask for.
+fn explain_request(alloc: Global, matches: &ArgMatches) -> Result<Audit, AllocError>
+    ensures { IfOk result (AsksForExplanation (subcommand_rows_of matches.now)) }
+{
+    Ok(Audit::Explain {
+        folder: folder_in(alloc, matches, "explain", "folder")?,
+        member: required_in(alloc, matches, "explain", "member")?,
+        issue: required_in(alloc, matches, "explain", "issue")?,
     })
 }
 
@@ -455,6 +647,16 @@ fn request_of(alloc: Global, matches: &ArgMatches) -> Result<Option<Request>, Al
     if is_asked(matches, "table") {
         let last = is_set(matches, "table", "last");
         return Ok(Some(Request::Table { last }));
+    }
+    if is_asked(matches, "journal") {
+        let Some(audit) = journal_request(alloc, matches)? else {
+            return Ok(None);
+        };
+        return Ok(Some(Request::Audit(audit)));
+    }
+    if is_asked(matches, "explain") {
+        let audit = explain_request(alloc, matches)?;
+        return Ok(Some(Request::Audit(audit)));
     }
     let Some(source) = source_in(alloc, matches, "run")? else {
         return Ok(None);
@@ -505,6 +707,14 @@ fn told<R: AllocGlobal + Print + Eprint>(rt: &R, error: &Error) -> Result<Reques
     }
 }
 
+// What is wanted in place of words that ask for nothing.
+fn wanted(words: &[&str]) -> &'static str {
+    if words.get(1) == Some(&"journal") {
+        return "cnsd: of journals there are `dump FILE [--csv]` and `check DIR [--openings FILE] [--verbose]`";
+    }
+    "cnsd: an input is one FILE, or is made by --openings, --trades and --script"
+}
+
 /// Reads the command line, and prints help, the version or the fault where it asks for nothing else.
 ///
 /// Refuses `Memory` where there was none for it, and `Write` where help or the version could not be
@@ -526,9 +736,7 @@ pub(crate) fn read_request<R: Env + AllocGlobal + Print + Eprint>(
     match parse(rt.alloc(), texts.as_slice()) {
         Ok(Some(request)) => Ok(request),
         Ok(None) => {
-            let _ = rt.eprintln(
-                "cnsd: an input is one FILE, or is made by --openings, --trades and --script",
-            );
+            let _ = rt.eprintln(wanted(texts.as_slice()));
             Ok(Request::Faulty)
         }
         Err(error) => told(rt, &error),

@@ -110,3 +110,22 @@ Exit status:
   0  all are CUSIPs
   1  one is none, or the command line is wrong
   3  there was no memory, or the output failed";
+
+/// What `cnsd journal --help` teaches after the options.
+pub(crate) const JOURNAL: &str = "\
+dump FILE writes each record of a journal's file in a line, with its place and byte, and what follows the
+last one: nothing, what a crash may leave, or damage. With --csv it writes rows.
+
+check DIR looks at clear.journal and depot.journal of a folder: each by itself, and both together. Its last
+line is `agreed`, or says how many faults it has told. Both only read.
+
+Exit status: 0 where nothing is wrong; 1 where something is, or the command line is faulty;
+2 where a file cannot be read; 3 for want of memory, or where the output fails";
+
+/// What `cnsd explain --help` teaches after the options.
+pub(crate) const EXPLAIN: &str = "\
+Writes the position as a register: each due trade and each confirmed movement, with the sum so far; then
+what waits; then the balance in the same form. It only reads.
+
+Exit status: 0; 1 where the journals do not agree, as a check would tell, or the command line is faulty;
+2 where a file cannot be read; 3 for want of memory, or where the output fails";

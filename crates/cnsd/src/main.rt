@@ -6,9 +6,12 @@
 ghost use Rattle.std.specs.Prelude.{◌≡◌, ◌<◌};
 
 mod arguments;
+mod audit;
 mod check;
 mod cusip;
+mod cuts;
 mod help;
+mod intact;
 mod journal;
 mod progress;
 mod run;
@@ -18,6 +21,7 @@ mod table;
 mod version;
 
 use arguments::{Request, read_request};
+use audit::read_journals;
 use check::check_source;
 use cns_input::BatchFault;
 use cusip::check_texts;
@@ -55,6 +59,10 @@ fn main(rt: HostRuntime) -> ExitCode {
         Ok(Request::Table { last }) => table_reports(&rt, last),
         Ok(Request::Cusips(texts)) => {
             let ended = check_texts::<Brand>(&rt, Blank::new(1), texts.as_slice());
+            exit_status(&rt, ended)
+        }
+        Ok(Request::Audit(audit)) => {
+            let ended = read_journals(&rt, &audit);
             exit_status(&rt, ended)
         }
         Ok(Request::Told) => ExitCode::SUCCESS,

@@ -3,13 +3,14 @@
 ghost use Rattle.std.specs.Prelude.{◌≡◌, ◌<◌};
 
 use crate::arguments::{Manner, Names, Source};
-use crate::journal::{Journals, open_journals};
+use crate::intact::{check_openings, check_tails};
+use crate::journal::{FileJournal, Journals, open_journals};
 use crate::progress::Progress;
 use crate::source::{AWAITED, open_file, tell_awaited, text_of_names};
 use crate::strict::{status_of, tell_counts};
 use cns_allocate::OpenGate;
 use cns_batch::{Pace, run_batch, run_batch_kept, run_paced};
-use cns_input::{BatchFault, Steps};
+use cns_input::{BatchFault, Steps, read_input};
 use cns_journal::{Keeper, ListKeeper};
 use cns_tally::Tally;
 use std::io;
@@ -94,6 +95,27 @@ fn run_in_folder<H: Threads + Wait + Sync, L: Ledger, R: Read, W: Write>(
     folder: &str,
 ) -> Result<(), BatchFault> {
     let Journals { clear, depot } = open_journals(rt, folder)?;
+    if manner.intact {
+        check_tails(rt, folder)?;
+        let text = read_input(rt.alloc(), reader, steps)?;
+        check_openings(rt, folder, text.as_slice())?;
+        let mut text = text.as_slice();
+        return run_over(rt, threads, steps, &mut text, writer, manner, clear, depot);
+    }
+    run_over(rt, threads, steps, reader, writer, manner, clear, depot)
+}
+
+// The same over journals that were opened.
+fn run_over<H: Threads + Wait + Sync, L: Ledger, R: Read, W: Write>(
+    rt: &HostRuntime,
+    threads: &H,
+    steps: &mut Steps<L>,
+    reader: &mut R,
+    writer: &mut W,
+    manner: &Manner,
+    clear: FileJournal<'_>,
+    depot: FileJournal<'_>,
+) -> Result<(), BatchFault> {
     if is_plain(manner) {
         return run_batch_kept(rt.alloc(), reader, writer, steps, clear, depot).result;
     }

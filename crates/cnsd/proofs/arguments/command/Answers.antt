@@ -17,4 +17,6 @@ returns c =
     let with_run = c.in_ok-subcommand.ensures.shape c.in_ok-run_command.ensures.1 ∙ ap₂ with_subcommand helpful_is (ap (λ (a : App). a.top) c.in_ok-run_command.ensures.0) in
     let with_check = c.in_ok-subcommand-2.ensures.shape c.in_ok-check_command.ensures.1 ∙ ap₂ with_subcommand with_run (ap (λ (a : App). a.top) c.in_ok-check_command.ensures.0) in
     let with_table = c.in_ok-subcommand-3.ensures.shape c.in_ok-table_command.ensures.1 ∙ ap₂ with_subcommand with_check (ap (λ (a : App). a.top) c.in_ok-table_command.ensures.0) in
-    IfOk-weaker c.subcommand-4.result _ _ (λ r h. h.shape c.in_ok-cusip_command.ensures.1 ∙ ap₂ with_subcommand with_table (ap (λ (a : App). a.top) c.in_ok-cusip_command.ensures.0)) c.subcommand-4.ensures
+    let with_journal = c.in_ok-subcommand-4.ensures.shape c.in_ok-journal_command.ensures.1 ∙ ap₂ with_subcommand with_table (ap (λ (a : App). a.top) c.in_ok-journal_command.ensures.0) in
+    let with_explain = c.in_ok-subcommand-5.ensures.shape c.in_ok-explain_command.ensures.1 ∙ ap₂ with_subcommand with_journal (ap (λ (a : App). a.top) c.in_ok-explain_command.ensures.0) in
+    IfOk-weaker c.subcommand-6.result _ _ (λ r h. h.shape c.in_ok-cusip_command.ensures.1 ∙ ap₂ with_subcommand with_explain (ap (λ (a : App). a.top) c.in_ok-cusip_command.ensures.0)) c.subcommand-6.ensures

@@ -1,0 +1,4 @@
+pub mod Check
+pub mod Compare
+pub mod Opened
+pub mod Register

@@ -1,0 +1,343 @@
+//! The check of both journals of a folder.
+
+ghost use Rattle.std.specs.Prelude.{◌≡◌, ◌<◌, ◌||◌, IfOk, List, OnOk, None};
+ghost use Rattle.cns_trades.specs.declared.opening.Opening.{Opening};
+ghost use Rattle.cns_audit.specs.Check.{IsClean, IsFaulty, TellsOf, are_damaged, is_damaged, is_refused};
+ghost use Rattle.cns_audit.specs.Opened.{IsOpening};
+ghost use Rattle.cns_audit.specs.declared.opened.Opened.{Opened};
+
+use crate::bad::{Whose, tell_bad};
+use crate::compare::{tell_breaches, tell_counts};
+use crate::depot::{tell_balances, tell_changes};
+use crate::issues::tell_clearing;
+use crate::journal::{CLEAR, DEPOT, Journals, OPENINGS};
+use crate::kept::{add_opening, are_same_openings, held_openings};
+use crate::least::{Changes, changes_of, least_openings, openings_by};
+use crate::opened::{Opened, open_journals};
+use crate::told::Told;
+use cns_clearing::Clearing;
+use cns_depository::{Depository, OpeningFault, Openings};
+use cns_dump::EndWords;
+use cns_file::{Extent, FileCopy, Tail, extent_of};
+use cns_input::BatchFault;
+use cns_journal::Keeper;
+use cns_system::System;
+use cns_trades::{Opening, OpeningRow};
+use std::alloc::{AllocError, Global};
+use std::io::Write;
+
+/// How a check is asked for.
+#[derive(Clone, Copy, Debug)]
+pub struct Asked<'a> {
+    /// The rows of the openings that the depository begins with, where they are known.
+    pub openings: Option<&'a [OpeningRow]>,
+    /// The rows of the openings that the folder keeps from its first run, where it does.
+    pub kept: Option<&'a [OpeningRow]>,
+    /// Whether the sums of each issue, and each balance, are told.
+    pub verbose: bool,
+}
+
+// The openings of rows, those that hold; each other row is told as a fault.
+fn take_rows<W: Write + Drop>(
+    alloc: Global,
+    told: &mut Told<W>,
+    rows: &[OpeningRow],
+) -> Result<Vec<Opening>, BatchFault> {
+    let mut held = Openings::new(alloc);
+    let mut list = Vec::new(alloc);
+    let mut number = 0u64;
+    for row in rows {
+        number = number.saturating_add(1);
+        match row {
+            OpeningRow::Fault { row, fault } => {
+                told.fault("openings", ("row ", *row, ": ", *fault))?
+            }
+            OpeningRow::Opening(opening) => match held.add(opening) {
+                Ok(()) => add_opening(&mut list, opening)?,
+                Err(OpeningFault::OutOfMemory) => return Err(BatchFault::Memory),
+                Err(OpeningFault::Double) => {
+                    told.fault("openings", ("row ", number, ": Double"))?
+                }
+                Err(OpeningFault::IssueSum) => {
+                    told.fault("openings", ("row ", number, ": IssueSum"))?
+                }
+            },
+        }
+    }
+    Ok(list)
+}
+
+// Tells as a fault that the openings are not those that the folder keeps.
+fn tell_other_openings<W: Write + Drop>(
+    alloc: Global,
+    told: &mut Told<W>,
+    asked: &Asked<'_>,
+) -> Result<(), BatchFault>
+    ensures { asked.now.openings ≡ None → told.new.faults ≡ told.old.faults }
+{
+    let (Some(rows), Some(kept)) = (asked.openings, asked.kept) else {
+        return Ok(());
+    };
+    if are_same_openings(alloc, rows, kept)? {
+        return Ok(());
+    }
+    told.fault(OPENINGS, "other openings than those of the first run")
+}
+
+// Tells how many records a journal has, and what follows the last one; damage is a fault.
+fn tell_file<W: Write + Drop>(told: &mut Told<W>, name: &str, file: &[u8]) -> Result<(), BatchFault>
+    ensures { OnOk result (TellsOf (is_damaged file.now) told.old.faults told.new.faults) }
+{
+    let Extent {
+        records,
+        bytes,
+        tail,
+    } = extent_of(file);
+    told.line(name, (records, " records in ", bytes, " bytes"))?;
+    let follow = (file.len() as u64).saturating_sub(bytes);
+    let words = EndWords {
+        bytes: follow,
+        tail,
+    };
+    match tail {
+        Tail::Nothing | Tail::Crash => told.line(name, words),
+        Tail::Damage if records == 0 => {
+            told.fault(
+                name,
+                (follow, " bytes follow that no crash leaves: no journal"),
+            )
+        }
+        Tail::Damage => told.fault(name, words),
+    }
+}
+
+// Tells the balances of a depository, or how they changed.
+fn tell_depository<K: Keeper, W: Write + Drop>(
+    alloc: Global,
+    told: &mut Told<W>,
+    node: &Depository<K>,
+    asked: &Asked<'_>,
+    changes: &Changes,
+) -> Result<(), BatchFault>
+    ensures { told.new.faults ≡ told.old.faults }
+{
+    if asked.openings.is_none() {
+        return tell_changes(alloc, told, DEPOT, changes);
+    }
+    if asked.verbose {
+        return tell_balances(alloc, told, DEPOT, node);
+    }
+    Ok(())
+}
+
+// Tells both nodes of a system, and how many movements they have.
+fn tell_system<W: Write + Drop>(
+    alloc: Global,
+    told: &mut Told<W>,
+    journals: &Journals<'_>,
+    system: &System<FileCopy<'_>, FileCopy<'_>>,
+    asked: &Asked<'_>,
+    changes: &Changes,
+) -> Result<(), BatchFault>
+    ensures { OnOk result (TellsOf (are_damaged journals.now) told.old.faults told.new.faults) }
+{
+    let (clear, depot) = (system.clearing(), system.depository());
+    tell_file(told, CLEAR, journals.clear)?;
+    tell_clearing(alloc, told, CLEAR, clear, asked.verbose)?;
+    tell_file(told, DEPOT, journals.depot)?;
+    tell_depository(alloc, told, depot, asked, changes)?;
+    tell_counts(told, clear.orders(), depot)
+}
+
+// Tells the clearing node, or the first record of its journal that may not stand there.
+fn tell_clear<K: Keeper, W: Write + Drop>(
+    alloc: Global,
+    told: &mut Told<W>,
+    file: &[u8],
+    node: &Result<Clearing<K>, u64>,
+    asked: &Asked<'_>,
+) -> Result<(), BatchFault> {
+    tell_file(told, CLEAR, file)?;
+    match node {
+        Ok(node) => tell_clearing(alloc, told, CLEAR, node, asked.verbose),
+        Err(place) => tell_bad(alloc, told, CLEAR, Whose::Clear, file, *place),
+    }
+}
+
+// Tells the depository, or the first record of its journal that may not stand there.
+fn tell_depot<K: Keeper, W: Write + Drop>(
+    alloc: Global,
+    told: &mut Told<W>,
+    file: &[u8],
+    node: &Result<Depository<K>, u64>,
+    asked: &Asked<'_>,
+    changes: &Changes,
+) -> Result<(), BatchFault> {
+    tell_file(told, DEPOT, file)?;
+    match node {
+        Ok(node) => tell_depository(alloc, told, node, asked, changes),
+        Err(place) => tell_bad(alloc, told, DEPOT, Whose::Depot, file, *place),
+    }
+}
+
+// Tells nodes that do not agree, or of which one could not be opened.
+fn tell_refused<C: Keeper, D: Keeper, W: Write + Drop>(
+    alloc: Global,
+    told: &mut Told<W>,
+    journals: &Journals<'_>,
+    clear: &Result<Clearing<C>, u64>,
+    depot: &Result<Depository<D>, u64>,
+    asked: &Asked<'_>,
+    changes: &Changes,
+) -> Result<(), BatchFault> {
+    tell_clear(alloc, told, journals.clear, clear, asked)?;
+    tell_depot(alloc, told, journals.depot, depot, asked, changes)?;
+    if let (Ok(clear), Ok(depot)) = (clear, depot) {
+        tell_breaches(told, clear.orders(), depot)?;
+        tell_counts(told, clear.orders(), depot)?;
+    }
+    Ok(())
+}
+
+// Tells both nodes as they were opened; where they could not be, some fault is told.
+fn tell_opened<W: Write + Drop>(
+    alloc: Global,
+    told: &mut Told<W>,
+    journals: &Journals<'_>,
+    opened: &Opened<'_>,
+    asked: &Asked<'_>,
+    changes: &Changes,
+) -> Result<(), BatchFault>
+    ensures { OnOk result (TellsOf (are_damaged journals.now || is_refused opened.now) told.old.faults told.new.faults) }
+{
+    match opened {
+        Opened::Agreed(system) => tell_system(alloc, told, journals, system, asked, changes),
+        Opened::Refused { clear, depot } => {
+            tell_refused(alloc, told, journals, clear, depot, asked, changes)?;
+            if told.faults() == 0 {
+                return told.fault("both", "the records do not agree");
+            }
+            Ok(())
+        }
+    }
+}
+
+// The openings of a list, without those that do not hold.
+fn begin_with(alloc: Global, list: &[Opening]) -> Result<Openings, AllocError> {
+    let mut openings = Openings::new(alloc);
+    for opening in list {
+        if let Err(OpeningFault::OutOfMemory) = openings.add(opening) {
+            return Err(AllocError);
+        }
+    }
+    Ok(openings)
+}
+
+/// Opens both nodes with the openings of a list.
+pub(crate) fn open_with<'a>(
+    alloc: Global,
+    journals: &Journals<'a>,
+    list: &[Opening],
+) -> Result<Opened<'a>, AllocError>
+    ensures { IfOk result (λ opened. (openings : List Opening) × IsOpening openings journals.now.clear.now journals.now.depot.now opened) }
+{
+    let openings = begin_with(alloc, list)?;
+    match begin_with(alloc, list) {
+        Ok(again) => open_journals(alloc, journals, openings, again),
+        Err(error) => {
+            drop(openings);
+            Err(error)
+        }
+    }
+}
+
+// Opens both nodes with the openings of a list, and tells them.
+fn tell_with<W: Write + Drop>(
+    alloc: Global,
+    told: &mut Told<W>,
+    journals: &Journals<'_>,
+    list: &[Opening],
+    asked: &Asked<'_>,
+    changes: &Changes,
+) -> Result<(), BatchFault>
+    ensures { OnOk result ((openings : List Opening) × (opened : Opened) × IsOpening openings journals.now.clear.now journals.now.depot.now opened
+        × TellsOf (are_damaged journals.now || is_refused opened) told.old.faults told.new.faults) }
+{
+    let opened = open_with(alloc, journals, list)?;
+    let ended = tell_opened(alloc, told, journals, &opened, asked, changes);
+    drop(opened);
+    ended
+}
+
+// The openings that are asked for; those that do not hold are told.
+fn take_openings<W: Write + Drop>(
+    alloc: Global,
+    told: &mut Told<W>,
+    asked: &Asked<'_>,
+    changes: &Changes,
+) -> Result<Vec<Opening>, BatchFault>
+    ensures { asked.now.openings ≡ None → told.new.faults ≡ told.old.faults }
+{
+    match asked.openings {
+        Some(rows) => take_rows(alloc, told, rows),
+        None => Ok(openings_by(alloc, changes)?),
+    }
+}
+
+// Tells all but the last line.
+fn tell_all<W: Write + Drop>(
+    alloc: Global,
+    told: &mut Told<W>,
+    journals: &Journals<'_>,
+    asked: &Asked<'_>,
+) -> Result<(), BatchFault>
+    ensures clean { OnOk result (told.new.faults ≡ 0 → IsClean journals.now) }
+    ensures faulty { OnOk result (0 < told.new.faults → told.old.faults ≡ 0 → asked.now.openings ≡ None → IsFaulty journals.now) }
+{
+    tell_other_openings(alloc, told, asked)?;
+    let changes = changes_of(alloc, journals.depot)?;
+    let list = take_openings(alloc, told, asked, &changes)?;
+    tell_with(alloc, told, journals, list.as_slice(), asked, &changes)
+}
+
+/// The openings that are asked for, where each row of them holds; the least ones where there are no rows.
+pub(crate) fn openings_asked(
+    alloc: Global,
+    journals: &Journals<'_>,
+    asked: &Asked<'_>,
+) -> Result<Option<Vec<Opening>>, AllocError> {
+    match asked.openings {
+        None => Ok(Some(least_openings(alloc, journals.depot)?)),
+        Some(rows) => {
+            let held = held_openings(alloc, rows)?;
+            if held.len() == rows.len() {
+                Ok(Some(held))
+            } else {
+                Ok(None)
+            }
+        }
+    }
+}
+
+/// Checks both journals, and tells what it finds; answers how many faults it has told. It has told none exactly where no damage
+/// follows either journal's records, each opening holds, and both nodes are opened from them as a run opens them.
+///
+/// Refuses `Memory` and `Write`, and a part of the lines may then have been written.
+pub fn check_journals<W: Write + Drop>(
+    alloc: Global,
+    journals: &Journals<'_>,
+    asked: &Asked<'_>,
+    writer: W,
+) -> Result<u64, BatchFault>
+    ensures clean { IfOk result (λ faults. faults ≡ 0 → IsClean journals.now) }
+    ensures faulty { IfOk result (λ faults. 0 < faults → asked.now.openings ≡ None → IsFaulty journals.now) }
+{
+    let mut told = Told::new(alloc, writer);
+    match tell_all(alloc, &mut told, journals, asked) {
+        Ok(()) => told.end(),
+        Err(fault) => {
+            drop(told);
+            Err(fault)
+        }
+    }
+}

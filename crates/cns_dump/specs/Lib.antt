@@ -1,0 +1,4 @@
+pub mod Entry
+pub mod Places
+pub mod Sound
+pub mod Words

@@ -1,0 +1,5 @@
+pub mod Copy
+pub mod Crash
+pub mod Cut
+pub mod Records
+pub mod Tail

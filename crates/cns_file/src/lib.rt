@@ -1,0 +1,19 @@
+//! The file of a journal as it stands: its records one after another, what stands behind the last one and whether
+//! a crash leaves such, a keeper that gives what a copy of the file holds, and a disk that keeps what is cut off.
+#![tactic(auto)]
+
+mod copy;
+mod crash;
+mod cut;
+mod extent;
+mod record;
+mod records;
+mod tail;
+
+pub use copy::FileCopy;
+pub use crash::crashes_do_no_damage;
+pub use cut::{CutsKept, Scraps};
+pub use extent::{Extent, extent_of};
+pub use record::{FileRecord, first_record};
+pub use records::FileRecords;
+pub use tail::{Tail, tail_of};
