@@ -19,8 +19,10 @@ everything as it was written and, by some seeds, with other bytes under what was
     a short write: the run is as the first one;
     after each run the records of both files, read here from their bytes, are those that were
         acknowledged by then (their last sync had returned), then at most the one that was under way;
-        a run with the same openings then restarts both nodes, tells just so many records, and its
-        report is that over files which hold these records and nothing else.
+        a dump says that what follows them is nothing, or what a crash may leave; a run with the same
+        openings, which refuses journals with damage, then restarts both nodes, tells just so many records,
+        and its report is that over files which hold these records and nothing else; what it cuts off a file
+        stands in NAME.cut to the byte, and a file without such a piece has lost none.
 
 Each run is one test. Two more are that a run is refused in this way where another process holds the lock of
 a file, and one is that the runs by seeds tell a program that never syncs, which is this one with
@@ -150,9 +152,9 @@ class Example:
             data = file.read()
         return [(chr(file), chr(kind), length) for file, kind, _, length in struct.iter_unpack('=BBHI', data)]
 
-    def run(self, folder, text, more=None):
+    def run(self, folder, text, more=None, words=()):
         """(exit status, standard output, standard error); over keepers in memory where there is no folder."""
-        command = [self.program, 'run'] + ([] if folder is None else ['--journal', folder])
+        command = [self.program, 'run', *words] + ([] if folder is None else ['--journal', folder])
         around = {} if more is None else {**more, 'LD_PRELOAD': self.library, 'CRASH_TRACE': folder + '.trace'}
         ended = run(command, text, around)
         if ended[0] is None:
@@ -183,7 +185,7 @@ class Example:
     def asked(self, folder):
         """What a run with the same openings tells of a folder after both nodes were restarted."""
         head = self.text[:self.text.index(b'[trades]')]
-        return self.run(folder, head + b'[trades]\n[script]\nRESTART CLEAR\nRESTART DEPOT\nREPORT\n')
+        return self.run(folder, head + b'[trades]\n[script]\nRESTART CLEAR\nRESTART DEPOT\nREPORT\n', None, ['--intact'])
 
     def report(self, held):
         """What is told of files that hold so many of the first run's records and nothing else."""
@@ -272,12 +274,43 @@ class Example:
         """A run over the folder tells what the records in it come to."""
         if held is None:
             held = {file: records(self.path(folder, file)) for file in SIDES}
+        before = self.look_at_tails(folder)
         told = self.asked(folder)
         if told != self.report(held):
             raise Failure('afterwards it is told %r' % (told,))
+        self.look_at_cuts(folder, before)
         left = {file: records(self.path(folder, file)) for file in SIDES}
         if left != held:
             raise Failure('a run that commits nothing changed the records')
+
+    def look_at_tails(self, folder):
+        """The bytes of the files that have no piece cut off yet; no damage follows the records of any."""
+        before = {}
+        for file in SIDES:
+            path = self.path(folder, file)
+            if not os.path.exists(path):
+                continue
+            ended = run([self.program, 'journal', 'dump', path], b'', {})
+            if ended[0] != 0 or ended[2]:
+                raise Failure('%s is told as %r' % (SIDES[file], ended))
+            if not os.path.exists(path + '.cut'):
+                with open(path, 'rb') as data:
+                    before[file] = data.read()
+        return before
+
+    def look_at_cuts(self, folder, before):
+        """What was cut off a file stands beside it, and nothing else."""
+        for file, bytes_before in before.items():
+            path = self.path(folder, file)
+            if not os.path.exists(path + '.cut'):
+                if os.path.getsize(path) < len(bytes_before):
+                    raise Failure('%s was cut, and nothing is kept' % SIDES[file])
+                continue
+            with open(path + '.cut', 'rb') as data:
+                line, _, piece = data.read().partition(b'\n')
+            words = line.split()
+            if words[0] != b'cut' or piece != bytes_before[int(words[3]):] + b'\n' or int(words[5]) != len(piece) - 1:
+                raise Failure('%s.cut has another piece than was cut off: %r' % (SIDES[file], line))
 
     def judge_without_syncs(self, test):
         """What is wrong with one run of the program that never syncs, or None."""

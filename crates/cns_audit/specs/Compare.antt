@@ -1,5 +1,5 @@
 -- When both nodes hold a movement (this project's own rule).
-use Rattle.std.specs.Prelude.{◌≡◌, ℕ, Option, Some, None}
+use Rattle.std.specs.Prelude.{◌≡◌, ℕ, Option, Some}
 use Rattle.cns_movements.specs.declared.order.Order.{Order}
 
 -- it was ordered, executed and confirmed, with one kind, member, issue and count of shares moved

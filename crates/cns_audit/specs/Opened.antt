@@ -1,11 +1,10 @@
 -- What both nodes are, opened from copies of their journals (this project's own rules).
-use Rattle.std.specs.Prelude.{ℕ, Bool, true, List, None}
+use Rattle.std.specs.Prelude.{ℕ, true, List}
 use Rattle.cns_trades.specs.declared.opening.Opening.{Opening}
 use Rattle.cns_journal.specs.DiskJournal.{nothing_known}
 use Rattle.cns_journal.specs.Keeper.{KeeperState}
 use Rattle.cns_file.specs.Copy.{CopyState, kept_by, running_of}
 use Rattle.cns_system.specs.Start.{IsNotOpened, IsStarted}
-use Rattle.cns_system.specs.World.{World}
 use Rattle.cns_system.specs.declared.fault.StartFault.{StartFault}
 use Rattle.cns_audit.specs.declared.opened.Opened.{Opened}
 use Rattle.cns_audit.specs.declared.opened.Opened.TheVariants.{Agreed, Refused}

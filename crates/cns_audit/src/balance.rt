@@ -90,7 +90,7 @@ pub struct BalanceRegister {
 
 /// The register of a member's balance in an issue, of a depository that was opened with these openings; None where its amounts do not
 /// sum to the balance, as those of other openings would not.
-pub(crate) fn balance_register<K: Keeper>(
+pub fn balance_register<K: Keeper>(
     alloc: Global,
     openings: &[Opening],
     node: &Depository<K>,

@@ -18,10 +18,12 @@ mod position;
 mod register;
 mod told;
 
+pub use balance::{BalanceRegister, balance_register};
 pub use check::{Asked, check_journals};
 pub use explanation::explain;
 pub use journal::{CLEAR, DEPOT, Journals, OPENINGS};
 pub use kept::{held_openings, openings_text};
 pub use least::least_openings;
 pub use opened::{Opened, open_journals};
-pub use register::Holder;
+pub use position::{PositionRegister, position_register};
+pub use register::{Amount, Cause, Holder, Movement, Waiting};

@@ -210,7 +210,7 @@ fn grown(
 
 /// The register of a member's position in an issue, from the file of the journal by which a clearing node was opened; None where its
 /// amounts do not sum to the position, as those of another file's records would not.
-pub(crate) fn position_register<K: Keeper>(
+pub fn position_register<K: Keeper>(
     alloc: Global,
     file: &[u8],
     node: &Clearing<K>,

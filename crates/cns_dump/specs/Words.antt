@@ -1,5 +1,5 @@
 -- The words in which records are told (this project's own format).
-use Rattle.std.specs.Prelude.{ℕ, Bool, List, [], ◌∷◌, ◌++◌, length, codes, Option, Some, None, if◌then◌else◌}
+use Rattle.std.specs.Prelude.{ℕ, Bool, List, [], ◌++◌, length, codes, Option, Some, None, if◌then◌else◌}
 use Rattle.std.specs.Fmt.{decimal}
 use Rattle.cns_ids.specs.Cusip.{cusip_text}
 use Rattle.cns_ids.specs.Cycle.{kind_text}
@@ -9,15 +9,12 @@ use Rattle.cns_ids.specs.declared.cycle.CycleId.{CycleId}
 use Rattle.cns_trades.specs.declared.trade.Trade.{Trade}
 use Rattle.cns_movements.specs.Order.{kind_text as move_text}
 use Rattle.cns_movements.specs.declared.order.Order.{Order}
-use Rattle.cns_movements.specs.declared.order.Reply.{Reply}
-use Rattle.cns_records.specs.Instruction.{sort_text}
 use Rattle.cns_records.specs.declared.allocation.Allocation.{Allocation}
 use Rattle.cns_records.specs.declared.clear_record.ClearRecord.{ClearRecord}
 use Rattle.cns_records.specs.declared.clear_record.ClearRecord.TheVariants as clear
 use Rattle.cns_records.specs.declared.dep_record.DepRecord.{DepRecord}
 use Rattle.cns_records.specs.declared.dep_record.DepRecord.TheVariants as depot
 use Rattle.cns_records.specs.declared.drawn.Drawn.{Drawn}
-use Rattle.cns_records.specs.declared.instruction.Instruction.{Instruction}
 use Rattle.cns_report.specs.Outcomes.{instruction_text, moved_text, yes_or_no}
 use Rattle.cns_dump.specs.declared.entry.Entry.{Entry}
 use Rattle.cns_dump.specs.declared.entry.Entry.TheVariants.{Clear, Depot, Unread}

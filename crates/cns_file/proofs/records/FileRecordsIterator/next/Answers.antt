@@ -1,4 +1,4 @@
-use Rattle.std.proofs.Common.{rules, ◌≡◌, ◌+◌, ℕ, List, ◌∷◌, length, sym, ◌∙◌, ap, arith}
+use Rattle.std.proofs.Common.{rules, ℕ, List, ◌∷◌, length, sym, ◌∙◌, ap, arith}
 use Rattle.cns_journal.specs.Layout.{journal_of}
 use Rattle.cns_journal.proofs.LayoutLemmas.{counts-true, journal-more}
 use Rattle.cns_file.proofs.records.FileRecordsIterator.next.Goals as goal
