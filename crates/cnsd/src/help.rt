@@ -127,5 +127,5 @@ pub(crate) const EXPLAIN: &str = "\
 Writes the position as a register: each due trade and each confirmed movement, with the sum so far; then
 what waits; then the balance in the same form. It only reads.
 
-Exit status: 0; 1 where the journals do not agree, as a check would tell, or the command line is faulty;
-2 where a file cannot be read; 3 for want of memory, or where the output fails";
+Exit status: 0; 1 where a node cannot be opened from its journal, as a check tells, or the command
+line is faulty; 2 where a file cannot be read; 3 for want of memory, or where the output fails";
