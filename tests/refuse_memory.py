@@ -5,7 +5,7 @@
 
 Each FILE is an input of `run`, or of the words in the file NAME.args beside a NAME.in; without one they are
 all of examples/, CASES of tests/cases/, CHECKS of tests/faults/, and OVER_JOURNALS once more with journals in files. `cusip 037833100`
-comes with them. A first run counts the requests, then for each of them there is a run in which it, and no
+comes with them, and what reads journals (READERS), over those of an auditor's afternoon. A first run counts the requests, then for each of them there is a run in which it, and no
 other, gets no memory (refuse_memory.c, preloaded). Such a run must end within 20 seconds, in one of
 these ways:
 
@@ -53,6 +53,9 @@ ENDS = {
                                   b'BAL 037833100 0000                   40\nEND\n',
 }
 JOURNAL = '{journal}'
+# What reads the journals of a folder, which stands for FOLDER.
+READERS = [['journal', 'check', 'FOLDER'], ['journal', 'check', 'FOLDER', '--verbose', '--openings', 'FOLDER/openings.csv'], ['journal', 'dump', 'FOLDER/clear.journal'],
+           ['journal', 'dump', 'FOLDER/depot.journal', '--csv'], ['explain', 'FOLDER', '640', '594918104']]
 TRIES_OF_WORKERS = 4
 CUSIP = '037833100'
 MEMORY = b'cnsd: out of memory\n'
@@ -207,12 +210,24 @@ class Example:
         return '\n'.join('    ' + line for line in told)
 
 
+def readers(program, folder):
+    """The same of READERS, over the journals of two days in a new folder, which they leave as they are."""
+    kept = tempfile.mkdtemp(dir=folder)
+    for day in ('1', '2'):
+        with open(os.path.join(EXAMPLES, 'auditor-afternoon-%s.in' % day), 'rb') as text:
+            ended = run([program, 'run', '--journal', kept, '--intact'], text.read(), {})
+        if ended[0] != 0:
+            raise Failure('the journals that are read were not made: status %s' % ended[0])
+    return [(' '.join(words), [word.replace('FOLDER', kept) for word in words], os.devnull) for words in READERS]
+
+
 def judge_all(program, words, preloaded, folder, pool):
     """Of the inputs or scenarios that the words name, how many refusals came to what they should, and how many did not."""
     passed = failed = 0
     inputs = inputs_of(words)
     if not words:
         inputs += inputs_of([os.path.join(HERE, 'faults', name + '.in') for name in CHECKS])
+        inputs += readers(program, folder)
     inputs.append(('cusip %s' % CUSIP, ['cusip', CUSIP], os.devnull))
     for name, arguments, path in inputs:
         try:
