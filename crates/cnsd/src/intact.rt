@@ -3,7 +3,7 @@
 use cns_audit::{CLEAR, DEPOT, OPENINGS, held_openings, openings_text};
 use cns_file::{Tail, extent_of};
 use cns_input::{BatchFault, split_input};
-use cns_trades::read_openings;
+use cns_trades::{CsvFault, read_openings};
 use std::fs::{File, OpenOptions};
 use std::io::{ErrorKind, Read, Write};
 use std::path::Path;
@@ -60,8 +60,10 @@ fn openings_of(rt: &HostRuntime, text: &[u8]) -> Result<Option<String>, BatchFau
     let Some(sections) = split_input(text) else {
         return Ok(None);
     };
-    let Ok(rows) = read_openings(rt.alloc(), sections.openings) else {
-        return Ok(None);
+    let rows = match read_openings(rt.alloc(), sections.openings) {
+        Ok(rows) => rows,
+        Err(CsvFault::OutOfMemory) => return Err(BatchFault::Memory),
+        Err(_) => return Ok(None),
     };
     let openings = held_openings(rt.alloc(), rows.as_slice())?;
     Ok(Some(openings_text(rt.alloc(), openings.as_slice())?))
