@@ -319,8 +319,9 @@ pub(crate) fn openings_asked(
     }
 }
 
-/// Checks both journals, and tells what it finds; answers how many faults it has told. It has told none exactly where no damage
-/// follows either journal's records, each opening holds, and both nodes are opened from them as a run opens them.
+/// Checks both journals, and tells what it finds; answers how many faults it has told. Where it has told none, no damage follows
+/// either journal's records, and both nodes open from them with some openings; where it has told some, and no openings were
+/// asked for, damage follows one, or both nodes do not open with some openings.
 ///
 /// Refuses `Memory` and `Write`, and a part of the lines may then have been written.
 pub fn check_journals<W: Write + Drop>(
