@@ -6,7 +6,7 @@ check must tell `agreed` with the openings that hold, each explanation must end 
 oracle/audit.py tells, to the byte and with its status. Files that are missing, folders in their place, empty files, those of the other node,
 the longest tails and records, and command lines that ask for nothing are told as docs/FORMATS.md says. Nothing may change in a folder by any
 of it: neither names, bytes, modes nor times; and a folder in which nothing may be written, and files that another process has locked, make no
-difference. The last line is `N passed, M failed`; the exit status is 0 where M is 0 and N is not.
+difference but that a check names the process on standard error. The last line is `N passed, M failed`; the exit status is 0 where M is 0 and N is not.
 """
 import fcntl
 import importlib
@@ -288,10 +288,15 @@ def read_only(checks, above):
     held = [open(os.path.join(folder, name), 'rb') for name in audit.NAMES]
     for file in held:
         fcntl.flock(file, fcntl.LOCK_EX)
-    for words in lines:
-        checks.same('locked files', words)
-    for file in held:
-        file.close()
+    for words, want in zip(lines, wanted):
+        told = ''.join('cnsd: %s: locked by process %d\n' % (os.path.join(folder, name), os.getpid()) for name in audit.NAMES)
+        checks.told('locked files', words, (want[0], told + want[1] if words[1] == 'check' else want[1], want[2]))
+    held[0].close()
+    held[1].seek(0)
+    fcntl.flock(held[1], fcntl.LOCK_SH)
+    told = 'cnsd: %s: locked by process %d\n' % (os.path.join(folder, DEPOT), os.getpid())
+    checks.told('a file that is locked by who reads it', lines[0], (wanted[0][0], told + wanted[0][1], wanted[0][2]))
+    held[1].close()
     for path in (os.path.join(folder, name) for name in os.listdir(folder)):
         os.chmod(path, 0o444)
     os.chmod(folder, 0o555)

@@ -1,7 +1,7 @@
 #!/usr/bin/env python3
 """Tries the wrong bodies that stand beside the gate: each must be refused by the prover.
 
-    tests/wrong.py [CRATE..] [--lanes N] [--only WORD] [--alone]
+    tests/wrong.py [CRATE..] [--lanes N] [--only WORD] [--alone] [--anew]
 
 Edits of wrong-bodies/CRATE (of every crate, where none is named) are set into copies of the crate, several at once where
 they change different functions, and `rt check` must say of each of these functions that a goal of its own is not proved. An
@@ -9,11 +9,14 @@ edit of which that is not said (the text cannot be read, a callee is not proved,
 three times more with others, and then by itself by `rt must-fail`, which has the last word; with --alone each is. All goes on in
 as many lanes as there are processors and memory; --only takes the edits whose names have WORD. A crate's edits are tried as soon as it
 is checked and the libraries below it are built, from what earlier checks of the tree left where that is up to date; a library
-goes before an edit, and an edit of a higher crate before those of lower ones. Prints each edit that is refused, then for each
-crate its edits, minutes and processor minutes. The last line is `N passed, M failed`; the exit status is 0 where M is 0 and N is
-not.
+goes before an edit, and an edit of a higher crate before those of lower ones. As `rt ci` does with proofs, it keeps on this machine which
+edits were refused, by a checksum of the kit, of this script, of the edit and of all files of its crate and of those below: a later run,
+in any clone, tries only the others, and all of them with --anew. Prints each edit that is refused, then for each
+crate its edits, how many of them were kept, minutes and processor minutes. The last line is `N passed, M failed`; the exit status is 0
+where M is 0 and N is not.
 """
 import argparse
+import hashlib
 import itertools
 import os
 import queue
@@ -52,6 +55,44 @@ def copy_crate(name, to, kept):
     for part in [*PARTS, "out/rlib", *(["out/incremental"] if kept else [])]:
         if os.path.isdir(os.path.join(source, part)):
             shutil.copytree(os.path.join(source, part), os.path.join(target, part))
+
+
+class Kept:
+    """Which edits earlier runs on this machine refused: for each an empty file, named by a checksum of all that this rests on."""
+
+    def __init__(self, tried, anew):
+        folder = os.path.join(os.environ.get("XDG_CACHE_HOME") or os.path.expanduser("~/.cache"), "cnsd-wrong-bodies")
+        os.makedirs(folder, exist_ok=True)
+        kit = subprocess.run(["rt", "version"], capture_output=True, check=True).stdout
+        self.anew, self.paths = anew, {}
+        for name, found in tried.items():
+            below_edit = kit + sum_of_crate(name)
+            for edit in found:
+                with open(edit, "rb") as text:
+                    self.paths[edit] = os.path.join(folder, hashlib.sha256(below_edit + text.read()).hexdigest())
+
+    def has(self, edit):
+        """Whether an earlier run refused an edit, and is to be believed."""
+        return not self.anew and os.path.exists(self.paths[edit])
+
+    def keep(self, edit):
+        """Keeps that an edit was refused."""
+        with open(self.paths[edit], "wb"):
+            pass
+
+
+def sum_of_crate(name):
+    """A checksum of what tries edits, and of the files and the lines of crates.txt of a crate and of those below it."""
+    names = sorted({name} | all_below(name, below()))
+    files = ["HANDLES", "tests/wrong.py", "tests/wrong_bodies.py"]
+    for part in (os.path.join(TOP, "crates", one, part) for one in names for part in PARTS):
+        files += sorted(os.path.relpath(os.path.join(folder, file), TOP) for folder, _, found in os.walk(part) for file in found)
+    total = hashlib.sha256("".join(lines_of(names)).encode())
+    for path in files:
+        with open(os.path.join(TOP, path), "rb") as file:
+            data = file.read()
+        total.update(f"{path} {len(data)}\n".encode() + data)
+    return total.digest()
 
 
 def run(words, folder):
@@ -231,7 +272,7 @@ def refused_in(said, folder, functions):
 
 def try_batch(job):
     """Tries edits of different functions at once; answers those that were refused, and what it cost."""
-    name, part, tree = job
+    name, part, tree, kept = job
     began = time.monotonic()
     with tempfile.TemporaryDirectory(prefix="wrong-") as room:
         room_for(name, tree, room)
@@ -244,11 +285,12 @@ def try_batch(job):
         good = [edit for edit, functions in part if status and refused_in(said, folder, functions)]
     with SAYING:
         for edit in good:
+            kept.keep(edit)
             print(f"{name}/{os.path.basename(edit)}: refused at its function", flush=True)
     return good, time.monotonic() - began, used
 
 
-def try_crate(name, found, tree, lanes, ready, alone):
+def try_crate(name, found, tree, lanes, ready, alone, kept):
     """Tries a crate's edits once it is ready; answers how many were refused, the others' names, seconds and processor seconds."""
     ready[name].result()
     rank, left, seconds, used = len(crates()) - crates().index(name), list(found), 0.0, 0.0
@@ -256,11 +298,11 @@ def try_crate(name, found, tree, lanes, ready, alone):
         parts, _ = batches(left, name)
         if all(len(part) < 2 for part in parts):
             break
-        for good, spent, taken in lanes.each(rank, try_batch, [(name, part, tree) for part in parts]):
+        for good, spent, taken in lanes.each(rank, try_batch, [(name, part, tree, kept) for part in parts]):
             left = [edit for edit in left if edit not in good]
             seconds, used = seconds + spent, used + taken
     failed = []
-    for _, _, bad, spent, taken in lanes.each(rank, try_edits, [(name, part, tree) for part in split(left, lanes.count) if part]):
+    for _, _, bad, spent, taken in lanes.each(rank, try_edits, [(name, part, tree, kept) for part in split(left, lanes.count) if part]):
         failed += bad
         seconds, used = seconds + spent, used + taken
     return len(found) - len(failed), failed, seconds, used
@@ -271,7 +313,7 @@ def try_edits(job):
 
     Answers the crate, how many were refused, the names of the others, seconds and processor seconds.
     """
-    name, found, tree = job
+    name, found, tree, kept = job
     began = time.monotonic()
     with tempfile.TemporaryDirectory(prefix="wrong-") as room:
         room_for(name, tree, room)
@@ -282,6 +324,8 @@ def try_edits(job):
     passed, failed = [], []
     for edit in found:
         label = f"must-fail {name}/{os.path.basename(edit)}: refused, as it must be"
+        if label in said:
+            kept.keep(edit)
         (passed if label in said else failed).append(os.path.basename(edit))
     with SAYING:
         for line in said.splitlines():
@@ -290,13 +334,17 @@ def try_edits(job):
     return name, len(passed), failed, time.monotonic() - began, used
 
 
+def lines_of(names):
+    """The lines of crates.txt of some crates."""
+    with open(os.path.join(TOP, "crates.txt"), encoding="utf-8") as lines:
+        return [line for line in lines if line.partition(":")[0].strip() in names]
+
+
 def write_lines_of(tree, names):
     """Writes a tree's HANDLES, and its crates.txt with the lines of these crates alone."""
     shutil.copyfile(os.path.join(TOP, "HANDLES"), f"{tree}/HANDLES")
-    with open(os.path.join(TOP, "crates.txt"), encoding="utf-8") as lines:
-        kept = [line for line in lines if line.partition(":")[0].strip() in names]
     with open(f"{tree}/crates.txt", "w", encoding="utf-8") as lines:
-        lines.writelines(kept)
+        lines.writelines(lines_of(names))
 
 
 SAYING = threading.Lock()
@@ -308,6 +356,7 @@ def main():
     parser.add_argument("--lanes", type=int, default=lanes_here())
     parser.add_argument("--only", default="")
     parser.add_argument("--alone", action="store_true")
+    parser.add_argument("--anew", action="store_true")
     asked = parser.parse_args()
     unknown = [name for name in asked.crates if name not in crates()]
     if unknown:
@@ -318,6 +367,10 @@ def main():
     tried = {name: [it for it in edits(os.path.join(FOLDER, name)) if asked.only in os.path.basename(it)]
              for name in asked.crates or crates()}
     tried = {name: found for name, found in tried.items() if found}
+    kept = Kept(tried, asked.anew)
+    before = {name: [edit for edit in found if kept.has(edit)] for name, found in tried.items()}
+    tried = {name: [edit for edit in found if not kept.has(edit)] for name, found in tried.items()}
+    tried = {name: found for name, found in tried.items() if found}
     passed, failed, rows = 0, [], {}
     lanes, ready, stands_on = Lanes(asked.lanes), {}, below()
     copied = [name for name in crates() if any(name == one or name in all_below(one, stands_on) for one in tried)]
@@ -327,7 +380,7 @@ def main():
         write_lines_of(tree, copied)
         for name in copied:
             ready[name] = beside.submit(make_ready, name, tried, tree, lanes, ready)
-        ended = {name: beside.submit(try_crate, name, tried[name], tree, lanes, ready, asked.alone) for name in tried}
+        ended = {name: beside.submit(try_crate, name, tried[name], tree, lanes, ready, asked.alone, kept) for name in tried}
         try:
             for name, found in ended.items():
                 good, bad, seconds, used = found.result()
@@ -339,11 +392,11 @@ def main():
             print("FAIL a crate is not proved, so nothing in it or above it can be tried")
             print("0 passed, 1 failed")
             return 1
-    print(f"{'crate':16} {'refused':>8} {'other':>6} {'minutes':>8} {'processor minutes':>18}")
-    for name in crates():
-        if name in rows:
-            good, bad, seconds, used = rows[name]
-            print(f"{name:16} {good:8} {bad:6} {seconds / 60:8.1f} {used / 60:18.1f}")
+    print(f"{'crate':16} {'refused':>8} {'kept':>6} {'other':>6} {'minutes':>8} {'processor minutes':>18}")
+    for name in before:
+        good, bad, seconds, used = rows.get(name, (0, 0, 0.0, 0.0))
+        passed += len(before[name])
+        print(f"{name:16} {good + len(before[name]):8} {len(before[name]):6} {bad:6} {seconds / 60:8.1f} {used / 60:18.1f}")
     return say_end(passed, [f"{one}: not refused by the prover" for one in failed])
 
 

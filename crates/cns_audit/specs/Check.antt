@@ -1,7 +1,8 @@
 -- What a check of both journals finds (this project's own rules).
 use Rattle.std.specs.Prelude.{◌≡◌, ◌⊎◌, ℕ, ◌<◌, Bool, ◌||◌, true, false, List}
 use Rattle.cns_trades.specs.declared.opening.Opening.{Opening}
-use Rattle.cns_file.specs.Tail.{behind_records, tail_kind}
+use Rattle.cns_journal.specs.Tail.{behind_records}
+use Rattle.cns_file.specs.Tail.{tail_kind}
 use Rattle.cns_file.specs.declared.tail.Tail.{Tail}
 use Rattle.cns_file.specs.declared.tail.Tail.TheVariants.{Nothing, Crash, Damage}
 use Rattle.cns_system.specs.Start.{IsStarted}

@@ -2,7 +2,8 @@
 use Rattle.std.specs.Prelude.{ℕ, Bool, true, false, ◌&&◌, List}
 use Rattle.std.specs.List.{list_all}
 use Rattle.cns_journal.specs.Layout.{journal_of}
-use Rattle.cns_file.specs.Tail.{behind_records, tail_kind}
+use Rattle.cns_journal.specs.Tail.{behind_records}
+use Rattle.cns_file.specs.Tail.{tail_kind}
 use Rattle.cns_file.specs.declared.tail.Tail.{Tail}
 use Rattle.cns_file.specs.declared.tail.Tail.TheVariants.{Nothing, Crash, Damage}
 use Rattle.cns_dump.specs.Entry.{is_entry}

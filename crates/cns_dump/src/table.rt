@@ -2,12 +2,13 @@
 
 use crate::entry::Entry;
 use crate::place::Place;
-use crate::words::{on_or_off, yes_or_no};
+use crate::words::on_or_off;
 use cns_file::Tail;
 use cns_ids::{Cusip, CycleId, CycleKind, Day, MemberNo};
 use cns_input::BatchFault;
 use cns_movements::{MoveKind, Order};
 use cns_records::{Allocation, ClearRecord, DepRecord, Drawn, Instruction, Sort};
+use cns_report::yes_or_no;
 use cns_trades::{Trade, TradeId};
 use csv::{ByteRecord, QuoteStyle, Writer, WriterBuilder};
 use std::alloc::{AllocError, Global};

@@ -2,13 +2,12 @@
 
 ghost use Rattle.std.specs.Prelude.{◌≡◌};
 ghost use Rattle.cns_dump.specs.Words.{allocation_words, clear_words, cycle_part, cycle_words, depot_words, entry_words, on_or_off, order_words, set_words, ticket_line, trade_words};
-ghost use Rattle.cns_report.specs.Outcomes.{instruction_text, moved_text, yes_or_no};
 
 use crate::entry::Entry;
 use cns_ids::{Cusip, CycleId, MemberNo};
-use cns_movements::{Order, Reply};
-use cns_records::{Allocation, ClearRecord, DepRecord, Drawn, Instruction};
-use cns_report::{Draft, Put};
+use cns_movements::Order;
+use cns_records::{Allocation, ClearRecord, DepRecord, Drawn};
+use cns_report::{Draft, Instructed, Put, moved, yes_or_no};
 use cns_trades::Trade;
 use std::alloc::AllocError;
 
@@ -49,13 +48,6 @@ pub(crate) fn on_or_off(on: bool) -> &'static str
     ensures { result.now ≡ on_or_off on }
 {
     if on { "ON" } else { "OFF" }
-}
-
-/// `yes` or `no`.
-pub(crate) fn yes_or_no(answer: bool) -> &'static str
-    ensures { result.now ≡ yes_or_no answer }
-{
-    if answer { "yes" } else { "no" }
 }
 
 // `cycle DATE KIND`
@@ -115,18 +107,6 @@ impl Put for TicketWords {
     }
 }
 
-// `N moved SHARES`
-#[derive(Clone, Copy)]
-struct MovedWords(Reply);
-
-impl Put for MovedWords {
-    ghost text = { λ words. moved_text words.0 };
-
-    fn put(&self, draft: &mut Draft) -> Result<(), AllocError> {
-        (self.0.number.number(), " moved ", self.0.moved.count()).put(draft)
-    }
-}
-
 // The words of a record of the clearing node.
 #[derive(Clone, Copy)]
 struct ClearWords<'a>(&'a ClearRecord);
@@ -160,7 +140,7 @@ impl Put for ClearWords<'_> {
             }
             ClearRecord::Cycle(id) => CycleWords(*id).put(draft),
             ClearRecord::Allocate(allocation) => AllocationWords(allocation).put(draft),
-            ClearRecord::Confirm(reply) => ("confirm ", MovedWords(*reply)).put(draft),
+            ClearRecord::Confirm(reply) => ("confirm ", moved(*reply)).put(draft),
         }
     }
 }
@@ -202,26 +182,6 @@ impl Put for OrderWords<'_> {
     }
 }
 
-// `deposit MEMBER number N`, or `withdraw ..`.
-#[derive(Clone, Copy)]
-struct InstructionWords<'a>(&'a Instruction);
-
-impl Put for InstructionWords<'_> {
-    ghost text = { λ words. instruction_text words.0.now };
-
-    fn put(&self, draft: &mut Draft) -> Result<(), AllocError> {
-        let instruction = self.0;
-        (
-            instruction.sort.name(),
-            " ",
-            instruction.member,
-            " number ",
-            instruction.number.number(),
-        )
-            .put(draft)
-    }
-}
-
 // The words of a record of the depository.
 #[derive(Clone, Copy)]
 struct DepotWords<'a>(&'a DepRecord);
@@ -237,7 +197,7 @@ impl Put for DepotWords<'_> {
                 (of, " moved ", moved.count()).put(draft)
             }
             DepRecord::Own(instruction) => {
-                let of = InstructionWords(instruction);
+                let of = Instructed(instruction);
                 (of, " ", instruction.issue, " ", instruction.shares.shares()).put(draft)
             }
         }

@@ -3,7 +3,7 @@ use Rattle.std.proofs.Common.{◌≡◌, ℕ, ◌+◌, ◌-◌, ◌*◌, ◌<◌
 use Rattle.std.proofs.lemmas.List.{append-nil, drop-drop, map-append}
 use Rattle.cns_journal.specs.Layout.{payload_length, counts, first_payload, behind, journal_of, size_of}
 use Rattle.cns_journal.proofs.LayoutLemmas.{counts-true, journal-more, length-part, records-false}
-use Rattle.cns_file.specs.Tail.{behind_records, end_of}
+use Rattle.cns_journal.specs.Tail.{behind_records, end_of}
 
 -- the rest of a file behind some records
 pub record IsRest (file rest : List ℕ) (records : ℕ) : Type 0 where

@@ -1,2 +1,2 @@
-pub mod CrashLemmas
 pub mod ExtentLemmas
+pub mod TailLemmas

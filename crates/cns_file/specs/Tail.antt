@@ -1,34 +1,8 @@
--- What stands behind the last record of a journal's file, from the gate on that does not count (this project's own rules).
-use Rattle.std.specs.Prelude.{ℕ, ◌+◌, Bool, ◌&&◌, ◌||◌, not, nat_eq, nat_le, nat_lt, List, length, drop, slice_index_or, if◌then◌else◌}
-use Rattle.cns_journal.specs.Layout.{journal_of, payload_length, size_of}
+-- What is told of what stands behind the last record of a journal's file (this project's own rules).
+use Rattle.std.specs.Prelude.{◌≢◌, ◌↔◌, ℕ, Bool, ◌&&◌, nat_eq, nat_le, List, length, slice_index_or, if◌then◌else◌}
+use Rattle.cns_journal.specs.Tail.{IsUndamaged, behind_records, is_crash}
 use Rattle.cns_file.specs.declared.tail.Tail.{Tail}
 use Rattle.cns_file.specs.declared.tail.Tail.TheVariants.{Nothing, Crash, Damage}
-
--- where the last record ends: there stands the gate behind it
-abbrev pub end_of : List ℕ → ℕ
-end_of file = size_of (journal_of file)
-
--- what stands from there on
-abbrev pub behind_records : List ℕ → List ℕ
-behind_records file = drop (end_of file) file
-
--- no more than one record's bytes stand behind a gate: the length, the longest payload and the next gate
-abbrev pub is_short : List ℕ → Bool
-is_short tail = nat_le (length tail) (1 + (5 + 1048576))
-
--- the gate is closed. Behind it may stand any bytes: those of a record that was being written, or of one that was cut short
-abbrev pub is_closed : List ℕ → Bool
-is_closed tail = nat_eq (slice_index_or tail 0 0) 0 && nat_lt 0 (length tail)
-
--- a record stands behind the gate whole, with a closed gate behind it, and its own gate is neither open nor closed: it was being opened
-abbrev pub is_being_opened : List ℕ → Bool
-is_being_opened tail =
-    not (nat_eq (slice_index_or tail 0 0) 165) && nat_le (payload_length tail) 1048576 && nat_lt (5 + payload_length tail) (length tail)
-    && nat_eq (slice_index_or tail (5 + payload_length tail) 1) 0
-
--- a crash may leave no more than a gate, of any value; a closed gate; or a record that was being opened
-abbrev pub is_crash : List ℕ → Bool
-is_crash tail = nat_le (length tail) 1 || ((is_closed tail || is_being_opened tail) && is_short tail)
 
 -- nothing stands behind a closed gate, or the file is empty
 abbrev pub is_nothing : List ℕ → Bool
@@ -37,3 +11,7 @@ is_nothing tail = nat_le (length tail) 1 && nat_eq (slice_index_or tail 0 0) 0
 -- what a tail is
 abbrev pub tail_kind : List ℕ → Tail
 tail_kind tail = if is_nothing tail then Nothing else if is_crash tail then Crash else Damage
+
+-- damage is told of each file that no crash leaves, and of no other
+abbrev pub DamageIsReported : Type 0
+DamageIsReported = (file : List ℕ) → IsUndamaged file ↔ (tail_kind (behind_records file) ≢ Damage)

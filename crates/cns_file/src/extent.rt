@@ -2,7 +2,8 @@
 
 ghost use Rattle.std.specs.Prelude.{◌≡◌, length};
 ghost use Rattle.cns_journal.specs.Layout.{journal_of};
-ghost use Rattle.cns_file.specs.Tail.{behind_records, end_of, tail_kind};
+ghost use Rattle.cns_journal.specs.Tail.{behind_records, end_of};
+ghost use Rattle.cns_file.specs.Tail.{tail_kind};
 
 use crate::record::first_record;
 use crate::tail::{Tail, tail_of};

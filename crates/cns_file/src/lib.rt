@@ -3,7 +3,6 @@
 #![tactic(auto)]
 
 mod copy;
-mod crash;
 mod cut;
 mod extent;
 mod record;
@@ -11,9 +10,8 @@ mod records;
 mod tail;
 
 pub use copy::FileCopy;
-pub use crash::crashes_do_no_damage;
 pub use cut::{CutsKept, Scraps};
 pub use extent::{Extent, extent_of};
 pub use record::{FileRecord, first_record};
 pub use records::FileRecords;
-pub use tail::{Tail, tail_of};
+pub use tail::{Tail, damage_is_reported, tail_of};

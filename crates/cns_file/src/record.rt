@@ -4,9 +4,7 @@ ghost use Rattle.std.specs.Prelude.{◌≡◌, true, false, IfSome, IfNone};
 ghost use Rattle.cns_journal.specs.Layout.{behind, counts, first_payload};
 
 use cns_journal::MAX_PAYLOAD;
-
-// The gate byte of a record that counts.
-const OPEN: u8 = 0xA5;
+use cns_journal::gate::OPEN;
 
 /// The first record of the bytes of a journal's file.
 #[derive(Clone, Copy, Debug)]

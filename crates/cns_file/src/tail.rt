@@ -1,18 +1,11 @@
 //! What stands behind the last record of a journal's file.
 
 ghost use Rattle.std.specs.Prelude.{◌≡◌};
-ghost use Rattle.cns_file.specs.Tail.{is_being_opened, is_closed, is_crash, is_nothing, is_short, tail_kind};
+ghost use Rattle.cns_journal.specs.Tail.{is_being_opened, is_closed, is_crash, is_short};
+ghost use Rattle.cns_file.specs.Tail.{DamageIsReported, is_nothing, tail_kind};
 
 use cns_journal::MAX_PAYLOAD;
-
-// The gate byte of a record that counts.
-const OPEN: u8 = 0xA5;
-
-// The gate byte behind the last record.
-const CLOSED: u8 = 0;
-
-// How many bytes stand before the payload of a record: its gate and its length.
-const HEADER: usize = 5;
+use cns_journal::gate::{CLOSED, HEADER, OPEN};
 
 /// What stands behind the last record of a journal's file, from the gate on that does not count. (This project's
 /// own rules.)
@@ -30,7 +23,7 @@ pub enum Tail {
 fn is_short(tail: &[u8]) -> bool
     ensures { result ≡ is_short tail.now }
 {
-    tail.len() <= 1 + HEADER + MAX_PAYLOAD
+    tail.len() <= 1 + HEADER as usize + MAX_PAYLOAD
 }
 
 // Whether the gate is closed.
@@ -48,7 +41,7 @@ fn is_being_opened(tail: &[u8]) -> bool
         return false;
     };
     let size = u32::from_be_bytes([*first, *second, *third, *fourth]) as usize;
-    let next = HEADER + size;
+    let next = HEADER as usize + size;
     *gate != OPEN && size <= MAX_PAYLOAD && next < tail.len() && tail[next] == CLOSED
 }
 
@@ -79,3 +72,8 @@ pub fn tail_of(tail: &[u8]) -> Tail
         Tail::Damage
     }
 }
+
+/// A tail is told to be damage exactly where no crash in a commit or in a reopening leaves it, as the calls of a journal on an honest disk never do.
+pub fn damage_is_reported()
+    ensures { DamageIsReported }
+{}

@@ -12,3 +12,4 @@ pub mod Moments
 pub mod PayloadLemmas
 pub mod PowerLemmas
 pub mod ReadLemmas
+pub mod TailLemmas

@@ -3,6 +3,7 @@ use Rattle.std.specs.Prelude.{◌≡◌, ◌⊎◌, ℕ, ◌≤◌, Bool, true, 
 use Rattle.cns_journal.specs.Disk.{EachImage, LeavesOnly}
 use Rattle.cns_journal.specs.Keeper.{Running, Journal, Foresight, Unforeseen, IsReopened}
 use Rattle.cns_journal.specs.Layout.{HasWithOrWithout, IsSettled, journal_of, size_of}
+use Rattle.cns_journal.specs.Tail.{DoesNoDamage, IsUndamaged}
 use Rattle.cns_journal.specs.declared.disk_journal.Stage.{Stage}
 use Rattle.cns_journal.specs.declared.disk_journal.Stage.TheVariants.{Unread, Up, Down}
 
@@ -67,10 +68,12 @@ abbrev pub MayLeave : Call → Journal → List ℕ → Type 0
 MayLeave (Commit payload) journal file = IsReopened journal (journal_of file) ⊎ HasWithOrWithout journal.kept payload file
 MayLeave Reopen journal file = IsReopened journal (journal_of file)
 
--- what a call of a journal leaves of its disk: at any moment of it no more than that, and a durable journal after it, where it was durable
+-- what a call of a journal leaves of its disk: at any moment of it no more than that, and a durable journal after it, where it was durable; and
+-- no damage, where there was none
 pub record IsCall {D : Type 0} (images : D → List ℕ → Type 0) (moment : D → ℕ) (left_since : D → ℕ → List ℕ → Type 0) (call : Call) (old new : DiskState D) : Type 0 where
   pub any_moment : IsDurable images old → LeavesOnly moment left_since old.disk new.disk (MayLeave call old.journal)
   pub stays : IsDurable images old → IsDurable images new
+  pub no_damage : EachImage (images old.disk) IsUndamaged → DoesNoDamage images moment left_since old.disk new.disk
 
 -- calls one after another, each with what the journal has before it
 abbrev pub AreCalls : {D : Type 0} → (D → List ℕ → Type 0) → (D → ℕ) → (D → ℕ → List ℕ → Type 0) → List (Call × Journal) → DiskState D → DiskState D → Type 0
@@ -84,3 +87,9 @@ AnyCalls {D} honest images moment left_since =
     (calls : List (Call × Journal)) (old new : DiskState D) → honest old.disk ≡ true → IsDurable images old → AreCalls images moment left_since calls old new
     → (image : List ℕ) → left_since new.disk (moment old.disk) image
     → IsReopened old.journal (journal_of image) ⊎ Any (λ (c : Call × Journal). MayLeave c.0 c.1 image) calls
+
+-- nor does it leave damage behind the records, where before these calls it left none
+abbrev pub AnyCallsDoNoDamage : {D : Type 0} → (D → Bool) → (D → List ℕ → Type 0) → (D → ℕ) → (D → ℕ → List ℕ → Type 0) → Type 0
+AnyCallsDoNoDamage {D} honest images moment left_since =
+    (calls : List (Call × Journal)) (old new : DiskState D) → honest old.disk ≡ true → EachImage (images old.disk) IsUndamaged → AreCalls images moment left_since calls old new
+    → EachImage (left_since new.disk (moment old.disk)) IsUndamaged

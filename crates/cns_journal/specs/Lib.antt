@@ -9,3 +9,4 @@ pub mod Payloads
 pub mod RecordFile
 pub mod RecordLog
 pub mod Replay
+pub mod Tail

@@ -1,6 +1,6 @@
 -- What contracts see of a log of records: a node's records over its keeper's journal (this project's own rules).
 use Rattle.std.specs.Prelude.{◌≡◌, ◌==◌, ◌⊎◌, ℕ, ◌+◌, Bool, true, false, List, [], ◌∷◌, ◌++◌, map, reverse, length, Option, Some, None, Result, Ok, Err}
-use Rattle.cns_journal.specs.Keeper.{Running, Journal, Foresight, Unforeseen, MaySucceed, HasFailed, HasRisen, IsReopened, PlanLeaves, StandsAsForeseen, KeeperState}
+use Rattle.cns_journal.specs.Keeper.{Journal, Foresight, Unforeseen, MaySucceed, HasFailed, HasRisen, IsReopened, PlanLeaves, StandsAsForeseen, KeeperState}
 use Rattle.cns_journal.specs.Replay.{AreAllowed, AreFit, IsBadPlace}
 use Rattle.cns_journal.specs.declared.keeper.NotPlanned.{NotPlanned}
 use Rattle.cns_journal.specs.declared.record_log.Restarted.{Restarted}

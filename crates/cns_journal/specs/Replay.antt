@@ -1,6 +1,6 @@
 -- What reading a journal's payloads again gives, over any kind of record (this project's own rules).
 use Rattle.std.specs.Prelude.{◌≡◌, ◌⊎◌, ℕ, ◌+◌, Bool, true, false, List, [], ◌∷◌, ◌++◌, map, reverse, length, Result, Ok, Err, Vec, vec_items}
-use Rattle.cns_journal.specs.Keeper.{Running, Journal, Foresight, ReopenLeaves, ReopenKeeps, ReopenForeseen, StandsAsForeseen, KeeperState}
+use Rattle.cns_journal.specs.Keeper.{ReopenLeaves, ReopenKeeps, ReopenForeseen, StandsAsForeseen, KeeperState}
 use Rattle.cns_journal.specs.declared.keeper.KeepFault.{KeepFault}
 use Rattle.cns_journal.specs.declared.keeper.KeepFault.TheVariants as keep
 use Rattle.cns_journal.specs.declared.record_log.ReplayFault.{ReplayFault}

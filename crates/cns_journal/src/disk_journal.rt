@@ -5,7 +5,8 @@ ghost use Rattle.cns_journal.specs.declared.keeper.KeepFault.TheVariants.{Memory
 ghost use Rattle.cns_journal.specs.Disk.{EachImage, LeavesOnly, Only};
 ghost use Rattle.cns_journal.specs.Keeper.{CommitKeeps, CommitLeaves, IsReopened, ReopenForeseen, ReopenKeeps, ReopenLeaves, given_by};
 ghost use Rattle.cns_journal.specs.Layout.{HasWithOrWithout, journal_of};
-ghost use Rattle.cns_journal.specs.DiskJournal.{AnyCalls, Commit, IsCall, IsDurable, Reopen, fallen, nothing_known};
+ghost use Rattle.cns_journal.specs.Tail.{DoesNoDamage, IsUndamaged};
+ghost use Rattle.cns_journal.specs.DiskJournal.{AnyCalls, AnyCallsDoNoDamage, Commit, IsCall, IsDurable, Reopen, fallen, nothing_known};
 
 use crate::disk::Disk;
 use crate::keeper::{KeepFault, Keeper, MAX_PAYLOAD, NotPlanned};
@@ -92,6 +93,8 @@ impl<D: Disk> DiskJournal<D> {
             → LeavesOnly D.moment D.left_since self.old.disk self.new.disk (HasWithOrWithout self.old.journal.kept payload.now) }
         ensures durable { D.honest self.old.disk ≡ true
             → OnOk result (EachImage (D.images self.new.disk) (λ image. journal_of image ≡ self.new.journal.kept)) }
+        ensures no_damage { D.honest self.old.disk ≡ true → EachImage (D.images self.old.disk) IsUndamaged
+            → DoesNoDamage D.images D.moment D.left_since self.old.disk self.new.disk }
         ensures unchanged { (IsErrOf result Memory ⊎ IsErrOf result Down) → self.new ≡ self.old }
     {
         let Stage::Up(end) = self.stage else {
@@ -126,6 +129,8 @@ impl<D: Disk> DiskJournal<D> {
             → LeavesOnly D.moment D.left_since self.old.disk self.new.disk (λ image. IsReopened self.old.journal (journal_of image)) }
         ensures durable { D.honest self.old.disk ≡ true
             → IfOk result (λ records. EachImage (D.images self.new.disk) (λ image. journal_of image ≡ map vec_items (vec_items records))) }
+        ensures no_damage { D.honest self.old.disk ≡ true → EachImage (D.images self.old.disk) IsUndamaged
+            → DoesNoDamage D.images D.moment D.left_since self.old.disk self.new.disk }
     {
         match reread(self.alloc, &mut self.disk) {
             Ok(Records { payloads, end, .. }) => {
@@ -155,7 +160,8 @@ impl<D: Disk> Keeper for DiskJournal<D> {
     ghost state = { λ j. record { honest = D.honest j.disk; run = j.run; journal = j.journal; foresight = nothing_known } };
 
     /// Nothing has been written where it answers `Memory` or `Down`. A crash at any moment of the call
-    /// leaves the acknowledged records, with the new one or without; once it has answered `Ok`, with it.
+    /// leaves the acknowledged records, with the new one or without; once it has answered `Ok`, with it. It
+    /// does no damage to the file.
     fn commit(&mut self, payload: &[u8]) -> Result<(), KeepFault>
         requires { length payload.now ≤ MAX_PAYLOAD }
         ensures honest { D.honest self.new.disk ≡ D.honest self.old.disk }
@@ -176,6 +182,7 @@ impl<D: Disk> Keeper for DiskJournal<D> {
 
     /// Gives what the file reads as. Where what a crash may leave stands for what is kept, a crash at any
     /// moment of the call leaves a file that does; once it has answered `Ok`, each stands for what was given.
+    /// A crash does no damage to the file.
     fn reopen(&mut self) -> Result<Vec<Vec<u8>>, KeepFault>
         ensures honest { D.honest self.new.disk ≡ D.honest self.old.disk }
         ensures leaves { ReopenLeaves (given_by result) self.old.run self.new.run }
@@ -215,7 +222,9 @@ impl<D: Disk> Keeper for DiskJournal<D> {
 
 /// Whatever calls a journal gets, and whenever a crash comes, the file that it leaves stands for what was
 /// acknowledged before the call under way, and then for at most the record of that call or the undecided
-/// one, where the disk is honest and what a crash left before the first call did so.
+/// one, where the disk is honest and what a crash left before the first call did so. Nor does what stands
+/// behind its records become damage, where what a crash left before the first call was none.
 pub fn outlasts_crashes<D: Disk>()
-    ensures { AnyCalls D.honest D.images D.moment D.left_since }
+    ensures records { AnyCalls D.honest D.images D.moment D.left_since }
+    ensures no_damage { AnyCallsDoNoDamage D.honest D.images D.moment D.left_since }
 {}

@@ -4,6 +4,7 @@
 mod disk;
 mod disk_journal;
 mod file_disk;
+pub mod gate;
 mod keeper;
 mod list_keeper;
 mod mem_disk;

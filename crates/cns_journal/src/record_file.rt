@@ -4,17 +4,13 @@ ghost use Rattle.std.specs.Prelude.{◌≡◌, ◌⊎◌, ◌+◌, ◌≤◌, �
 ghost use Rattle.cns_journal.specs.declared.keeper.KeepFault.TheVariants.{Memory};
 ghost use Rattle.cns_journal.specs.Disk.{CountsFailure, EachImage, LeavesOnly, Only, OnlyReads, Shortened, Torn, overwritten};
 ghost use Rattle.cns_journal.specs.Layout.{HasWithOrWithout, IsSettled, closed_record, journal_of, payload_length, size_of};
+ghost use Rattle.cns_journal.specs.Tail.{DoesNoDamage, IsUndamaged};
 ghost use Rattle.cns_journal.specs.RecordFile.{CountsDevice, HasLess, IsNext};
 
 use crate::disk::{Disk, DiskFault, MAX_FILE_LEN};
+use crate::gate::{CLOSED, HEADER, OPEN};
 use crate::keeper::{KeepFault, MAX_PAYLOAD};
 use std::alloc::{AllocError, Global};
-
-// The gate byte of a record that counts.
-const OPEN: u8 = 0xA5;
-
-// The gate byte behind the last record.
-const CLOSED: u8 = 0;
 
 // Writes, and waits until it is on the disk.
 fn write_through<D: Disk>(disk: &mut D, at: u64, bytes: &[u8]) -> Result<(), DiskFault>
@@ -51,6 +47,8 @@ pub fn append<D: Disk>(
     ensures images { D.honest disk.old ≡ true
         → EachImage (D.images disk.new) (HasWithOrWithout (journal_of (D.seen disk.old)) payload.now) }
     ensures front { D.honest disk.old ≡ true → take end (D.seen disk.new) ≡ take end (D.seen disk.old) }
+    ensures no_damage { D.honest disk.old ≡ true → IsUndamaged (D.seen disk.old)
+        → DoesNoDamage D.images D.moment D.left_since disk.old disk.new }
     ensures failures { CountsFailure result (D.failures disk.old) (D.failures disk.new) }
 {
     write_through(disk, end + 1, behind_gate)?;
@@ -96,6 +94,8 @@ fn close<D: Disk>(disk: &mut D, end: u64, gate: Option<u8>) -> Result<(), DiskFa
         → LeavesOnly D.moment D.left_since disk.old disk.new (λ image. journal_of image ≡ journal_of (D.seen disk.old)) }
     ensures seen { D.honest disk.old ≡ true → (journal_of (D.seen disk.new) ≡ journal_of (D.seen disk.old))
         × (take end (D.seen disk.new) ≡ take end (D.seen disk.old)) }
+    ensures no_damage { D.honest disk.old ≡ true → IsUndamaged (D.seen disk.old)
+        → DoesNoDamage D.images D.moment D.left_since disk.old disk.new }
     ensures failures { CountsFailure result (D.failures disk.old) (D.failures disk.new) }
 {
     match gate {
@@ -123,9 +123,6 @@ struct Header {
     // The length of the payload, in bytes.
     size: u32,
 }
-
-// How many bytes a header has.
-const HEADER: u64 = 5;
 
 fn read_header<D: Disk>(disk: &mut D, at: u64) -> Result<Header, DiskFault>
     ensures honest { D.honest disk.new ≡ D.honest disk.old }
@@ -252,6 +249,8 @@ pub fn reread<D: Disk>(alloc: Global, disk: &mut D) -> Result<Records, KeepFault
         × (take (size_of (journal_of (D.seen disk.old))) (D.seen disk.new) ≡ take (size_of (journal_of (D.seen disk.old))) (D.seen disk.old)) }
     ensures memory { D.honest disk.old ≡ true → IsErrOf result Memory
         → OnlyReads D.seen D.images D.moment D.left_since disk.old disk.new }
+    ensures no_damage { D.honest disk.old ≡ true → EachImage (D.images disk.old) IsUndamaged
+        → DoesNoDamage D.images D.moment D.left_since disk.old disk.new }
     ensures failures { CountsDevice result (D.failures disk.old) (D.failures disk.new) }
 {
     disk.sync()?;

@@ -76,9 +76,9 @@ impl Put for Word<'_> {
     }
 }
 
-// `deposit MEMBER number N`, or `withdraw ..`.
-#[derive(Clone, Copy)]
-struct Instructed<'a>(&'a Instruction);
+/// `deposit MEMBER number N`, or `withdraw ..`.
+#[derive(Clone, Copy, Debug)]
+pub struct Instructed<'a>(pub &'a Instruction);
 
 impl Put for Instructed<'_> {
     ghost text = { λ line. instruction_text line.0.now };
@@ -168,8 +168,8 @@ impl Put for EventLine<'_> {
     }
 }
 
-// The number of an order, and what was moved.
-fn moved(reply: Reply) -> (u64, &'static str, u64)
+/// `N moved SHARES`: the number of an order, and what was moved.
+pub fn moved(reply: Reply) -> (u64, &'static str, u64)
     ensures { (result.0 ≡ reply.number) × (result.1.now ≡ codes " moved ") × (result.2 ≡ reply.moved) }
 {
     (reply.number.number(), " moved ", reply.moved.count())
@@ -185,8 +185,8 @@ fn node_word(node: NodeName) -> &'static str
     }
 }
 
-// Whether something is so, as lines show it.
-fn yes_or_no(answer: bool) -> &'static str
+/// Whether something is so, as lines show it: `yes` or `no`.
+pub fn yes_or_no(answer: bool) -> &'static str
     ensures { result.now ≡ yes_or_no answer }
 {
     if answer { "yes" } else { "no" }

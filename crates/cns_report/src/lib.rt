@@ -16,7 +16,7 @@ mod row;
 mod text;
 mod write;
 
-pub use event::{EventLine, LotLine, RefusedLine};
+pub use event::{EventLine, Instructed, LotLine, RefusedLine, moved, yes_or_no};
 pub use line::Line;
 pub use outcome::{orders_of, outcome_line};
 pub use put::Put;

@@ -1,6 +1,7 @@
 //! What is read from journals: dumps, checks and explanations. Files are opened for reading alone.
 
 use crate::arguments::{Audit, Folder};
+use crate::locks::tell_holder;
 use cns_audit::{Asked, CLEAR, DEPOT, Holder, Journals, OPENINGS, check_journals, explain};
 use cns_dump::{Form, write_dump};
 use cns_ids::{Cusip, MemberNo};
@@ -157,6 +158,9 @@ fn dump(rt: &HostRuntime, file: &str, csv: bool) -> Result<u8, Stop> {
 #[inline(never)]
 fn check(rt: &HostRuntime, folder: &Folder, verbose: bool) -> Result<u8, Stop> {
     let found = found_in(rt, folder)?;
+    for journal in [CLEAR, DEPOT] {
+        tell_holder(rt, name_in(rt, folder.name.as_str(), journal)?.as_str());
+    }
     let asked = found.asked(verbose);
     let faults = check_journals(rt.alloc(), &found.journals(), &asked, io::writer(rt))?;
     Ok(u8::from(faults > 0))

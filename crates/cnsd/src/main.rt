@@ -13,6 +13,7 @@ mod cuts;
 mod help;
 mod intact;
 mod journal;
+mod locks;
 mod progress;
 mod run;
 mod source;

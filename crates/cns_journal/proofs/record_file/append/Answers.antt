@@ -2,6 +2,7 @@ use Rattle.std.proofs.Common.{inl, ◌+◌, ◌∙◌, arith}
 use Rattle.cns_journal.proofs.Moments.{weaken, runs_on}
 use Rattle.std.proofs.lemmas.Result.{on_ok_weaker}
 use Rattle.cns_journal.proofs.AppendLemmas.{stage-leaves, gate-fits, gate-leaves, both-done, front-stays}
+use Rattle.cns_journal.proofs.TailLemmas.{gate-undamaged, record-undamaged}
 use Rattle.cns_journal.proofs.record_file.append.Goals as goal
 
 pub returns-in_err-write_through-clause-any_moment : goal.returns-in_err-write_through-clause-any_moment
@@ -38,3 +39,19 @@ returns-clause-front g c honest = let s = c.requires.settled honest in let i = s
     let fits = gate-fits _ _ _ s _ _ c.requires.record c.requires.size.0 _ w.0 in let last = c.write_through-2.ensures.honest ∙ mid in
     front-stays _ _ _ c.args.end _ (omega arith) (c.write_through-2.ensures.images mid fits w.1 _ (g.met.D.Disk.reads_an_image _ last))
     ∙ front-stays _ _ _ (c.args.end + 1) _ (omega arith) (c.write_through.ensures.images honest (omega arith) s.durable _ (g.met.D.Disk.reads_an_image _ mid))
+
+pub returns-in_err-write_through-clause-no_damage : goal.returns-in_err-write_through-clause-no_damage
+returns-in_err-write_through-clause-no_damage g c honest whole = let s = c.requires.settled honest in let i = s.inside in
+    let left = record-undamaged _ _ _ s whole _ _ c.requires.record c.requires.size.0 in record {
+      any_moment = weaken g.D.Disk.moment g.D.Disk.left_since _ _ _ _ (c.write_through.ensures.any_moment honest (omega arith) s.durable) left;
+      after = λ image h. left image (c.write_through.ensures.images honest (omega arith) s.durable image h);
+    }
+
+pub returns-clause-no_damage : goal.returns-clause-no_damage
+returns-clause-no_damage g c honest whole = let s = c.requires.settled honest in let i = s.inside in let mid = c.write_through.ensures.honest ∙ honest in let w = c.in_ok-write_through.ensures.written honest (omega arith) in
+    let first = weaken g.D.Disk.moment g.D.Disk.left_since _ _ _ _ (c.write_through.ensures.any_moment honest (omega arith) s.durable) (record-undamaged _ _ _ s whole _ _ c.requires.record c.requires.size.0) in
+    let fits = gate-fits _ _ _ s _ _ c.requires.record c.requires.size.0 _ w.0 in
+    let left = gate-undamaged _ _ _ s whole _ _ c.requires.record c.requires.size.0 _ w.0 in record {
+      any_moment = runs_on g.D.Disk.moment g.D.Disk.left_since _ _ _ _ first (weaken g.D.Disk.moment g.D.Disk.left_since _ _ _ _ (c.write_through-2.ensures.any_moment mid fits w.1) left);
+      after = λ image h. left image (c.write_through-2.ensures.images mid fits w.1 image h);
+    }

@@ -22,3 +22,15 @@ returns-in-Err-Device-clause-keeps g c honest =
     let sure = rw (← c.self.view_is) at honest in
     fallen_keeps _ _ (g.D.Disk.seen c.self.inside.disk) (g.D.Disk.seen c.reread.new.disk) (g.D.Disk.images c.self.inside.disk) (g.D.Disk.images c.self.inside.disk) _ _ c.reread.ensures.honest c.reread.ensures.seen c.self.inside.stage _ c.fallen-self-inside.ensures c.self.invariant sure _
     (ap (λ s. s.journal) c.self.view_is)
+
+pub returns-in-Err : goal.returns-in-Err
+returns-in-Err g c = record {
+  honest = search rules;
+  leaves = search rules;
+  keeps = search rules;
+  foreseen = search rules;
+  value = search rules;
+  any_moment = search rules;
+  durable = search rules;
+  no_damage = search rules;
+}

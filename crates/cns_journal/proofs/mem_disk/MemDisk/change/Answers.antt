@@ -1,5 +1,5 @@
 use Rattle.std.proofs.Common.{rules, ◌≡◌, ◌++◌, ◌∷◌, [], inr, ◌∙◌, refl, sym, ap, subst, vec_items}
-use Rattle.cns_journal.specs.MemDisk.{BeginsWithin, IsDisk, MemState, content_of}
+use Rattle.cns_journal.specs.MemDisk.{BeginsWithin, MemState, content_of}
 use Rattle.cns_journal.specs.MemCall.{step_of}
 use Rattle.cns_journal.proofs.MemCallLemmas.{did_noted}
 use Rattle.cns_journal.proofs.PowerLemmas.{within_noted}

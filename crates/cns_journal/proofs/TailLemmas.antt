@@ -1,16 +1,15 @@
 -- What stands behind the records of a file that a crash leaves.
-use Rattle.std.proofs.Common.{◌≡◌, ◌≢◌, ◌⊎◌, inl, inr, ℕ, ◌+◌, ◌*◌, ◌<◌, ◌≤◌, Bool, true, false, List, [], ◌∷◌, ◌++◌, length, get_or, take, drop, refl, sym, ◌∙◌, ap, subst, arith, length-drop, length-append, append_assoc}
-use Rattle.std.specs.Prelude.{if◌then◌else◌}
+use Rattle.std.proofs.Common.{◌≡◌, ◌⊎◌, inl, inr, ⊎_elim, ℕ, ◌+◌, ◌*◌, ◌<◌, ◌≤◌, Bool, true, false, List, [], ◌∷◌, ◌++◌, length, get_or, take, drop, refl, sym, ◌∙◌, ap, subst, arith, length-drop, length-append, append_assoc}
 use Rattle.std.proofs.lemmas.Bool.{cases_eq}
 use Rattle.std.proofs.lemmas.Bool.Decides.{nat_tests}
-use Rattle.std.proofs.lemmas.List.{take_at, drop_at, drop_more, drop-drop, get_or-drop, get_or-take, get_or_default, length-take}
-use Rattle.cns_journal.specs.Disk.{Shortened, Torn, overwritten}
-use Rattle.cns_journal.specs.Layout.{behind, closed_record, counts, first_payload, journal_of, payload_length, size_of}
+use Rattle.std.proofs.lemmas.List.{take_at, drop_at, drop_more, drop-drop, get_or-drop, get_or-take, get_or_default, length-take, take_all}
+use Rattle.cns_journal.specs.Disk.{EachImage, Elapses, OnlyReads, Shortened, Torn, overwritten}
+use Rattle.cns_journal.specs.Layout.{IsSettled, behind, closed_record, counts, first_payload, journal_of, payload_length, size_of}
+use Rattle.cns_journal.specs.Tail.{DoesNoDamage, IsUndamaged, behind_records, end_of, is_crash}
 use Rattle.cns_journal.proofs.AppendLemmas.{IsBlock, closed_is}
+use Rattle.cns_journal.proofs.CloseLemmas.{size-within}
 use Rattle.cns_journal.proofs.LayoutLemmas.{Counts, by_bool, counts-true, first-of-drop, journal-more, journal-same, length-part, records-false, take-short}
-use Rattle.cns_file.specs.Crash.{CommitDoesNoDamage, DamageIsReported, FirstReopeningDoesNoDamage, IsUndamaged, ReopeningDoesNoDamage}
-use Rattle.cns_file.specs.Tail.{behind_records, end_of, is_crash, is_nothing, tail_kind}
-use Rattle.cns_file.specs.declared.tail.Tail.TheVariants.{Nothing, Crash, Damage}
+use Rattle.cns_journal.proofs.Moments.{runs_on}
 
 -- the three kinds of such tails
 crash-few : (tail : List ℕ) → length tail ≤ 1 → is_crash tail ≡ true
@@ -151,7 +150,7 @@ module _ (file : List ℕ) (undamaged : IsUndamaged file) where
   one-byte : (image : List ℕ) → end_of file < length image → length image ≤ end_of file + 1 → take (end_of file) image ≡ take (end_of file) file → IsUndamaged image
   one-byte image inside few same = let long = length-drop (end_of file) image in undamaged-same file image inside same (few-tail (drop (end_of file) image) (omega arith))
 
-  -- what a crash leaves of a cut behind the gate, and of the write of the gate then
+  -- what a crash leaves of a cut behind the gate
   module _ (inside : end_of file < length file) where
     length-cut : length (take (end_of file + 1) file) ≡ end_of file + 1
     length-cut = omega (arith, length-take (end_of file + 1) file, inside)
@@ -165,45 +164,81 @@ module _ (file : List ℕ) (undamaged : IsUndamaged file) where
         let long : length image ≡ end_of file + 1 = ap (λ (l : List ℕ). length l) is ∙ length-cut in
         one-byte image (omega arith) (omega arith) (ap (λ l. take (end_of file) l) is ∙ cut-front)
 
-    closing : (image : List ℕ) → (image ≡ take (end_of file + 1) file) ⊎ Torn (end_of file) 1 (take (end_of file + 1) file) image → IsUndamaged image
-    closing image (inl is) = cut image (inr is)
-    closing image (inr torn) =
-        let long = length-cut in
-        let low = torn.no_shorter in
-        let high = torn.no_longer in
-        one-byte image (omega arith) (omega arith) (torn.before ∙ cut-front)
+-- what a crash leaves of a record that is put behind the closed gate, and of the gate that is opened then
+module _ (file : List ℕ) (images : List ℕ → Type 0) (end : ℕ) (settled : IsSettled file images end) (undamaged : IsUndamaged file)
+    (payload block : List ℕ) (block_is : block ≡ closed_record payload) (small : length payload ≤ 1048576) where
+  inside : end_of file < length file
+  inside = subst (λ n. n < length file) settled.end_is settled.inside
 
-pub commit_does_no_damage : CommitDoesNoDamage
-commit_does_no_damage file payload undamaged inside closed small =
-    let is = closed_is payload small in (
-      stage file undamaged inside closed (length (closed_record payload)) (omega (arith, length-append payload (0 ∷ []))),
-      gate file undamaged inside payload (closed_record payload) is small,
-    )
+  few : length block ≤ 1048581
+  few = omega (arith, ap (λ (l : List ℕ). length l) block_is, length-append payload (0 ∷ []))
 
-pub reopening_does_no_damage : ReopeningDoesNoDamage
-reopening_does_no_damage file undamaged inside = (cut file undamaged inside, closing file undamaged inside)
+  pub record-undamaged : (image : List ℕ) → (image ≡ file) ⊎ Torn (end + 1) (length block) file image → IsUndamaged image
+  record-undamaged image left =
+      stage file undamaged inside (ap (λ n. get_or file n 1) (sym settled.end_is) ∙ settled.closed) (length block) few image
+      (subst (λ n. (image ≡ file) ⊎ Torn (n + 1) (length block) file image) settled.end_is left)
 
-pub first_reopening_does_no_damage : FirstReopeningDoesNoDamage
-first_reopening_does_no_damage image (inl is) = few-tail image (omega (arith, ap (λ (l : List ℕ). length l) is))
-first_reopening_does_no_damage image (inr torn) = let high = torn.no_longer in few-tail image (omega arith)
+  pub gate-undamaged : (seen : List ℕ) → seen ≡ overwritten file (end + 1) block → (image : List ℕ) → (image ≡ seen) ⊎ Torn end 1 seen image → IsUndamaged image
+  gate-undamaged seen seen_is image left =
+      let is : seen ≡ overwritten file (end_of file + 1) (closed_record payload) =
+      seen_is ∙ ap (λ n. overwritten file (n + 1) block) settled.end_is ∙ ap (λ l. overwritten file (end_of file + 1) l) block_is in
+      gate file undamaged inside payload (closed_record payload) (closed_is payload small) small image
+      (subst (λ s. (image ≡ s) ⊎ Torn (end_of file) 1 s image) is (subst (λ n. (image ≡ seen) ⊎ Torn n 1 seen image) settled.end_is left))
 
-kind-nothing : (tail : List ℕ) → is_nothing tail ≡ true → tail_kind tail ≡ Nothing
-kind-nothing tail is = ap (λ (b : Bool). if b then Nothing else (if is_crash tail then Crash else Damage)) is
+-- what a crash leaves of a cut behind the gate at the end of the records, and of a gate that is closed there, where nothing stands behind it
+module _ (file : List ℕ) (undamaged : IsUndamaged file) (end : ℕ) (end_is : end ≡ end_of file) where
+  pub cut-undamaged : end < length file → (image : List ℕ) → Shortened (end + 1) file image → IsUndamaged image
+  cut-undamaged inside image left = cut file undamaged (subst (λ n. n < length file) end_is inside) image (subst (λ n. Shortened (n + 1) file image) end_is left)
 
-kind-other : (tail : List ℕ) → is_nothing tail ≡ false → tail_kind tail ≡ (if is_crash tail then Crash else Damage)
-kind-other tail is = ap (λ (b : Bool). if b then Nothing else (if is_crash tail then Crash else Damage)) is
+  pub short-undamaged : length file ≤ end + 1 → (image : List ℕ) → (image ≡ file) ⊎ Torn end 1 file image → IsUndamaged image
+  short-undamaged few image (inl is) = subst IsUndamaged (sym is) undamaged
+  short-undamaged few image (inr torn) =
+      let within = size-within file in
+      let low = torn.no_shorter in
+      let high = torn.no_longer in
+      elim (cases_eq (length image) end) [
+        | inl at_end ↦ subst IsUndamaged (sym (sym (take_all end image (omega arith)) ∙ torn.before ∙ take_all end file (omega arith))) undamaged
+        | inr behind ↦ one-byte file undamaged image (omega arith) (omega arith) (subst (λ n. take n image ≡ take n file) end_is torn.before)
+      ]
 
-kind-crash : (tail : List ℕ) → is_crash tail ≡ true → tail_kind tail ≢ Damage
-kind-crash tail crash damage = by_bool (is_nothing tail)
-    (λ nothing. cc (sym (kind-nothing tail nothing) ∙ damage))
-    (λ other. cc (sym (ap (λ (b : Bool). if b then Crash else Damage) crash) ∙ sym (kind-other tail other) ∙ damage))
+-- calls of a disk that write nothing, and calls one after another
+module _ {D : Type 0} (honest : D → Bool) (images : D → List ℕ → Type 0) (moment : D → ℕ) (left_since : D → ℕ → List ℕ → Type 0)
+    (only_now : (disk : D) (image : List ℕ) → honest disk ≡ true → left_since disk (moment disk) image → images disk image) where
+  pub waits-undamaged : (old new : D) → honest old ≡ true → Elapses (moment old) (moment new) (left_since old) (left_since new) (images new) → EachImage (images new) (images old)
+      → EachImage (images old) IsUndamaged → DoesNoDamage images moment left_since old new
+  waits-undamaged old new sure time fewer whole = record {
+    any_moment = record {
+      later = time.later;
+      each = λ image left. ⊎_elim (λ past. whole image (only_now old image sure past)) (λ now. whole image (fewer image now)) (time.nothing_else (moment old) image (omega arith) left);
+      before = λ t image le left. ⊎_elim (λ past. inl past) (λ now. inr (whole image (fewer image now))) (time.nothing_else t image le left);
+    };
+    after = λ image now. whole image (fewer image now);
+  }
 
-crash-nothing : (tail : List ℕ) → is_nothing tail ≡ true → is_crash tail ≡ true
-crash-nothing tail nothing = grind (arith, nat_tests)
+  pub reads-undamaged : (seen : D → List ℕ) (old new : D) → honest old ≡ true → OnlyReads seen images moment left_since old new
+      → EachImage (images old) IsUndamaged → DoesNoDamage images moment left_since old new
+  reads-undamaged seen old new sure reads whole = record {
+    any_moment = record {
+      later = reads.later;
+      each = λ image left. ⊎_elim (λ past. whole image (only_now old image sure past)) (λ here. whole image here) (reads.before (moment old) image (omega arith) left);
+      before = λ t image le left. ⊎_elim (λ past. inl past) (λ here. inr (whole image here)) (reads.before t image le left);
+    };
+    after = λ image now. whole image (reads.fewer image now);
+  }
 
-kind-damage : (tail : List ℕ) → tail_kind tail ≢ Damage → is_crash tail ≡ true
-kind-damage tail other = by_bool (is_crash tail) (λ crash. crash) (λ none. by_bool (is_nothing tail) (crash-nothing tail)
-    (λ some. absurd (other (kind-other tail some ∙ ap (λ (b : Bool). if b then Crash else Damage) none))))
+  -- at a reopening: the file is synced, read, and closed behind its records
+  module _ (seen : D → List ℕ) (reads_an_image : (disk : D) → honest disk ≡ true → images disk (seen disk)) (old synced read : D) (sure : honest old ≡ true)
+      (time : Elapses (moment old) (moment synced) (left_since old) (left_since synced) (images synced)) (fewer : EachImage (images synced) (images old))
+      (whole : EachImage (images old) IsUndamaged) (still : honest synced ≡ honest old) (reads : honest synced ≡ true → OnlyReads seen images moment left_since synced read) where
+    pub read-undamaged : DoesNoDamage images moment left_since old read
+    read-undamaged =
+        let first = waits-undamaged old synced sure time fewer whole in
+        let second = reads-undamaged seen synced read (still ∙ sure) (reads (still ∙ sure)) first.after in
+        record { any_moment = runs_on moment left_since old synced read _ first.any_moment second.any_moment; after = second.after }
 
-pub damage_is_reported : DamageIsReported
-damage_is_reported file = (kind-crash (behind_records file), kind-damage (behind_records file))
+    pub closed-undamaged : (closed : D) → honest read ≡ honest synced → (honest read ≡ true → IsUndamaged (seen read) → DoesNoDamage images moment left_since read closed) → DoesNoDamage images moment left_since old closed
+    closed-undamaged closed again closes =
+        let first = read-undamaged in
+        let last = again ∙ still ∙ sure in
+        let second = closes last (first.after (seen read) (reads_an_image read last)) in
+        record { any_moment = runs_on moment left_since old read closed _ first.any_moment second.any_moment; after = second.after }
