@@ -279,6 +279,16 @@ def as_nobody():
     os.setuid(NOBODY)
 
 
+def told_of_lock(path):
+    """What a check tells of a file that this process has locked: nothing where the system has no table of locks with this process."""
+    try:
+        with open('/proc/locks', encoding='ascii') as table:
+            is_known = any(line.split()[4:5] == [str(os.getpid())] for line in table)
+    except OSError:
+        is_known = False
+    return 'cnsd: %s: locked by process %d\n' % (path, os.getpid()) if is_known else ''
+
+
 def read_only(checks, above):
     """A folder in which nothing may be written, files that may not be read, and files that are locked."""
     is_root = os.geteuid() == 0
@@ -289,13 +299,11 @@ def read_only(checks, above):
     for file in held:
         fcntl.flock(file, fcntl.LOCK_EX)
     for words, want in zip(lines, wanted):
-        told = ''.join('cnsd: %s: locked by process %d\n' % (os.path.join(folder, name), os.getpid()) for name in audit.NAMES)
-        checks.told('locked files', words, (want[0], told + want[1] if words[1] == 'check' else want[1], want[2]))
+        told = ''.join(map(told_of_lock, (os.path.join(folder, name) for name in audit.NAMES))) if words[1] == 'check' else ''
+        checks.told('locked files', words, (want[0], told + want[1], want[2]))
     held[0].close()
-    held[1].seek(0)
     fcntl.flock(held[1], fcntl.LOCK_SH)
-    told = 'cnsd: %s: locked by process %d\n' % (os.path.join(folder, DEPOT), os.getpid())
-    checks.told('a file that is locked by who reads it', lines[0], (wanted[0][0], told + wanted[0][1], wanted[0][2]))
+    checks.told('a file that is locked by who reads it', lines[0], (wanted[0][0], told_of_lock(os.path.join(folder, DEPOT)) + wanted[0][1], wanted[0][2]))
     held[1].close()
     for path in (os.path.join(folder, name) for name in os.listdir(folder)):
         os.chmod(path, 0o444)
