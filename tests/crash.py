@@ -4,7 +4,9 @@
     tests/crash.sh PROGRAM [FILE..]
 
 Each FILE is an input of `run`, without one those of tests/crash/; what NAME.before.in says is run
-whole before NAME.in. A line of a script may make one record at most.
+whole before NAME.in. A line of a script may make one record at most. Where there is a file NAME.torn, a crash came
+behind that run while the gate of a further record was opened: its byte, in hexadecimal, is the gate then, and the
+opening cuts that record off.
 
 A first run over a new folder counts the calls that write, sync or cut the two journals. Then, for each of
 them, there are runs over the same folder in which it fails, having done nothing or all; in which it
@@ -19,6 +21,7 @@ everything as it was written and, by some seeds, with other bytes under what was
     a short write: the run is as the first one;
     after each run the records of both files, read here from their bytes, are those that were
         acknowledged by then (their last sync had returned), then at most the one that was under way;
+        what stood behind them at the start is there still, or in NAME.cut;
         a dump says that what follows them is nothing, or what a crash may leave; a run with the same
         openings, which refuses journals with damage, then restarts both nodes, tells just so many records,
         and its report is that over files which hold these records and nothing else; what it cuts off a file
@@ -122,6 +125,7 @@ class Example:
             with open(before, 'rb') as file:
                 if self.run(self.start, file.read())[0] != 0:
                     raise Failure('the run before it failed')
+        self.torn = self.tear(path[:-3] + '.torn')
         folder = self.fresh('whole')
         self.whole = self.run(folder, self.text, {})
         if self.whole[0] != 0 or self.whole[2]:
@@ -136,6 +140,23 @@ class Example:
         self.records = {file: records(self.path(folder, file)) for file in SIDES}
         self.given = {file: len(records(self.path(self.start, file))) if os.listdir(self.start) else 0 for file in SIDES}
         self.lines = self.lines_of_commits()
+
+    def tear(self, path):
+        """Puts a further record behind each journal, whose gate was being opened; for each file where that gate stands, and what is behind."""
+        if not os.path.exists(path):
+            return {}
+        with open(path, encoding='ascii') as file:
+            gate = bytes.fromhex(file.read())
+        torn = {}
+        for file in SIDES:
+            place = self.path(self.start, file)
+            held = records(place)
+            end, behind = len(journal(held)) - 1, journal(held[-1:])[1:]
+            with open(place, 'r+b') as out:
+                out.seek(end)
+                out.write(gate + behind)
+            torn[file] = end, behind
+        return torn
 
     def fresh(self, name):
         """A new folder with the journals as they were."""
@@ -274,6 +295,7 @@ class Example:
         """A run over the folder tells what the records in it come to."""
         if held is None:
             held = {file: records(self.path(folder, file)) for file in SIDES}
+        self.look_at_torn(folder)
         before = self.look_at_tails(folder)
         told = self.asked(folder)
         if told != self.report(held):
@@ -282,6 +304,18 @@ class Example:
         left = {file: records(self.path(folder, file)) for file in SIDES}
         if left != held:
             raise Failure('a run that commits nothing changed the records')
+
+    def look_at_torn(self, folder):
+        """What stood behind the records at the start is there still, or is kept beside the file."""
+        for file, (end, behind) in self.torn.items():
+            path = self.path(folder, file)
+            with open(path, 'rb') as data:
+                if data.read()[end + 1:] == behind:
+                    continue
+            with open(path + '.cut', 'rb') as data:
+                line, _, piece = data.read().partition(b'\n')
+            if line.split()[3:6:2] != [b'%d' % (end + 1), b'%d' % len(behind)] or not piece.startswith(behind + b'\n'):
+                raise Failure('%s was cut, and what is kept is %r' % (SIDES[file], line))
 
     def look_at_tails(self, folder):
         """The bytes of the files that have no piece cut off yet; no damage follows the records of any."""
