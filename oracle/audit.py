@@ -16,7 +16,7 @@ changes places with another; the depository goes another way from a record on; a
 appended, or is the other node's. Of each input the program has to write what is written here, byte for byte and with the same
 status: the check with the openings in a file, and without, where the folder may keep these or others, each also with --verbose;
 both dumps, also as CSV; and some explanations. Nothing in the folder may be changed by that. Journals that nobody changed have
-to agree.
+to agree, and a run over a copy of them has to report the sums and balances that the check tells.
 
 Before the last line, `N passed, M failed`, it is told what was met, and how often a change was seen.
 """
@@ -25,6 +25,7 @@ import collections
 import os
 import random
 import re
+import shutil
 import struct
 import subprocess
 import sys
@@ -1079,6 +1080,38 @@ def run_one(program, seed, number, met, seen):
             raise Difference('the folder is not as it was')
 
 
+def sums_in_report(program, folder, openings):
+    """What a run over a copy of the journals reports: for each issue what is long, short, free and out, and the lines of balances."""
+    text = b'[openings]\n' + openings + b'[trades]\n[script]\nREPORT\n'
+    with tempfile.TemporaryDirectory() as above:
+        copy = shutil.copytree(folder, os.path.join(above, 'journals'))
+        done = subprocess.run([program, 'run', '--journal', copy], input=text, capture_output=True, timeout=60, check=False)
+    sums, balances = collections.defaultdict(lambda: [0, 0, 0, 0]), []
+    for words in map(str.split, done.stdout.decode().splitlines()):
+        if words[0] == 'POS':
+            sums[words[1]][int(words[3]) < 0] += abs(int(words[3]))
+        elif words[0] == 'POOL':
+            sums[words[1]][2:] = int(words[3]), int(words[7])
+        elif words[0] == 'BAL':
+            balances.append((words[1], words[2], int(words[3])))
+    return {issue: found for issue, found in sums.items() if any(found)}, balances
+
+
+def compare_with_report(program, folder, openings, text):
+    """What a check with all that it can tell says of journals that agree has to be what a run over them reports."""
+    sums, balances = {}, []
+    for line in text.splitlines():
+        issue = re.fullmatch(r'clear.journal: (\S{9}) longs (\d+), shorts (\d+), free (\d+), out (\d+), .*', line)
+        balance = re.fullmatch(r'depot.journal: (\S{9}) (\d{4}) balance (\d+)', line)
+        if issue and any(map(int, issue.groups()[1:])):
+            sums[issue[1]] = list(map(int, issue.groups()[1:]))
+        if balance:
+            balances.append((balance[1], balance[2], int(balance[3])))
+    reported = sums_in_report(program, folder, openings)
+    if (sums, balances) != reported:
+        raise Difference('a run reports %r, and the check tells\n%s' % (reported, text))
+
+
 def try_all(program, folder, openings, kept, rng, met, seen):
     """All commands on the journals of a folder."""
     told = []
@@ -1092,6 +1125,9 @@ def try_all(program, folder, openings, kept, rng, met, seen):
         is_seen = status != 0 and int(text.splitlines()[-1].split()[0]) > len(re.findall('^openings', text, re.M))
         if kept.what == UNCHANGED and is_seen:
             raise Difference('journals that nobody changed do not agree:\n' + text)
+        if kept.what == UNCHANGED and given and status == 0:
+            compare_with_report(program, folder, kept.made.openings, text)
+            met['checks whose sums a run reports'] += 1
         for what in [kept.what, kept.byte_kind]:
             if what not in (None, UNCHANGED):
                 seen[what][way, is_seen] += 1

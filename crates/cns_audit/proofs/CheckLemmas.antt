@@ -1,29 +1,32 @@
 -- What the number of faults that were told says.
-use Rattle.std.proofs.Common.{◌≡◌, inl, inr, ℕ, ◌<◌, Bool, true, false, List, refl, arith}
+use Rattle.std.proofs.Common.{◌≡◌, ◌⊎◌, inl, inr, ℕ, ◌<◌, Bool, true, false, List, refl, arith}
 use Rattle.std.specs.Prelude.{◌||◌}
 use Rattle.cns_trades.specs.declared.opening.Opening.{Opening}
-use Rattle.cns_audit.specs.Check.{IsClean, IsFaulty, TellsOf, are_damaged, is_refused}
+use Rattle.cns_audit.specs.Check.{IsClean, IsFaulty, IsOf, TellsOf, are_damaged, has_fallen, is_refused}
 use Rattle.cns_audit.specs.Opened.{IsOpening}
+use Rattle.cns_audit.specs.declared.check.Asked.{Asked}
 use Rattle.cns_audit.specs.declared.journal.Journals.{Journals}
 use Rattle.cns_audit.specs.declared.opened.Opened.{Opened}
 use Rattle.cns_audit.specs.declared.opened.Opened.TheVariants.{Agreed, Refused}
 
-clean_at : (journals : Journals) (openings : List Opening) (opened : Opened) (old new : ℕ) (damaged : Bool) → are_damaged journals ≡ damaged
-    → IsOpening openings journals.clear.now journals.depot.now opened → TellsOf (damaged || is_refused opened) old new → new ≡ 0 → IsClean journals
-clean_at journals openings opened old new true is opening tells none = absurd (omega arith)
-clean_at journals openings (Agreed system) old new false is opening tells none = record { undamaged = is; opens = (openings, (system, opening)) }
-clean_at journals openings (Refused clear depot) old new false is opening tells none = absurd (omega arith)
+module _ (asked : Asked) (journals : Journals) (openings : List Opening) (opened : Opened) (of : IsOf asked openings)
+    (opening : IsOpening openings journals.clear.now journals.depot.now opened) (first mid last : ℕ) where
+  clean_at : (opened' : Opened) → IsOpening openings journals.clear.now journals.depot.now opened' → (fell_out damaged : Bool) → has_fallen asked ≡ fell_out → are_damaged journals ≡ damaged
+      → TellsOf fell_out first mid → TellsOf (damaged || is_refused opened') mid last → last ≡ 0 → IsClean asked journals
+  clean_at opened' opens fell_out true is damage told tells none = absurd (omega arith)
+  clean_at (Refused clear depot) opens fell_out false is damage told tells none = absurd (omega arith)
+  clean_at (Agreed system) opens true false is damage told tells none = absurd (omega arith)
+  clean_at (Agreed system) opens false false is damage told tells none = record { rows = is; undamaged = damage; opens = (openings, of, (system, opens)) }
 
-pub clean_by : (journals : Journals) (openings : List Opening) (opened : Opened) (old new : ℕ)
-    → IsOpening openings journals.clear.now journals.depot.now opened → TellsOf (are_damaged journals || is_refused opened) old new → new ≡ 0 → IsClean journals
-clean_by journals openings opened old new = clean_at journals openings opened old new (are_damaged journals) refl
+  pub clean_by : TellsOf (has_fallen asked) first mid → TellsOf (are_damaged journals || is_refused opened) mid last → last ≡ 0 → IsClean asked journals
+  clean_by = clean_at opened opening (has_fallen asked) (are_damaged journals) refl refl
 
-faulty_at : (journals : Journals) (openings : List Opening) (opened : Opened) (old new : ℕ) (damaged : Bool) → are_damaged journals ≡ damaged
-    → IsOpening openings journals.clear.now journals.depot.now opened → TellsOf (damaged || is_refused opened) old new → 0 < new → old ≡ 0 → IsFaulty journals
-faulty_at journals openings opened old new true is opening tells some none = inl is
-faulty_at journals openings (Agreed system) old new false is opening tells some none = absurd (omega arith)
-faulty_at journals openings (Refused clear depot) old new false is opening tells some none = inr (openings, opening)
+  faulty_at : (opened' : Opened) → IsOpening openings journals.clear.now journals.depot.now opened' → (fell_out damaged : Bool) → has_fallen asked ≡ fell_out → are_damaged journals ≡ damaged
+      → TellsOf fell_out first mid → TellsOf (damaged || is_refused opened') mid last → 0 < last → first ≡ 0 → IsFaulty asked journals
+  faulty_at opened' opens fell_out true is damage told tells some none = inr (inl damage)
+  faulty_at (Refused clear depot) opens fell_out false is damage told tells some none = inr (inr (openings, of, opens))
+  faulty_at (Agreed system) opens true false is damage told tells some none = inl is
+  faulty_at (Agreed system) opens false false is damage told tells some none = absurd (omega arith)
 
-pub faulty_by : (journals : Journals) (openings : List Opening) (opened : Opened) (old new : ℕ)
-    → IsOpening openings journals.clear.now journals.depot.now opened → TellsOf (are_damaged journals || is_refused opened) old new → 0 < new → old ≡ 0 → IsFaulty journals
-faulty_by journals openings opened old new = faulty_at journals openings opened old new (are_damaged journals) refl
+  pub faulty_by : TellsOf (has_fallen asked) first mid → TellsOf (are_damaged journals || is_refused opened) mid last → 0 < last → first ≡ 0 → IsFaulty asked journals
+  faulty_by = faulty_at opened opening (has_fallen asked) (are_damaged journals) refl refl

@@ -1,5 +1,5 @@
 -- What a check of both journals finds (this project's own rules).
-use Rattle.std.specs.Prelude.{◌≡◌, ◌⊎◌, ℕ, ◌<◌, Bool, ◌||◌, true, false, List}
+use Rattle.std.specs.Prelude.{◌≡◌, ◌⊎◌, ℕ, ◌<◌, Bool, ◌||◌, true, false, List, None, Some}
 use Rattle.cns_trades.specs.declared.opening.Opening.{Opening}
 use Rattle.cns_journal.specs.Tail.{behind_records}
 use Rattle.cns_file.specs.Tail.{tail_kind}
@@ -8,6 +8,8 @@ use Rattle.cns_file.specs.declared.tail.Tail.TheVariants.{Nothing, Crash, Damage
 use Rattle.cns_system.specs.Start.{IsStarted}
 use Rattle.cns_system.specs.World.{World}
 use Rattle.cns_audit.specs.Opened.{IsRefusal, copy_of}
+use Rattle.cns_audit.specs.Rows.{taken}
+use Rattle.cns_audit.specs.declared.check.Asked.{Asked}
 use Rattle.cns_audit.specs.declared.journal.Journals.{Journals}
 use Rattle.cns_audit.specs.declared.opened.Opened.{Opened}
 use Rattle.cns_audit.specs.declared.opened.Opened.TheVariants.{Agreed, Refused}
@@ -32,11 +34,25 @@ abbrev pub TellsOf : Bool → ℕ → ℕ → Type 0
 TellsOf true old new = 0 < new
 TellsOf false old new = new ≡ old
 
--- no damage follows the records of either journal, and with some openings both nodes are opened from them
-pub record IsClean (journals : Journals) : Type 0 where
-  pub undamaged : are_damaged journals ≡ false
-  pub opens : (openings : List Opening) × ((w : World) × IsStarted openings (copy_of journals.clear.now) (copy_of journals.depot.now) w)
+-- these are the openings that are asked for: those of the rows that stand, or any where none are asked for
+abbrev pub IsOf : Asked → List Opening → Type 0
+IsOf asked openings = elim asked.openings [ None ↦ Unit {0} | Some rows ↦ openings ≡ (taken rows.now).0 ]
 
--- damage follows the records of a journal, or with some openings the nodes are not opened from them
-abbrev pub IsFaulty : Journals → Type 0
-IsFaulty journals = (are_damaged journals ≡ true) ⊎ ((openings : List Opening) × IsRefusal openings journals.clear.now journals.depot.now)
+-- a row of the openings that are asked for falls out
+abbrev pub has_fallen : Asked → Bool
+has_fallen asked = elim asked.openings [ None ↦ false | Some rows ↦ (taken rows.now).1 ]
+
+-- no openings are asked for, or the folder keeps none
+abbrev pub HasNoOther : Asked → Type 0
+HasNoOther asked = (asked.openings ≡ None) ⊎ (asked.kept ≡ None)
+
+-- each row stands, no damage follows the records of either journal, and with the openings that are asked for both nodes are opened from them
+pub record IsClean (asked : Asked) (journals : Journals) : Type 0 where
+  pub rows : has_fallen asked ≡ false
+  pub undamaged : are_damaged journals ≡ false
+  pub opens : (openings : List Opening) × IsOf asked openings × ((w : World) × IsStarted openings (copy_of journals.clear.now) (copy_of journals.depot.now) w)
+
+-- a row falls out, damage follows the records of a journal, or with the openings that are asked for the nodes are not opened from them
+abbrev pub IsFaulty : Asked → Journals → Type 0
+IsFaulty asked journals = (has_fallen asked ≡ true) ⊎ (are_damaged journals ≡ true)
+    ⊎ ((openings : List Opening) × IsOf asked openings × IsRefusal openings journals.clear.now journals.depot.now)

@@ -1,8 +1,8 @@
 //! The check of both journals of a folder.
 
-ghost use Rattle.std.specs.Prelude.{◌≡◌, ◌<◌, ◌||◌, IfOk, List, OnOk, None};
-ghost use Rattle.cns_trades.specs.declared.opening.Opening.{Opening};
-ghost use Rattle.cns_audit.specs.Check.{IsClean, IsFaulty, TellsOf, are_damaged, is_damaged, is_refused};
+ghost use Rattle.std.specs.Prelude.{◌≡◌, ◌<◌, ◌||◌, ℕ, IfOk, OnOk, vec_items};
+ghost use Rattle.cns_audit.specs.Check.{HasNoOther, IsClean, IsFaulty, IsOf, TellsOf, are_damaged, has_fallen, is_damaged, is_refused};
+ghost use Rattle.cns_audit.specs.Rows.{standing, take_row, taken, with_opening};
 ghost use Rattle.cns_audit.specs.Opened.{IsOpening};
 ghost use Rattle.cns_audit.specs.declared.opened.Opened.{Opened};
 
@@ -11,7 +11,7 @@ use crate::compare::{tell_breaches, tell_counts};
 use crate::depot::{tell_balances, tell_changes};
 use crate::issues::tell_clearing;
 use crate::journal::{CLEAR, DEPOT, Journals, OPENINGS};
-use crate::kept::{add_opening, are_same_openings, held_openings};
+use crate::kept::{FallsOut, Taken, are_same_openings, held_openings};
 use crate::least::{Changes, changes_of, least_openings, openings_by};
 use crate::opened::{Opened, open_journals};
 use crate::told::Told;
@@ -26,6 +26,9 @@ use cns_trades::{Opening, OpeningRow};
 use std::alloc::{AllocError, Global};
 use std::io::Write;
 
+// What the rows of openings are told as.
+const ROWS: &str = "openings";
+
 /// How a check is asked for.
 #[derive(Clone, Copy, Debug)]
 pub struct Asked<'a> {
@@ -37,34 +40,55 @@ pub struct Asked<'a> {
     pub verbose: bool,
 }
 
-// The openings of rows, those that hold; each other row is told as a fault.
+// Tells as a fault that a row of openings, with its number, falls out.
+fn tell_row<W: Write + Drop>(
+    told: &mut Told<W>,
+    number: u64,
+    why: FallsOut,
+) -> Result<(), BatchFault>
+    ensures { 0 < told.new.faults }
+{
+    match why {
+        FallsOut::Faulty { row, fault } => told.fault(ROWS, ("row ", row, ": ", fault)),
+        FallsOut::Double => told.fault(ROWS, ("row ", number, ": Double")),
+        FallsOut::IssueSum => told.fault(ROWS, ("row ", number, ": IssueSum")),
+    }
+}
+
+// Takes a row of openings, with its number; where it falls out, that is told.
+fn take_row<W: Write + Drop>(
+    told: &mut Told<W>,
+    taken: &mut Taken,
+    number: u64,
+    row: &OpeningRow,
+) -> Result<(), BatchFault>
+    requires same { taken.old.held ≡ vec_items taken.old.list }
+    ensures same { OnOk result (taken.new.held ≡ vec_items taken.new.list) }
+    ensures rows { OnOk result ((vec_items taken.new.list, taken.new.fell_out) ≡ take_row (vec_items taken.old.list, taken.old.fell_out) row.now) }
+    ensures tells { OnOk result ((from : ℕ) → TellsOf taken.old.fell_out from told.old.faults → TellsOf taken.new.fell_out from told.new.faults) }
+{
+    match taken.take(row)? {
+        None => Ok(()),
+        Some(why) => tell_row(told, number, why),
+    }
+}
+
+// The openings of rows that stand; each other row is told as a fault.
 fn take_rows<W: Write + Drop>(
     alloc: Global,
     told: &mut Told<W>,
     rows: &[OpeningRow],
-) -> Result<Vec<Opening>, BatchFault> {
-    let mut held = Openings::new(alloc);
-    let mut list = Vec::new(alloc);
+) -> Result<Vec<Opening>, BatchFault>
+    ensures list { IfOk result (λ list. vec_items list ≡ (taken rows.now).0) }
+    ensures tells { OnOk result (TellsOf (taken rows.now).1 told.old.faults told.new.faults) }
+{
+    let mut taken = Taken::new(alloc);
     let mut number = 0u64;
     for row in rows {
         number = number.saturating_add(1);
-        match row {
-            OpeningRow::Fault { row, fault } => {
-                told.fault("openings", ("row ", *row, ": ", *fault))?
-            }
-            OpeningRow::Opening(opening) => match held.add(opening) {
-                Ok(()) => add_opening(&mut list, opening)?,
-                Err(OpeningFault::OutOfMemory) => return Err(BatchFault::Memory),
-                Err(OpeningFault::Double) => {
-                    told.fault("openings", ("row ", number, ": Double"))?
-                }
-                Err(OpeningFault::IssueSum) => {
-                    told.fault("openings", ("row ", number, ": IssueSum"))?
-                }
-            },
-        }
+        take_row(told, &mut taken, number, row)?;
     }
-    Ok(list)
+    Ok(taken.into_list())
 }
 
 // Tells as a fault that the openings are not those that the folder keeps.
@@ -73,7 +97,7 @@ fn tell_other_openings<W: Write + Drop>(
     told: &mut Told<W>,
     asked: &Asked<'_>,
 ) -> Result<(), BatchFault>
-    ensures { asked.now.openings ≡ None → told.new.faults ≡ told.old.faults }
+    ensures { HasNoOther asked.now → told.new.faults ≡ told.old.faults }
 {
     let (Some(rows), Some(kept)) = (asked.openings, asked.kept) else {
         return Ok(());
@@ -222,13 +246,23 @@ fn tell_opened<W: Write + Drop>(
     }
 }
 
-// The openings of a list, without those that do not hold.
-fn begin_with(alloc: Global, list: &[Opening]) -> Result<Openings, AllocError> {
+// Adds an opening, where it stands.
+fn begin_also(openings: &mut Openings, opening: &Opening) -> Result<(), AllocError>
+    ensures { OnOk result (openings.new ≡ with_opening openings.old opening.now) }
+{
+    match openings.add(opening) {
+        Err(OpeningFault::OutOfMemory) => Err(AllocError),
+        Ok(()) | Err(OpeningFault::Double | OpeningFault::IssueSum) => Ok(()),
+    }
+}
+
+// The openings of a list that stand.
+fn begin_with(alloc: Global, list: &[Opening]) -> Result<Openings, AllocError>
+    ensures { IfOk result (λ openings. openings ≡ standing list.now) }
+{
     let mut openings = Openings::new(alloc);
     for opening in list {
-        if let Err(OpeningFault::OutOfMemory) = openings.add(opening) {
-            return Err(AllocError);
-        }
+        begin_also(&mut openings, opening)?;
     }
     Ok(openings)
 }
@@ -239,7 +273,7 @@ pub(crate) fn open_with<'a>(
     journals: &Journals<'a>,
     list: &[Opening],
 ) -> Result<Opened<'a>, AllocError>
-    ensures { IfOk result (λ opened. (openings : List Opening) × IsOpening openings journals.now.clear.now journals.now.depot.now opened) }
+    ensures { IfOk result (λ opened. IsOpening (standing list.now) journals.now.clear.now journals.now.depot.now opened) }
 {
     let openings = begin_with(alloc, list)?;
     match begin_with(alloc, list) {
@@ -260,7 +294,7 @@ fn tell_with<W: Write + Drop>(
     asked: &Asked<'_>,
     changes: &Changes,
 ) -> Result<(), BatchFault>
-    ensures { OnOk result ((openings : List Opening) × (opened : Opened) × IsOpening openings journals.now.clear.now journals.now.depot.now opened
+    ensures { OnOk result ((opened : Opened) × IsOpening (standing list.now) journals.now.clear.now journals.now.depot.now opened
         × TellsOf (are_damaged journals.now || is_refused opened) told.old.faults told.new.faults) }
 {
     let opened = open_with(alloc, journals, list)?;
@@ -269,14 +303,15 @@ fn tell_with<W: Write + Drop>(
     ended
 }
 
-// The openings that are asked for; those that do not hold are told.
+// The openings that are asked for; the rows that fall out are told.
 fn take_openings<W: Write + Drop>(
     alloc: Global,
     told: &mut Told<W>,
     asked: &Asked<'_>,
     changes: &Changes,
 ) -> Result<Vec<Opening>, BatchFault>
-    ensures { asked.now.openings ≡ None → told.new.faults ≡ told.old.faults }
+    ensures list { IfOk result (λ list. IsOf asked.now (standing (vec_items list))) }
+    ensures tells { OnOk result (TellsOf (has_fallen asked.now) told.old.faults told.new.faults) }
 {
     match asked.openings {
         Some(rows) => take_rows(alloc, told, rows),
@@ -291,8 +326,8 @@ fn tell_all<W: Write + Drop>(
     journals: &Journals<'_>,
     asked: &Asked<'_>,
 ) -> Result<(), BatchFault>
-    ensures clean { OnOk result (told.new.faults ≡ 0 → IsClean journals.now) }
-    ensures faulty { OnOk result (0 < told.new.faults → told.old.faults ≡ 0 → asked.now.openings ≡ None → IsFaulty journals.now) }
+    ensures clean { OnOk result (told.new.faults ≡ 0 → IsClean asked.now journals.now) }
+    ensures faulty { OnOk result (0 < told.new.faults → told.old.faults ≡ 0 → HasNoOther asked.now → IsFaulty asked.now journals.now) }
 {
     tell_other_openings(alloc, told, asked)?;
     let changes = changes_of(alloc, journals.depot)?;
@@ -319,9 +354,10 @@ pub(crate) fn openings_asked(
     }
 }
 
-/// Checks both journals, and tells what it finds; answers how many faults it has told. Where it has told none, no damage follows
-/// either journal's records, and both nodes open from them with some openings; where it has told some, and no openings were
-/// asked for, damage follows one, or both nodes do not open with some openings.
+/// Checks both journals, and tells what it finds; answers how many faults it has told. Where it has told none, each row of the
+/// openings that are asked for stands, no damage follows either journal's records, and both nodes open from them with those
+/// openings, or with some where none are asked for. Where it has told some, a row falls out, damage follows the records of a
+/// journal, or both nodes do not open with those openings, or with some; or the folder keeps other ones. (This project's own rules.)
 ///
 /// Refuses `Memory` and `Write`, and a part of the lines may then have been written.
 pub fn check_journals<W: Write + Drop>(
@@ -330,8 +366,8 @@ pub fn check_journals<W: Write + Drop>(
     asked: &Asked<'_>,
     writer: W,
 ) -> Result<u64, BatchFault>
-    ensures clean { IfOk result (λ faults. faults ≡ 0 → IsClean journals.now) }
-    ensures faulty { IfOk result (λ faults. 0 < faults → asked.now.openings ≡ None → IsFaulty journals.now) }
+    ensures clean { IfOk result (λ faults. faults ≡ 0 → IsClean asked.now journals.now) }
+    ensures faulty { IfOk result (λ faults. 0 < faults → HasNoOther asked.now → IsFaulty asked.now journals.now) }
 {
     let mut told = Told::new(alloc, writer);
     match tell_all(alloc, &mut told, journals, asked) {
