@@ -1,5 +1,5 @@
 -- What the number of faults that were told says.
-use Rattle.std.proofs.Common.{◌≡◌, ◌⊎◌, inl, inr, ℕ, ◌<◌, Bool, true, false, List, refl, arith}
+use Rattle.std.proofs.Common.{◌≡◌, inl, inr, ℕ, ◌<◌, Bool, true, false, List, refl, arith}
 use Rattle.std.specs.Prelude.{◌||◌}
 use Rattle.cns_trades.specs.declared.opening.Opening.{Opening}
 use Rattle.cns_audit.specs.Check.{IsClean, IsFaulty, IsOf, TellsOf, are_damaged, has_fallen, is_refused}

@@ -1,5 +1,5 @@
 -- The openings of rows stand when they are taken again.
-use Rattle.std.proofs.Common.{◌≡◌, ◌⊎◌, Bool, true, false, List, [], ◌∷◌, ◌++◌, Option, Some, None, refl, sym, ◌∙◌, ap, subst, append_assoc}
+use Rattle.std.proofs.Common.{◌≡◌, Bool, true, false, List, [], ◌∷◌, ◌++◌, Option, Some, None, refl, sym, ◌∙◌, ap, append_assoc}
 use Rattle.std.specs.List.{fold}
 use Rattle.std.proofs.lemmas.List.{append-nil}
 use Rattle.cns_trades.specs.declared.opening.Opening.{Opening}
@@ -10,7 +10,7 @@ use Rattle.cns_depository.specs.declared.openings.OpeningFault.{OpeningFault}
 use Rattle.cns_audit.specs.Rows.{standing, take_row, taken, with_opening}
 
 -- each opening of a list stands behind those before it
-AllStand : List Opening → List Opening → Type 0
+abbrev AllStand : List Opening → List Opening → Type 0
 AllStand held [] = Unit {0}
 AllStand held (o ∷ os) = (opening_fault held o ≡ None) × AllStand (held ++ o ∷ []) os
 
@@ -18,8 +18,10 @@ stand-more : (held os : List Opening) (o : Opening) → AllStand held os → ope
 stand-more held [] o stand none = (ap (λ l. opening_fault l o) (sym (append-nil held)) ∙ none, tt)
 stand-more held (x ∷ os) o stand none = (stand.0, stand-more (held ++ x ∷ []) os o stand.1 (ap (λ l. opening_fault l o) (append_assoc held (x ∷ []) os) ∙ none))
 
-stand-opening : (held : List Opening) (fell_out : Bool) (o : Opening) (fault : Option OpeningFault) → opening_fault held o ≡ fault → AllStand [] held
-    → AllStand [] ((λ (f : Option OpeningFault). elim f [ None ↦ (held ++ o ∷ [], fell_out) | Some _ ↦ (held, true) ]) fault).0
+abbrev row-step : List Opening → Bool → Opening → Option OpeningFault → List Opening × Bool
+row-step held fell_out o fault = elim fault [ None ↦ (held ++ o ∷ [], fell_out) | Some _ ↦ (held, true) ]
+
+stand-opening : (held : List Opening) (fell_out : Bool) (o : Opening) (fault : Option OpeningFault) → opening_fault held o ≡ fault → AllStand [] held → AllStand [] (row-step held fell_out o fault).0
 stand-opening held fell_out o None is stand = stand-more [] held o stand is
 stand-opening held fell_out o (Some why) is stand = stand
 

@@ -1,5 +1,5 @@
 -- The openings of rows (this project's own rules).
-use Rattle.std.specs.Prelude.{◌≡◌, Bool, true, false, List, [], ◌∷◌, ◌++◌, Some, None}
+use Rattle.std.specs.Prelude.{Bool, true, false, List, [], ◌∷◌, ◌++◌, Some, None}
 use Rattle.std.specs.List.{fold}
 use Rattle.cns_trades.specs.declared.opening.Opening.{Opening}
 use Rattle.cns_trades.specs.declared.opening.OpeningRow.{OpeningRow}

@@ -1,4 +1,4 @@
-use Rattle.std.proofs.Common.{◌≡◌, drop, vec_items}
+use Rattle.std.proofs.Common.{◌≡◌, drop}
 use Rattle.std.specs.List.{fold}
 use Rattle.cns_audit.specs.Rows.{take_row, taken}
 use Rattle.cns_audit.proofs.kept.held_openings.Given as goal
