@@ -151,11 +151,24 @@ def make_ready(name, wanted, tree, lanes, ready):
         ready[one].result()
     steps = [["rt", "check", "--jobs", "1"]] if name in wanted else []
     steps += [["rt", "lib"]] if any(name in all_below(one, stands_on) for one in wanted) else []
-    for words in steps:
-        status, said, _ = lanes.submit(0, run, words, f"{tree}/crates/{name}").result()
+    if steps:
+        status, said = lanes.submit(0, make_in_room, name, steps, tree).result()
         if status:
             lanes.close()
             raise NotProved(said)
+
+
+def make_in_room(name, steps, tree):
+    """Takes these steps for a crate in a tree of its own, since a check keeps all others out of its crate and of those below; what they make is kept."""
+    with tempfile.TemporaryDirectory(prefix="wrong-") as room:
+        room_for(name, tree, room)
+        for words in steps:
+            status, said, _ = run(words, f"{room}/crates/{name}")
+            if status:
+                return status, said
+        shutil.rmtree(f"{tree}/crates/{name}/out", ignore_errors=True)
+        shutil.move(f"{room}/crates/{name}/out", f"{tree}/crates/{name}/out")
+    return 0, ""
 
 
 def all_below(name, stands_on):
