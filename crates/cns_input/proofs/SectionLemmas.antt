@@ -102,12 +102,12 @@ find_step head l ls = by (is_head head l) (position_from (is_head head) 0 ls) (p
     by false None later = rw later refl
     by false (Some place) later = let next : suc place + 1 ≡ suc (place + 1) = omega arith in rw (later, next) refl
 
-with_front-twice : (f g : List ℕ) (o : Option (List ℕ × List ℕ)) → with_front f (with_front g o) ≡ with_front (f ++ g) o
+pub with_front-twice : (f g : List ℕ) (o : Option (List ℕ × List ℕ)) → with_front f (with_front g o) ≡ with_front (f ++ g) o
 with_front-twice f g None = refl
 with_front-twice f g (Some p) = ap (λ l. Some (l, p.1)) (sym (append_assoc f g p.0))
 
 -- a text that is not empty, split at a head, by its first line
-head_step : (head xs : List ℕ) → 0 < length xs → split_at_head head xs
+pub head_step : (head xs : List ℕ) → 0 < length xs → split_at_head head xs
     ≡ (if is_head head (take (line_size xs) xs) then Some ([], drop (line_size xs) xs) else with_front (take (line_size xs) xs) (split_at_head head (drop (line_size xs) xs)))
 unfolding split_at_head
 head_step head [] pos = absurd (omega (arith, pos))

@@ -1,5 +1,5 @@
 -- The parts of an input text.
-use Rattle.std.specs.Prelude.{ℕ, ◌+◌, ◌==◌, List, [], ◌∷◌, take, drop, length, codes, Option, Some, None, if◌then◌else◌}
+use Rattle.std.specs.Prelude.{◌≡◌, ℕ, ◌+◌, ◌<◌, ◌==◌, List, [], ◌∷◌, ◌++◌, take, drop, length, slice_index, codes, Option, Some, None, MatchOption, option_map, if◌then◌else◌}
 use Rattle.std.specs.List.{concat, onto_first, position_from}
 use Rattle.std.specs.Io.BufRead.{ends_with_byte, strip_last}
 use Rattle.cns_trades.specs.Fields.{same_text}
@@ -25,6 +25,19 @@ split_at_head head text = do
   let lines = raw_lines text
   place ← position_from (λ line. same_text (line_text line) head) 0 lines
   Some (concat (take place lines), concat (drop (place + 1) lines))
+
+-- a head begins with a bracket
+abbrev pub BeginsWithBracket : List ℕ → Type 0
+BeginsWithBracket head = (0 < length head) × (slice_index head 0 ≡ 91)
+
+-- no line of the first n bytes is the head: it is found as in the bytes behind them
+abbrev pub IsPassed : List ℕ → List ℕ → ℕ → Type 0
+IsPassed head text n = split_at_head head text ≡ option_map (λ p. (take n text ++ p.0, p.1)) (split_at_head head (drop n text))
+
+-- a head stands in the text from this place on, or nowhere
+abbrev pub IsNextBracket : List ℕ → Option ℕ → Type 0
+IsNextBracket text place =
+    (head : List ℕ) → BeginsWithBracket head → MatchOption place (split_at_head head text ≡ None) (λ n. (n < length text) × IsPassed head text n)
 
 -- the bytes of the openings, the trades and the script: the first line is the first head
 abbrev pub sections : List ℕ → Option (List ℕ × List ℕ × List ℕ)

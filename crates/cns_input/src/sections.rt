@@ -1,6 +1,6 @@
 ghost use Rattle.std.specs.Prelude.{◌≡◌, ◌<◌, ◌≤◌, length, option_map};
 ghost use Rattle.cns_trades.specs.Fields.{same_text};
-ghost use Rattle.cns_input.specs.Sections.{line_size as line_size_of, line_text as text_of_line, split_at_head as split_of, sections as sections_of};
+ghost use Rattle.cns_input.specs.Sections.{BeginsWithBracket, IsNextBracket, line_size as line_size_of, line_text as text_of_line, split_at_head as split_of, sections as sections_of};
 
 use memchr::memchr;
 
@@ -51,19 +51,35 @@ fn is_head(line: &[u8], head: &[u8]) -> bool
     line_text(line) == head
 }
 
+// Where the next line begins that begins with a bracket, as heads do.
+fn next_bracket(text: &[u8]) -> Option<usize>
+    ensures { IsNextBracket text.now result }
+{
+    let mut at = 0;
+    while let Some(place) = memchr(b'[', &text[at..]) {
+        let bracket = at + place;
+        if place == 0 || text[bracket - 1] == b'\n' {
+            return Some(bracket);
+        }
+        at = bracket + line_size(&text[bracket..]);
+    }
+    None
+}
+
 // The bytes before the first line that is the head, and those after it.
 fn split_at_head<'a>(text: &'a [u8], head: &[u8]) -> Option<(&'a [u8], &'a [u8])>
+    requires { BeginsWithBracket head.now }
     ensures { option_map (λ p. (p.0.now, p.1.now)) result ≡ split_of head.now text.now }
 {
     let mut at = 0;
-    while at < text.len() {
-        let (front, rest) = text.split_at(at);
+    while let Some(place) = next_bracket(&text[at..]) {
+        let (front, rest) = text.split_at(at + place);
         let size = line_size(rest);
         let (line, after) = rest.split_at(size);
         if is_head(line, head) {
             return Some((front, after));
         }
-        at += size;
+        at = front.len() + size;
     }
     None
 }

@@ -1,10 +1,9 @@
-use Rattle.std.proofs.Common.{◌≡◌, ◌≤◌, ◌-◌, drop, take, length}
-use Rattle.cns_input.specs.Sections.{split_at_head}
-use Rattle.cns_input.proofs.SectionLemmas.{with_front}
+use Rattle.std.proofs.Common.{◌≤◌, ◌-◌, length}
+use Rattle.cns_input.specs.Sections.{IsPassed}
 use Rattle.cns_input.proofs.sections.split_at_head.Given as goal
 
-abbrev pub invariant-loop-at : goal.invariant-loop-at
-invariant-loop-at l = (l.at ≤ length l.text) × (with_front (take l.at l.text) (split_at_head l.head (drop l.at l.text)) ≡ split_at_head l.head l.text)
+abbrev pub invariant-loop-place : goal.invariant-loop-place
+invariant-loop-place l = (l.at ≤ length l.text) × IsPassed l.head l.text l.at
 
-abbrev pub decreases-loop-at : goal.decreases-loop-at
-decreases-loop-at l = length l.text - l.at
+abbrev pub decreases-loop-place : goal.decreases-loop-place
+decreases-loop-place l = length l.text - l.at
