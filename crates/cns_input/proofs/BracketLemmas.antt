@@ -1,8 +1,8 @@
 -- Lines that begin with no bracket are no heads.
 use Rattle.std.proofs.Common.{◌≡◌, ◌<◌, ◌≤◌, ◌+◌, ◌-◌, ℕ, zero, suc, List, [], ◌∷◌, ◌++◌, length, take, drop, Option, Some, None, Bool, true, false, refl, sym, ap, ◌∙◌, inl, inr, arith, rules, take-add, length-drop}
-use Rattle.std.specs.Prelude.{◌⊎◌, ◌==◌, ◌&&◌, if◌then◌else◌, slice_index}
+use Rattle.std.specs.Prelude.{◌⊎◌, ◌==◌, if◌then◌else◌, slice_index}
 use Rattle.std.specs.Io.BufRead.{ends_with_byte, strip_last}
-use Rattle.std.proofs.lemmas.Bool.{cases_Bool, cases_lt, eqb-true}
+use Rattle.std.proofs.lemmas.Bool.{and_parts, cases_Bool, cases_lt, eqb-true}
 use Rattle.std.proofs.lemmas.List.{drop-drop, get_or-take, get_or-drop, length-take, take-take, take_all, drop_all}
 use Rattle.memchr.specs.Find.{NoneBefore, Nowhere, Passes, is_byte}
 use Rattle.cns_trades.specs.Fields.{same_text}
@@ -38,11 +38,7 @@ text_front line = by (ends_with_byte 10 line)
 same_first : (text head : List ℕ) → same_text text head ≡ true → 0 < length head → (0 < length text) × (slice_index text 0 ≡ slice_index head 0)
 same_first text [] same some = absurd (omega (arith, some))
 same_first [] (h ∷ hs) same some = search (rules, same)
-same_first (c ∷ cs) (h ∷ hs) same some = (omega arith, eqb-true c h (and_left (c == h) (same_text cs hs) same))
-  where
-    and_left : (a b : Bool) → a && b ≡ true → a ≡ true
-    and_left true b both = refl
-    and_left false b both = both
+same_first (c ∷ cs) (h ∷ hs) same some = (omega arith, eqb-true c h (and_parts (c == h) (same_text cs hs) same).0)
 
 front_first : (xs ys : List ℕ) → IsFront xs ys → 0 < length ys → slice_index ys 0 ≡ slice_index xs 0
 front_first xs ys (k, is) some = ap (λ l. slice_index l 0) is ∙ get_or-take k xs 0 0 (omega (arith, ap length is, length-take k xs, some))
