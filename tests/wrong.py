@@ -6,7 +6,7 @@
 Edits of wrong-bodies/CRATE (of every crate, where none is named) are set into copies of the crate, several at once where
 they change different functions, and `rt check` must say of each of these functions that a goal of its own is not proved. An
 edit of which that is not said (the text cannot be read, a callee is not proved, it changes no single function) is tried
-three times more with others, and then by itself by `rt must-fail`, which has the last word; with --alone each is. All goes on in
+up to three times more so, with fewer others or none, and then by itself by `rt must-fail`, which has the last word; with --alone each is. All goes on in
 as many lanes as there are processors and memory; --only takes the edits whose names have WORD. A crate's edits are tried as soon as it
 is checked and the libraries below it are built, from what earlier checks of the tree left where that is up to date; a library
 goes before an edit, and an edit of a higher crate before those of lower ones. As `rt ci` does with proofs, it keeps on this machine which
@@ -213,16 +213,20 @@ def function_at(lines, number):
 
 
 def changed_functions(edit, name):
-    """The functions that an edit changes: file, type, name; None where it changes something else too."""
+    """The functions that an edit changes: file, type, name; None where it changes something else too.
+
+    Spaces alone change nothing: they tell a text from others that are alike. A first line that stays and has more behind it is that
+    of another function of the name, and what was the function has another name then.
+    """
     found = set()
     for path, before, after in texts_of(edit, name):
         old, new = before.split("\n"), after.split("\n")
         if len(old) != len(new):
             return None
         for number, (left, right) in enumerate(zip(old, new)):
-            if left != right:
+            if "".join(left.split()) != "".join(right.split()):
                 function = function_at(old, number)
-                if function is None or function[2] == number:
+                if function is None or function[2] == number and not right.startswith(left):
                     return None
                 found.add((path, *function[:2]))
     return found or None
@@ -309,11 +313,13 @@ def try_crate(name, found, tree, lanes, ready, alone, kept):
     rank, left, seconds, used = len(crates()) - crates().index(name), list(found), 0.0, 0.0
     for _ in range(0 if alone else ROUNDS):
         parts, _ = batches(left, name)
-        if all(len(part) < 2 for part in parts):
-            break
+        before = len(left)
         for good, spent, taken in lanes.each(rank, try_batch, [(name, part, tree, kept) for part in parts]):
             left = [edit for edit in left if edit not in good]
             seconds, used = seconds + spent, used + taken
+        # Where no part had two edits, all that a check of the crate's changes tells is told.
+        if len(left) == before or all(len(part) < 2 for part in parts):
+            break
     failed = []
     for _, _, bad, spent, taken in lanes.each(rank, try_edits, [(name, part, tree, kept) for part in split(left, lanes.count) if part]):
         failed += bad
