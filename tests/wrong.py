@@ -411,6 +411,8 @@ def main():
             print("FAIL a crate is not proved, so nothing in it or above it can be tried")
             print("0 passed, 1 failed")
             return 1
+        finally:
+            lanes.close()
     print(f"{'crate':16} {'refused':>8} {'kept':>6} {'other':>6} {'minutes':>8} {'processor minutes':>18}")
     for name in before:
         good, bad, seconds, used = rows.get(name, (0, 0, 0.0, 0.0))
