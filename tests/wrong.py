@@ -212,11 +212,15 @@ def function_at(lines, number):
     return None
 
 
+def differ_by_spaces(left, right):
+    """Whether two lines without a text or a character in them differ by spaces alone."""
+    return not any(quote in left + right for quote in "'\"") and "".join(left.split()) == "".join(right.split())
+
+
 def changed_functions(edit, name):
     """The functions that an edit changes: file, type, name; None where it changes something else too.
 
-    Spaces alone change nothing: they tell a text from others that are alike. A first line that stays and has more behind it is that
-    of another function of the name, and what was the function has another name then.
+    Spaces alone, outside of texts, change nothing: they tell a line from others that are alike.
     """
     found = set()
     for path, before, after in texts_of(edit, name):
@@ -224,9 +228,9 @@ def changed_functions(edit, name):
         if len(old) != len(new):
             return None
         for number, (left, right) in enumerate(zip(old, new)):
-            if "".join(left.split()) != "".join(right.split()):
+            if left != right and not differ_by_spaces(left, right):
                 function = function_at(old, number)
-                if function is None or function[2] == number and not right.startswith(left):
+                if function is None or function[2] == number:
                     return None
                 found.add((path, *function[:2]))
     return found or None
