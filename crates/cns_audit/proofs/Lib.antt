@@ -1,2 +1,4 @@
 pub mod CheckLemmas
+pub mod LeastLemmas
+pub mod NoneLemmas
 pub mod RowLemmas

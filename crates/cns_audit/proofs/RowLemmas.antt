@@ -7,7 +7,8 @@ use Rattle.cns_trades.specs.declared.opening.OpeningRow.{OpeningRow}
 use Rattle.cns_trades.specs.declared.opening.OpeningRow.TheVariants as row
 use Rattle.cns_depository.specs.Openings.{opening_fault}
 use Rattle.cns_depository.specs.declared.openings.OpeningFault.{OpeningFault}
-use Rattle.cns_audit.specs.Rows.{standing, take_row, taken, with_opening}
+use Rattle.cns_depository.specs.Ranges.{standing, with_opening}
+use Rattle.cns_audit.specs.Rows.{take_row, taken}
 
 -- each opening of a list stands behind those before it
 abbrev AllStand : List Opening → List Opening → Type 0

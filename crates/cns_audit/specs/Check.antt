@@ -5,6 +5,10 @@ use Rattle.cns_journal.specs.Tail.{behind_records}
 use Rattle.cns_file.specs.Tail.{tail_kind}
 use Rattle.cns_file.specs.declared.tail.Tail.{Tail}
 use Rattle.cns_file.specs.declared.tail.Tail.TheVariants.{Nothing, Crash, Damage}
+use Rattle.cns_records.specs.declared.dep_record.DepRecord.{DepRecord}
+use Rattle.cns_depository.specs.Ranges.{AreEnough, AreOpeningsOf, standing}
+use Rattle.cns_depository.specs.RangesOf.{AreRangesOf}
+use Rattle.cns_depository.specs.declared.ranges.OpeningRanges.{OpeningRanges}
 use Rattle.cns_system.specs.Start.{IsStarted}
 use Rattle.cns_system.specs.World.{World}
 use Rattle.cns_audit.specs.Opened.{IsRefusal, copy_of}
@@ -52,7 +56,16 @@ pub record IsClean (asked : Asked) (journals : Journals) : Type 0 where
   pub undamaged : are_damaged journals ≡ false
   pub opens : (openings : List Opening) × IsOf asked openings × ((w : World) × IsStarted openings (copy_of journals.clear.now) (copy_of journals.depot.now) w)
 
--- a row falls out, damage follows the records of a journal, or with the openings that are asked for the nodes are not opened from them
+-- with no openings, of which each stands behind those before it, the nodes are opened from journals
+abbrev pub NoneOpen : Journals → Type 0
+NoneOpen journals = (list : List Opening) (w : World) → IsStarted (standing list) (copy_of journals.clear.now) (copy_of journals.depot.now) w → ⊥
+
+-- a row falls out, damage follows the records of a journal, or with the openings that are asked for the nodes are not opened from them: with
+-- none at all, where none are asked for
 abbrev pub IsFaulty : Asked → Journals → Type 0
 IsFaulty asked journals = (has_fallen asked ≡ true) ⊎ (are_damaged journals ≡ true)
-    ⊎ ((openings : List Opening) × IsOf asked openings × IsRefusal openings journals.clear.now journals.depot.now)
+    ⊎ (((openings : List Opening) × IsOf asked openings × IsRefusal openings journals.clear.now journals.depot.now) × (asked.openings ≡ None → NoneOpen journals))
+
+-- openings of no account less than the records of these ranges need, and no more than any with which they may stand
+abbrev pub NeedsOf : OpeningRanges → List Opening → Type 0
+NeedsOf ranges list = (p : List DepRecord) → AreRangesOf ranges p → (openings : List Opening) → AreOpeningsOf openings p → AreEnough list openings p

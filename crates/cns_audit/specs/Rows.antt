@@ -13,10 +13,3 @@ take_row (held, fell_out) (row.Opening o) = elim (opening_fault held o) [ None �
 
 abbrev pub taken : List OpeningRow → List Opening × Bool
 taken rows = fold take_row ([], false) rows
-
--- the openings of a list that stand, each behind those before it
-abbrev pub with_opening : List Opening → Opening → List Opening
-with_opening held o = elim (opening_fault held o) [ None ↦ held ++ o ∷ [] | Some _ ↦ held ]
-
-abbrev pub standing : List Opening → List Opening
-standing list = fold with_opening [] list

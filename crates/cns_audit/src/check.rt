@@ -1,8 +1,9 @@
 //! The check of both journals of a folder.
 
-ghost use Rattle.std.specs.Prelude.{◌≡◌, ◌<◌, ◌||◌, ℕ, IfOk, OnOk, vec_items};
-ghost use Rattle.cns_audit.specs.Check.{HasNoOther, IsClean, IsFaulty, IsOf, TellsOf, are_damaged, has_fallen, is_damaged, is_refused};
-ghost use Rattle.cns_audit.specs.Rows.{standing, take_row, taken, with_opening};
+ghost use Rattle.std.specs.Prelude.{◌≡◌, ◌<◌, ◌||◌, ℕ, IfOk, None, OnOk, vec_items};
+ghost use Rattle.cns_audit.specs.Check.{HasNoOther, IsClean, IsFaulty, IsOf, NeedsOf, TellsOf, are_damaged, has_fallen, is_damaged, is_refused};
+ghost use Rattle.cns_audit.specs.Rows.{take_row, taken};
+ghost use Rattle.cns_depository.specs.Ranges.{standing, with_opening};
 ghost use Rattle.cns_audit.specs.Opened.{IsOpening};
 ghost use Rattle.cns_audit.specs.declared.opened.Opened.{Opened};
 
@@ -12,11 +13,11 @@ use crate::depot::{tell_balances, tell_changes};
 use crate::issues::tell_clearing;
 use crate::journal::{CLEAR, DEPOT, Journals, OPENINGS};
 use crate::kept::{FallsOut, Taken, are_same_openings, held_openings};
-use crate::least::{Changes, changes_of, least_openings, openings_by};
+use crate::least::{least_openings, ranges_of};
 use crate::opened::{Opened, open_journals};
 use crate::told::Told;
 use cns_clearing::Clearing;
-use cns_depository::{Depository, OpeningFault, Openings};
+use cns_depository::{Depository, OpeningFault, OpeningRanges, Openings};
 use cns_dump::EndWords;
 use cns_file::{Extent, FileCopy, Tail, extent_of};
 use cns_input::BatchFault;
@@ -141,12 +142,12 @@ fn tell_depository<K: Keeper, W: Write + Drop>(
     told: &mut Told<W>,
     node: &Depository<K>,
     asked: &Asked<'_>,
-    changes: &Changes,
+    ranges: &OpeningRanges,
 ) -> Result<(), BatchFault>
     ensures { told.new.faults ≡ told.old.faults }
 {
     if asked.openings.is_none() {
-        return tell_changes(alloc, told, DEPOT, changes);
+        return tell_changes(alloc, told, DEPOT, ranges);
     }
     if asked.verbose {
         return tell_balances(alloc, told, DEPOT, node);
@@ -161,7 +162,7 @@ fn tell_system<W: Write + Drop>(
     journals: &Journals<'_>,
     system: &System<FileCopy<'_>, FileCopy<'_>>,
     asked: &Asked<'_>,
-    changes: &Changes,
+    ranges: &OpeningRanges,
 ) -> Result<(), BatchFault>
     ensures { OnOk result (TellsOf (are_damaged journals.now) told.old.faults told.new.faults) }
 {
@@ -169,7 +170,7 @@ fn tell_system<W: Write + Drop>(
     tell_file(told, CLEAR, journals.clear)?;
     tell_clearing(alloc, told, CLEAR, clear, asked.verbose)?;
     tell_file(told, DEPOT, journals.depot)?;
-    tell_depository(alloc, told, depot, asked, changes)?;
+    tell_depository(alloc, told, depot, asked, ranges)?;
     tell_counts(told, clear.orders(), depot)
 }
 
@@ -195,11 +196,11 @@ fn tell_depot<K: Keeper, W: Write + Drop>(
     file: &[u8],
     node: &Result<Depository<K>, u64>,
     asked: &Asked<'_>,
-    changes: &Changes,
+    ranges: &OpeningRanges,
 ) -> Result<(), BatchFault> {
     tell_file(told, DEPOT, file)?;
     match node {
-        Ok(node) => tell_depository(alloc, told, node, asked, changes),
+        Ok(node) => tell_depository(alloc, told, node, asked, ranges),
         Err(place) => tell_bad(alloc, told, DEPOT, Whose::Depot, file, *place),
     }
 }
@@ -212,10 +213,10 @@ fn tell_refused<C: Keeper, D: Keeper, W: Write + Drop>(
     clear: &Result<Clearing<C>, u64>,
     depot: &Result<Depository<D>, u64>,
     asked: &Asked<'_>,
-    changes: &Changes,
+    ranges: &OpeningRanges,
 ) -> Result<(), BatchFault> {
     tell_clear(alloc, told, journals.clear, clear, asked)?;
-    tell_depot(alloc, told, journals.depot, depot, asked, changes)?;
+    tell_depot(alloc, told, journals.depot, depot, asked, ranges)?;
     if let (Ok(clear), Ok(depot)) = (clear, depot) {
         tell_breaches(told, clear.orders(), depot)?;
         tell_counts(told, clear.orders(), depot)?;
@@ -230,14 +231,14 @@ fn tell_opened<W: Write + Drop>(
     journals: &Journals<'_>,
     opened: &Opened<'_>,
     asked: &Asked<'_>,
-    changes: &Changes,
+    ranges: &OpeningRanges,
 ) -> Result<(), BatchFault>
     ensures { OnOk result (TellsOf (are_damaged journals.now || is_refused opened.now) told.old.faults told.new.faults) }
 {
     match opened {
-        Opened::Agreed(system) => tell_system(alloc, told, journals, system, asked, changes),
+        Opened::Agreed(system) => tell_system(alloc, told, journals, system, asked, ranges),
         Opened::Refused { clear, depot } => {
-            tell_refused(alloc, told, journals, clear, depot, asked, changes)?;
+            tell_refused(alloc, told, journals, clear, depot, asked, ranges)?;
             if told.faults() == 0 {
                 return told.fault("both", "the records do not agree");
             }
@@ -292,30 +293,32 @@ fn tell_with<W: Write + Drop>(
     journals: &Journals<'_>,
     list: &[Opening],
     asked: &Asked<'_>,
-    changes: &Changes,
+    ranges: &OpeningRanges,
 ) -> Result<(), BatchFault>
     ensures { OnOk result ((opened : Opened) × IsOpening (standing list.now) journals.now.clear.now journals.now.depot.now opened
         × TellsOf (are_damaged journals.now || is_refused opened) told.old.faults told.new.faults) }
 {
     let opened = open_with(alloc, journals, list)?;
-    let ended = tell_opened(alloc, told, journals, &opened, asked, changes);
+    let ended = tell_opened(alloc, told, journals, &opened, asked, ranges);
     drop(opened);
     ended
 }
 
-// The openings that are asked for; the rows that fall out are told.
+// The openings that are asked for; the rows that fall out are told. Where none are asked for, those that
+// all records need at least.
 fn take_openings<W: Write + Drop>(
     alloc: Global,
     told: &mut Told<W>,
     asked: &Asked<'_>,
-    changes: &Changes,
+    ranges: &OpeningRanges,
 ) -> Result<Vec<Opening>, BatchFault>
     ensures list { IfOk result (λ list. IsOf asked.now (standing (vec_items list))) }
     ensures tells { OnOk result (TellsOf (has_fallen asked.now) told.old.faults told.new.faults) }
+    ensures least { IfOk result (λ list. asked.now.openings ≡ None → NeedsOf ranges.now (standing (vec_items list))) }
 {
     match asked.openings {
         Some(rows) => take_rows(alloc, told, rows),
-        None => Ok(openings_by(alloc, changes)?),
+        None => Ok(ranges.least_openings(alloc)?),
     }
 }
 
@@ -330,9 +333,9 @@ fn tell_all<W: Write + Drop>(
     ensures faulty { OnOk result (0 < told.new.faults → told.old.faults ≡ 0 → HasNoOther asked.now → IsFaulty asked.now journals.now) }
 {
     tell_other_openings(alloc, told, asked)?;
-    let changes = changes_of(alloc, journals.depot)?;
-    let list = take_openings(alloc, told, asked, &changes)?;
-    tell_with(alloc, told, journals, list.as_slice(), asked, &changes)
+    let ranges = ranges_of(alloc, journals.depot)?;
+    let list = take_openings(alloc, told, asked, &ranges)?;
+    tell_with(alloc, told, journals, list.as_slice(), asked, &ranges)
 }
 
 /// The openings that are asked for, where each row of them holds; the least ones where there are no rows.
@@ -357,7 +360,8 @@ pub(crate) fn openings_asked(
 /// Checks both journals, and tells what it finds; answers how many faults it has told. Where it has told none, each row of the
 /// openings that are asked for stands, no damage follows either journal's records, and both nodes open from them with those
 /// openings, or with some where none are asked for. Where it has told some, a row falls out, damage follows the records of a
-/// journal, or both nodes do not open with those openings, or with some; or the folder keeps other ones. (This project's own rules.)
+/// journal, or both nodes do not open with those openings, or with none at all where none are asked for; or the folder keeps other
+/// ones. (This project's own rules.)
 ///
 /// Refuses `Memory` and `Write`, and a part of the lines may then have been written.
 pub fn check_journals<W: Write + Drop>(

@@ -2,9 +2,8 @@
 
 ghost use Rattle.std.specs.Prelude.{◌≡◌};
 
-use crate::least::Changes;
 use crate::told::Told;
-use cns_depository::Depository;
+use cns_depository::{Depository, OpeningRanges};
 use cns_input::BatchFault;
 use cns_journal::Keeper;
 use std::alloc::Global;
@@ -15,14 +14,15 @@ pub(crate) fn tell_changes<W: Write + Drop>(
     alloc: Global,
     told: &mut Told<W>,
     name: &str,
-    changes: &Changes,
+    ranges: &OpeningRanges,
 ) -> Result<(), BatchFault>
     ensures { told.new.faults ≡ told.old.faults }
 {
-    for (held, change) in changes {
+    let changes = ranges.changes(alloc)?;
+    for change in &changes {
         let (by, least) = (change.change, change.least);
         let numbers = format!(in alloc; " change {by} least {least}")?;
-        told.line(name, (held.issue, " ", held.account, numbers.as_str()))?;
+        told.line(name, (change.issue, " ", change.account, numbers.as_str()))?;
     }
     Ok(())
 }

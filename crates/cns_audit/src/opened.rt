@@ -1,7 +1,7 @@
 //! Both nodes, opened from copies of their journals.
 
-ghost use Rattle.std.specs.Prelude.{IfOk};
-ghost use Rattle.cns_audit.specs.Opened.{IsOpening, IsRefused};
+ghost use Rattle.std.specs.Prelude.{◌≡◌, IfOk};
+ghost use Rattle.cns_audit.specs.Opened.{IsOpening, IsRefused, is_of_reading, wants_memory};
 
 use crate::journal::Journals;
 use cns_clearing::Clearing;
@@ -55,10 +55,22 @@ fn open_depot<'a>(
     }
 }
 
-// Whether the nodes were not opened for want of memory.
-fn wants_memory(fault: StartFault) -> bool {
+// Whether a journal was not read, for another reason than what stands in it.
+fn is_of_reading(fault: ReplayFault) -> bool
+    ensures { result ≡ is_of_reading fault }
+{
     match fault {
-        StartFault::Clear(fault) | StartFault::Depot(fault) => bad_place(fault).is_err(),
+        ReplayFault::BadJournal { .. } => false,
+        ReplayFault::OutOfMemory | ReplayFault::Device => true,
+    }
+}
+
+// Whether the nodes were not opened for want of memory.
+fn wants_memory(fault: StartFault) -> bool
+    ensures { result ≡ wants_memory fault }
+{
+    match fault {
+        StartFault::Clear(fault) | StartFault::Depot(fault) => is_of_reading(fault),
         StartFault::Disagree => false,
     }
 }

@@ -40,17 +40,17 @@ nothing_given given (inr more) = absurd (none-some more.0 more.1)
 abbrev first_log : {R : Type 0} → LogState R
 first_log = record { records = []; tried = None; down = false; rejected = []; failures = 0; honest = true; foresight = record { next = Succeeds; stands = None } }
 
-first : {R : Type 0} (spelling : R → List ℕ) (allows : List R → R → Type 0) (log : LogState R) → IsOpened spelling allows new_keeper log → log ≡ first_log
-first {R} spelling allows log opened =
+first : {R : Type 0} (spelling : R → List ℕ) (allows : List R → R → Type 0) (fits : R → Type 0) (log : LogState R) → IsOpened spelling allows fits new_keeper log → log ≡ first_log
+first {R} spelling allows fits log opened =
     opened.value ∙ ap (λ (rs : List R). record first_log { records = rs }) (no_records log.records (no_items spelling (reverse log.records) (nothing_given _ (opened.given refl))))
 
 pub started_first : (openings : List Opening) (w : World) → IsStarted openings new_keeper new_keeper w → scene_of w ≡ first_scene openings
 started_first openings w started =
     rw (
-      first spelling IsAllowed w.clear.clear.log started.clear_opens.0,
+      first spelling IsAllowed HasPayload w.clear.clear.log started.clear_opens.0,
       started.clear_opens.1,
       started.lots,
-      first dep_spelling (IsExecutable openings) w.depot.log started.depot_opens.0,
+      first dep_spelling (IsExecutable openings) HasDepPayload w.depot.log started.depot_opens.0,
       started.depot_opens.1,
       started.orders,
       started.replies,
@@ -81,5 +81,5 @@ none_unopened input clear depot (start.Depot replay.OutOfMemory, rejected, long,
 none_unopened input clear depot (start.Depot replay.Device, rejected, long, (returned, reopened)) = absurd (cc reopened.foreseen.0)
 none_unopened input clear depot (start.Disagree, rejected, long, (c, opened, (p, stocked, differs))) =
     differs
-    (nothing_agrees c.log.records p.log.records (ap (λ (l : LogState ClearRecord). l.records) (first spelling IsAllowed c.log opened.0.0))
-    (ap (λ (l : LogState DepRecord). l.records) (first dep_spelling (IsExecutable input.openings) p.log stocked.0.0)))
+    (nothing_agrees c.log.records p.log.records (ap (λ (l : LogState ClearRecord). l.records) (first spelling IsAllowed HasPayload c.log opened.0.0))
+    (ap (λ (l : LogState DepRecord). l.records) (first dep_spelling (IsExecutable input.openings) HasDepPayload p.log stocked.0.0)))

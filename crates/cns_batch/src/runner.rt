@@ -38,6 +38,7 @@ impl<N: Nodes> Runner<N> {
     }
 
     /// Lets an event happen, and tells its outcome.
+    #[inline(always)]
     pub(crate) fn single<W: Write>(&mut self, event: Event, writer: &mut W) -> Told
         ensures { Runs N.leads (single event) result (at self.old (W.contents writer.old)) (at self.new (W.contents writer.new)) }
     {

@@ -127,7 +127,7 @@ without_lots b new are law none = record {
 }
 
 pub node_opened : (b : Books) (keeper : KeeperState) (node : ClearNode) → IsOpened keeper node → AreBooksOf b node.log.records → IsNode b node
-node_opened b keeper node opened are = without_lots b node are (opened_lawful IsAllowed spelling keeper node.log opened.0) opened.1
+node_opened b keeper node opened are = without_lots b node are (opened_lawful IsAllowed spelling HasPayload keeper node.log opened.0) opened.1
 
 pub node_restarted : (b b' : Books) (old new : ClearNode) (done : Restarted) → IsNode b old → RestartLeaves (Ok done) old new → AreBooksOf b' new.log.records → IsNode b' new
 node_restarted b b' old new done n left are = without_lots b' new are (restarted_lawful IsAllowed spelling HasPayload (Ok done) old.log new.log n.log left.0) left.1

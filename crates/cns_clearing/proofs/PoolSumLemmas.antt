@@ -1,5 +1,5 @@
 -- What the orders of each issue come to, as orders are issued and confirmed.
-use Rattle.std.proofs.Common.{◌≡◌, ℕ, suc, ◌+◌, ◌*◌, ◌^◌, ◌≤◌, Bool, true, false, List, [], ◌∷◌, length, length-append, Some, refl, sym, ap, ◌∙◌, arith, subst}
+use Rattle.std.proofs.Common.{◌≡◌, ℕ, suc, ◌+◌, ◌*◌, ◌^◌, ◌≤◌, Bool, true, false, List, [], ◌∷◌, length, length-append, Some, unwrap_or, refl, sym, ap, ◌∙◌, arith, subst}
 use Rattle.std.specs.Prelude.{◌==◌, ◌&&◌, ◌||◌, Option, None, is_some, sum_by, if◌then◌else◌}
 use Rattle.std.proofs.lemmas.Bool.{eq-eqb}
 use Rattle.std.proofs.lemmas.List.Sums.{sum_by-append, sum_by-cons}
@@ -18,6 +18,7 @@ use Rattle.cns_clearing.specs.Pools.{asked_of_pool, covered_of, delivered_of, ki
 use Rattle.cns_clearing.specs.PoolSums.{ArePools, AreSumsOf, is_asked, is_named, sums_at}
 use Rattle.cns_clearing.specs.declared.pool_sums.PoolSums.{PoolSums}
 use Rattle.cns_movements.proofs.BookLemmas.{with_asks_lawful, with_reply_lawful}
+use Rattle.cns_netting.proofs.PutLemmas.{PutsAt, put_holds}
 use Rattle.cns_clearing.specs.Books.{are_spent}
 use Rattle.cns_clearing.proofs.BooksLemmas.{numbers_suffice}
 use Rattle.cns_clearing.proofs.IssueLemmas.{named_ordered, order_named}
@@ -44,6 +45,52 @@ sums_kept old new book now are same is = subst (AreSumsOf new) (sym is) (record 
   out = λ i. ap (λ (s : PoolSums). s.out) (same i) ∙ are.out i;
   asked = are.asked;
 })
+
+-- ---- put anew at one issue
+
+-- what is found for an issue, all 0 where it has none
+pub sums_found : (found : Option PoolSums) (now : PoolSums) (entry : Option PoolSums) → now ≡ unwrap_or entry (record { covered = 0; delivered = 0; out = 0 }) → entry ≡ found → now ≡ sums_at found
+sums_found found now entry value same = value ∙ ap (λ (o : Option PoolSums). unwrap_or o (record { covered = 0; delivered = 0; out = 0 })) same ∙ by found
+  where
+    by : (o : Option PoolSums) → unwrap_or o (record { covered = 0; delivered = 0; out = 0 }) ≡ sums_at o
+    by None = refl
+    by (Some sums) = refl
+
+-- a part of the sums grows at that issue alone, where it is one that grows, and what is put has so much more of it
+pub put_adds : (part : PoolSums → ℕ) (grows : Bool) (n issue : ℕ) (w : PoolSums) (old new : ℕ → Option PoolSums) → PutsAt issue w old new
+    → part w ≡ part (sums_at (old issue)) + (if grows then n else 0) → (i : ℕ) → part (sums_at (new i)) ≡ part (sums_at (old i)) + (if grows && (issue == i) then n else 0)
+put_adds part grows n issue w old new puts more =
+    put_holds (λ b was now. part (sums_at now) ≡ part (sums_at was) + (if grows && b then n else 0)) issue w old new puts (there grows more) (λ o. stays grows (part (sums_at o)))
+  where
+    there : (g : Bool) → part w ≡ part (sums_at (old issue)) + (if g then n else 0) → part w ≡ part (sums_at (old issue)) + (if g && true then n else 0)
+    there true is = is
+    there false is = is
+
+    stays : (g : Bool) (m : ℕ) → m ≡ m + (if g && false then n else 0)
+    stays true m = omega arith
+    stays false m = omega arith
+
+-- and falls, where what is put has so much less
+pub put_takes : (part : PoolSums → ℕ) (falls : Bool) (n issue : ℕ) (w : PoolSums) (old new : ℕ → Option PoolSums) → PutsAt issue w old new
+    → part w + (if falls then n else 0) ≡ part (sums_at (old issue)) → (i : ℕ) → part (sums_at (new i)) + (if falls && (issue == i) then n else 0) ≡ part (sums_at (old i))
+put_takes part falls n issue w old new puts less =
+    put_holds (λ b was now. part (sums_at now) + (if falls && b then n else 0) ≡ part (sums_at was)) issue w old new puts (there falls less) (λ o. stays falls (part (sums_at o)))
+  where
+    there : (f : Bool) → part w + (if f then n else 0) ≡ part (sums_at (old issue)) → part w + (if f && true then n else 0) ≡ part (sums_at (old issue))
+    there true is = is
+    there false is = is
+
+    stays : (f : Bool) (m : ℕ) → m + (if f && false then n else 0) ≡ m
+    stays true m = omega arith
+    stays false m = omega arith
+
+-- and stays, where what is put has as much of it
+pub put_same : (part : PoolSums → ℕ) (issue : ℕ) (w : PoolSums) (old new : ℕ → Option PoolSums) → PutsAt issue w old new → part w ≡ part (sums_at (old issue))
+    → (i : ℕ) → part (sums_at (new i)) ≡ part (sums_at (old i))
+put_same part issue w old new puts same = put_holds (λ b was now. part (sums_at now) ≡ part (sums_at was)) issue w old new puts same (λ o. refl)
+
+pub put_named : (issue : ℕ) (w : PoolSums) (old new : ℕ → Option PoolSums) → PutsAt issue w old new → (i : ℕ) → is_some (new i) ≡ ((issue == i) || is_some (old i))
+put_named issue w old new puts = put_holds (λ b was now. is_some now ≡ (b || is_some was)) issue w old new puts refl (λ o. refl)
 
 -- ---- with more orders
 

@@ -51,7 +51,7 @@ RestartLeaves result old new = LogRestarts spelling IsAllowed HasPayload result 
 
 -- what an opening gives: a node that is up, with the records that its keeper gave
 abbrev pub IsOpened : KeeperState → ClearNode → Type 0
-IsOpened keeper node = log.IsOpened spelling IsAllowed keeper node.log × (node.lots ≡ [])
+IsOpened keeper node = log.IsOpened spelling IsAllowed HasPayload keeper node.log × (node.lots ≡ [])
 
 -- what a refused opening leaves of the keeper; where a payload is bad, these are all that were given
 abbrev pub IsUnread : ReplayFault → List (List ℕ) → KeeperState → KeeperState → Type 0

@@ -89,6 +89,7 @@ impl Books {
     }
 
     /// What the accepted trades say of a trade.
+    #[inline(always)]
     pub(crate) fn verdict(&self, trade: &Trade) -> Verdict
         ensures { result ≡ verdict_on (accepted self.now.books.history) trade.now }
     {
@@ -218,6 +219,7 @@ impl Books {
     }
 
     /// Takes the memory that `add` of a record needs, which makes these orders.
+    #[inline(always)]
     pub(crate) fn room(&mut self, entry: &ClearRecord, asks: &[Ask]) -> Result<(), AllocError>
         requires { Allows self.old.books entry.now }
         ensures same { self.new.books ≡ self.old.books }
@@ -261,6 +263,7 @@ impl Books {
 
     /// Adds a record, which makes this besides itself, and answers how many trades it makes due. It
     /// takes no memory.
+    #[inline(always)]
     pub(crate) fn add(&mut self, entry: &ClearRecord, effects: Effects) -> u64
         requires room { HasRoom entry.now (length effects.asks.items) self.old }
         requires sound { AreSound self.old.books }
@@ -306,9 +309,7 @@ impl Books {
         let Ok(()) = self.trades.add(*trade) else {
             unreachable!()
         };
-        let Ok(()) = self.book.accept(*trade) else {
-            unreachable!()
-        };
+        self.book.accept_reserved(trade);
     }
 
     fn exempt(&mut self, member: MemberNo, issue: Cusip, shares: Shares)
@@ -356,9 +357,7 @@ impl Books {
         };
         self.orders.confirm(reply);
         let amount = amount_of(&order, reply);
-        let Ok(()) = self.book.settle(order.member, order.issue, amount) else {
-            unreachable!()
-        };
+        self.book.settle_reserved(order.member, order.issue, amount);
     }
 }
 

@@ -598,6 +598,7 @@ impl<K: Keeper> Clearing<K> {
 
     // Adds a record that may stand after the others and makes this besides itself: commits it, and
     // then adds it to the books. Answers how many trades it makes due.
+    #[inline(always)]
     fn add(&mut self, entry: ClearRecord, effects: Effects) -> Result<u64, CommitFault>
         requires up { self.old.log.down ≡ false }
         requires allowed { IsAllowed self.old.log.records entry }

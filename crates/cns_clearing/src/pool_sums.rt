@@ -22,17 +22,32 @@ pub(crate) struct PoolSums {
     pub(crate) out: u128,
 }
 
+impl PoolSums {
+    const NOTHING: PoolSums = PoolSums {
+        covered: 0,
+        delivered: 0,
+        out: 0,
+    };
+
+    // With so many shares more that are asked of the pool.
+    fn asked_by(self, shares: u64) -> PoolSums
+        requires { self.out + shares < 2 ^ 128 }
+        ensures { result ≡ record self { out = self.out + shares } }
+    {
+        PoolSums {
+            out: self.out + u128::from(shares),
+            ..self
+        }
+    }
+}
+
 /// The sums of an issue: all 0 where it has none.
 pub(crate) fn sums_of(pools: &HashMap<Cusip, PoolSums>, issue: Cusip) -> PoolSums
     ensures { result ≡ sums_at (get nat_eq pools.now issue) }
 {
     match pools.get(&issue) {
         Some(sums) => *sums,
-        None => PoolSums {
-            covered: 0,
-            delivered: 0,
-            out: 0,
-        },
+        None => PoolSums::NOTHING,
     }
 }
 
@@ -45,19 +60,6 @@ pub(crate) fn issues_in(
     ensures named { IfOk result (λ v. (i : ℕ) → list_any (nat_eq i) v.items ≡ is_some (get nat_eq pools.now i)) }
 {
     pools.keys().copied().collect(alloc)
-}
-
-// Sets the sums of an issue, for which there is room.
-fn put(pools: &mut HashMap<Cusip, PoolSums>, issue: Cusip, sums: PoolSums)
-    requires { 0 < spare pools.old }
-    ensures sums { (i : ℕ) → sums_at (get nat_eq pools.new i)
-        ≡ (if issue == i then sums else sums_at (get nat_eq pools.old i)) }
-    ensures named { (i : ℕ) → is_some (get nat_eq pools.new i) ≡ ((issue == i) || is_some (get nat_eq pools.old i)) }
-    ensures left { spare pools.old ≤ spare pools.new + 1 }
-{
-    let Ok(_) = pools.insert(issue, sums) else {
-        unreachable!()
-    };
 }
 
 // What a new order asks of the pool: what a delivery asks for, and a cover nothing.
@@ -82,12 +84,11 @@ fn ask(pools: &mut HashMap<Cusip, PoolSums>, issue: Cusip, asked: u64)
     ensures named { (i : ℕ) → is_some (get nat_eq pools.new i) ≡ ((issue == i) || is_some (get nat_eq pools.old i)) }
     ensures left { spare pools.old ≤ spare pools.new + 1 }
 {
-    let sums = sums_of(pools, issue);
-    let asked_more = PoolSums {
-        out: sums.out + u128::from(asked),
-        ..sums
+    let Ok(entry) = pools.entry(issue) else {
+        unreachable!()
     };
-    put(pools, issue, asked_more);
+    let sums = entry.or_insert(PoolSums::NOTHING);
+    *sums = sums.asked_by(asked);
 }
 
 /// Adds what new orders ask of the pools, where there is room for their issues. Each of these has sums from
@@ -126,9 +127,11 @@ pub(crate) fn settle(pools: &mut HashMap<Cusip, PoolSums>, order: &Order, moved:
         ≡ (sums_at (get nat_eq pools.old i)).out }
     ensures named { (i : ℕ) → is_some (get nat_eq pools.new i) ≡ ((order.now.issue == i) || is_some (get nat_eq pools.old i)) }
 {
-    let sums = sums_of(pools, order.issue);
-    let settled = settled(sums, order, moved);
-    put(pools, order.issue, settled);
+    let Ok(entry) = pools.entry(order.issue) else {
+        unreachable!()
+    };
+    let sums = entry.or_insert(PoolSums::NOTHING);
+    *sums = settled(*sums, order, moved);
 }
 
 // The sums of an order's issue after it moved these shares.

@@ -144,7 +144,7 @@ found_among (e ∷ es) q found = by (place_eq q e.0) refl (found_among es q) fou
 
 moved_named : (s : Stock) (p : List DepRecord) (a : Account) (issue : ℕ) → IsStockOf s p → moved_in p a issue ≢ 0 → IsAmong (record { issue = issue; side = At a }) (keys s.moved)
 moved_named s p a issue stock some =
-    found_among s.moved.entries _ (λ none. some (sym (stock.entered (At a) issue) ∙ ap (λ (m : Option Moved). (moved_at m).entered) none))
+    found_among s.moved.entries _ (λ none. some (sym (stock.sums.entered (At a) issue) ∙ ap (λ (m : Option Moved). (moved_at m).entered) none))
 
 -- a balance other than 0 is of a place that is opened, or into which something was moved
 stock_place : (s : Stock) (openings : List Opening) (p : List DepRecord) (a : Account) (issue : ℕ) → IsStockOf s p → balance_of openings p a issue ≢ 0

@@ -4,6 +4,10 @@ pub mod OpeningLemmas
 pub mod TotalLemmas
 pub mod NodeLemmas
 pub mod BalanceLemmas
+pub mod LeastLemmas
+pub mod MemberSums
+pub mod RangeLemmas
+pub mod LeastOpenings
 pub mod PlaceLemmas
 pub mod RowLemmas
 pub mod KeyLemmas

@@ -74,7 +74,7 @@ instruction_by_key (Own i ∷ p) m n = by ((i.member == m) && (i.number == n)) (
 -- ---- what records take
 
 -- sides that are accounts' are the same where the accounts are
-same_At : (a b : Account) → At a ≡ At b → a ≡ b
+pub same_At : (a b : Account) → At a ≡ At b → a ≡ b
 same_At a b e = cc
 
 not_refused : (b : Bool) → cond b (Some TooFew) None ≡ None → b ≡ false

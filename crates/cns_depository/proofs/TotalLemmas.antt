@@ -1,5 +1,5 @@
 -- What the records of a depository come to, as there are more of them.
-use Rattle.std.proofs.Common.{◌≡◌, ℕ, ◌+◌, ◌^◌, ◌<◌, ◌≤◌, Bool, true, false, ◌&&◌, List, [], ◌∷◌, ◌++◌, reverse, length, length-append, Option, Some, None, refl, sym, ap, ◌∙◌, subst, arith}
+use Rattle.std.proofs.Common.{◌≡◌, ℕ, ◌+◌, ◌^◌, ◌<◌, ◌≤◌, Bool, true, false, ◌&&◌, List, [], ◌∷◌, ◌++◌, reverse, length, length-append, Option, Some, None, cond, unwrap_or, refl, sym, ap, ◌∙◌, subst, arith}
 use Rattle.std.specs.Prelude.{◌==◌, if◌then◌else◌}
 use Rattle.std.specs.List.{slice_get}
 use Rattle.std.proofs.Math.Seq.{get_or-append_seam}
@@ -17,7 +17,7 @@ use Rattle.cns_depository.specs.declared.movement.Transfer.{Transfer}
 use Rattle.cns_depository.specs.declared.place.Place.{Place}
 use Rattle.cns_depository.specs.Account.{same_side}
 use Rattle.cns_depository.specs.Stock.{brought, part_in, part_out, taken, transfer_of}
-use Rattle.cns_depository.specs.Totals.{AreTotalsOf, HasIndex, key_eq, key_of, place_eq, record_of}
+use Rattle.cns_depository.specs.Totals.{AreTransferred, AreTotalsOf, HasIndex, key_eq, key_of, moved_at, place_eq, record_of}
 use Rattle.cns_depository.proofs.MovementLemmas.{and_left, and_right, earlier_record, equal_sides, newest_record}
 
 -- ---- the index of a record
@@ -66,7 +66,7 @@ swap false true = refl
 swap false false = refl
 
 -- a place is that of a side in an issue where both are the same
-at_place : (x s : Side) (i issue : ℕ) → place_eq (record { issue = i; side = x }) (record { issue = issue; side = s }) ≡ (same_side x s && (i == issue))
+pub at_place : (x s : Side) (i issue : ℕ) → place_eq (record { issue = i; side = x }) (record { issue = issue; side = s }) ≡ (same_side x s && (i == issue))
 at_place Outside Outside i issue = swap (i == issue) true
 at_place Outside (At a) i issue = swap (i == issue) false
 at_place (At a) Outside i issue = swap (i == issue) false
@@ -104,6 +104,19 @@ put_same at k w old new puts same q = by (place_eq k q) refl (puts q)
     by true e is = ap at is ∙ same ∙ ap (λ (z : Place). at (old z)) (equal_places k q e)
     by false e is = ap at is
 
+-- what is found for a place, nothing where it is not named
+pub moved_found : (found : Option Moved) (now : Moved) (entry : Option Moved) → now ≡ unwrap_or entry (record { entered = 0; left = 0 }) → entry ≡ found → now ≡ moved_at found
+moved_found found now entry value same = value ∙ ap (λ (o : Option Moved). unwrap_or o (record { entered = 0; left = 0 })) same ∙ by found
+  where
+    by : (o : Option Moved) → unwrap_or o (record { entered = 0; left = 0 }) ≡ moved_at o
+    by None = refl
+    by (Some m) = refl
+
+-- and after w is put at one
+pub moved_put : (b : Bool) (w : Moved) (old new : Option Moved) → new ≡ cond b (Some w) old → moved_at new ≡ (if b then w else moved_at old)
+moved_put true w old new is = ap moved_at is
+moved_put false w old new is = ap moved_at is
+
 -- ---- the totals
 
 at_most : (b : Bool) (n : ℕ) → (if b then n else 0) ≤ n
@@ -111,38 +124,41 @@ at_most true n = omega arith
 at_most false n = omega arith
 
 -- those of no records
-pub totals_none : (moved : Place → Moved) (indices : Key → Option ℕ) → ((k : Place) → moved k ≡ record { entered = 0; left = 0 }) → ((k : Key) → indices k ≡ None) → AreTotalsOf moved indices []
+pub sums_none : (moved : Place → Moved) → ((k : Place) → moved k ≡ record { entered = 0; left = 0 }) → AreTransferred moved []
 unfolding brought taken
-totals_none moved indices nothing none = record {
+sums_none moved nothing = record {
   entered = λ a i. ap (λ (m : Moved). m.entered) (nothing (record { issue = i; side = a }));
   left = λ a i. ap (λ (m : Moved). m.left) (nothing (record { issue = i; side = a }));
-  found = λ n. subst (HasIndex [] n) (sym (none n)) refl;
   few = omega arith;
   entered_small = λ a i. omega arith;
   left_small = λ a i. omega arith;
 }
 
+pub totals_none : (moved : Place → Moved) (indices : Key → Option ℕ) → ((k : Place) → moved k ≡ record { entered = 0; left = 0 }) → ((k : Key) → indices k ≡ None) → AreTotalsOf moved indices []
+totals_none moved indices nothing none = record { sums = sums_none moved nothing; found = λ n. subst (HasIndex [] n) (sym (none n)) refl }
+
 -- look-ups alone count
-pub totals_kept : (moved now : Place → Moved) (indices after : Key → Option ℕ) (p : List DepRecord) → ((k : Place) → now k ≡ moved k) → ((k : Key) → after k ≡ indices k)
-    → AreTotalsOf moved indices p → AreTotalsOf now after p
-totals_kept moved now indices after p same found totals = record {
-  entered = λ a i. ap (λ (m : Moved). m.entered) (same (record { issue = i; side = a })) ∙ totals.entered a i;
-  left = λ a i. ap (λ (m : Moved). m.left) (same (record { issue = i; side = a })) ∙ totals.left a i;
-  found = λ n. subst (HasIndex p n) (sym (found n)) (totals.found n);
-  few = totals.few;
-  entered_small = totals.entered_small;
-  left_small = totals.left_small;
+pub sums_kept : (moved now : Place → Moved) (p : List DepRecord) → ((k : Place) → now k ≡ moved k) → AreTransferred moved p → AreTransferred now p
+sums_kept moved now p same sums = record {
+  entered = λ a i. ap (λ (m : Moved). m.entered) (same (record { issue = i; side = a })) ∙ sums.entered a i;
+  left = λ a i. ap (λ (m : Moved). m.left) (same (record { issue = i; side = a })) ∙ sums.left a i;
+  few = sums.few;
+  entered_small = sums.entered_small;
+  left_small = sums.left_small;
 }
 
+pub totals_kept : (moved now : Place → Moved) (indices after : Key → Option ℕ) (p : List DepRecord) → ((k : Place) → now k ≡ moved k) → ((k : Key) → after k ≡ indices k)
+    → AreTotalsOf moved indices p → AreTotalsOf now after p
+totals_kept moved now indices after p same found totals = record { sums = sums_kept moved now p same totals.sums; found = λ n. subst (HasIndex p n) (sym (found n)) (totals.found n) }
+
 -- those with one more record
-pub totals_more : (moved now : Place → Moved) (indices after : Key → Option ℕ) (p : List DepRecord) (e : DepRecord) (t : Transfer) (shares : ℕ) → AreTotalsOf moved indices p
+pub sums_more : (moved now : Place → Moved) (p : List DepRecord) (e : DepRecord) (t : Transfer) (shares : ℕ) → AreTransferred moved p
     → length p < 2 ^ 64 → t ≡ transfer_of e → shares ≡ t.shares → t.shares ≤ 10 ^ 18
     → ((k : Place) → (now k).entered ≡ (moved k).entered + (if place_eq (record { issue = t.issue; side = t.receiver }) k then shares else 0))
     → ((k : Place) → (now k).left ≡ (moved k).left + (if place_eq (record { issue = t.issue; side = t.giver }) k then shares else 0))
-    → ((k : Key) → after k ≡ (if key_eq (key_of e) k then Some (length p) else indices k))
-    → AreTotalsOf now after (e ∷ p)
+    → AreTransferred now (e ∷ p)
 unfolding brought taken
-totals_more moved now indices after p e t shares totals few is worth small entered left found =
+sums_more moved now p e t shares sums few is worth small entered left =
     let into : Side → ℕ → DepRecord → ℕ = λ a i x. part_in a i (transfer_of x) in
     let out : Side → ℕ → DepRecord → ℕ = λ a i x. part_out a i (transfer_of x) in
     let within : (transfer_of e).shares ≤ 10 ^ 18 = subst (λ (x : Transfer). x.shares ≤ 10 ^ 18) is small in
@@ -151,18 +167,21 @@ totals_more moved now indices after p e t shares totals few is worth small enter
           let here = ap (λ (b : Bool). if b then shares else 0) (at_place t.receiver a t.issue i) in
           let part : (if same_side t.receiver a && (t.issue == i) then shares else 0) ≡ into a i e =
           ap (λ (n : ℕ). if same_side t.receiver a && (t.issue == i) then n else 0) worth ∙ ap (part_in a i) is in
-          omega (arith, entered (record { issue = i; side = a }), totals.entered a i, here, part, sum_by-cons (into a i) e p);
+          omega (arith, entered (record { issue = i; side = a }), sums.entered a i, here, part, sum_by-cons (into a i) e p);
       left = λ a i.
           let here = ap (λ (b : Bool). if b then shares else 0) (at_place t.giver a t.issue i) in
           let part : (if same_side t.giver a && (t.issue == i) then shares else 0) ≡ out a i e =
           ap (λ (n : ℕ). if same_side t.giver a && (t.issue == i) then n else 0) worth ∙ ap (part_out a i) is in
-          omega (arith, left (record { issue = i; side = a }), totals.left a i, here, part, sum_by-cons (out a i) e p);
-      found = λ n. subst (HasIndex (e ∷ p) n) (sym (found n)) (index_more p e n (indices n) (totals.found n));
+          omega (arith, left (record { issue = i; side = a }), sums.left a i, here, part, sum_by-cons (out a i) e p);
       few = omega (arith, few);
       entered_small = λ a i.
           let most : into a i e ≤ (transfer_of e).shares = at_most (same_side (transfer_of e).receiver a && ((transfer_of e).issue == i)) (transfer_of e).shares in
-          omega (arith, totals.entered_small a i, within, most, sum_by-cons (into a i) e p);
+          omega (arith, sums.entered_small a i, within, most, sum_by-cons (into a i) e p);
       left_small = λ a i.
           let most : out a i e ≤ (transfer_of e).shares = at_most (same_side (transfer_of e).giver a && ((transfer_of e).issue == i)) (transfer_of e).shares in
-          omega (arith, totals.left_small a i, within, most, sum_by-cons (out a i) e p);
+          omega (arith, sums.left_small a i, within, most, sum_by-cons (out a i) e p);
     }
+
+pub found_more : (indices after : Key → Option ℕ) (p : List DepRecord) (e : DepRecord) → ((k : Key) → HasIndex p k (indices k))
+    → ((k : Key) → after k ≡ (if key_eq (key_of e) k then Some (length p) else indices k)) → (k : Key) → HasIndex (e ∷ p) k (after k)
+found_more indices after p e had found k = subst (HasIndex (e ∷ p) k) (sym (found k)) (index_more p e k (indices k) (had k))

@@ -2,7 +2,10 @@ pub mod Account
 pub mod Openings
 pub mod OpeningIndex
 pub mod Stock
+pub mod Least
 pub mod Balances
 pub mod Node
 pub mod Totals
+pub mod Ranges
+pub mod RangesOf
 pub mod Answers

@@ -45,7 +45,7 @@ RestartLeaves result old new =
 
 -- what an opening gives: a node that is up, with the records that its keeper gave
 abbrev pub IsOpened : List Opening → KeeperState → DepNode → Type 0
-IsOpened openings keeper node = log.IsOpened dep_spelling (IsExecutable openings) keeper node.log × (node.openings ≡ openings)
+IsOpened openings keeper node = log.IsOpened dep_spelling (IsExecutable openings) HasDepPayload keeper node.log × (node.openings ≡ openings)
 
 -- what a refused opening leaves of the keeper; where a payload is bad, these are all that were given
 abbrev pub IsUnread : List Opening → ReplayFault → List (List ℕ) → KeeperState → KeeperState → Type 0

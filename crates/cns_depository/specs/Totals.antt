@@ -41,15 +41,18 @@ abbrev pub HasIndex : List DepRecord → Key → Option ℕ → Type 0
 HasIndex p k None = record_of p k ≡ None
 HasIndex p k (Some i) = (i < length p) × (slice_get (reverse p) i ≡ record_of p k)
 
--- what was brought to each place and taken from it, and the index of the record of each key, are those of these records, the newest first,
--- which moved at most 10^18 shares each
-pub record AreTotalsOf (moved : Place → Moved) (indices : Key → Option ℕ) (p : List DepRecord) : Type 0 where
+-- what was brought to each place and taken from it is that of these records, the newest first, which moved at most 10^18 shares each
+pub record AreTransferred (moved : Place → Moved) (p : List DepRecord) : Type 0 where
   pub entered : (s : Side) (issue : ℕ) → (moved (record { issue = issue; side = s })).entered ≡ brought p s issue
   pub left : (s : Side) (issue : ℕ) → (moved (record { issue = issue; side = s })).left ≡ taken p s issue
-  pub found : (k : Key) → HasIndex p k (indices k)
   pub few : length p ≤ 2 ^ 64
   pub entered_small : (s : Side) (issue : ℕ) → brought p s issue ≤ 10 ^ 18 * length p
   pub left_small : (s : Side) (issue : ℕ) → taken p s issue ≤ 10 ^ 18 * length p
+
+-- and so is the index of the record of each key
+pub record AreTotalsOf (moved : Place → Moved) (indices : Key → Option ℕ) (p : List DepRecord) : Type 0 where
+  pub sums : AreTransferred moved p
+  pub found : (k : Key) → HasIndex p k (indices k)
 
 -- a stock is what these records come to
 abbrev pub IsStockOf : Stock → List DepRecord → Type 0

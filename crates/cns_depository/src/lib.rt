@@ -17,6 +17,7 @@ mod movement;
 mod opening_index;
 mod openings;
 mod place;
+mod ranges;
 mod stock;
 
 pub use account::Account;
@@ -25,3 +26,4 @@ pub use depository::Depository;
 pub use fault::{Answer, DepFault, Own, OwnFault, OwnRefusal};
 pub use movement::Movement;
 pub use openings::{OpeningFault, Openings};
+pub use ranges::{AccountChange, OpeningRanges};

@@ -10,8 +10,8 @@ ghost use Rattle.cns_depository.specs.declared.key.Key.{Key};
 use crate::account::{Account, Side, giver_of};
 use crate::fault::OwnRefusal;
 use crate::key::{Key, key_of};
-use crate::moved::{Moved, enter, leave, moved_of};
-use crate::movement::{Movement, executed_in, instructed_in, transfer_of};
+use crate::moved::{Moved, add_transfer, moved_of};
+use crate::movement::{Movement, executed_in, instructed_in};
 use crate::openings::Openings;
 use crate::place::Place;
 use cns_ids::{Cusip, MemberNo, Shares};
@@ -207,18 +207,7 @@ impl Stock {
         ensures { (p : List DepRecord) → IsStockOf self.old p → length p ≡ index
             → IsStockOf self.new (entry.now ∷ p) }
     {
-        let transfer = transfer_of(entry);
-        let receiver = Place {
-            issue: transfer.issue,
-            side: transfer.receiver,
-        };
-        let giver = Place {
-            issue: transfer.issue,
-            side: transfer.giver,
-        };
-        let shares = u128::from(transfer.shares.count());
-        enter(&mut self.moved, &receiver, shares);
-        leave(&mut self.moved, &giver, shares);
+        add_transfer(&mut self.moved, entry);
         note(&mut self.indices, entry, index);
     }
 

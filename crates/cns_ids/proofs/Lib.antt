@@ -1,5 +1,5 @@
 pub mod NumberLemmas
 pub mod CusipLemmas
 pub mod HoldingLemmas
+pub mod HoldingOrder
 pub mod ShareLemmas
-pub mod ValueLemmas

@@ -40,10 +40,6 @@ number_of text = slice_index text 0 * 2 ^ 64 + from_be_bytes w64 (drop 1 text)
 abbrev pub cusip_text : ℕ → List ℕ
 cusip_text n = (n / 2 ^ 64) ∷ to_be_bytes w64 (n % 2 ^ 64)
 
--- the number of the nine bytes of which the first eight are those of a number in base 256, and the ninth is their check digit
-abbrev pub with_check_digit : ℕ → ℕ
-with_check_digit head = head * 256 + (48 + check_digit (to_be_bytes w64 head))
-
 -- what has nine listed characters is a CUSIP where the ninth is the check digit
 abbrev pub with_digit : List ℕ → Option ℕ → Result ℕ CusipFault
 with_digit text (Some place) = Err (fault.BadChar place)

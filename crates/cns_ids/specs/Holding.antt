@@ -1,7 +1,8 @@
 -- A member's place in an issue (this project's own rule).
-use Rattle.std.specs.Prelude.{ℕ, Bool, ◌&&◌, ◌==◌}
+use Rattle.std.specs.Prelude.{ℕ, ◌+◌, ◌*◌, ◌^◌, Bool, ◌&&◌, ◌==◌}
 use Rattle.std.specs.declared.cmp.Ordering.{Ordering}
-use Rattle.std.specs.Ordering.{nat_cmp, ordering_then}
+use Rattle.std.specs.Ordering.{nat_cmp, on, then_cmp}
+use Rattle.cns_ids.specs.CusipNumber.{narrowed}
 use Rattle.cns_ids.specs.declared.holding.Holding.{Holding}
 
 abbrev pub holding_at : ℕ → ℕ → Holding
@@ -13,4 +14,8 @@ holding_eq a b = (a.issue == b.issue) && (a.member == b.member)
 
 -- the order of holdings: by issue, then member
 abbrev pub holding_cmp : Holding → Holding → Ordering
-holding_cmp a b = ordering_then (nat_cmp a.issue b.issue) (nat_cmp a.member b.member)
+holding_cmp = then_cmp (on (λ (k : Holding). k.issue) nat_cmp) (on (λ (k : Holding). k.member) nat_cmp)
+
+-- the issue, as it is held, and the member as one number
+abbrev pub holding_word : Holding → ℕ
+holding_word k = narrowed 9 k.issue * 2 ^ 64 + k.member

@@ -4,6 +4,7 @@ pub mod Holding
 pub mod Member
 pub mod Shares
 pub mod Cusip
+pub mod CusipNumber
 pub mod CusipHead
 pub mod Day
 pub mod DayNumber

@@ -1,10 +1,11 @@
-ghost use Rattle.std.specs.Prelude.{◌≡◌, ◌+◌, ◌/◌, ◌%◌, ◌^◌, ◌*◌, ◌<◌, ◌≤◌, ◌==◌, length, slice_index, take, IfSome, Some, None};
+ghost use Rattle.std.specs.Prelude.{◌≡◌, ◌%◌, ◌<◌, ◌==◌, length, slice_index, is_some, IfSome, MatchResult, if◌then◌else◌, Some, None};
 ghost use Rattle.std.specs.Ordering.{nat_cmp, as_partial_cmp};
 ghost use Rattle.std.proofs.Common.{rules};
 ghost use Rattle.std.specs.Cmp.{partial_order_from_own_ties};
 ghost use Rattle.std.specs.Cmp.Rules.{comparing, hashing};
 ghost use Rattle.std.specs.Hash as fed;
-ghost use Rattle.cns_ids.specs.Cusip.{value_of, share_at as share_of_place, check_digit, first_bad, is_listed_at, number_of, cusip_text, with_check_digit};
+ghost use Rattle.cns_ids.specs.Cusip.{value_of, share_at as share_of_place, cusip_text};
+ghost use Rattle.cns_ids.specs.CusipHead.{IsHead, IsHeadFault};
 
 use std::cmp::Ordering;
 use std::fmt;
@@ -32,67 +33,81 @@ pub enum CusipFault {
 /// nine bytes as one number in base 256, so issues stand in the order of their bytes.
 #[derive(Clone, Copy, Debug)]
 pub struct Cusip {
-    // The first eight bytes as one number in base 256, the first one highest. They tell the ninth.
-    head: u64,
+    // The nine characters as one number in base 128, the first one highest.
+    number: u64,
 }
 
 impl Model for Cusip {
-    ghost use Rattle.std.specs.Prelude.{ℕ, ◌/◌};
+    ghost use Rattle.std.specs.Prelude.{ℕ};
     ghost use Rattle.std.proofs.Common.{refl};
-    ghost use Rattle.cns_ids.specs.Cusip.{IsCusip, with_check_digit};
-    ghost use Rattle.cns_ids.specs.CusipHead.{head_of};
+    ghost use Rattle.cns_ids.specs.Cusip.{IsCusip};
+    ghost use Rattle.cns_ids.specs.CusipNumber.{widened, narrowed, narrowed-widened};
 
     ghost Value = { ℕ };
 
-    ghost view = { λ c. with_check_digit c.head };
+    ghost view = { λ c. widened 9 c.number };
 
-    ghost invariant = { λ c. IsCusip (with_check_digit c.head) };
+    ghost invariant = { λ c. IsCusip (widened 9 c.number) };
 
-    ghost inverse = { λ n. record { head = n / 256 } };
+    ghost inverse = { λ n. record { number = narrowed 9 n } };
 
-    ghost inverse_ok = { λ a h. Prim.rw (head_of a.head) refl };
+    ghost inverse_ok = { λ a h. Prim.rw (narrowed-widened 9 a.number) refl };
 }
 
-// The value of a listed character.
-#[tactic(auto, using(crate::proofs::ValueLemmas::value_is))]
-fn value(character: u8) -> Option<u8>
-    ensures value { result ≡ value_of character }
-    ensures small { IfSome result (λ v. v < 39) }
-{
-    match character {
-        b'0'..=b'9' => Some(character - b'0'),
-        b'A'..=b'Z' => Some(character - b'A' + 10),
-        b'*' => Some(36),
-        b'@' => Some(37),
-        b'#' => Some(38),
-        _ => None,
-    }
-}
+// What a byte that is not listed has in a table of shares.
+const NOT_LISTED: u8 = 255;
 
-// What each character from # to Z adds to the sum in an odd place: the digits of its value added up.
-const ODD_SHARES: [u8; 56] = [
-    11, 0, 0, 0, 0, 0, 0, 9, 0, 0, 0, 0, 0, 0, 1, 2, 3, 4, 5, 6, 7, 8, 9, 0, 0, 0, 0, 0, 0, 10, 1,
-    2, 3, 4, 5, 6, 7, 8, 9, 10, 2, 3, 4, 5, 6, 7, 8, 9, 10, 11, 3, 4, 5, 6, 7, 8,
+// What each byte adds to the sum in an odd place: the digits of its value added up.
+const ODD_SHARES: [u8; 256] = [
+    255, 255, 255, 255, 255, 255, 255, 255, 255, 255, 255, 255, 255, 255, 255, 255, 255, 255, 255,
+    255, 255, 255, 255, 255, 255, 255, 255, 255, 255, 255, 255, 255, 255, 255, 255, 11, 255, 255,
+    255, 255, 255, 255, 9, 255, 255, 255, 255, 255, 0, 1, 2, 3, 4, 5, 6, 7, 8, 9, 255, 255, 255,
+    255, 255, 255, 10, 1, 2, 3, 4, 5, 6, 7, 8, 9, 10, 2, 3, 4, 5, 6, 7, 8, 9, 10, 11, 3, 4, 5, 6,
+    7, 8, 255, 255, 255, 255, 255, 255, 255, 255, 255, 255, 255, 255, 255, 255, 255, 255, 255, 255,
+    255, 255, 255, 255, 255, 255, 255, 255, 255, 255, 255, 255, 255, 255, 255, 255, 255, 255, 255,
+    255, 255, 255, 255, 255, 255, 255, 255, 255, 255, 255, 255, 255, 255, 255, 255, 255, 255, 255,
+    255, 255, 255, 255, 255, 255, 255, 255, 255, 255, 255, 255, 255, 255, 255, 255, 255, 255, 255,
+    255, 255, 255, 255, 255, 255, 255, 255, 255, 255, 255, 255, 255, 255, 255, 255, 255, 255, 255,
+    255, 255, 255, 255, 255, 255, 255, 255, 255, 255, 255, 255, 255, 255, 255, 255, 255, 255, 255,
+    255, 255, 255, 255, 255, 255, 255, 255, 255, 255, 255, 255, 255, 255, 255, 255, 255, 255, 255,
+    255, 255, 255, 255, 255, 255, 255, 255, 255, 255, 255, 255, 255, 255, 255, 255, 255, 255, 255,
+    255, 255, 255, 255, 255, 255, 255, 255, 255, 255, 255, 255, 255, 255,
 ];
 
 // And in an even place, where its value is doubled first.
-const EVEN_SHARES: [u8; 56] = [
-    13, 0, 0, 0, 0, 0, 0, 9, 0, 0, 0, 0, 0, 0, 2, 4, 6, 8, 1, 3, 5, 7, 9, 0, 0, 0, 0, 0, 0, 11, 2,
-    4, 6, 8, 10, 3, 5, 7, 9, 11, 4, 6, 8, 10, 12, 5, 7, 9, 11, 13, 6, 8, 10, 12, 14, 7,
+const EVEN_SHARES: [u8; 256] = [
+    255, 255, 255, 255, 255, 255, 255, 255, 255, 255, 255, 255, 255, 255, 255, 255, 255, 255, 255,
+    255, 255, 255, 255, 255, 255, 255, 255, 255, 255, 255, 255, 255, 255, 255, 255, 13, 255, 255,
+    255, 255, 255, 255, 9, 255, 255, 255, 255, 255, 0, 2, 4, 6, 8, 1, 3, 5, 7, 9, 255, 255, 255,
+    255, 255, 255, 11, 2, 4, 6, 8, 10, 3, 5, 7, 9, 11, 4, 6, 8, 10, 12, 5, 7, 9, 11, 13, 6, 8, 10,
+    12, 14, 7, 255, 255, 255, 255, 255, 255, 255, 255, 255, 255, 255, 255, 255, 255, 255, 255, 255,
+    255, 255, 255, 255, 255, 255, 255, 255, 255, 255, 255, 255, 255, 255, 255, 255, 255, 255, 255,
+    255, 255, 255, 255, 255, 255, 255, 255, 255, 255, 255, 255, 255, 255, 255, 255, 255, 255, 255,
+    255, 255, 255, 255, 255, 255, 255, 255, 255, 255, 255, 255, 255, 255, 255, 255, 255, 255, 255,
+    255, 255, 255, 255, 255, 255, 255, 255, 255, 255, 255, 255, 255, 255, 255, 255, 255, 255, 255,
+    255, 255, 255, 255, 255, 255, 255, 255, 255, 255, 255, 255, 255, 255, 255, 255, 255, 255, 255,
+    255, 255, 255, 255, 255, 255, 255, 255, 255, 255, 255, 255, 255, 255, 255, 255, 255, 255, 255,
+    255, 255, 255, 255, 255, 255, 255, 255, 255, 255, 255, 255, 255, 255, 255, 255, 255, 255, 255,
+    255, 255, 255, 255, 255, 255, 255, 255, 255, 255, 255, 255, 255, 255, 255,
 ];
 
-// What a character has in such a table: nothing where it stands outside of it.
-fn share_in(shares: &[u8; 56], character: u8) -> u8
-    ensures { result ≡ slice_index shares.now ((character + 221) % 256) }
+// What a byte has in such a table; none where it is not listed.
+fn share_in(shares: &[u8; 256], character: u8) -> Option<u8>
+    ensures { let share = slice_index shares.now character in result ≡ (if share == 255 then None else Some share) }
 {
-    let place = usize::from(character.wrapping_sub(b'#'));
-    shares.get(place).copied().unwrap_or(0)
+    let share = shares[usize::from(character)];
+    if share == NOT_LISTED {
+        None
+    } else {
+        Some(share)
+    }
 }
 
-// What a character in a place, counted from 1, adds to the sum.
-fn share_at(place: u8, character: u8) -> u8
-    ensures share { result ≡ share_of_place place character }
-    ensures small { result < 17 }
+// What a character in a place, counted from 1, adds to the sum; none where it is not listed.
+fn share_at(place: u8, character: u8) -> Option<u8>
+    ensures share { result ≡ (if is_some (value_of character) then Some (share_of_place place character) else None) }
+    ensures small { IfSome result (λ share. share < 17) }
+    ensures ascii { IfSome result (λ share. character < 128) }
 {
     if place % 2 == 0 {
         share_in(&EVEN_SHARES, character)
@@ -101,81 +116,75 @@ fn share_at(place: u8, character: u8) -> u8
     }
 }
 
-fn is_listed(place: u8, character: u8) -> bool
-    ensures { result ≡ is_listed_at place character }
-{
-    if place == 9 {
-        character.is_ascii_digit()
-    } else {
-        value(character).is_some()
-    }
+// The first eight characters of a CUSIP.
+#[derive(Clone, Copy)]
+struct Head {
+    // As one number in base 128, the first one highest.
+    number: u64,
+    // The check digit that they want.
+    digit: u8,
 }
 
-// The first place whose character is not allowed there.
-#[tactic(auto, unfolding(crate::specs::Cusip::first_bad))]
-fn bad_place(text: &[u8]) -> Option<u8>
-    requires { length text.now ≡ 9 }
-    ensures { result ≡ first_bad 1 text.now }
-{
-    let mut place = 1;
-    for character in text {
-        if !is_listed(place, *character) {
-            return Some(place);
-        }
-        place += 1;
-    }
-    None
-}
-
-// The check digit of the first eight characters.
-#[tactic(auto, unfolding(crate::specs::Cusip::sum_from))]
-fn digit_for(text: &[u8]) -> u8
+// Reads the first eight characters: the first one that is not listed is their fault.
+fn read_head(text: &[u8]) -> Result<Head, CusipFault>
     requires { length text.now ≡ 8 }
-    ensures digit { result ≡ check_digit text.now }
-    ensures small { result < 10 }
+    ensures { MatchResult result (IsHead text.now) (IsHeadFault text.now) }
 {
+    let mut number: u64 = 0;
     let mut sum: u16 = 0;
     let mut place: u8 = 1;
     for character in text {
-        sum += u16::from(share_at(place, *character));
+        let Some(share) = share_at(place, *character) else {
+            return Err(CusipFault::BadChar { place });
+        };
+        number = number * 128 + u64::from(*character);
+        sum += u16::from(share);
         place += 1;
     }
-    ((10 - sum % 10) % 10) as u8
+    let digit = ((10 - sum % 10) % 10) as u8;
+    Ok(Head { number, digit })
 }
 
-// The first eight of nine bytes as one number in base 256.
-fn head_of(text: &[u8]) -> u64
-    requires size { length text.now ≡ 9 }
-    requires digit { slice_index text.now 8 ≡ 48 + check_digit (take 8 text.now) }
-    ensures { with_check_digit result ≡ number_of text.now }
+// The character in the lowest place of a number in base 128.
+fn last_character(number: u64) -> u8
+    ensures { result ≡ number % 128 }
 {
-    u64::from_be_bytes([
-        text[0], text[1], text[2], text[3], text[4], text[5], text[6], text[7],
-    ])
+    (number % 128) as u8
 }
 
 impl Cusip {
     ghost use Rattle.cns_ids.specs.Cusip.{IsCusip, read_cusip};
+    ghost use Rattle.cns_ids.specs.CusipNumber.{narrowed, widened};
 
     /// Reads a CUSIP.
     ///
     /// Refuses `Length`, then the first `BadChar`, then `CheckDigit`.
     #[tactic(auto, unfolding(crate::specs::Cusip::read_cusip))]
+    #[inline(always)]
     pub fn read(text: &[u8]) -> Result<Cusip, CusipFault>
         ensures exact { result ≡ read_cusip text.now }
     {
         if text.len() != 9 {
             return Err(CusipFault::Length);
         }
-        if let Some(place) = bad_place(text) {
-            return Err(CusipFault::BadChar { place });
+        let head = read_head(&text[..8])?;
+        let digit = text[8];
+        if !digit.is_ascii_digit() {
+            return Err(CusipFault::BadChar { place: 9 });
         }
-        let want = digit_for(&text[..8]);
-        if text[8] != b'0' + want {
-            return Err(CusipFault::CheckDigit { want });
+        if digit != b'0' + head.digit {
+            return Err(CusipFault::CheckDigit { want: head.digit });
         }
-        let head = head_of(text);
-        Ok(Cusip { head })
+        let number = head.number * 128 + u64::from(digit);
+        Ok(Cusip { number })
+    }
+
+    /// The nine characters as one number in base 128: CUSIPs stand in the order of these.
+    pub fn word(self) -> u64
+        ensures word { result ≡ narrowed 9 self }
+        ensures wide { widened 9 result ≡ self }
+    {
+        self.number
     }
 
     /// The nine characters.
@@ -183,10 +192,18 @@ impl Cusip {
         ensures text { result ≡ cusip_text self }
         ensures cusip { IsCusip self }
     {
-        let head = self.head.to_be_bytes();
-        let digit = b'0' + digit_for(&head);
-        let [b0, b1, b2, b3, b4, b5, b6, b7] = head;
-        [b0, b1, b2, b3, b4, b5, b6, b7, digit]
+        let number = self.number;
+        [
+            last_character(number >> 56),
+            last_character(number >> 49),
+            last_character(number >> 42),
+            last_character(number >> 35),
+            last_character(number >> 28),
+            last_character(number >> 21),
+            last_character(number >> 14),
+            last_character(number >> 7),
+            last_character(number),
+        ]
     }
 }
 
@@ -196,7 +213,7 @@ impl PartialEq for Cusip {
     ghost laws = { Prim.search (comparing, rules) };
 
     fn eq(&self, other: &Cusip) -> bool {
-        self.head == other.head
+        self.number == other.number
     }
 }
 
@@ -214,7 +231,7 @@ impl Ord for Cusip {
     ghost matches_eq = { Prim.search (comparing, rules) };
 
     fn cmp(&self, other: &Cusip) -> Ordering {
-        self.head.cmp(&other.head)
+        self.number.cmp(&other.number)
     }
 }
 
@@ -229,12 +246,14 @@ impl PartialOrd for Cusip {
 }
 
 impl Hash for Cusip {
-    ghost hash_input = { λ n. fed.u64 (n / 256) };
+    ghost use Rattle.cns_ids.specs.CusipNumber.{narrowed};
+
+    ghost hash_input = { λ n. fed.u64 (narrowed 9 n) };
 
     ghost respects_eq = { Prim.search (hashing, rules) };
 
     fn hash<H: Hasher>(&self, state: &mut H) {
-        self.head.hash(state);
+        self.number.hash(state);
     }
 }
 

@@ -23,26 +23,20 @@ pub struct BadDate;
 /// Contracts see the number yyyymmdd, so the later date is the greater number.
 #[derive(Clone, Copy, Debug)]
 pub struct Day {
-    year: u16,
-    month: u8,
-    day: u8,
+    number: u32,
 }
 
 impl Model for Day {
-    ghost use Rattle.std.specs.Prelude.{ℕ, ◌/◌, ◌%◌};
-    ghost use Rattle.std.proofs.Common.{refl};
-    ghost use Rattle.cns_ids.specs.Day.{IsRealDay, number_of_day};
-    ghost use Rattle.cns_ids.specs.DayNumber.{year-number, month-number, day-number};
+    ghost use Rattle.std.specs.Prelude.{ℕ};
+    ghost use Rattle.cns_ids.specs.Day.{IsDayNumber};
 
     ghost Value = { ℕ };
 
-    ghost view = { λ d. number_of_day d.year d.month d.day };
+    ghost view = { λ d. d.number };
 
-    ghost invariant = { λ d. IsRealDay d.year d.month d.day };
+    ghost invariant = { λ d. IsDayNumber d.number };
 
-    ghost inverse = { λ n. record { year = n / 10000; month = n / 100 % 100; day = n % 100 } };
-
-    ghost inverse_ok = { λ a h. Prim.rw (year-number a.year a.month a.day h, month-number a.year a.month a.day h, day-number a.year a.month a.day h) refl };
+    ghost inverse = { λ n. record { number = n } };
 }
 
 // The value of a decimal digit.
@@ -85,8 +79,9 @@ impl Day {
         if year < 1900 || year > 2199 {
             return Err(BadDate);
         }
+        let number = u32::from(year) * 10000 + u32::from(month) * 100 + u32::from(day);
         match Date::new(year as i16, month as i8, day as i8) {
-            Ok(_) => Ok(Day { year, month, day }),
+            Ok(_) => Ok(Day { number }),
             Err(_) => Err(BadDate),
         }
     }
@@ -95,6 +90,7 @@ impl Day {
     ///
     /// Refuses every other text.
     #[tactic(auto, unfolding(crate::specs::ReadDay::read_day))]
+    #[inline(always)]
     pub fn read(text: &[u8]) -> Result<Day, BadDate>
         ensures exact { result ≡ read_day text.now }
     {
@@ -113,7 +109,7 @@ impl Day {
         ensures value { result ≡ self }
         ensures real { IsDayNumber self }
     {
-        u32::from(self.year) * 10000 + u32::from(self.month) * 100 + u32::from(self.day)
+        self.number
     }
 
     /// The ten characters of the form yyyy-mm-dd.

@@ -41,6 +41,37 @@ fn capped_value_of(text: &[u8]) -> Option<u128>
     Some(value)
 }
 
+// Every number of at most so many digits is below 2^64.
+const SHORT: usize = 19;
+
+// The number that a text of at most so many bytes is.
+fn short_number(text: &[u8]) -> Result<u64, ReadFault>
+    requires some { 0 < length text.now }
+    requires short { length text.now ≤ 19 }
+    ensures { result ≡ number_in 0 18446744073709551615 text.now }
+{
+    let mut number: u64 = 0;
+    for digit in text {
+        if !digit.is_ascii_digit() {
+            return Err(ReadFault::BadNumber);
+        }
+        number = 10 * number + u64::from(digit - b'0');
+    }
+    Ok(number)
+}
+
+// The number that a text of any length is, where it is below 2^64.
+#[tactic(auto, using(crate::proofs::NumberLemmas::number_in_some))]
+fn long_number(text: &[u8]) -> Result<u64, ReadFault>
+    requires some { 0 < length text.now }
+    ensures { result ≡ number_in 0 18446744073709551615 text.now }
+{
+    let Some(value) = capped_value_of(text) else {
+        return Err(ReadFault::BadNumber);
+    };
+    u64::try_from(value).map_err(|_| ReadFault::OutOfRange)
+}
+
 /// Reads a decimal number from `low` to `high`, both included, with any number of leading zeros.
 ///
 /// Refuses `BadNumber`, then `OutOfRange`; a number past 64 bits is out of range. (This project's own
@@ -52,11 +83,13 @@ pub fn read_number(text: &[u8], low: u64, high: u64) -> Result<u64, ReadFault>
     if text.is_empty() {
         return Err(ReadFault::BadNumber);
     }
-    let Some(value) = capped_value_of(text) else {
-        return Err(ReadFault::BadNumber);
+    let number = if text.len() <= SHORT {
+        short_number(text)?
+    } else {
+        long_number(text)?
     };
-    if value < u128::from(low) || value > u128::from(high) {
+    if number < low || number > high {
         return Err(ReadFault::OutOfRange);
     }
-    Ok(value as u64)
+    Ok(number)
 }

@@ -20,7 +20,7 @@ none_alone (row ∷ rows) word reads = by (same_text word (codes row.0)) (none_a
     by true rest = reads.0
     by false rest = rest
 
-pub others_alone : (word : List ℕ) → by_table (drop 2 commands) (word ∷ []) ≡ None
+pub others_alone : (word : List ℕ) → by_table (drop 5 commands) (word ∷ []) ≡ None
 others_alone word =
-    none_alone (drop 2 commands) word
-    (refl, (refl, (refl, (refl, (refl, (refl, (refl, (refl, (refl, (refl, (refl, (refl, (refl, (refl, (refl, (refl, (refl, (refl, (refl, tt)))))))))))))))))))
+    none_alone (drop 5 commands) word
+    (refl, (refl, (refl, (refl, (refl, (refl, (refl, (refl, (refl, (refl, (refl, (refl, (refl, (refl, (refl, (refl, tt))))))))))))))))

@@ -75,13 +75,10 @@ own_in sort =
     four member_in move_no_in issue_in asked_in
     (λ member number issue shares. event.Own (record { sort = sort; member = member; number = number; issue = issue; shares = shares }))
 
--- those that are one event
+-- those that are one event, but for the three of the link
 abbrev pub events : List (String × (List (List ℕ) → Option Event))
 events =
-    ("SEND", one place_in event.Send)
-    ∷ ("ORDER", one place_in event.OrderIn)
-    ∷ ("REPLY", one place_in event.ReplyIn)
-    ∷ ("RESTART", one node_in event.Restart)
+    ("RESTART", one node_in event.Restart)
     ∷ ("LOT", one issue_in event.LotOpen)
     ∷ ("POUR", one place_in event.LotPour)
     ∷ ("RESERVE", two place_in member_in event.Reserve)
@@ -94,10 +91,13 @@ events =
     ∷ ("WITHDRAW", own_in Withdraw)
     ∷ []
 
--- all: the first two stand alone, and the others have words behind theirs
+-- all: those of the link, two that stand alone, and the others, which have words behind theirs
 abbrev pub commands : List (String × (List (List ℕ) → Option Command))
 commands =
-    ("PUMP", none command.Pump) ∷ ("REPORT", none command.Report)
+    ("SEND", one place_in (λ number. command.Single (event.Send number)))
+    ∷ ("ORDER", one place_in (λ packet. command.Single (event.OrderIn packet)))
+    ∷ ("REPLY", one place_in (λ packet. command.Single (event.ReplyIn packet)))
+    ∷ ("PUMP", none command.Pump) ∷ ("REPORT", none command.Report)
     ∷ ("TAKE", one take_in (λ take. take))
     ∷ ("LOOK", one place_in command.Look)
     ∷ ("ALLOCATE", one issue_in command.Allocate)

@@ -197,23 +197,14 @@ fn read_own(sort: Sort, rest: Option<&[u8]>) -> Option<Event>
     }))
 }
 
-// The event that a word and those behind it are: `SEND n`, `ORDER k`, `REPLY k`, `RESTART node`, `LOT cusip`,
-// `POUR lot`, `RESERVE lot member`, `SEAL lot`, `CLOSE lot`, `CYCLE NIGHT date` or `CYCLE DAY date`,
+// The event that a word and those behind it are: `RESTART node`, `LOT cusip`, `POUR lot`,
+// `RESERVE lot member`, `SEAL lot`, `CLOSE lot`, `CYCLE NIGHT date` or `CYCLE DAY date`,
 // `EXEMPT member cusip shares`, `PRIORITY member cusip ON` or `OFF`, or `DEPOSIT member number cusip shares`
 // or `WITHDRAW ..`.
 fn read_event(word: &[u8], rest: Option<&[u8]>) -> Option<Event>
     ensures { result ≡ by_table events (word.now ∷ words_after rest.entry) }
 {
-    if is_word(word, b"SEND") {
-        let number = read_place(one(rest)?)?;
-        Some(Event::Send { number })
-    } else if is_word(word, b"ORDER") {
-        let packet = read_place(one(rest)?)?;
-        Some(Event::OrderIn { packet })
-    } else if is_word(word, b"REPLY") {
-        let packet = read_place(one(rest)?)?;
-        Some(Event::ReplyIn { packet })
-    } else if is_word(word, b"RESTART") {
+    if is_word(word, b"RESTART") {
         let node = read_node(one(rest)?)?;
         Some(Event::Restart(node))
     } else if is_word(word, b"LOT") {
@@ -264,7 +255,7 @@ fn read_event(word: &[u8], rest: Option<&[u8]>) -> Option<Event>
 
 // The command that a word with others behind it is.
 fn read_longer(word: &[u8], rest: Option<&[u8]>) -> Option<Command>
-    ensures { result ≡ by_table (drop 2 commands) (word.now ∷ words_after rest.entry) }
+    ensures { result ≡ by_table (drop 5 commands) (word.now ∷ words_after rest.entry) }
 {
     if is_word(word, b"TAKE") {
         read_take(one(rest)?)
@@ -293,7 +284,7 @@ fn read_longer(word: &[u8], rest: Option<&[u8]>) -> Option<Command>
 
 // The same, with no look at the table for a word that stands alone.
 fn read_with_others(word: &[u8], rest: Option<&[u8]>) -> Option<Command>
-    ensures { result ≡ by_table (drop 2 commands) (word.now ∷ words_after rest.entry) }
+    ensures { result ≡ by_table (drop 5 commands) (word.now ∷ words_after rest.entry) }
 {
     match rest {
         Some(_) => read_longer(word, rest),
@@ -308,9 +299,11 @@ fn alone(command: Command, rest: Option<&[u8]>) -> Option<Command>
     if none(rest) { Some(command) } else { None }
 }
 
-// The command that a word and those behind it are.
-fn read_command(word: &[u8], rest: Option<&[u8]>) -> Option<Command>
-    ensures { result ≡ by_table commands (word.now ∷ words_after rest.entry) }
+// The command that a word and those behind it are, where it is none of the link. It stands by itself, so
+// that those of the link, which come most often, set no room aside for what it reads.
+#[inline(never)]
+fn read_other(word: &[u8], rest: Option<&[u8]>) -> Option<Command>
+    ensures { result ≡ by_table (drop 3 commands) (word.now ∷ words_after rest.entry) }
 {
     if is_word(word, b"PUMP") {
         alone(Command::Pump, rest)
@@ -318,6 +311,24 @@ fn read_command(word: &[u8], rest: Option<&[u8]>) -> Option<Command>
         alone(Command::Report, rest)
     } else {
         read_with_others(word, rest)
+    }
+}
+
+// The command that a word and those behind it are: `SEND n`, `ORDER k`, `REPLY k`, or another.
+fn read_command(word: &[u8], rest: Option<&[u8]>) -> Option<Command>
+    ensures { result ≡ by_table commands (word.now ∷ words_after rest.entry) }
+{
+    if is_word(word, b"SEND") {
+        let number = read_place(one(rest)?)?;
+        Some(Command::Single(Event::Send { number }))
+    } else if is_word(word, b"ORDER") {
+        let packet = read_place(one(rest)?)?;
+        Some(Command::Single(Event::OrderIn { packet }))
+    } else if is_word(word, b"REPLY") {
+        let packet = read_place(one(rest)?)?;
+        Some(Command::Single(Event::ReplyIn { packet }))
+    } else {
+        read_other(word, rest)
     }
 }
 

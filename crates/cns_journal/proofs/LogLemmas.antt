@@ -85,7 +85,7 @@ module _ {R : Type 0} (spelling : R → List ℕ) (allows : List R → R → Typ
       }
 
   -- what stands after other records is allowed without them
-  allowed_drop : (xs ys : List R) → AreAllowed allows (xs ++ ys) → AreAllowed allows ys
+  pub allowed_drop : (xs ys : List R) → AreAllowed allows (xs ++ ys) → AreAllowed allows ys
   allowed_drop [] ys all = all
   allowed_drop (x ∷ xs) ys all = allowed_drop xs ys all.1
 
@@ -119,7 +119,7 @@ module _ {R : Type 0} (spelling : R → List ℕ) (allows : List R → R → Typ
         }
 
     -- the payloads of allowed records have no bad place
-    never_bad : (full : List R) (given : List (List ℕ)) (place : ℕ) → AreReplayed allows fits full → given ≡ map spelling full → IsBadPlace spelling allows fits given place → ⊥
+    pub never_bad : (full : List R) (given : List (List ℕ)) (place : ℕ) → AreReplayed allows fits full → given ≡ map spelling full → IsBadPlace spelling allows fits given place → ⊥
     never_bad full given place r is bad =
         let split = round bad.before full bad.payload bad.after bad.replayed.all_fit r.all_fit (sym is ∙ bad.given_is) in
         let lawful = subst (AreAllowed allows) (ap reverse split.is ∙ reverse_round bad.before split.rest split.entry) r.allowed in
@@ -145,7 +145,7 @@ module _ {R : Type 0} (spelling : R → List ℕ) (allows : List R → R → Typ
         ]
 
     -- records with the same payloads are the same
-    same_records : (xs ys : List R) → AreFit fits xs → AreFit fits ys → map spelling xs ≡ map spelling ys → xs ≡ ys
+    pub same_records : (xs ys : List R) → AreFit fits xs → AreFit fits ys → map spelling xs ≡ map spelling ys → xs ≡ ys
     same_records [] [] fx fy same = refl
     same_records [] (y ∷ ys) fx fy same = absurd cc
     same_records (x ∷ xs) [] fx fy same = absurd cc
@@ -368,8 +368,8 @@ module _ {R : Type 0} (spelling : R → List ℕ) (allows : List R → R → Typ
 
 -- a log stays lawful where what is committed may stand, and through plans and restarts
 module _ {R : Type 0} (allows : List R → R → Type 0) where
-  pub opened_lawful : (spelling : R → List ℕ) (keeper : KeeperState) (log : LogState R) → IsOpened spelling allows keeper log → IsLawfulLog allows log
-  opened_lawful spelling keeper log opened =
+  pub opened_lawful : (spelling : R → List ℕ) (fits : R → Type 0) (keeper : KeeperState) (log : LogState R) → IsOpened spelling allows fits keeper log → IsLawfulLog allows log
+  opened_lawful spelling fits keeper log opened =
       subst (IsLawfulLog allows) (sym opened.value) (record { allowed = opened.allowed; tried = tt; up = λ up. refl })
 
   pub committed_lawful : (r : R) (result : Result (Unit {0}) CommitFault) (old new : LogState R) → IsLawfulLog allows old → old.down ≡ false

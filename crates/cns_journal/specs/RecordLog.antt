@@ -85,8 +85,8 @@ LogRestarts spelling allows fits (Err (replay.BadJournal place)) old new =
 LogRestarts spelling allows fits (Err replay.Device) old new =
     (new ≡ record old { down = true; failures = new.failures }) × HasRisen old.failures new.failures × (old.foresight.next ≡ Unforeseen)
 
--- what an opening gives: a log that is up, with the records that its keeper gave
-pub record IsOpened {R : Type 0} (spelling : R → List ℕ) (allows : List R → R → Type 0) (keeper : KeeperState) (log : LogState R) : Type 0 where
+-- what an opening gives: a log that is up, with the records that its keeper gave, each of which has a payload of its own
+pub record IsOpened {R : Type 0} (spelling : R → List ℕ) (allows : List R → R → Type 0) (fits : R → Type 0) (keeper : KeeperState) (log : LogState R) : Type 0 where
   pub value : log ≡ record {
     records = log.records;
     tried = None;
@@ -97,6 +97,7 @@ pub record IsOpened {R : Type 0} (spelling : R → List ℕ) (allows : List R �
     foresight = record keeper.foresight { stands = None };
   }
   pub allowed : AreAllowed allows log.records
+  pub fit : AreFit fits (reverse log.records)
   pub given : keeper.honest ≡ true → IsReopened keeper.journal (map spelling (reverse log.records))
   pub stands : keeper.honest ≡ true → StandsAsForeseen keeper.foresight.stands (Ok (map spelling (reverse log.records))) keeper.journal
 

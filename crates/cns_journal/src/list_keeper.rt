@@ -84,6 +84,7 @@ impl Keeper for ListKeeper {
     ghost state = { λ k. record { honest = true; run = running_of k; journal = journal_of k; foresight = foresight_of k } };
 
     /// Fails where a failure is planned, which ends the plan; with `Down` or `Memory` the plan stays.
+    #[inline(always)]
     fn commit(&mut self, payload: &[u8]) -> Result<(), KeepFault>
         requires { length payload.now ≤ MAX_PAYLOAD }
         ensures leaves { CommitLeaves result (running_of self.old) (running_of self.new) }

@@ -44,6 +44,7 @@ impl Payloads {
     }
 
     // Adds a payload at the end.
+    #[inline(always)]
     pub fn push(&mut self, payload: &[u8]) -> Result<(), AllocError>
         requires { length payload.now ≤ MAX_PAYLOAD }
         ensures ok { OnOk result (self.new ≡ self.old ++ payload.now ∷ []) }

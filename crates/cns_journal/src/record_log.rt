@@ -1,6 +1,6 @@
 //! A node's records over the journal of its keeper.
 
-ghost use Rattle.std.specs.Prelude.{◌≡◌, ◌≤◌, ℕ, List, [], ◌∷◌, true, false, Err, IfErr, IfOk, OnOk, length, map, option_map, reverse, slice_get, vec_items};
+ghost use Rattle.std.specs.Prelude.{◌≡◌, ◌≤◌, ℕ, List, [], ◌∷◌, ◌++◌, true, false, Err, IfErr, IfOk, OnOk, length, map, option_map, reverse, slice_get, vec_items};
 ghost use Rattle.cns_journal.specs.Replay.{AdmitLeaves, Admits, Rejects, ReplayGives, Reread, records_by};
 ghost use Rattle.cns_journal.specs.RecordLog.{HaveOwnPayloads, IsLawfulLog, IsGivenUp, IsOpened, LogCommits, LogPlanned, LogRestarts};
 
@@ -26,6 +26,19 @@ pub trait Record: Drop {
         ensures bytes { IfOk result (λ payload. payload.items ≡ spelling self.now) }
         ensures size { IfOk result (λ payload. length payload.items ≤ MAX_PAYLOAD) }
         ensures fits { fits self.now };
+
+    /// Adds the payload of the record behind the bytes that are there; a refusal may leave a part of it.
+    ///
+    /// An impl that adds it part by part takes no memory but for these bytes.
+    fn put(&self, payload: &mut Vec<u8>) -> Result<(), AllocError>
+        requires { writable self.now }
+        ensures bytes { OnOk result (payload.new.items ≡ payload.old.items ++ spelling self.now) }
+        ensures size { OnOk result (length (spelling self.now) ≤ MAX_PAYLOAD) }
+        ensures fits { fits self.now }
+    {
+        let written = self.write(*payload.allocator())?;
+        payload.extend_from_slice(written.as_slice())
+    }
 
     /// The record that a payload is.
     fn read(alloc: Global, payload: &[u8]) -> Result<Self, RecordFault>
@@ -212,6 +225,8 @@ pub struct RecordLog<K: Keeper, R: Record> {
     down: bool,
     // The payloads of the last reading that found a bad one, until one succeeds.
     rejected: Vec<Vec<u8>>,
+    // The payload of the latest record that was to be committed, whose room the next one takes.
+    payload: Vec<u8>,
     alloc: Global,
 }
 
@@ -259,7 +274,7 @@ impl<K: Keeper, R: Record> RecordLog<K, R> {
     ) -> Result<RecordLog<K, R>, Refused<K>>
         requires payloads { HaveOwnPayloads R.spelling R.fits }
         requires comes { L.comes_to ledger.old [] }
-        ensures ok { IfOk result (IsOpened R.spelling (L.allows context.now) (K.state keeper)) }
+        ensures ok { IfOk result (IsOpened R.spelling (L.allows context.now) R.fits (K.state keeper)) }
         ensures err { IfErr result (λ refused. Reread R.spelling (L.allows context.now) R.fits (Err refused.fault) (map vec_items refused.rejected.items) (K.state keeper) (K.state refused.keeper)) }
         ensures none { IfErr result (λ refused. Rejects {A = Unit {0}} (Err refused.fault) [] (map vec_items refused.rejected.items)) }
         ensures comes { IfOk result (λ log. L.comes_to ledger.new log.records) }
@@ -281,6 +296,7 @@ impl<K: Keeper, R: Record> RecordLog<K, R> {
             tried: None,
             down: false,
             rejected,
+            payload: Vec::new(alloc),
             alloc,
         })
     }
@@ -333,20 +349,18 @@ impl<K: Keeper, R: Record> RecordLog<K, R> {
     }
 
     /// Commits a record, and adds it once it is acknowledged.
+    #[inline(always)]
     pub fn commit(&mut self, entry: R) -> Result<(), CommitFault>
         requires up { self.old.down ≡ false }
         requires writable { R.writable entry }
         ensures leaves { LogCommits entry result self.old self.new }
         ensures fits { OnOk result (R.fits entry) }
     {
-        let written = entry.write(self.alloc);
-        let Ok(payload) = written else {
-            return Err(CommitFault::OutOfMemory);
-        };
-        if self.records.reserve(1).is_err() {
+        self.payload.clear();
+        if entry.put(&mut self.payload).is_err() || self.records.reserve(1).is_err() {
             return Err(CommitFault::OutOfMemory);
         }
-        match self.keeper.commit(payload.as_slice()) {
+        match self.keeper.commit(self.payload.as_slice()) {
             Ok(()) => {
                 self.records.push_reserved(entry);
                 Ok(())

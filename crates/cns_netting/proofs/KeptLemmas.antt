@@ -102,16 +102,6 @@ module _ {S T : Type 0} where
     pub members : AreOfMembers old → AreOfMembers new
     pub order : (n : ℕ) → AreSortedUpTo n old → AreSortedUpTo n new
 
-  -- so it is where the shares alone change after that
-  pub names_then : (old mid new : HashMap Holding Position S) (totals next : HashMap ℕ Totals T) → KeepNames old mid totals next → keys new ≡ keys mid
-      → KeepNames old new totals next
-  names_then old mid new totals next keep same = record {
-    still = λ k some. named_still mid new same k (keep.still k some);
-    issues = keep.issues;
-    members = λ are. members_still mid new same (keep.members are);
-    order = λ n sorted. sorted_still mid new same n (keep.order n sorted);
-  }
-
   names_stay : (old new : HashMap Holding Position S) (totals next : HashMap ℕ Totals T) (waiting : List Undue) → KeepNames old new totals next → All (IsNamed old) waiting
       → All (IsNamed new) waiting
   names_stay old new totals next waiting keep named = All-weaker (IsNamed old) (IsNamed new) (λ t both. (keep.still _ both.0, keep.still _ both.1)) waiting named

@@ -1,3 +1,4 @@
+pub mod PutLemmas
 pub mod TradeLemmas
 pub mod PositionLemmas
 pub mod QueueLemmas

@@ -1,5 +1,5 @@
 -- The position of a holding, and the holdings that are named.
-use Rattle.std.proofs.Common.{◌≡◌, ◌+◌, ◌-◌, ℕ, Option, None, Some, unwrap_or, Bool, true, false, cond, refl, subst, arith}
+use Rattle.std.proofs.Common.{◌≡◌, ◌+◌, ◌-◌, ℕ, Option, None, Some, unwrap_or, Bool, true, false, ap, cond, refl, subst, arith}
 use Rattle.std.specs.Prelude.{◌&&◌, ◌==◌, ℤ, pos, negsuc, ◌-ℤ◌, IsSome, if◌then◌else◌}
 use Rattle.std.proofs.lemmas.Bool.{eqb-true}
 use Rattle.std.proofs.lemmas.Int.{ints}
@@ -15,14 +15,10 @@ use Rattle.cns_netting.specs.declared.positions.Position.{Position}
 abbrev pub position_by : ℤ → Position
 position_by shares = record { shares = shares }
 
--- a holding that is not named has the parts of one of no shares
-pub credit_of_none : (o : Option Position) → credit_at (Some (unwrap_or o (position_by (pos 0)))) ≡ credit_at o
-credit_of_none None = refl
-credit_of_none (Some s) = refl
-
-pub debit_of_none : (o : Option Position) → debit_at (Some (unwrap_or o (position_by (pos 0)))) ≡ debit_at o
-debit_of_none None = refl
-debit_of_none (Some s) = refl
+-- what stands for a holding has its parts; it is of no shares where the holding is not named
+pub parts_found : (o : Option Position) (was : Position) → was ≡ unwrap_or o (position_by (pos 0)) → (credit_part was.shares ≡ credit_at o) × (debit_part was.shares ≡ debit_at o)
+parts_found None was is = (ap (λ p. credit_part p.shares) is, ap (λ p. debit_part p.shares) is)
+parts_found (Some s) was is = (ap (λ p. credit_part p.shares) is, ap (λ p. debit_part p.shares) is)
 
 -- what is named is a member's holding, once a value is put at a member's
 pub put-members : {V : Type 0} (member issue : ℕ) (w : V) (old new : Holding → Option V) → Puts member issue w old new → IsMember member

@@ -1,16 +1,17 @@
 -- The totals of an issue, as positions in it change.
-use Rattle.std.proofs.Common.{◌≡◌, ◌≤◌, ◌+◌, ◌-◌, ◌*◌, ◌^◌, ℕ, zero, suc, Bool, true, false, refl, sym, ap, ◌∙◌, arith, inl, inr}
+use Rattle.std.proofs.Common.{◌≡◌, ◌≤◌, ◌+◌, ◌-◌, ◌*◌, ◌^◌, ℕ, nat_eq, zero, suc, Option, Some, Bool, true, false, refl, sym, ap, ◌∙◌, arith, inl, inr}
 use Rattle.std.specs.Prelude.{◌&&◌, ◌==◌, List, if◌then◌else◌}
-use Rattle.std.specs.HashMap.{HashMap}
+use Rattle.std.specs.HashMap.{HashMap, get}
 use Rattle.std.proofs.lemmas.Bool.{cases_eq, eq-eqb, eqb-true}
 use Rattle.cns_ids.specs.Member.{IsMember}
 use Rattle.cns_ids.specs.declared.holding.Holding.{Holding}
 use Rattle.cns_netting.specs.History.{credit_part, debit_part, long_up_to, longs_of, short_up_to, shorts_of}
 use Rattle.cns_netting.specs.Positions.{ArePositionsOf, credit_in, debit_in}
-use Rattle.cns_netting.specs.Totals.{AreTotalsOf, longs_in, shorts_in, total}
+use Rattle.cns_netting.specs.Totals.{AreTotalsOf, longs_at, longs_in, shorts_at, shorts_in, total}
 use Rattle.cns_netting.specs.declared.entry.NetEntry.{NetEntry}
 use Rattle.cns_netting.specs.declared.positions.Position.{Position}
 use Rattle.cns_netting.specs.declared.totals.Totals.{Totals}
+use Rattle.cns_netting.proofs.PutLemmas.{PutsAt, put_holds}
 use Rattle.cns_netting.proofs.BalanceLemmas.{total-one, total-plus, total-same}
 use Rattle.cns_netting.proofs.PositionLemmas.{one_part, other_part}
 
@@ -97,6 +98,12 @@ counted member issue i up down was is old new more less more_then less_then rang
         let others : (k : ℕ) → g k ≡ f k = λ k. omega (arith, moves k, elsewhere (member == k) (issue == i) up e, elsewhere (member == k) (issue == i) down e) in
         omega (arith, change, sum, total-same 9999 g f others)
 
+-- a number of each look-up changes where totals are put alone
+put_part : (part : Option Totals → ℕ) (issue : ℕ) (w : Totals) (less more : ℕ) (old new : ℕ → Option Totals) → PutsAt issue w old new → part (Some w) + less ≡ part (old issue) + more
+    → (i : ℕ) → part (new i) + (if issue == i then less else 0) ≡ part (old i) + (if issue == i then more else 0)
+put_part part issue w less more old new puts moved =
+    put_holds (λ b was now. part now + (if b then less else 0) ≡ part was + (if b then more else 0)) issue w old new puts moved (λ o. refl)
+
 module _ {S T : Type 0} where
   -- the totals after a member's position in an issue changed, and was counted anew
   pub totals_added : (positions after : HashMap Holding Position S) (totals next : HashMap ℕ Totals T) (member issue credit debit : ℕ) (was is : Position) → IsMember member
@@ -118,6 +125,21 @@ module _ {S T : Type 0} where
         (λ e. omega (arith, had, owed, moves, other_part is.shares, ap (credit_in positions member) e, ap (debit_in positions member) e))
         (shorts i) (are.shorts i);
   }
+
+  -- so they are where the totals of that issue alone are put anew
+  pub totals_put : (positions after : HashMap Holding Position S) (totals next : HashMap ℕ Totals T) (member issue credit debit : ℕ) (was is : Position) (w : Totals) → IsMember member
+      → credit_part was.shares ≡ credit_in positions member issue → debit_part was.shares ≡ debit_in positions member issue
+      → credit_part is.shares + (debit_part was.shares + debit) ≡ debit_part is.shares + (credit_part was.shares + credit)
+      → ((m i : ℕ) → credit_in after m i + (debit_in positions m i + (if (member == m) && (issue == i) then debit else 0)) ≡ debit_in after m i + (credit_in positions m i + (if (member == m) && (issue == i) then credit else 0)))
+      → PutsAt issue w (get nat_eq totals) (get nat_eq next)
+      → w.longs + credit_part was.shares ≡ longs_in totals issue + credit_part is.shares
+      → w.shorts + debit_part was.shares ≡ shorts_in totals issue + debit_part is.shares
+      → AreTotalsOf totals positions → AreTotalsOf next after
+  totals_put positions after totals next member issue credit debit was is w range had owed moves balance puts longs shorts are =
+      totals_added positions after totals next member issue credit debit was is range had owed moves balance
+      (put_part longs_at issue w (credit_part was.shares) (credit_part is.shares) (get nat_eq totals) (get nat_eq next) puts longs)
+      (put_part shorts_at issue w (debit_part was.shares) (debit_part is.shares) (get nat_eq totals) (get nat_eq next) puts shorts)
+      are
 
   -- where nothing changes that counts
   pub totals_kept : (positions after : HashMap Holding Position S) (totals next : HashMap ℕ Totals T)

@@ -15,9 +15,9 @@ use crate::count::{RowTest, count_rows};
 use crate::due::{add_due, has_due, make_due, positions_after, take_due, waiting_of};
 use crate::entry::NetEntry;
 use crate::position::PositionRow;
-use crate::positions::{Position, name, name_trade, position_at, put_in_order};
+use crate::positions::{Position, name_trade, position_at, put_in_order};
 use crate::rows::{position_rows, position_rows_in};
-use crate::totals::{Totals, add_counted, name_issue, totals_of};
+use crate::totals::{Totals, enter_counted, name_issue, totals_of};
 use crate::undue::Undue;
 use cns_ids::{Cusip, Day, Holding, MemberNo};
 use cns_trades::Trade;
@@ -148,6 +148,7 @@ impl NetBook {
     }
 
     // Takes the memory that any entry needs.
+    #[inline(always)]
     fn make_room(&mut self) -> Result<(), AllocError>
         ensures same { self.new.history ≡ self.old.history }
         ensures room { OnOk result (0 < self.new.room) }
@@ -181,14 +182,24 @@ impl NetBook {
         ensures err { OnErr result (self.new.history ≡ self.old.history) }
         ensures room { 0 < self.old.room → IsOk result }
     {
-        let _quantity = trade.quantity.shares();
         self.make_room()?;
-        let waiting = waiting_of(&trade);
+        self.accept_reserved(&trade);
+        Ok(())
+    }
+
+    /// `accept` of a trade, for which there is room. It takes no memory.
+    pub fn accept_reserved(&mut self, trade: &Trade)
+        requires room { 0 < self.old.room }
+        requires new { known trade.now.id (accepted self.old.history) ≡ None }
+        requires few { length (accepted self.old.history) < 1000000 }
+        ensures { self.new.history ≡ Accepted trade.now ∷ self.old.history }
+    {
+        let _quantity = trade.quantity.shares();
+        let waiting = waiting_of(trade);
         name_trade(&mut self.positions, &waiting);
         name_issue(&mut self.totals, trade.issue);
         enter(&mut self.undue, waiting);
-        write(&mut self.entries, NetEntry::Accepted(trade));
-        Ok(())
+        write(&mut self.entries, NetEntry::Accepted(*trade));
     }
 
     /// Takes the memory that `net` of a date needs: as the next change, it then succeeds.
@@ -242,10 +253,19 @@ impl NetBook {
         ensures room { 0 < self.old.room → IsOk result }
     {
         self.make_room()?;
+        self.settle_reserved(member, issue, amount);
+        Ok(())
+    }
+
+    /// `settle` of a confirmed movement, for which there is room. It takes no memory.
+    pub fn settle_reserved(&mut self, member: MemberNo, issue: Cusip, amount: i128)
+        requires room { 0 < self.old.room }
+        requires before { IsWithin (position_of self.old.history member issue) }
+        requires after { IsWithin (position_of self.old.history member issue +ℤ amount) }
+        ensures { self.new.history ≡ Settled member issue amount ∷ self.old.history }
+    {
         let amount = held(amount);
-        name(&mut self.positions, member, issue);
-        name_issue(&mut self.totals, issue);
-        add_counted(
+        enter_counted(
             &mut self.positions,
             &mut self.totals,
             member,
@@ -259,7 +279,6 @@ impl NetBook {
             amount,
         };
         write(&mut self.entries, entry);
-        Ok(())
     }
 
     /// Puts the holdings into order, so that rows are listed without a sort until new holdings are named.

@@ -1,7 +1,6 @@
-ghost use Rattle.std.specs.Prelude.{◌≡◌, ℕ, ◌+◌, ◌*◌, ◌^◌, ◌<◌, ◌≤◌, ◌∷◌, All, false, IfNone, IfOk, IfSome, IsSome, sum_by};
-ghost use Rattle.std.specs.HashMap.{get, keys, spare};
-ghost use Rattle.cns_ids.specs.Holding.{holding_eq};
-ghost use Rattle.std.specs.BinaryHeap.{heap_items, heap_len, IsHeap};
+ghost use Rattle.std.specs.Prelude.{◌≡◌, ℕ, ◌+◌, ◌*◌, ◌^◌, ◌<◌, ◌≤◌, All, false, filter, IfOk, nat_lt, sum_by};
+ghost use Rattle.std.specs.HashMap.{keys, spare};
+ghost use Rattle.std.specs.BinaryHeap.{heap_items, IsHeap};
 ghost use Rattle.std.specs.List.Sorted.{IsPermutation};
 ghost use Rattle.cns_netting.specs.Positions.{bought_by, credit_in, debit_in, IsNamed, sold_by};
 ghost use Rattle.cns_netting.specs.Totals.{AreTotalsOf, HasIssue};
@@ -30,23 +29,6 @@ pub(crate) fn waiting_of(trade: &Trade) -> Undue
     }
 }
 
-// Takes one of the trades that settle earliest, where it settles by a day.
-fn next_due(undue: &mut BinaryHeap<Undue>, day: Day) -> Option<Undue>
-    requires { IsHeap earlier (heap_items undue.old) }
-    ensures heap { IsHeap earlier (heap_items undue.new) }
-    ensures due { IfSome result (λ t. t.settle ≤ day) }
-    ensures taken { IfSome result (λ t. IsPermutation (heap_items undue.old) (t ∷ heap_items undue.new)) }
-    ensures len { IfSome result (λ t. heap_len undue.new + 1 ≡ heap_len undue.old) }
-    ensures none { IfNone result (All (λ t. day < t.settle) (heap_items undue.new)) }
-    ensures same { IfNone result (heap_items undue.new ≡ heap_items undue.old) }
-    ensures same_len { IfNone result (heap_len undue.new ≡ heap_len undue.old) }
-{
-    if day < undue.peek()?.settle {
-        return None;
-    }
-    undue.pop()
-}
-
 /// Whether some of the trades settle by a day.
 pub(crate) fn has_due(undue: &BinaryHeap<Undue>, day: Day) -> bool
     requires { IsHeap earlier (heap_items undue.now) }
@@ -56,6 +38,44 @@ pub(crate) fn has_due(undue: &BinaryHeap<Undue>, day: Day) -> bool
         Some(first) => first.settle <= day,
         None => false,
     }
+}
+
+// Counts the trades that settle by a day, and answers how many. Whichever of them are counted, no
+// position is further than 3 * 10^18 shares from 0.
+fn add_due_counted(
+    positions: &mut IndexMap<Holding, Position>,
+    totals: &mut HashMap<Cusip, Totals>,
+    undue: &[Undue],
+    day: Day,
+) -> usize
+    requires named { All (IsNamed positions.old) undue.now }
+    requires issues { All (HasIssue totals.old) undue.now }
+    requires long { (m i : ℕ) → credit_in positions.old m i + sum_by (if_settled day (bought_by m i)) undue.now ≤ debit_in positions.old m i + 3 * 10 ^ 18 }
+    requires short { (m i : ℕ) → debit_in positions.old m i + sum_by (if_settled day (sold_by m i)) undue.now ≤ credit_in positions.old m i + 3 * 10 ^ 18 }
+    requires totals { AreTotalsOf totals.old positions.old }
+    ensures count { result ≡ sum_by (if_settled day (λ _. 1)) undue.now }
+    ensures balance { (m i : ℕ) → credit_in positions.new m i + (debit_in positions.old m i + sum_by (if_settled day (sold_by m i)) undue.now) ≡ debit_in positions.new m i + (credit_in positions.old m i + sum_by (if_settled day (bought_by m i)) undue.now) }
+    ensures named { All (IsNamed positions.new) undue.now }
+    ensures issues { All (HasIssue totals.new) undue.now }
+    ensures totals { AreTotalsOf totals.new positions.new }
+    ensures keys { keys positions.new ≡ keys positions.old }
+{
+    let mut count = 0;
+    for trade in undue {
+        if trade.settle <= day {
+            add_trade_counted(positions, totals, trade);
+            count += 1;
+        }
+    }
+    count
+}
+
+// Keeps the trades that settle after a day.
+fn retain_later(undue: &mut BinaryHeap<Undue>, day: Day)
+    ensures later { IsPermutation (filter (λ t. nat_lt day t.settle) (heap_items undue.old)) (heap_items undue.new) }
+    ensures heap { IsHeap earlier (heap_items undue.new) }
+{
+    undue.retain(|trade| trade.settle > day);
 }
 
 /// Makes the trades due that settle by a day, and answers how many. Whichever of them are due, no
@@ -82,11 +102,11 @@ pub(crate) fn make_due(
     ensures totals { AreTotalsOf totals.new positions.new }
     ensures keys { keys positions.new ≡ keys positions.old }
 {
-    let mut count = 0;
-    while let Some(trade) = next_due(undue, day) {
-        add_trade_counted(positions, totals, &trade);
-        count += 1;
+    if !has_due(undue, day) {
+        return 0;
     }
+    let count = add_due_counted(positions, totals, undue.as_slice(), day);
+    retain_later(undue, day);
     count
 }
 

@@ -65,8 +65,8 @@ pub(crate) fn position_at(
     }
 }
 
-/// Names a holding, for which there is room: as one of no shares where it was not named.
-pub(crate) fn name(positions: &mut IndexMap<Holding, Position>, member: MemberNo, issue: Cusip)
+// Names a holding, for which there is room: as one of no shares where it was not named.
+fn name(positions: &mut IndexMap<Holding, Position>, member: MemberNo, issue: Cusip)
     requires { 0 < spare positions.old }
     ensures credit { (m i : ℕ) → credit_in positions.new m i ≡ credit_in positions.old m i }
     ensures debit { (m i : ℕ) → debit_in positions.new m i ≡ debit_in positions.old m i }
@@ -80,6 +80,35 @@ pub(crate) fn name(positions: &mut IndexMap<Holding, Position>, member: MemberNo
         unreachable!()
     };
     entry.or_insert(Position { shares: 0 });
+}
+
+/// Adds shares for a holding, and against it. Where it was not named it is named first, as one of no
+/// shares: for that there is room. Answers its position as it was.
+pub(crate) fn enter(
+    positions: &mut IndexMap<Holding, Position>,
+    member: MemberNo,
+    issue: Cusip,
+    credit: u64,
+    debit: u64,
+) -> Position
+    requires room { 0 < spare positions.old }
+    requires long { credit_in positions.old member issue + credit ≤ debit_in positions.old member issue + 3 * 10 ^ 18 }
+    requires short { debit_in positions.old member issue + debit ≤ credit_in positions.old member issue + 3 * 10 ^ 18 }
+    ensures balance { (m i : ℕ) → credit_in positions.new m i + (debit_in positions.old m i + (if (member == m) && (issue == i) then debit else 0))
+        ≡ debit_in positions.new m i + (credit_in positions.old m i + (if (member == m) && (issue == i) then credit else 0)) }
+    ensures still { (k : Holding) → IsSome (get holding_eq positions.old k) → IsSome (get holding_eq positions.new k) }
+    ensures members { AreOfMembers positions.old → AreOfMembers positions.new }
+    ensures order { (n : ℕ) → AreSortedUpTo n positions.old → AreSortedUpTo n positions.new }
+    ensures credit_was { credit_part result.shares ≡ credit_in positions.old member issue }
+    ensures debit_was { debit_part result.shares ≡ debit_in positions.old member issue }
+{
+    let Ok(entry) = positions.entry(Holding { issue, member }) else {
+        unreachable!()
+    };
+    let entered = entry.or_insert(Position { shares: 0 });
+    let was = *entered;
+    *entered = was.with(credit, debit);
+    was
 }
 
 /// Puts the holdings into order, and answers how many of them stand so: as many as before, where there

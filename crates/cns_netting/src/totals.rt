@@ -2,10 +2,10 @@ ghost use Rattle.std.specs.Prelude.{◌≡◌, ℕ, ◌+◌, ◌-◌, ◌*◌, �
 ghost use Rattle.std.specs.HashMap.{get, keys, spare};
 ghost use Rattle.cns_ids.specs.Holding.{holding_at, holding_eq};
 ghost use Rattle.cns_netting.specs.History.{credit_part, debit_part};
-ghost use Rattle.cns_netting.specs.Positions.{bought_by, credit_in, debit_in, IsNamed, sold_by};
+ghost use Rattle.cns_netting.specs.Positions.{AreOfMembers, AreSortedUpTo, bought_by, credit_in, debit_in, IsNamed, sold_by};
 ghost use Rattle.cns_netting.specs.Totals.{AreTotalsOf, HasIssue, longs_in, shorts_in};
 
-use crate::positions::{Position, add};
+use crate::positions::{Position, add, enter};
 use crate::undue::Undue;
 use cns_ids::{Cusip, Holding, MemberNo};
 use indexmap::IndexMap;
@@ -50,6 +50,7 @@ pub(crate) fn totals_of(totals: &HashMap<Cusip, Totals>, issue: Cusip) -> Totals
 }
 
 /// Names an issue, for which there is room: as one of no positions where it was not named.
+#[inline(always)]
 pub(crate) fn name_issue(totals: &mut HashMap<Cusip, Totals>, issue: Cusip)
     requires { 0 < spare totals.old }
     ensures longs { (i : ℕ) → longs_in totals.new i ≡ longs_in totals.old i }
@@ -66,26 +67,32 @@ pub(crate) fn name_issue(totals: &mut HashMap<Cusip, Totals>, issue: Cusip)
     });
 }
 
-// Counts a position anew in its issue, which is named.
+// Counts a position anew in its issue. Where the issue was not named it is named first, as one of no
+// positions: for that there is room.
 fn recount(totals: &mut HashMap<Cusip, Totals>, issue: Cusip, was: Position, is: Position)
-    requires named { IsSome (get nat_eq totals.old issue) }
+    requires room { 0 < spare totals.old }
     requires longs { credit_part was.shares ≤ longs_in totals.old issue }
     requires shorts { debit_part was.shares ≤ shorts_in totals.old issue }
     requires more_longs { longs_in totals.old issue + credit_part is.shares < 2 ^ 128 }
     requires more_shorts { shorts_in totals.old issue + debit_part is.shares < 2 ^ 128 }
     ensures longs { (i : ℕ) → longs_in totals.new i + (if issue == i then credit_part was.shares else 0) ≡ longs_in totals.old i + (if issue == i then credit_part is.shares else 0) }
     ensures shorts { (i : ℕ) → shorts_in totals.new i + (if issue == i then debit_part was.shares else 0) ≡ shorts_in totals.old i + (if issue == i then debit_part is.shares else 0) }
-    ensures named { (i : ℕ) → IsSome (get nat_eq totals.old i) → IsSome (get nat_eq totals.new i) }
+    ensures still { (i : ℕ) → IsSome (get nat_eq totals.old i) → IsSome (get nat_eq totals.new i) }
 {
-    let Some(totals) = totals.get_mut(&issue) else {
+    let Ok(entry) = totals.entry(issue) else {
         unreachable!()
     };
+    let totals = entry.or_insert(Totals {
+        longs: 0,
+        shorts: 0,
+    });
     *totals = totals.after(was, is);
 }
 
-/// Adds shares for a named holding, and against it, and counts its position anew in its issue, which
-/// is named. No position goes further than 3 * 10^18 shares from 0, so that the totals fit.
-pub(crate) fn add_counted(
+/// Adds shares for a holding, and against it, and counts its position anew in its issue. Where the
+/// holding and the issue were not named they are named first: for that there is room. No position goes
+/// further than 3 * 10^18 shares from 0, so that the totals fit.
+pub(crate) fn enter_counted(
     positions: &mut IndexMap<Holding, Position>,
     totals: &mut HashMap<Cusip, Totals>,
     member: MemberNo,
@@ -93,21 +100,22 @@ pub(crate) fn add_counted(
     credit: u64,
     debit: u64,
 )
-    requires named { IsSome (get holding_eq positions.old (holding_at issue member)) }
-    requires issue { IsSome (get nat_eq totals.old issue) }
+    requires room { 0 < spare positions.old }
+    requires issue_room { 0 < spare totals.old }
     requires long { (m i : ℕ) → credit_in positions.old m i + (if (member == m) && (issue == i) then credit else 0) ≤ debit_in positions.old m i + 3 * 10 ^ 18 }
     requires short { (m i : ℕ) → debit_in positions.old m i + (if (member == m) && (issue == i) then debit else 0) ≤ credit_in positions.old m i + 3 * 10 ^ 18 }
     requires totals { AreTotalsOf totals.old positions.old }
     ensures balance { (m i : ℕ) → credit_in positions.new m i + (debit_in positions.old m i + (if (member == m) && (issue == i) then debit else 0))
         ≡ debit_in positions.new m i + (credit_in positions.old m i + (if (member == m) && (issue == i) then credit else 0)) }
-    ensures named { (k : Holding) → IsSome (get holding_eq positions.old k) → IsSome (get holding_eq positions.new k) }
-    ensures keys { keys positions.new ≡ keys positions.old }
+    ensures still { (k : Holding) → IsSome (get holding_eq positions.old k) → IsSome (get holding_eq positions.new k) }
+    ensures members { AreOfMembers positions.old → AreOfMembers positions.new }
+    ensures order { (n : ℕ) → AreSortedUpTo n positions.old → AreSortedUpTo n positions.new }
     ensures issues { (i : ℕ) → IsSome (get nat_eq totals.old i) → IsSome (get nat_eq totals.new i) }
     ensures totals { AreTotalsOf totals.new positions.new }
 {
     // The totals count the members 1 to 9999.
     let _number = member.number();
-    let was = add(positions, member, issue, credit, debit);
+    let was = enter(positions, member, issue, credit, debit);
     let is = was.with(credit, debit);
     recount(totals, issue, was, is);
 }
@@ -130,7 +138,18 @@ pub(crate) fn add_trade_counted(
     ensures issues { (i : ℕ) → IsSome (get nat_eq totals.old i) → IsSome (get nat_eq totals.new i) }
     ensures totals { AreTotalsOf totals.new positions.new }
 {
+    // The totals count the members 1 to 9999.
+    let _buyer = trade.buyer.number();
+    let _seller = trade.seller.number();
     let shares = trade.quantity.shares();
-    add_counted(positions, totals, trade.buyer, trade.issue, shares, 0);
-    add_counted(positions, totals, trade.seller, trade.issue, 0, shares);
+    let buyer_was = add(positions, trade.buyer, trade.issue, shares, 0);
+    let seller_was = add(positions, trade.seller, trade.issue, 0, shares);
+    let Some(totals) = totals.get_mut(&trade.issue) else {
+        unreachable!()
+    };
+    let buyer_is = buyer_was.with(shares, 0);
+    let seller_is = seller_was.with(0, shares);
+    *totals = totals
+        .after(buyer_was, buyer_is)
+        .after(seller_was, seller_is);
 }

@@ -109,6 +109,10 @@ impl Record for ClearRecord {
         ClearRecord::write(self, alloc)
     }
 
+    fn put(&self, payload: &mut Vec<u8>) -> Result<(), AllocError> {
+        add_payload(payload, self)
+    }
+
     fn read(alloc: Global, payload: &[u8]) -> Result<ClearRecord, RecordFault> {
         ClearRecord::read(alloc, payload)
     }

@@ -82,6 +82,10 @@ impl Record for DepRecord {
         DepRecord::write(self, alloc)
     }
 
+    fn put(&self, payload: &mut Vec<u8>) -> Result<(), AllocError> {
+        add_payload(payload, self)
+    }
+
     fn read(_alloc: Global, payload: &[u8]) -> Result<DepRecord, RecordFault> {
         Ok(DepRecord::read(payload)?)
     }

@@ -1,4 +1,3 @@
-ghost use Rattle.std.specs.Prelude.{◌≡◌, ◌-◌, length, replicate};
 ghost use Rattle.cns_report.specs.Right.{right_20};
 
 use crate::put::Put;
@@ -6,15 +5,8 @@ use crate::text::Draft;
 use itoa::{Buffer, Integer};
 use std::alloc::AllocError;
 
-// As many spaces as a number has places.
-const SPACES: &str = "                    ";
-
-// The spaces before digits that stand right in 20 places.
-fn spaces_before(digits: &str) -> &str
-    ensures { result.now ≡ replicate (20 - length digits.now) 32 }
-{
-    SPACES.get(digits.len()..).unwrap_or("")
-}
+// How many places a number stands right in.
+const PLACES: usize = 20;
 
 /// Shares, right in 20 places.
 #[derive(Clone, Copy)]
@@ -25,7 +17,12 @@ impl<I: Integer> Put for RightIn20<I> {
 
     fn put(&self, draft: &mut Draft) -> Result<(), AllocError> {
         let mut buffer = Buffer::new();
-        let digits = buffer.format(self.0);
-        (spaces_before(digits), digits).put(draft)
+        let digits = buffer.format(self.0).as_bytes();
+        if digits.len() > PLACES {
+            return draft.add(digits);
+        }
+        let mut places = [b' '; PLACES];
+        places[PLACES - digits.len()..].copy_from_slice(digits);
+        draft.add(&places)
     }
 }

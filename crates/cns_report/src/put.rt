@@ -37,6 +37,15 @@ impl Put for &str {
     }
 }
 
+impl Put for [u8; 16] {
+    ghost text = { λ bytes. bytes };
+
+    #[inline(always)]
+    fn put(&self, draft: &mut Draft) -> Result<(), AllocError> {
+        draft.add(self)
+    }
+}
+
 /// One byte.
 #[derive(Clone, Copy)]
 pub(crate) struct Byte(u8);

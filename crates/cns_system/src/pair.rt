@@ -202,10 +202,10 @@ impl<C: Keeper, D: Keeper> Pair<C, D> {
     }
 
     /// Lets an event happen, as `System::step` does.
-    pub(crate) fn step(&mut self, event: Event) -> Outcome
-        ensures { Step event result self.old self.new }
+    pub(crate) fn step(&mut self, event: &Event) -> Outcome
+        ensures { Step event.now result self.old self.new }
     {
-        match &event {
+        match event {
             Event::Trade(trade) => Outcome::of_trade(self.clear.take_trade(trade)),
             Event::Exempt {
                 member,

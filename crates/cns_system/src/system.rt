@@ -157,6 +157,7 @@ impl<C: Keeper, D: Keeper> System<C, D> {
     }
 
     /// Lets an event happen, and answers what it came to.
+    #[inline(always)]
     pub fn step(&mut self, event: Event) -> Outcome
         // The outcome and what is left are those of one function of what the surroundings decide.
         ensures decided { IsDecided event result self.old self.new }
@@ -177,7 +178,7 @@ impl<C: Keeper, D: Keeper> System<C, D> {
     {
         // As the records are lawful, a new delivery finds all that it asks for in the CNS account.
         self.pair.lawful();
-        let outcome = self.pair.step(event);
+        let outcome = self.pair.step(&event);
         self.pair.lawful();
         outcome
     }

@@ -1,10 +1,13 @@
 -- How an id is stored.
-use Rattle.std.proofs.Common.{◌≡◌, ◌<◌, ◌≤◌, ℕ, List, [], ◌∷◌, ◌++◌, length, drop, Bool, true, false, refl, ap, ◌∙◌, arith}
+use Rattle.std.proofs.Common.{◌≡◌, ◌<◌, ◌≤◌, ℕ, List, [], ◌∷◌, ◌++◌, length, drop, Bool, true, false, refl, ap, sym, ◌∙◌, arith}
 use Rattle.std.specs.Prelude.{◌+◌, ◌-◌, ◌&&◌, ◌||◌, min, nat_le, nat_lt, not, ◌==◌, replicate, slice_index, take}
 use Rattle.std.specs.List.{list_all}
+use Rattle.std.specs.Bool.{one_answer}
+use Rattle.std.specs.Cmp.Lexicographic.{pointwise, bytes_decides}
 use borrow.Author.Tests.{leb-true, ltb-false, ltb-true}
 use Rattle.std.proofs.Math.ListN.{get_or-append}
 use Rattle.std.proofs.Math.Seq.{get_or-append_right}
+use Rattle.std.proofs.lemmas.Bool.Decides.{Decides-like}
 use Rattle.std.proofs.lemmas.List.{get_or-drop}
 use Rattle.std.proofs.lemmas.List.Folds.{list_all_at}
 use Rattle.std.proofs.Math.Seq.{take-append_seam}
@@ -86,3 +89,10 @@ stored_front text new e id =
     let size = stored_size text id in
     let front : take (length text) (stored text) ≡ text = take-append_seam text (drop (length text) (replicate 15 0 ++ length text ∷ [])) in
     rw (e, size) front
+
+-- ids are equal where all that is stored of them is
+pub same_stored : (a b : List ℕ) → IsStored a → IsStored b → pointwise ◌==◌ a b ≡ pointwise ◌==◌ (take (size_in a) a) (take (size_in b) b)
+same_stored a b held other =
+    let id : List ℕ → List ℕ = λ bytes. take (size_in bytes) bytes in
+    one_answer (pointwise ◌==◌ a b) (pointwise ◌==◌ (id a) (id b)) (bytes_decides a b)
+    (Decides-like (pointwise ◌==◌ (id a) (id b)) (λ e. sym held.rest ∙ ap stored e ∙ other.rest) (ap id) (bytes_decides (id a) (id b)))

@@ -57,8 +57,8 @@ fn all_id_characters(text: &[u8]) -> bool
     text.iter().all(|character| is_id_character(*character))
 }
 
-// Whether a text is 1 to 16 capital letters and digits.
-fn is_id(text: &[u8]) -> bool
+/// Whether a text is 1 to 16 capital letters and digits.
+pub(crate) fn is_id(text: &[u8]) -> bool
     ensures { result ≡ is_id_text text.now }
 {
     !text.is_empty() && text.len() <= 16 && all_id_characters(text)
@@ -74,11 +74,19 @@ impl TradeId {
         if !is_id(text) {
             return Err(BadId);
         }
+        Ok(TradeId::of(text))
+    }
+
+    /// The id of a text that is one.
+    pub(crate) fn of(text: &[u8]) -> TradeId
+        requires { IsId text.now }
+        ensures { result ≡ text.now }
+    {
         let mut bytes = [0; 16];
         let len = text.len();
         bytes[LAST] = len as u8;
         bytes[..len].copy_from_slice(text);
-        Ok(TradeId { bytes })
+        TradeId { bytes }
     }
 
     /// The 1 to 16 bytes.
@@ -97,7 +105,7 @@ impl PartialEq for TradeId {
     ghost laws = { Prim.search (comparing, rules) };
 
     fn eq(&self, other: &TradeId) -> bool {
-        self.as_bytes() == other.as_bytes()
+        self.bytes == other.bytes
     }
 }
 
@@ -106,12 +114,15 @@ impl Eq for TradeId {
 }
 
 impl Hash for TradeId {
-    ghost hash_input = { fed.slice fed.u8 };
+    ghost use Rattle.std.specs.Int.{from_le_bytes, w128};
+    ghost use Rattle.cns_trades.specs.TradeId.{stored};
+
+    ghost hash_input = { λ id. fed.u128 (from_le_bytes w128 (stored id)) };
 
     ghost respects_eq = { Prim.search (hashing, rules) };
 
     fn hash<H: Hasher>(&self, state: &mut H) {
-        self.as_bytes().hash(state);
+        u128::from_le_bytes(self.bytes).hash(state);
     }
 }
 

@@ -5,7 +5,7 @@ ghost use Rattle.cns_trades.specs.Rows.{row_at, trade_of as trade_of_fields, tra
 ghost use Rattle.cns_trades.specs.Records.{TellsRows};
 
 use crate::fault::{CsvFault, RowFault};
-use crate::id::TradeId;
+use crate::id::{TradeId, is_id};
 use crate::record::{FromRecord, field, read_rows};
 use crate::trade::Trade;
 use cns_ids::{Cusip, Day, MemberNo, read_quantity};
@@ -27,7 +27,11 @@ pub(crate) fn trade_of(fields: &ByteRecord) -> Result<Trade, RowFault>
     if fields.len() != 6 {
         return Err(RowFault::Fields);
     }
-    let id = TradeId::read(field(fields, 0)).map_err(|_| RowFault::Id)?;
+    let name = field(fields, 0);
+    if !is_id(name) {
+        return Err(RowFault::Id);
+    }
+    let id = TradeId::of(name);
     let settle = Day::read(field(fields, 1)).map_err(|_| RowFault::Settle)?;
     let buyer = MemberNo::read(field(fields, 2)).map_err(RowFault::Buyer)?;
     let seller = MemberNo::read(field(fields, 3)).map_err(RowFault::Seller)?;

@@ -125,6 +125,7 @@ impl TradeRows {
     }
 
     /// Takes the next row, where one is left.
+    #[inline(always)]
     pub fn next(&mut self) -> Option<Row>
         ensures { MatchOption result ((self.old ≡ []) × (self.new ≡ self.old)) (λ row. self.old ≡ row ∷ self.new) }
     {

@@ -1,6 +1,6 @@
 use Rattle.std.proofs.Common.{◌∙◌, ap}
 use Rattle.std.proofs.lemmas.Result.{IfOk-weaker}
-use Rattle.cns_audit.specs.Rows.{standing}
+use Rattle.cns_depository.specs.Ranges.{standing}
 use Rattle.cns_audit.proofs.RowLemmas.{stands-again}
 use Rattle.cns_audit.proofs.check.take_openings.Goals as goal
 

@@ -1,73 +1,58 @@
-use Rattle.std.proofs.Common.{◌∙◌, ap, arith, refl, sym}
-use Rattle.std.specs.Prelude.{sum_by}
-use Rattle.cns_netting.specs.Undue.{if_left}
+use Rattle.std.proofs.Common.{◌≡◌, arith, false, rules, sym}
 use Rattle.std.specs.BinaryHeap.{heap_items}
-use Rattle.std.proofs.lemmas.List.Elements.{All-weaker}
-use Rattle.std.proofs.lemmas.List.Sorted.{sum_by_popped}
 use Rattle.cns_netting.specs.declared.undue.Undue.{Undue}
 use Rattle.cns_netting.specs.Positions.{bought_by, IsNamed, sold_by}
 use Rattle.cns_netting.specs.Totals.{HasIssue}
-use Rattle.cns_netting.proofs.QueueLemmas.{left-popped, none-settled, popped-head, popped-tail}
+use Rattle.cns_netting.proofs.QueueLemmas.{all-later, left-later, none-settled}
+use Rattle.cns_netting.proofs.TradeLemmas.{settled-left}
 use Rattle.cns_netting.proofs.due.make_due.Goals as goal
 
-pub loop-trade-init : goal.loop-trade-init
-loop-trade-init c = record {
-  heap = c.requires.heap;
-  named = c.requires.named;
-  issues = c.requires.issues;
-  keys = refl;
-  totals = c.requires.totals;
-  left = λ f. refl;
-  count = omega arith;
-  fits = omega arith;
-  balance = λ m i. omega arith;
-  long = c.requires.long;
-  short = c.requires.short;
-}
-
-pub add_trade_counted-requires : goal.add_trade_counted-requires
-add_trade_counted-requires c =
-    let t = c.in-Some.trade in
-    let taken = c.in-Some.ensures.taken in
-    let was = heap_items c.loop-trade.undue in
-    let is = heap_items c.next_due.new.undue in
-    let before = c.loop-trade.invariant in
-    record {
-      named = popped-head (IsNamed c.loop-trade.positions) t was is taken before.named;
-      issue = popped-head (HasIssue c.loop-trade.totals) t was is taken before.issues;
-      long = λ m i. omega (arith, before.long m i, sum_by_popped (bought_by m i) t was is taken);
-      short = λ m i. omega (arith, before.short m i, sum_by_popped (sold_by m i) t was is taken);
-      totals = before.totals;
-    }
-
-pub loop-trade-preserved : goal.loop-trade-preserved
-loop-trade-preserved c =
-    let t = c.in-Some.trade in
-    let taken = c.in-Some.ensures.taken in
-    let was = heap_items c.loop-trade.undue in
-    let is = heap_items c.next_due.new.undue in
-    let before = c.loop-trade.invariant in
-    let added = c.add_trade_counted.ensures in
-    record {
-      heap = c.next_due.ensures.heap;
-      named =
-          All-weaker (IsNamed c.loop-trade.positions) (IsNamed c.add_trade_counted.new.positions) (λ u both. (added.named _ both.0, added.named _ both.1)) is
-          (popped-tail (IsNamed c.loop-trade.positions) t was is taken before.named);
-      issues =
-          All-weaker (HasIssue c.loop-trade.totals) (HasIssue c.add_trade_counted.new.totals) (λ u one. added.issues _ one) is
-          (popped-tail (HasIssue c.loop-trade.totals) t was is taken before.issues);
-      keys = added.keys ∙ before.keys;
-      totals = added.totals;
-      left = λ f. left-popped c.args.day f t was is taken c.in-Some.ensures.due ∙ before.left f;
-      count = let one = sum_by_popped (λ (u : Undue). 1) t was is taken in omega (arith, one, before.count);
-      fits = let less = c.in-Some.ensures.len in let all = before.fits in omega arith;
-      balance = λ m i. omega (arith, before.balance m i, added.balance m i, sum_by_popped (bought_by m i) t was is taken, sum_by_popped (sold_by m i) t was is taken);
-      long = λ m i. omega (arith, before.long m i, added.balance m i, sum_by_popped (bought_by m i) t was is taken);
-      short = λ m i. omega (arith, before.short m i, added.balance m i, sum_by_popped (sold_by m i) t was is taken);
-    }
+pub add_due_counted-count-requires : goal.add_due_counted-count-requires
+add_due_counted-count-requires c =
+    let waiting = heap_items c.args.undue.now in
+    rw c.as_slice.ensures.value (record {
+      named = c.requires.named;
+      issues = c.requires.issues;
+      long = λ m i. omega (arith, c.requires.long m i, settled-left c.args.day (bought_by m i) waiting);
+      short = λ m i. omega (arith, c.requires.short m i, settled-left c.args.day (sold_by m i) waiting);
+      totals = c.requires.totals;
+    })
 
 pub returns-clause-left : goal.returns-clause-left
-returns-clause-left c = λ f.
-    let is = heap_items c.next_due.new.undue in
-    let same = ap (sum_by (if_left c.args.day f)) c.in_default.ensures.same in
-    sym (none-settled c.args.day f is c.in_default.ensures.none) ∙ same ∙ c.loop-trade.invariant.left f
+returns-clause-left c = λ f. left-later c.args.day f (heap_items c.args.undue.now) (heap_items c.retain_later.new.undue) c.retain_later.ensures.later
+
+pub returns-clause-count : goal.returns-clause-count
+returns-clause-count c =
+    let waiting = heap_items c.args.undue.now in
+    let count = rw c.as_slice.ensures.value at c.add_due_counted-count.ensures.count in
+    let left = left-later c.args.day (λ (t : Undue). 1) waiting (heap_items c.retain_later.new.undue) c.retain_later.ensures.later in
+    omega (arith, count, left, settled-left c.args.day (λ (t : Undue). 1) waiting)
+
+pub returns-clause-balance : goal.returns-clause-balance
+returns-clause-balance c = λ m i.
+    let waiting = heap_items c.args.undue.now in
+    let left = heap_items c.retain_later.new.undue in
+    let balance = rw c.as_slice.ensures.value at c.add_due_counted-count.ensures.balance in
+    omega (
+      arith,
+      balance m i,
+      left-later c.args.day (bought_by m i) waiting left c.retain_later.ensures.later,
+      left-later c.args.day (sold_by m i) waiting left c.retain_later.ensures.later,
+      settled-left c.args.day (bought_by m i) waiting,
+      settled-left c.args.day (sold_by m i) waiting,
+    )
+
+pub returns-clause-named : goal.returns-clause-named
+returns-clause-named c =
+    all-later c.args.day (IsNamed c.add_due_counted-count.new.positions) (heap_items c.args.undue.now) (heap_items c.retain_later.new.undue) c.retain_later.ensures.later
+    (rw c.as_slice.ensures.value at c.add_due_counted-count.ensures.named)
+
+pub returns-clause-issues : goal.returns-clause-issues
+returns-clause-issues c =
+    all-later c.args.day (HasIssue c.add_due_counted-count.new.totals) (heap_items c.args.undue.now) (heap_items c.retain_later.new.undue) c.retain_later.ensures.later
+    (rw c.as_slice.ensures.value at c.add_due_counted-count.ensures.issues)
+
+pub returns-then-not-has_due-clause-left : goal.returns-then-not-has_due-clause-left
+returns-then-not-has_due-clause-left c = λ f.
+    let none : c.has_due.result ≡ false = search rules in
+    sym (none-settled c.args.day f (heap_items c.args.undue.now) (c.has_due.ensures none))

@@ -1,30 +1,30 @@
-use Rattle.std.proofs.Common.{◌∙◌, ap, rules, Some, unwrap_or}
+use Rattle.std.proofs.Common.{◌∙◌, ap, rules, unwrap_or}
 use Rattle.std.specs.HashMap.{get}
 use Rattle.std.specs.Prelude.{pos}
 use Rattle.indexmap.specs.Entry.{map_with_value}
 use Rattle.cns_ids.specs.Holding.{holding_at, holding_eq}
 use Rattle.cns_netting.specs.Positions.{credit_at, debit_at}
 use Rattle.cns_ids.proofs.HoldingLemmas.{put-named, put-same}
-use Rattle.cns_netting.proofs.PositionLemmas.{credit_of_none, debit_of_none, position_by, put-members}
+use Rattle.cns_netting.proofs.PositionLemmas.{parts_found, position_by, put-members}
 use Rattle.cns_netting.proofs.SortedLemmas.{sorted_named}
 use Rattle.cns_netting.proofs.positions.name.Goals as goal
 
 pub returns-clause-credit : goal.returns-clause-credit
 returns-clause-credit c =
     let w = c.or_insert.result.now in
-    let is = c.or_insert.ensures.value ∙ ap (λ o. unwrap_or o (position_by (pos 0))) c.in-Ok.ensures.value in
+    let found = parts_found (get holding_eq c.args.positions.now (holding_at c.args.issue c.args.member)) w (c.or_insert.ensures.value ∙ ap (λ o. unwrap_or o (position_by (pos 0))) c.in-Ok.ensures.value) in
     let same =
     put-same credit_at c.args.member c.args.issue w (get holding_eq c.args.positions.now) (get holding_eq (map_with_value c.in-Ok.entry w))
-    (c.in-Ok.ensures.update.0 w).0 (ap (λ p. credit_at (Some p)) is ∙ credit_of_none (get holding_eq c.args.positions.now (holding_at c.args.issue c.args.member))) in
+    (c.in-Ok.ensures.update.0 w).0 found.0 in
     λ m i. search (rules, same m i)
 
 pub returns-clause-debit : goal.returns-clause-debit
 returns-clause-debit c =
     let w = c.or_insert.result.now in
-    let is = c.or_insert.ensures.value ∙ ap (λ o. unwrap_or o (position_by (pos 0))) c.in-Ok.ensures.value in
+    let found = parts_found (get holding_eq c.args.positions.now (holding_at c.args.issue c.args.member)) w (c.or_insert.ensures.value ∙ ap (λ o. unwrap_or o (position_by (pos 0))) c.in-Ok.ensures.value) in
     let same =
     put-same debit_at c.args.member c.args.issue w (get holding_eq c.args.positions.now) (get holding_eq (map_with_value c.in-Ok.entry w))
-    (c.in-Ok.ensures.update.0 w).0 (ap (λ p. debit_at (Some p)) is ∙ debit_of_none (get holding_eq c.args.positions.now (holding_at c.args.issue c.args.member))) in
+    (c.in-Ok.ensures.update.0 w).0 found.1 in
     λ m i. search (rules, same m i)
 
 pub returns-clause-still : goal.returns-clause-still

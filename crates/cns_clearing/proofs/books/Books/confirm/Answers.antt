@@ -8,13 +8,13 @@ use Rattle.cns_covers.proofs.BoundLemmas.{bounded_within}
 use Rattle.cns_clearing.proofs.BooksLemmas.{settle_within}
 use Rattle.cns_clearing.proofs.books.Books.confirm.Goals as goal
 
-pub settle-requires-clause-before : goal.settle-requires-clause-before
-settle-requires-clause-before c =
+pub settle_reserved-requires-clause-before : goal.settle_reserved-requires-clause-before
+settle_reserved-requires-clause-before c =
     let sound = rw (← c.self.view_is) at c.requires.sound in
     bounded_within c.self.inside.book.history _ c.in-Some.order.member c.in-Some.order.issue sound.netted sound.bounded
 
-pub settle-requires-clause-after : goal.settle-requires-clause-after
-settle-requires-clause-after c =
+pub settle_reserved-requires-clause-after : goal.settle_reserved-requires-clause-after
+settle_reserved-requires-clause-after c =
     let sound = rw (← c.self.view_is) at c.requires.sound in
     let allowed = rw (← c.self.view_is) at c.requires.allowed in
     let book = rw (← c.self.view_is) at c.orders.ensures in

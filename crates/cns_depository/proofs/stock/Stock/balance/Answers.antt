@@ -10,9 +10,9 @@ returns c = λ p are.
     let account = c.args.account.now in
     let issue = c.args.issue in
     let entered : c.moved_of-moved.result.entered ≡ moved_in p account issue =
-    ap (λ (m : Moved). m.entered) c.moved_of-moved.ensures ∙ are.entered (At account) issue in
+    ap (λ (m : Moved). m.entered) c.moved_of-moved.ensures ∙ are.sums.entered (At account) issue in
     let left : c.moved_of-moved.result.left ≡ moved_out p account issue =
-    ap (λ (m : Moved). m.left) c.moved_of-moved.ensures ∙ are.left (At account) issue in
+    ap (λ (m : Moved). m.left) c.moved_of-moved.ensures ∙ are.sums.left (At account) issue in
     omega (
       arith,
       c.saturating_sub.ensures,
@@ -21,6 +21,6 @@ returns c = λ p are.
       c.shares-opened.ensures.small,
       entered,
       left,
-      are.few,
-      are.entered_small (At account) issue,
+      are.sums.few,
+      are.sums.entered_small (At account) issue,
     )

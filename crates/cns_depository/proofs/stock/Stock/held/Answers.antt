@@ -9,9 +9,9 @@ unfolding held_in
 returns c = λ p are.
     let issue = c.args.issue in
     let entered : c.moved_of-moved.result.entered ≡ brought p Outside issue =
-    ap (λ (m : Moved). m.entered) c.moved_of-moved.ensures ∙ are.entered Outside issue in
+    ap (λ (m : Moved). m.entered) c.moved_of-moved.ensures ∙ are.sums.entered Outside issue in
     let left : c.moved_of-moved.result.left ≡ taken p Outside issue =
-    ap (λ (m : Moved). m.left) c.moved_of-moved.ensures ∙ are.left Outside issue in
+    ap (λ (m : Moved). m.left) c.moved_of-moved.ensures ∙ are.sums.left Outside issue in
     omega (
       arith,
       c.saturating_sub.ensures,
@@ -20,6 +20,6 @@ returns c = λ p are.
       c.sum.ensures.small,
       entered,
       left,
-      are.few,
-      are.left_small Outside issue,
+      are.sums.few,
+      are.sums.left_small Outside issue,
     )
