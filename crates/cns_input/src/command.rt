@@ -253,7 +253,9 @@ fn read_event(word: &[u8], rest: Option<&[u8]>) -> Option<Event>
     }
 }
 
-// The command that a word with others behind it is.
+// The command that a word with others behind it is. It stands by itself, so that the commands that come
+// most often set no room aside for what it reads.
+#[inline(never)]
 fn read_longer(word: &[u8], rest: Option<&[u8]>) -> Option<Command>
     ensures { result ≡ by_table (drop 5 commands) (word.now ∷ words_after rest.entry) }
 {
@@ -299,9 +301,8 @@ fn alone(command: Command, rest: Option<&[u8]>) -> Option<Command>
     if none(rest) { Some(command) } else { None }
 }
 
-// The command that a word and those behind it are, where it is none of the link. It stands by itself, so
-// that those of the link, which come most often, set no room aside for what it reads.
-#[inline(never)]
+// The command that a word and those behind it are, where it is none of the link.
+#[inline(always)]
 fn read_other(word: &[u8], rest: Option<&[u8]>) -> Option<Command>
     ensures { result ≡ by_table (drop 3 commands) (word.now ∷ words_after rest.entry) }
 {
