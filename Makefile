@@ -37,9 +37,10 @@ bench: build
 	bench/journal.sh $(program)
 	bench/collisions.sh $(program)
 
-# Instructions on works that grow, and on hostile ones, beside those of plain Rust (needs valgrind); FULL=1 also runs them whole.
+# Instructions on works that grow, and on hostile ones, beside those of plain Rust (needs valgrind); FULL=1 also runs them whole. PEERS=FOLDER
+# runs the programs FOLDER/NAME/target/release/cnsd beside it, and CSV=FILE adds a line to a file for each run.
 works: build
-	bench/works.py $(program) $(if $(FULL),--full)
+	bench/works.py $(program) $(if $(FULL),--full) $(if $(PEERS),--peers $(PEERS)) $(if $(CSV),--csv $(CSV))
 
 # What these instructions go into, in parts of a hundred.
 profile: build

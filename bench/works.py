@@ -1,17 +1,26 @@
 #!/usr/bin/env python3
 """Counts what a program's work costs, in instructions, which do not wander, and in memory.
 
-    works.py PROGRAM [WORK..] [--full]
+    works.py PROGRAM [WORK..] [--full] [--peers FOLDER] [--csv FILE]
 
 Runs each work of make_works.py (all, where none is named) at a sixty-fourth, a thirty-second and a sixteenth of its size under
 `valgrind --tool=callgrind`, and prints the millions of instructions; the growth exponent (1 where twice the work
 costs twice as much); and how many times those of a plain Rust program of the same rules they are, which has running
 values, and no journals, proofs or room for want of memory (its figures were taken once; it is no part of this
 repository). With --full each work is run once at its full size too, for its processor seconds, its peak memory, and
-that of plain Rust. The exit status is 1 where a run ends in a fault.
+that of plain Rust.
+
+With --peers the programs FOLDER/NAME/target/release/cnsd, which answer the same on the same works, are run beside it in their
+place: for each of them there is a column that says what part of its instructions, and with --full of its memory, the
+program takes. --csv adds a line for each run to a file: the date, the commit, the program, the work, its size, and its instructions
+or its processor seconds and KiB. The exit status is 1 where a run ends in a fault, or a peer answers something else.
 """
 import argparse
+import csv
+import datetime
 import fractions
+import glob
+import hashlib
 import math
 import os
 import re
@@ -45,10 +54,10 @@ class Failed(Exception):
     """A run that ended in a fault."""
 
 
-def run(words, work):
-    """Runs a command on a work; answers what it said, and what it used."""
+def run(words, work, out=subprocess.DEVNULL):
+    """Runs a command on a work, whose text goes to a file where one is given; answers what it said beside it, and what it used."""
     with tempfile.TemporaryFile() as said, open(work, 'rb') as text:
-        started = subprocess.Popen(words, stdin=text, stdout=subprocess.DEVNULL, stderr=said)
+        started = subprocess.Popen(words, stdin=text, stdout=out, stderr=said)
         _, status, used = os.wait4(started.pid, 0)
         started.returncode = os.waitstatus_to_exitcode(status)
         said.seek(0)
@@ -58,10 +67,10 @@ def run(words, work):
     return words_said, used
 
 
-def instructions(program, work):
-    """The millions of instructions that a program takes for a work."""
-    said, _ = run(['valgrind', '--tool=callgrind', '--callgrind-out-file=/dev/null', program, 'run'], work)
-    return int(COLLECTED.search(said).group(1)) / 1e6
+def instructions(program, work, out=subprocess.DEVNULL):
+    """How many instructions a program takes for a work."""
+    said, _ = run(['valgrind', '--tool=callgrind', '--callgrind-out-file=/dev/null', program, 'run'], work, out)
+    return int(COLLECTED.search(said).group(1))
 
 
 def write_work(name, scale, path):
@@ -70,22 +79,68 @@ def write_work(name, scale, path):
         subprocess.run([sys.executable, MAKE_WORKS, name, '--scale', str(scale)], stdout=out, check=True)
 
 
-def row_of(program, name, full, path):
-    """A work's line of the table."""
-    counts = []
-    for scale in SCALES:
+class Measured:
+    """Programs of which the first one is measured, and the others beside it; and where each run is written down."""
+
+    def __init__(self, programs, file):
+        self.programs, self.rows = programs, csv.writer(file, lineterminator='\n') if file else None
+        commit = subprocess.run(['git', 'rev-parse', '--short', 'HEAD'], cwd=os.path.dirname(MAKE_WORKS), capture_output=True, text=True)
+        self.begins = [datetime.date.today().isoformat(), commit.stdout.strip()]
+
+    def write(self, program, name, scale, cells):
+        if self.rows:
+            self.rows.writerow([*self.begins, program, name, scale, *cells])
+
+    def each(self, name, scale, path, measure):
+        """What a measure, of a program's path and the file for its text, says of each program on a work; each answers the same text."""
         write_work(name, scale, path)
-        counts.append(instructions(program, path))
-    plain, memory = PLAIN[name]
-    times = '%.1f' % (counts[0] / plain[0])
-    if len(plain) == len(counts):
-        times += ' to %.1f' % (counts[-1] / plain[-1])
-    cells = [name, *('%.1f' % count for count in counts), '%.2f' % (math.log2(counts[-1] / counts[0]) / 2), times]
-    if full:
-        write_work(name, 1, path)
-        _, used = run([program, 'run'], path)
-        cells += ['%.1f' % (used.ru_utime + used.ru_stime), '%.0f' % (used.ru_maxrss / 1024), str(memory or '')]
-    return cells
+        found, texts = [], set()
+        for program, at in self.programs:
+            with tempfile.TemporaryFile() as out:
+                found.append(measure(at, out))
+                out.seek(0)
+                texts.add(hashlib.file_digest(out, 'sha256').digest())
+            if len(texts) > 1:
+                raise Failed('%s answers something else' % program)
+        return found
+
+    def counts(self, name, scale, path):
+        """The instructions of each program on a work."""
+        found = self.each(name, scale, path, lambda at, out: instructions(at, path, out))
+        for (program, _), count in zip(self.programs, found):
+            self.write(program, name, scale, [count, '', ''])
+        return found
+
+    def whole(self, name, path):
+        """The processor seconds and the KiB of each program on a whole work."""
+        used = self.each(name, 1, path, lambda at, out: run([at, 'run'], path, out)[1])
+        found = [(it.ru_utime + it.ru_stime, it.ru_maxrss) for it in used]
+        for (program, _), (seconds, memory) in zip(self.programs, found):
+            self.write(program, name, 1, ['', '%.2f' % seconds, memory])
+        return found
+
+    def row(self, name, full, path):
+        """A work's line of the table."""
+        counts = [self.counts(name, scale, path) for scale in SCALES]
+        own = [count[0] / 1e6 for count in counts]
+        cells = [name, *('%.1f' % count for count in own), '%.2f' % (math.log2(own[-1] / own[0]) / 2)]
+        if len(self.programs) == 1:
+            plain, memory = PLAIN[name]
+            times = ['%.1f' % (own[at] / plain[at]) for at in (0, len(SCALES) - 1) if at < len(plain)]
+            cells.append(' to '.join(times))
+        else:
+            cells += [', '.join('%.2f' % (count[0] / count[at]) for count in counts) for at in range(1, len(self.programs))]
+        if full:
+            found = self.whole(name, path)
+            cells += ['%.1f' % found[0][0], '%.0f' % (found[0][1] / 1024)]
+            cells += ['%.2f' % (found[0][1] / other) for _, other in found[1:]] or [str(memory or '')]
+        return cells
+
+
+def peers_in(folder):
+    """The names and the paths of the programs beside which one is measured."""
+    found = sorted(glob.glob(os.path.join(glob.escape(folder), '*', 'target', 'release', 'cnsd')))
+    return [(os.path.relpath(path, folder).split(os.sep)[0], os.path.abspath(path)) for path in found]
 
 
 def print_rows(names, row):
@@ -106,13 +161,20 @@ def main():
     parser.add_argument('program')
     parser.add_argument('works', nargs='*', metavar='WORK', help=', '.join(WORKS))
     parser.add_argument('--full', action='store_true')
+    parser.add_argument('--peers', metavar='FOLDER')
+    parser.add_argument('--csv', metavar='FILE', type=argparse.FileType('a'))
     given = parser.parse_args()
-    program = os.path.abspath(given.program)
     if set(given.works) - set(WORKS):
         parser.error('the works are ' + ', '.join(WORKS))
-    heads = ['work', *('1/%d' % scale.denominator for scale in SCALES), 'exponent', 'times plain Rust']
-    print('| ' + ' | '.join(heads + (['seconds', 'MiB', 'plain MiB'] if given.full else [])) + ' |')
-    return print_rows(given.works or WORKS, lambda name, folder: row_of(program, name, given.full, os.path.join(folder, 'work')))
+    peers = peers_in(given.peers) if given.peers else []
+    if given.peers and not peers:
+        parser.error('there is no NAME/target/release/cnsd in ' + given.peers)
+    measured = Measured([('cnsd', os.path.abspath(given.program)), *peers], given.csv)
+    heads = ['work', *('1/%d' % scale.denominator for scale in SCALES), 'exponent', *(['of ' + name for name, _ in peers] or ['times plain Rust'])]
+    if given.full:
+        heads += ['seconds', 'MiB', *(['of %s, MiB' % name for name, _ in peers] or ['plain MiB'])]
+    print('| ' + ' | '.join(heads) + ' |')
+    return print_rows(given.works or WORKS, lambda name, folder: measured.row(name, given.full, os.path.join(folder, 'work')))
 
 
 if __name__ == '__main__':
