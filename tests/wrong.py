@@ -40,6 +40,7 @@ LEAST_OF_A_LANE = 12
 MOST_AT_ONCE = 16
 ROUNDS = 4
 PARTS = ("src", "specs", "proofs")
+LIBRARY = "out/rlib"
 
 
 def lanes_here():
@@ -52,7 +53,7 @@ def lanes_here():
 def copy_crate(name, to, kept):
     """Copies a crate with its library where that was built, with the kept work of its checks where that is asked for, and without its edits."""
     source, target = os.path.join(TOP, "crates", name), os.path.join(to, "crates", name)
-    for part in [*PARTS, "out/rlib", *(["out/incremental"] if kept else [])]:
+    for part in [*PARTS, LIBRARY, *(["out/incremental"] if kept else [])]:
         if os.path.isdir(os.path.join(source, part)):
             shutil.copytree(os.path.join(source, part), os.path.join(target, part))
 
@@ -254,11 +255,13 @@ def batches(found, name):
 
 
 def room_for(name, tree, room):
-    """A tree with a crate and those below it."""
-    os.makedirs(f"{room}/crates", exist_ok=True)
+    """A tree with a crate, and of those below it with what a check of it reads."""
+    os.makedirs(f"{room}/crates")
     for one in all_below(name, below()):
-        shutil.copytree(f"{tree}/crates/{one}", f"{room}/crates/{one}", copy_function=os.link)
-    shutil.copytree(f"{tree}/crates/{name}", f"{room}/crates/{name}")
+        for part in (it for it in (*PARTS, LIBRARY) if os.path.isdir(f"{tree}/crates/{one}/{it}")):
+            shutil.copytree(f"{tree}/crates/{one}/{part}", f"{room}/crates/{one}/{part}", copy_function=os.link)
+    # (a process of its own: what a check left is many files, and a thread that copies them keeps the others waiting)
+    subprocess.run(["cp", "-a", "--", f"{tree}/crates/{name}", f"{room}/crates/"], check=True)
     write_lines_of(room, [name, *all_below(name, below())])
 
 
