@@ -1,15 +1,16 @@
--- The rows by the places of a stock: its places and those of the openings have the rows, in order.
-use Rattle.std.proofs.Common.{◌≡◌, ℕ, Bool, true, false, List, length, [], ◌∷◌, Option, Some, None, cond, eqb, refl, sym, ap, ◌∙◌, subst, arith, inl, inr}
-use Rattle.std.specs.Prelude.{◌≢◌, ◌⊎◌, fold}
-use Rattle.std.specs.BTreeSet.{insert_key}
+-- The rows by places: those of a stock and of the openings, in order, have the rows.
+use Rattle.std.proofs.Common.{◌≡◌, ℕ, zero, suc, Bool, true, false, List, length, [], ◌∷◌, Option, Some, None, cond, eqb, refl, sym, ap, ◌∙◌, subst, arith, inl, inr}
+use Rattle.std.specs.Prelude.{◌≢◌, ◌⊎◌, map, if◌then◌else◌}
 use Rattle.std.specs.HashMap.{keys}
-use Rattle.std.specs.List.{filter_map, cons_option, AllByRecursion}
+use Rattle.std.specs.List.{filter_map, cons_option, AllByRecursion, Contains}
 use Rattle.std.specs.List.Sorted.{IsStrictlySortedBy}
 use Rattle.std.specs.Map.{keys_of, lookup}
 use Rattle.std.specs.Ordering.{ordering_reverse}
 use Rattle.std.specs.declared.cmp.Ordering.{Ordering}
 use Rattle.std.specs.declared.cmp.Ordering.TheVariants.{Less, Equal, Greater}
-use Rattle.std.proofs.lemmas.Bool.{eq-eqb, eqb-true, cases_Bool, cond-true}
+use Rattle.std.proofs.lemmas.Bool.{eq-eqb, eqb-true, cases_Bool, cond-false, cond-true}
+use Rattle.std.proofs.lemmas.List.Elements.{Contains-append_left, Contains-append_right}
+use Rattle.std.proofs.lemmas.List.Sums.{sum_by-cons}
 use Rattle.std.proofs.lemmas.Option.{none-some}
 use Rattle.cns_records.specs.declared.dep_record.DepRecord.{DepRecord}
 use Rattle.cns_trades.specs.declared.opening.Opening.{Opening}
@@ -22,11 +23,14 @@ use Rattle.cns_depository.specs.declared.moved.Moved.{Moved}
 use Rattle.cns_depository.specs.declared.place.Place.{Place}
 use Rattle.cns_depository.specs.declared.stock.Stock.{Stock}
 use Rattle.cns_depository.specs.Balances.{account_row, balance_row, balance_rows, place_cmp, places_of, side_row}
-use Rattle.cns_depository.specs.Openings.{opening_shares}
+use Rattle.cns_depository.specs.Openings.{is_opening_of, opening_shares}
+use Rattle.cns_depository.specs.Places.{named_places, opened_place}
 use Rattle.cns_depository.specs.Stock.{balance_of, moved_in}
 use Rattle.cns_depository.specs.Totals.{IsStockOf, moved_at, place_eq}
+use Rattle.cns_depository.proofs.MovementLemmas.{and_left, and_right}
+use Rattle.cns_depository.proofs.PlaceLemmas.{place_total, same_place}
 use Rattle.cns_depository.proofs.TotalLemmas.{equal_places}
-use Rattle.cns_depository.proofs.RowLemmas.{held_place, insert_has, insert_keeps, IsAmong, opened_has, opened_sorted, place_total, places_sorted, same_place, sorted_insert}
+use Rattle.cns_depository.proofs.RowLemmas.{held_place, IsAmong, places_sorted}
 
 -- ---- lists that have the same places with rows
 
@@ -113,23 +117,36 @@ same_rows f (x ∷ xs) [] sx sy there back =
     skip f x xs none ∙ same_rows f xs [] sx.1 tt (λ q row is in'. there q row is (inr in')) (λ q row is in'. absurd in')
 same_rows f (x ∷ xs) (y ∷ ys) sx sy there back = step f x y xs ys (place_cmp x y) refl (same_rows f xs (y ∷ ys)) (same_rows f xs ys) (same_rows f (x ∷ xs) ys) sx sy there back
 
--- ---- places with more of them
+-- ---- the places that are named
 
-added_keeps : (ks ps : List Place) (q : Place) → IsAmong q ps → IsAmong q (fold (insert_key place_cmp) ps ks)
-added_keeps [] ps q in' = in'
-added_keeps (k ∷ ks) ps q in' = added_keeps ks (insert_key place_cmp ps k) q (insert_keeps ps k q in')
+among_contained : (xs : List Place) (q : Place) → Contains xs q → IsAmong q xs
+among_contained [] q (k, within, at) = absurd (omega (arith, within))
+among_contained (x ∷ xs) q (zero, within, at) = inl at
+among_contained (x ∷ xs) q (suc k, within, at) = inr (among_contained xs q (k, omega (arith, within), at))
 
-added_has : (ks ps : List Place) (q : Place) → IsAmong q ks → IsAmong q (fold (insert_key place_cmp) ps ks)
-added_has [] ps q in' = absurd in'
-added_has (k ∷ ks) ps q in' =
+contained : (xs : List Place) (q : Place) → IsAmong q xs → Contains xs q
+contained [] q in' = absurd in'
+contained (x ∷ xs) q in' =
     elim in' [
-      | inl e ↦ added_keeps ks (insert_key place_cmp ps k) q (subst (λ (z : Place). IsAmong z (insert_key place_cmp ps k)) e (insert_has ps k))
-      | inr more ↦ added_has ks (insert_key place_cmp ps k) q more
+      | inl e ↦ (0, omega arith, e)
+      | inr more ↦ let rest = contained xs q more in (suc rest.0, omega (arith, rest.1), rest.2)
     ]
 
-added_sorted : (ks ps : List Place) → Ascend ps → Ascend (fold (insert_key place_cmp) ps ks)
-added_sorted [] ps order = order
-added_sorted (k ∷ ks) ps order = added_sorted ks (insert_key place_cmp ps k) (sorted_insert ps k order)
+-- an account that opens with shares is named
+opened_among : (os : List Opening) (m i : ℕ) → opening_shares os (Member m) i ≢ 0 → IsAmong (record { issue = i; side = At (Member m) }) (map opened_place os)
+opened_among [] m i held = absurd (held refl)
+opened_among (o ∷ os) m i held = by (is_opening_of m i o) refl (opened_among os m i)
+  where
+    by : (b : Bool) → is_opening_of m i o ≡ b → (opening_shares os (Member m) i ≢ 0 → IsAmong (record { issue = i; side = At (Member m) }) (map opened_place os))
+        → IsAmong (record { issue = i; side = At (Member m) }) (opened_place o ∷ map opened_place os)
+    by true e rest =
+        let of : o.member ≡ m = eqb-true o.member m (and_left (eqb o.member m) (eqb o.issue i) e) in
+        let at : o.issue ≡ i = eqb-true o.issue i (and_right (eqb o.member m) (eqb o.issue i) e) in
+        inl (λ j. record { issue = at j; side = At (Member (of j)) })
+    by false e rest =
+        let f : Opening → ℕ = λ (x : Opening). if is_opening_of m i x then x.shares else 0 in
+        let none : f o ≡ 0 = cond-false (is_opening_of m i o) o.shares 0 e in
+        inr (rest (λ z. held (omega (arith, sum_by-cons f o os, none, z))))
 
 -- ---- the places of a stock
 
@@ -147,20 +164,20 @@ moved_named s p a issue stock some =
     found_among s.moved.entries _ (λ none. some (sym (stock.sums.entered (At a) issue) ∙ ap (λ (m : Option Moved). (moved_at m).entered) none))
 
 -- a balance other than 0 is of a place that is opened, or into which something was moved
-stock_place : (s : Stock) (openings : List Opening) (p : List DepRecord) (a : Account) (issue : ℕ) → IsStockOf s p → balance_of openings p a issue ≢ 0
-    → IsAmong (record { issue = issue; side = At a }) (fold (insert_key place_cmp) (places_of openings []) (keys s.moved))
-unfolding balance_of places_of
-stock_place s openings p a issue stock held =
+named_place : (s : Stock) (openings : List Opening) (p : List DepRecord) (a : Account) (issue : ℕ) → IsStockOf s p → balance_of openings p a issue ≢ 0
+    → Contains (named_places openings s) (record { issue = issue; side = At a })
+unfolding balance_of
+named_place s openings p a issue stock held =
     elim (cases_Bool (eqb (opening_shares openings a issue) 0)) [
       | inl none ↦
           let zero_of : opening_shares openings a issue ≡ 0 = eqb-true (opening_shares openings a issue) 0 none in
-          added_has (keys s.moved) (places_of openings []) _ (moved_named s p a issue stock (λ z. held (omega (arith, zero_of, z))))
-      | inr some ↦ added_keeps (keys s.moved) (places_of openings []) _ (opened a (λ z. absurd cc))
+          Contains-append_right (map opened_place openings) (keys s.moved) _ (contained (keys s.moved) _ (moved_named s p a issue stock (λ z. held (omega (arith, zero_of, z)))))
+      | inr some ↦ Contains-append_left (map opened_place openings) (keys s.moved) _ (contained (map opened_place openings) _ (opened a (λ z. absurd cc)))
     ]
   where
-    opened : (b : Account) → opening_shares openings b issue ≢ 0 → IsAmong (record { issue = issue; side = At b }) (places_of openings [])
+    opened : (b : Account) → opening_shares openings b issue ≢ 0 → IsAmong (record { issue = issue; side = At b }) (map opened_place openings)
     opened Cns some = absurd (some refl)
-    opened (Member m) some = opened_has openings [] m issue some
+    opened (Member m) some = opened_among openings m issue some
 
 -- the row of a balance other than 0
 row_held : (openings : List Opening) (p : List DepRecord) (a : Account) (issue : ℕ) (row : BalanceRow) → account_row openings p a issue ≡ Some row → balance_of openings p a issue ≢ 0
@@ -177,20 +194,16 @@ by_row openings p ks q row is has = by q.side is
     by Outside is = absurd (none-some row is)
     by (At a) is = has a q.issue (row_held openings p a q.issue row is)
 
--- the places of the openings and of a stock have the rows
-pub rows_by_stock : (s : Stock) (openings : List Opening) (p : List DepRecord) → IsStockOf s p
-    → filter_map (balance_row openings p) (fold (insert_key place_cmp) (places_of openings []) (keys s.moved)) ≡ balance_rows openings p
-unfolding places_of IsStrictlySortedBy
-rows_by_stock s openings p stock =
-    same_rows (balance_row openings p) (fold (insert_key place_cmp) (places_of openings []) (keys s.moved)) (places_of openings p)
-    (added_sorted (keys s.moved) (places_of openings []) (opened_sorted openings [] tt)) (places_sorted openings p)
+-- places in order that have those of the openings and of a stock have the rows
+pub rows_by_places : (s : Stock) (openings : List Opening) (p : List DepRecord) (ks : List Place) → IsStockOf s p → Ascend ks
+    → ((q : Place) → Contains (named_places openings s) q → Contains ks q) → filter_map (balance_row openings p) ks ≡ balance_rows openings p
+rows_by_places s openings p ks stock order named =
+    same_rows (balance_row openings p) ks (places_of openings p) order (places_sorted openings p)
     (λ q row is in'. by_row openings p (places_of openings p) q row is (λ a issue held. held_place openings p a issue held))
-    (λ q row is in'. by_row openings p (fold (insert_key place_cmp) (places_of openings []) (keys s.moved)) q row is (λ a issue held. stock_place s openings p a issue stock held))
+    (λ q row is in'. by_row openings p ks q row is (λ a issue held. among_contained ks _ (named _ (named_place s openings p a issue stock held))))
 
 -- where nothing is opened and nothing was moved there is no row
 pub no_rows : (s : Stock) (openings : List Opening) (p : List DepRecord) → IsStockOf s p → length openings ≡ 0 → keys s.moved ≡ [] → [] ≡ balance_rows openings p
-unfolding places_of
-no_rows s [] p stock none unmoved =
-    let nowhere : fold (insert_key place_cmp) (places_of [] []) (keys s.moved) ≡ [] = rw unmoved refl in
-    ap (filter_map (balance_row [] p)) (sym nowhere) ∙ rows_by_stock s [] p stock
+unfolding IsStrictlySortedBy
+no_rows s [] p stock none unmoved = rows_by_places s [] p [] stock tt (λ q named. subst (λ (ks : List Place). Contains ks q) unmoved named)
 no_rows s (o ∷ openings) p stock none unmoved = absurd cc

@@ -1,36 +1,74 @@
--- The order of places is the one that their type derives.
-use Rattle.std.proofs.Common.{◌≡◌, ℕ, ◌+◌, refl, arith}
-use Rattle.std.specs.Cmp.{nat_cmp_is}
-use Rattle.std.specs.Ordering.{nat_cmp, ordering_then}
+-- The order of places.
+use Rattle.std.proofs.Common.{◌≡◌, ◌∙◌, ◌<◌, ◌^◌, ℕ, Bool, true, false, refl, sym, ap, arith}
+use Rattle.std.specs.Cmp.{IsEquivalence, IsTotalOrder, tied_itself}
+use Rattle.std.specs.Ordering.{eq_by_cmp, is_eq, nat_cmp, ordering_then}
 use Rattle.std.specs.declared.cmp.Ordering.{Ordering}
 use Rattle.std.specs.declared.cmp.Ordering.TheVariants.{Less, Equal, Greater}
-use Rattle.std.proofs.lemmas.Cmp.{ranked}
+use Rattle.std.proofs.lemmas.Bool.{true≢false}
+use Rattle.std.proofs.lemmas.Cmp.{nat_cmp_total, on_total, ranked, then_total}
+use Rattle.cns_ids.specs.CusipNumber.{narrowed, widened}
+use Rattle.cns_ids.specs.Holding.{holding_at}
+use Rattle.cns_ids.proofs.HoldingOrder.{word_cmp}
 use Rattle.cns_depository.specs.declared.account.Account.{Account}
 use Rattle.cns_depository.specs.declared.account.Account.TheVariants.{Cns, Member}
-use Rattle.cns_depository.specs.Balances.{place_cmp, rank, side_rank}
 use Rattle.cns_depository.specs.declared.account.Side.{Side}
 use Rattle.cns_depository.specs.declared.account.Side.TheVariants.{Outside, At}
-use Rattle.cns_depository.specs.contracts.account.AccountOrd.TheImpl as account
-use Rattle.cns_depository.specs.contracts.account.SideOrd.TheImpl as side
-use Rattle.cns_depository.specs.contracts.place.PlaceOrd.TheImpl as place
+use Rattle.cns_depository.specs.declared.place.Place.{Place}
+use Rattle.cns_depository.specs.contracts.place.PlaceEq.TheImpl.Laws.{laws-law}
+use Rattle.cns_depository.specs.Balances.{place_cmp, rank, side_rank}
+use Rattle.cns_depository.specs.Places.{place_word}
+use Rattle.cns_depository.specs.Totals.{place_eq}
+use Rattle.cns_depository.proofs.TotalLemmas.{equal_places}
 
--- numbers compare as those behind them
-next_cmp : (m k : ℕ) (r : Ordering) → r ≡ nat_cmp m k → r ≡ nat_cmp (m + 1) (k + 1)
-next_cmp m k Less is = nat_cmp_is (m + 1) (k + 1) Less (let below = ranked m k Less is in omega (arith, below))
-next_cmp m k Equal is = nat_cmp_is (m + 1) (k + 1) Equal (let same = ranked m k Equal is in omega (arith, same))
-next_cmp m k Greater is = nat_cmp_is (m + 1) (k + 1) Greater (let above = ranked m k Greater is in omega (arith, above))
+-- the order is one
+pub place_total : IsTotalOrder place_cmp
+place_total = then_total (on_total (λ (k : Place). k.issue) nat_cmp_total) (on_total (λ (k : Place). side_rank k.side) nat_cmp_total)
 
-account_order : (a b : Account) → account.ghosts.cmp a b ≡ nat_cmp (rank a) (rank b)
-account_order Cns Cns = refl
-account_order Cns (Member m) = nat_cmp_is 0 (m + 1) Less (omega arith)
-account_order (Member m) Cns = nat_cmp_is (m + 1) 0 Greater (omega arith)
-account_order (Member m) (Member k) = next_cmp m k (nat_cmp m k) refl
+-- places stand in the order of their numbers
+pub word_order : (a b : Place) → widened 9 (narrowed 9 a.issue) ≡ a.issue → widened 9 (narrowed 9 b.issue) ≡ b.issue → side_rank a.side < 2 ^ 64 → side_rank b.side < 2 ^ 64
+    → nat_cmp (place_word a) (place_word b) ≡ place_cmp a b
+word_order a b = word_cmp (holding_at a.issue (side_rank a.side)) (holding_at b.issue (side_rank b.side))
 
-side_order : (a b : Side) → side.ghosts.cmp a b ≡ nat_cmp (side_rank a) (side_rank b)
-side_order Outside Outside = refl
-side_order Outside (At b) = nat_cmp_is 0 (rank b + 1) Less (omega arith)
-side_order (At a) Outside = nat_cmp_is (rank a + 1) 0 Greater (omega arith)
-side_order (At a) (At b) = next_cmp (rank a) (rank b) (account.ghosts.cmp a b) (account_order a b)
+-- places that compare equal are the same
+same_number : (x y : ℕ) → nat_cmp x y ≡ Equal → x ≡ y
+same_number x y e = ranked x y Equal (sym e)
 
-pub place_order : place.ghosts.cmp ≡ place_cmp
-place_order = λ i a b. ordering_then (nat_cmp a.issue b.issue) (side_order a.side b.side i)
+same_rank : (a b : Account) → rank a ≡ rank b → a ≡ b
+same_rank Cns Cns e = refl
+same_rank Cns (Member m) e = absurd (omega (arith, e))
+same_rank (Member m) Cns e = absurd (omega (arith, e))
+same_rank (Member m) (Member k) e = ap Member (omega (arith, e))
+
+same_side_rank : (a b : Side) → side_rank a ≡ side_rank b → a ≡ b
+same_side_rank Outside Outside e = refl
+same_side_rank Outside (At b) e = absurd (omega (arith, e))
+same_side_rank (At a) Outside e = absurd (omega (arith, e))
+same_side_rank (At a) (At b) e = ap At (same_rank a b (omega (arith, e)))
+
+both_equal : (x y : Ordering) → ordering_then x y ≡ Equal → (x ≡ Equal) × (y ≡ Equal)
+both_equal Less y e = absurd cc
+both_equal Equal y e = (refl, e)
+both_equal Greater y e = absurd cc
+
+pub same_place : (a b : Place) → place_cmp a b ≡ Equal → a ≡ b
+same_place a b e =
+    let both = both_equal (nat_cmp a.issue b.issue) (nat_cmp (side_rank a.side) (side_rank b.side)) e in
+    let side = same_side_rank a.side b.side (same_number (side_rank a.side) (side_rank b.side) both.1) in
+    let issue = same_number a.issue b.issue both.0 in
+    λ i. record { issue = issue i; side = side i }
+
+-- places are equal where they compare equal
+pub place_equivalence : IsEquivalence place_eq
+place_equivalence = laws-law
+
+pub place_ties : (x y : Place) → place_eq x y ≡ eq_by_cmp place_cmp x y
+place_ties x y = by (place_eq x y) refl (place_cmp x y) refl
+  where
+    at_itself : place_eq x y ≡ true → place_cmp x y ≡ Equal
+    at_itself e = ap (place_cmp x) (sym (equal_places x y e)) ∙ tied_itself place_total x
+
+    by : (b : Bool) → place_eq x y ≡ b → (r : Ordering) → place_cmp x y ≡ r → b ≡ is_eq r
+    by true e r f = sym (ap is_eq (sym f ∙ at_itself e))
+    by false e Less f = refl
+    by false e Equal f = absurd (true≢false (sym (place_equivalence.refl x) ∙ ap (place_eq x) (same_place x y f) ∙ e))
+    by false e Greater f = refl

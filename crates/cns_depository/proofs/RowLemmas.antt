@@ -1,15 +1,13 @@
 -- Each balance other than 0 has its row, and the rows ascend.
 use Rattle.std.proofs.Common.{◌≡◌, ℕ, Bool, true, false, List, [], ◌∷◌, Option, Some, None, eqb, refl, sym, ap, ◌∙◌, subst, arith, inl, inr}
 use Rattle.std.specs.Prelude.{◌≢◌, ◌⊎◌, ◌&&◌, fold, map, if◌then◌else◌}
-use Rattle.std.specs.Cmp.{IsTotalOrder}
 use Rattle.std.specs.List.{filter_map, cons_option, Contains, AllByRecursion}
 use Rattle.std.specs.List.Sorted.{IsStrictlySortedBy}
 use Rattle.std.specs.declared.cmp.Ordering.{Ordering}
 use Rattle.std.specs.declared.cmp.Ordering.TheVariants.{Less, Equal, Greater}
-use Rattle.std.specs.Ordering.{nat_cmp, ordering_then, match_ordering}
+use Rattle.std.specs.Ordering.{match_ordering}
 use Rattle.std.specs.BTreeSet.{insert_key}
 use Rattle.std.proofs.lemmas.Bool.{eqb-true, cases_Bool, cond-true, cond-false}
-use Rattle.std.proofs.lemmas.Cmp.{ranked}
 use Rattle.std.proofs.lemmas.Option.{none-some, same_Some}
 use Rattle.std.proofs.lemmas.List.Elements.{Contains-append_left, Contains-append_right, Contains-push}
 use Rattle.std.proofs.lemmas.List.Sums.{sum_by-cons}
@@ -25,45 +23,16 @@ use Rattle.cns_depository.specs.declared.balances.BalanceRow.{BalanceRow}
 use Rattle.cns_depository.specs.Account.{same_side}
 use Rattle.cns_depository.specs.Openings.{is_opening_of, opening_shares}
 use Rattle.cns_depository.specs.Stock.{balance_of, brought, moved_in, part_in, transfer_of}
-use Rattle.cns_depository.specs.Balances.{account_row, side_row, place_cmp, places_of, balance_row, balance_rows, rank, row_place, side_rank, AreComplete, AreAscending}
-use Rattle.cns_depository.specs.contracts.place.PlaceOrd.TheImpl.Laws.{total-law}
+use Rattle.cns_depository.specs.Balances.{account_row, side_row, place_cmp, places_of, balance_row, balance_rows, row_place, AreComplete, AreAscending}
 use Rattle.cns_depository.proofs.MovementLemmas.{and_left, and_right, equal_sides}
-use Rattle.cns_depository.proofs.PlaceLemmas.{place_order}
-
--- places that compare equal are the same
-same_number : (x y : ℕ) → nat_cmp x y ≡ Equal → x ≡ y
-same_number x y e = ranked x y Equal (sym e)
-
-same_rank : (a b : Account) → rank a ≡ rank b → a ≡ b
-same_rank Cns Cns e = refl
-same_rank Cns (Member m) e = absurd (omega (arith, e))
-same_rank (Member m) Cns e = absurd (omega (arith, e))
-same_rank (Member m) (Member k) e = ap Member (omega (arith, e))
-
-same_side_rank : (a b : Side) → side_rank a ≡ side_rank b → a ≡ b
-same_side_rank Outside Outside e = refl
-same_side_rank Outside (At b) e = absurd (omega (arith, e))
-same_side_rank (At a) Outside e = absurd (omega (arith, e))
-same_side_rank (At a) (At b) e = ap At (same_rank a b (omega (arith, e)))
-
-both_equal : (x y : Ordering) → ordering_then x y ≡ Equal → (x ≡ Equal) × (y ≡ Equal)
-both_equal Less y e = absurd cc
-both_equal Equal y e = (refl, e)
-both_equal Greater y e = absurd cc
-
-pub same_place : (a b : Place) → place_cmp a b ≡ Equal → a ≡ b
-same_place a b e =
-    let both = both_equal (nat_cmp a.issue b.issue) (nat_cmp (side_rank a.side) (side_rank b.side)) e in
-    let side = same_side_rank a.side b.side (same_number (side_rank a.side) (side_rank b.side) both.1) in
-    let issue = same_number a.issue b.issue both.0 in
-    λ i. record { issue = issue i; side = side i }
+use Rattle.cns_depository.proofs.PlaceLemmas.{place_total, same_place}
 
 -- a place is one of these
 abbrev pub IsAmong : Place → List Place → Type 0
 IsAmong q [] = ⊥
 IsAmong q (x ∷ xs) = (x ≡ q) ⊎ IsAmong q xs
 
-pub insert_keeps : (ks : List Place) (k q : Place) → IsAmong q ks → IsAmong q (insert_key place_cmp ks k)
+insert_keeps : (ks : List Place) (k q : Place) → IsAmong q ks → IsAmong q (insert_key place_cmp ks k)
 insert_keeps [] k q in' = absurd in'
 insert_keeps (x ∷ xs) k q in' = by (place_cmp k x) in' (insert_keeps xs k q)
   where
@@ -72,7 +41,7 @@ insert_keeps (x ∷ xs) k q in' = by (place_cmp k x) in' (insert_keeps xs k q)
     by Equal h rest = h
     by Greater h rest = elim h [ inl e ↦ inl e | inr more ↦ inr (rest more) ]
 
-pub insert_has : (ks : List Place) (k : Place) → IsAmong k (insert_key place_cmp ks k)
+insert_has : (ks : List Place) (k : Place) → IsAmong k (insert_key place_cmp ks k)
 insert_has [] k = inl refl
 insert_has (x ∷ xs) k = by (place_cmp k x) refl (insert_has xs k)
   where
@@ -82,7 +51,7 @@ insert_has (x ∷ xs) k = by (place_cmp k x) refl (insert_has xs k)
     by Greater e rest = inr rest
 
 -- places with the one that an opening names, and with those that a transfer names, each once, ascending
-abbrev pub with_opening : List Place → Opening → List Place
+abbrev with_opening : List Place → Opening → List Place
 with_opening ps o = insert_key place_cmp ps (record { issue = o.issue; side = At (Member o.member) })
 
 abbrev with_transfer : List Place → Transfer → List Place
@@ -93,7 +62,7 @@ opened_keeps : (os : List Opening) (ps : List Place) (q : Place) → IsAmong q p
 opened_keeps [] ps q in' = in'
 opened_keeps (o ∷ os) ps q in' = opened_keeps os (with_opening ps o) q (insert_keeps ps _ q in')
 
-pub opened_has : (os : List Opening) (ps : List Place) (m i : ℕ) → opening_shares os (Member m) i ≢ 0 → IsAmong (record { issue = i; side = At (Member m) }) (fold with_opening ps os)
+opened_has : (os : List Opening) (ps : List Place) (m i : ℕ) → opening_shares os (Member m) i ≢ 0 → IsAmong (record { issue = i; side = At (Member m) }) (fold with_opening ps os)
 opened_has [] ps m i held = absurd (held refl)
 opened_has (o ∷ os) ps m i held = by (is_opening_of m i o) refl (opened_has os (with_opening ps o) m i)
   where
@@ -180,10 +149,6 @@ rows_complete openings p a i held =
     row_among (balance_row openings p) (places_of openings p) _ (record { issue = i; account = a; shares = balance_of openings p a i }) (held_place openings p a i held)
     (held_row openings p a i held)
 
--- the order of places is one
-pub place_total : IsTotalOrder place_cmp
-place_total = subst (λ (f : Place → Place → Ordering). IsTotalOrder f) place_order total-law
-
 -- what stands after a place stands after one before it
 all_after : (k x : Place) (xs : List Place) → place_cmp k x ≡ Less → AllByRecursion (λ y. place_cmp x y ≡ Less) xs → AllByRecursion (λ y. place_cmp k y ≡ Less) xs
 all_after k x [] below after = tt
@@ -202,7 +167,7 @@ all_insert x k (y ∷ ys) below after = by (place_cmp k y) after (all_insert x k
 above : (k x : Place) → place_cmp k x ≡ Greater → place_cmp x k ≡ Less
 above k x e = let back = place_total.antisymm x k in rw (back, e) refl
 
-pub sorted_insert : (xs : List Place) (k : Place) → IsStrictlySortedBy place_cmp xs → IsStrictlySortedBy place_cmp (insert_key place_cmp xs k)
+sorted_insert : (xs : List Place) (k : Place) → IsStrictlySortedBy place_cmp xs → IsStrictlySortedBy place_cmp (insert_key place_cmp xs k)
 unfolding IsStrictlySortedBy
 sorted_insert [] k sorted = (tt, tt)
 sorted_insert (x ∷ xs) k sorted = by (place_cmp k x) refl (sorted_insert xs k sorted.1)
@@ -213,7 +178,7 @@ sorted_insert (x ∷ xs) k sorted = by (place_cmp k x) refl (sorted_insert xs k 
     by Equal e rest = sorted
     by Greater e rest = (all_insert x k xs (above k x e) sorted.0, rest)
 
-pub opened_sorted : (os : List Opening) (ps : List Place) → IsStrictlySortedBy place_cmp ps → IsStrictlySortedBy place_cmp (fold with_opening ps os)
+opened_sorted : (os : List Opening) (ps : List Place) → IsStrictlySortedBy place_cmp ps → IsStrictlySortedBy place_cmp (fold with_opening ps os)
 opened_sorted [] ps sorted = sorted
 opened_sorted (o ∷ os) ps sorted = opened_sorted os (with_opening ps o) (sorted_insert ps _ sorted)
 

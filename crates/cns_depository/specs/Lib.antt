@@ -4,6 +4,7 @@ pub mod OpeningIndex
 pub mod Stock
 pub mod Least
 pub mod Balances
+pub mod Places
 pub mod Node
 pub mod Totals
 pub mod Ranges

@@ -15,8 +15,8 @@ pub enum Account {
     Member(MemberNo),
 }
 
-/// One side of a transfer. The outside stands before the accounts.
-#[derive(Clone, Copy, PartialEq, Eq, PartialOrd, Ord, Hash)]
+/// One side of a transfer.
+#[derive(Clone, Copy, PartialEq, Eq, Hash)]
 pub(crate) enum Side {
     /// What is not at the depository: deposits come from there, and withdrawals go there.
     Outside,

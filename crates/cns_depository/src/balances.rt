@@ -1,9 +1,10 @@
-ghost use Rattle.std.specs.Prelude.{◌≡◌, fold, IfOk, List, []};
-ghost use Rattle.std.specs.BTreeSet.{insert_key};
-ghost use Rattle.std.specs.HashMap.{keys};
+ghost use Rattle.std.specs.Prelude.{◌≡◌, ◌++◌, Contains, IfOk, List, map, OnOk};
+ghost use Rattle.std.specs.List.Sorted.{IsStrictlySortedBy};
 ghost use Rattle.cns_records.specs.declared.dep_record.DepRecord.{DepRecord};
-ghost use Rattle.cns_depository.specs.Balances.{balance_row as balance_row_of, balance_rows as balance_rows_of, place_cmp, places_of};
+ghost use Rattle.cns_depository.specs.Balances.{balance_row as balance_row_of, balance_rows as balance_rows_of, place_cmp};
+ghost use Rattle.cns_depository.specs.Places.{named_places as places_named, opened_place};
 ghost use Rattle.cns_depository.specs.Totals.{IsStockOf};
+ghost use Rattle.cns_depository.specs.declared.place.Place.{Place};
 
 use crate::account::{Account, Side};
 use crate::openings::Openings;
@@ -12,7 +13,6 @@ use crate::stock::Stock;
 use cns_ids::Cusip;
 use cns_trades::Opening;
 use std::alloc::{AllocError, Global};
-use std::collections::BTreeSet;
 use std::marker::Model;
 
 /// What an account holds of an issue, in shares: more than 0.
@@ -50,40 +50,53 @@ impl BalanceRows {
     }
 }
 
-// The places that some opening names, each once, in order.
-fn opened_places(alloc: Global, openings: &[Opening]) -> Result<BTreeSet<Place>, AllocError>
-    ensures { IfOk result (λ s. s.keys ≡ places_of openings.now []) }
+// The places that the openings name.
+fn add_opened(places: &mut Vec<Place>, openings: &[Opening]) -> Result<(), AllocError>
+    ensures { OnOk result (places.new.items ≡ places.old.items ++ map opened_place openings.now) }
 {
-    let mut places = BTreeSet::new(alloc);
     for opening in openings {
-        places.insert(Place {
+        places.push(Place {
             issue: opening.issue,
             side: Side::At(Account::Member(opening.member)),
         })?;
     }
-    Ok(places)
+    Ok(())
 }
 
-// The places that some opening names, or into which or out of which something was moved, each once, in
-// order.
-fn places(alloc: Global, openings: &Openings, stock: &Stock) -> Result<BTreeSet<Place>, AllocError>
-    ensures { IfOk result (λ s. s.keys ≡ fold (insert_key place_cmp) (places_of openings.now []) (keys stock.now.moved)) }
+// The places that some opening names, or into which or out of which something was moved: some twice.
+fn named_places(alloc: Global, openings: &Openings, stock: &Stock) -> Result<Vec<Place>, AllocError>
+    ensures { IfOk result (λ v. v.items ≡ places_named openings.now stock.now) }
 {
-    let mut places = opened_places(alloc, openings.as_slice())?;
+    let opened = openings.as_slice();
+    // Room for all at once, so that no place is moved as they grow.
+    let mut places = Vec::with_capacity(alloc, opened.len() + stock.place_count())?;
+    add_opened(&mut places, opened)?;
     stock.add_places(&mut places)?;
     Ok(places)
 }
 
-// The same as a list.
+// Puts places into order, and leaves each once.
+fn sort_places(places: &mut Vec<Place>)
+    ensures order { IsStrictlySortedBy place_cmp places.new.items }
+    ensures keeps { (place : Place) → Contains places.old.items place → Contains places.new.items place }
+{
+    places.sort_unstable_by(|one, other| one.order(other));
+    places.dedup();
+}
+
+// The places that some opening names, or into which or out of which something was moved, each once, in
+// order.
 fn places_in_order(
     alloc: Global,
     openings: &Openings,
     stock: &Stock,
 ) -> Result<Vec<Place>, AllocError>
-    ensures { IfOk result (λ v. v.items ≡ fold (insert_key place_cmp) (places_of openings.now []) (keys stock.now.moved)) }
+    ensures order { IfOk result (λ v. IsStrictlySortedBy place_cmp v.items) }
+    ensures named { IfOk result (λ v. (place : Place) → Contains (places_named openings.now stock.now) place → Contains v.items place) }
 {
-    let places = places(alloc, openings, stock)?;
-    places.iter().copied().collect(alloc)
+    let mut places = named_places(alloc, openings, stock)?;
+    sort_places(&mut places);
+    Ok(places)
 }
 
 // The row of a place that is an account's, where its balance is not 0.

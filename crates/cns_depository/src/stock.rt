@@ -1,8 +1,6 @@
-ghost use Rattle.std.specs.Prelude.{◌≡◌, ℕ, ◌^◌, ◌<◌, ◌≤◌, ◌↔◌, IsTrue, List, [], ◌∷◌, Some, OnOk, reverse, length, fold, if◌then◌else◌};
-ghost use Rattle.std.specs.BTreeSet.{insert_key};
+ghost use Rattle.std.specs.Prelude.{◌≡◌, ℕ, ◌^◌, ◌<◌, ◌≤◌, ◌↔◌, IsTrue, List, [], ◌∷◌, ◌++◌, Some, OnOk, reverse, length, if◌then◌else◌};
 ghost use Rattle.std.specs.HashMap.{get, keys, spare};
 ghost use Rattle.cns_records.specs.declared.dep_record.DepRecord.{DepRecord};
-ghost use Rattle.cns_depository.specs.Balances.{place_cmp};
 ghost use Rattle.cns_depository.specs.Stock.{balance_of as balance_in, executed_of, held_in, instructed_of, instruction_of, movement as movement_after, movement_of, own_refusal, IsExecutable, IsNextInstruction, IsNextMovement};
 ghost use Rattle.cns_depository.specs.Totals.{HasRoom, IsStock, IsStockOf, key_eq, key_of as key_of_record, record_of};
 ghost use Rattle.cns_depository.specs.declared.key.Key.{Key};
@@ -18,7 +16,7 @@ use cns_ids::{Cusip, MemberNo, Shares};
 use cns_movements::{MoveNo, Order};
 use cns_records::{DepRecord, Instruction, Sort};
 use std::alloc::{AllocError, Global};
-use std::collections::{BTreeSet, HashMap};
+use std::collections::HashMap;
 
 /// What the records of a depository come to beside themselves, by look-up.
 #[derive(Drop)]
@@ -218,12 +216,19 @@ impl Stock {
         self.moved.is_empty()
     }
 
+    /// How many places something was moved to or from.
+    pub(crate) fn place_count(&self) -> usize
+        ensures { result < 2 ^ 63 }
+    {
+        self.moved.len()
+    }
+
     /// Adds each place to which or from which something was moved.
-    pub(crate) fn add_places(&self, places: &mut BTreeSet<Place>) -> Result<(), AllocError>
-        ensures { OnOk result (places.new.keys ≡ fold (insert_key place_cmp) places.old.keys (keys self.now.moved)) }
+    pub(crate) fn add_places(&self, places: &mut Vec<Place>) -> Result<(), AllocError>
+        ensures { OnOk result (places.new.items ≡ places.old.items ++ keys self.now.moved) }
     {
         for place in self.moved.keys() {
-            places.insert(*place)?;
+            places.push(*place)?;
         }
         Ok(())
     }
