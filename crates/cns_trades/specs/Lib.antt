@@ -7,3 +7,4 @@ pub mod Openings
 pub mod Listed
 pub mod Verdicts
 pub mod Held
+pub mod FaultCode

@@ -5,6 +5,7 @@
 #![tactic(auto)]
 
 mod fault;
+mod fault_code;
 mod id;
 mod list;
 mod opening;

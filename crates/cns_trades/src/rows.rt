@@ -1,9 +1,11 @@
-ghost use Rattle.std.specs.Prelude.{◌≡◌, ◌+◌, ◌==◌, ◌∷◌, ◌++◌, [], length, MatchOption, MatchResult, OnOk, Some, Ok, Err};
+ghost use Rattle.std.specs.Prelude.{◌≡◌, ◌+◌, ◌==◌, ◌∷◌, ◌++◌, [], length, MatchOption, MatchResult, OnOk, IfErr, Some, Ok, Err};
+ghost use Rattle.cns_trades.specs.FaultCode.{IsSmall};
 ghost use Rattle.cns_trades.specs.Records.{TellsRows};
 ghost use Rattle.cns_trades.specs.Rows.{trade_rows};
 ghost use Rattle.cns_trades.specs.declared.row.Row.TheVariants as row_variants;
 
 use crate::fault::{CsvFault, RowFault};
+use crate::fault_code::FaultCode;
 use crate::record::{RowList, read_rows};
 use crate::row::{Row, trade_of};
 use crate::trade::Trade;
@@ -18,7 +20,7 @@ use std::marker::Model;
 #[derive(Drop)]
 struct HeldRows {
     // Of each row the fault that it has, if any.
-    faults: Vec<Option<RowFault>>,
+    faults: Vec<FaultCode>,
     // The trades of the rows that have none.
     trades: Vec<Trade>,
 }
@@ -38,16 +40,17 @@ impl Model for HeldRows {
 impl HeldRows {
     // Adds a row: its trade, or its fault.
     fn add(&mut self, read: Result<Trade, RowFault>) -> Result<(), AllocError>
+        requires { IfErr read IsSmall }
         ensures { OnOk result (self.new ≡ self.old ++ elim read [ Ok t ↦ row_variants.Trade t | Err e ↦ row_variants.Fault (length self.old + 1) e ] ∷ []) }
     {
         let trade = match read {
             Ok(trade) => trade,
             Err(fault) => {
-                self.faults.push(Some(fault))?;
+                self.faults.push(FaultCode::of(fault))?;
                 return Ok(());
             }
         };
-        self.faults.push(None)?;
+        self.faults.push(FaultCode::NONE)?;
         if self.trades.push(trade).is_err() {
             self.faults.pop();
             return Err(AllocError);
@@ -72,7 +75,7 @@ impl RowList<Row> for HeldRows {
 }
 
 /// The rows of a text of trades that are left, in their order. Each is held in what its trade or its fault
-/// takes; once none is left, their memory is let go.
+/// takes; the memory of those that were taken is let go block by block, and all of it once none is left.
 ///
 /// Contracts see the rows that are left.
 #[derive(Drop)]
@@ -80,7 +83,7 @@ pub struct TradeRows {
     // The next row's number.
     number: u64,
     // Of each row the fault that it has, if any.
-    faults: Untaken<Option<RowFault>>,
+    faults: Untaken<FaultCode>,
     // The trades of the rows that have none.
     trades: Untaken<Trade>,
 }
@@ -132,7 +135,7 @@ impl TradeRows {
         let row = self.number;
         let fault = self.faults.next()?;
         self.number += 1;
-        let Some(fault) = fault else {
+        let Some(fault) = fault.fault() else {
             let trade = self.trades.next()?;
             return Some(Row::Trade(trade));
         };

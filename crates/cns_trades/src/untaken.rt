@@ -1,58 +1,53 @@
-ghost use Rattle.std.specs.Prelude.{◌≡◌, ◌<◌, ◌∷◌, [], drop, length, MatchOption};
+ghost use Rattle.std.specs.Prelude.{◌≡◌, ◌∷◌, [], length, MatchOption};
 
 use std::marker::Model;
 
-/// A list whose items are taken one after another. Once none is left, its memory is let go.
+// After so many items their memory is let go.
+const BLOCK: usize = 65_536;
+
+/// A list whose items are taken one after another. The memory of those that were taken is let go block by
+/// block, and all of it once none is left.
 ///
 /// Contracts see the items that are left.
 #[derive(Drop)]
-pub(crate) struct Untaken<T: Copy> {
-    items: Vec<T>,
-    // How many of them were taken.
-    taken: usize,
+pub(crate) struct Untaken<T: Drop> {
+    // Those that are left, the next one last: a list gives memory back at its end alone.
+    reversed: Vec<T>,
 }
 
-impl<T: Copy> Model for Untaken<T> {
-    ghost use Rattle.std.specs.Prelude.{List, drop};
+impl<T: Drop> Model for Untaken<T> {
+    ghost use Rattle.std.specs.Prelude.{List, reverse};
 
     ghost Value = { List T };
 
-    ghost view = { λ u. drop u.taken u.items.items };
+    ghost view = { λ u. reverse u.reversed.items };
 }
 
-impl<T: Copy> Untaken<T> {
+impl<T: Drop> Untaken<T> {
     /// All of these items.
     pub(crate) fn of(items: Vec<T>) -> Untaken<T>
         ensures { result ≡ items.items }
     {
-        Untaken { items, taken: 0 }
+        let mut reversed = items;
+        reversed.reverse();
+        Untaken { reversed }
     }
 
     /// How many items are left.
     pub(crate) fn len(&self) -> usize
         ensures { result ≡ length self.now }
     {
-        self.items.len().saturating_sub(self.taken)
+        self.reversed.len()
     }
 
     /// Takes the next item, where one is left.
     pub(crate) fn next(&mut self) -> Option<T>
         ensures { MatchOption result ((self.old ≡ []) × (self.new ≡ self.old)) (λ item. self.old ≡ item ∷ self.new) }
     {
-        let item = self.items.get(self.taken).copied()?;
-        self.pass();
-        Some(item)
-    }
-
-    // Passes over the next item.
-    fn pass(&mut self)
-        requires { 0 < length self.old }
-        ensures { self.new ≡ drop 1 self.old }
-    {
-        self.taken += 1;
-        if self.taken == self.items.len() {
-            self.items = Vec::new(*self.items.allocator());
-            self.taken = 0;
+        let item = self.reversed.pop()?;
+        if self.reversed.len() % BLOCK == 0 {
+            self.reversed.shrink_to_fit();
         }
+        Some(item)
     }
 }
