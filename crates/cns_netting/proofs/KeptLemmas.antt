@@ -13,7 +13,7 @@ use Rattle.cns_netting.specs.Book.{IsBook, IsKept}
 use Rattle.cns_netting.specs.History.{becoming_due, bought, credit_part, debit_part, due, longs_of, settled_in, settled_out, shorts_of, sold}
 use Rattle.cns_netting.specs.Rows.{holdings_of, rows_of}
 use Rattle.cns_ids.specs.Holding.{holding_at, holding_eq}
-use Rattle.cns_netting.specs.Positions.{AreOfMembers, ArePositionsOf, AreSortedUpTo, bought_by, credit_at, credit_in, debit_at, debit_in, IsNamed, sold_by}
+use Rattle.cns_netting.specs.Positions.{AreOfMembers, ArePlacesInOrder, ArePositionsOf, bought_by, credit_at, credit_in, debit_at, debit_in, IsNamed, sold_by}
 use Rattle.cns_netting.specs.Totals.{AreTotalsOf, HasIssue, longs_at, longs_in, shorts_at, shorts_in}
 use Rattle.cns_netting.specs.Undue.{earlier, if_left, if_settled, waiting_of, undue}
 use Rattle.cns_netting.specs.declared.entry.NetEntry.{NetEntry}
@@ -26,7 +26,7 @@ use Rattle.cns_netting.proofs.BalanceLemmas.{total-nothing}
 use Rattle.cns_netting.proofs.BookLemmas.{book_empty, long-most, short-most}
 use Rattle.cns_netting.proofs.QueueLemmas.{none-settled}
 use Rattle.cns_netting.proofs.RowLemmas.{same_positions}
-use Rattle.cns_netting.proofs.SortedLemmas.{sorted_none, sorted_still}
+use Rattle.cns_netting.proofs.PlaceLemmas.{places_none, places_still}
 use Rattle.cns_netting.proofs.TotalLemmas.{longs_by_history, shorts_by_history, totals_kept}
 use Rattle.cns_netting.proofs.TradeLemmas.{due-netting, length-sum, settled-left, undue-netting}
 
@@ -78,7 +78,7 @@ module _ {S : Type 0} where
 
 module _ {S T : Type 0} where
   pub kept_empty : (positions : HashMap Holding Position S) (totals : HashMap ℕ Totals T) (waiting : List Undue) → positions.entries ≡ [] → totals.entries ≡ [] → waiting ≡ []
-      → IsHeap earlier waiting → IsKept [] positions 0 totals waiting
+      → IsHeap earlier waiting → IsKept [] positions [] totals waiting
   unfolding bought sold settled_in settled_out
   kept_empty positions totals waiting none uncounted empty heap = record {
     book = book_empty;
@@ -91,16 +91,16 @@ module _ {S T : Type 0} where
     named = Prim.rw empty (All-nil (IsNamed positions));
     named_issues = Prim.rw empty (All-nil (HasIssue totals));
     members = members_none positions none;
-    order = sorted_none positions;
+    places = places_none positions;
     heap = heap;
   }
 
-  -- what the next positions and totals have, where no name is lost, no holding is named but a member's, and those that stand in order still do
+  -- what the next positions and totals have, where no name is lost, no holding is named but a member's, and places that were in order still are
   pub record KeepNames (old new : HashMap Holding Position S) (totals next : HashMap ℕ Totals T) : Type 0 where
     pub still : (k : Holding) → IsSome (get holding_eq old k) → IsSome (get holding_eq new k)
     pub issues : (i : ℕ) → IsSome (get nat_eq totals i) → IsSome (get nat_eq next i)
     pub members : AreOfMembers old → AreOfMembers new
-    pub order : (n : ℕ) → AreSortedUpTo n old → AreSortedUpTo n new
+    pub order : (order : List ℕ) → ArePlacesInOrder order old → ArePlacesInOrder order new
 
   names_stay : (old new : HashMap Holding Position S) (totals next : HashMap ℕ Totals T) (waiting : List Undue) → KeepNames old new totals next → All (IsNamed old) waiting
       → All (IsNamed new) waiting
@@ -110,15 +110,15 @@ module _ {S T : Type 0} where
       → All (HasIssue next) waiting
   issues_stay old new totals next waiting keep named = All-weaker (HasIssue totals) (HasIssue next) (λ t one. keep.issues _ one) waiting named
 
-module _ {S T : Type 0} {sorted : ℕ} where
+module _ {S T : Type 0} {order : List ℕ} where
   -- look-ups alone count, the order of the holdings, and the trades that wait
   pub kept_room : (h : List NetEntry) (old new : HashMap Holding Position S) (totals next : HashMap ℕ Totals T) (waiting queue : List Undue)
       → ((k : Holding) → get holding_eq new k ≡ get holding_eq old k) → ((i : ℕ) → get nat_eq next i ≡ get nat_eq totals i) → queue ≡ waiting
-      → (n : ℕ) → AreSortedUpTo n new → IsKept h old sorted totals waiting → IsKept h new n next queue
-  kept_room h old new totals next waiting queue same alike stay n order kept =
+      → (places : List ℕ) → ArePlacesInOrder places new → IsKept h old order totals waiting → IsKept h new places next queue
+  kept_room h old new totals next waiting queue same alike stay places places_in_order kept =
       let credit : (m i : ℕ) → credit_in new m i ≡ credit_in old m i = λ m i. ap credit_at (same (holding_at i m)) in
       let debit : (m i : ℕ) → debit_in new m i ≡ debit_in old m i = λ m i. ap debit_at (same (holding_at i m)) in
-      subst (λ ts. IsKept h new n next ts) (sym stay) (record {
+      subst (λ ts. IsKept h new places next ts) (sym stay) (record {
         book = kept.book;
         positions = record { balance = λ m i. omega (arith, credit m i, debit m i, kept.positions.balance m i) };
         totals = totals_kept old new totals next (λ m i. omega (arith, credit m i, debit m i)) (λ i. ap longs_at (alike i)) (λ i. ap shorts_at (alike i)) kept.totals;
@@ -126,16 +126,16 @@ module _ {S T : Type 0} {sorted : ℕ} where
         named = All-weaker (IsNamed old) (IsNamed new) (λ t both. (subst IsSome (sym (same _)) both.0, subst IsSome (sym (same _)) both.1)) waiting kept.named;
         named_issues = All-weaker (HasIssue totals) (HasIssue next) (λ t one. subst IsSome (sym (alike _)) one) waiting kept.named_issues;
         members = λ k some. kept.members k (subst IsSome (same k) some);
-        order = order;
+        places = places_in_order;
         heap = kept.heap;
       })
 
   -- positions that are what they were, once what was added is taken back
   pub kept_back : {h : List NetEntry} {day : ℕ} {old with_due : HashMap Holding Position S} (new : HashMap Holding Position S) {totals : HashMap ℕ Totals T}
-      {waiting : List Undue} → IsKept h old sorted totals waiting → IsAdded day old with_due waiting
+      {waiting : List Undue} → IsKept h old order totals waiting → IsAdded day old with_due waiting
       → ((m i : ℕ) → credit_in new m i + (debit_in with_due m i + sum_by (if_settled day (bought_by m i)) waiting)
       ≡ debit_in new m i + (credit_in with_due m i + sum_by (if_settled day (sold_by m i)) waiting))
-      → keys new ≡ keys old → IsKept h new sorted totals waiting
+      → keys new ≡ keys old → IsKept h new order totals waiting
   kept_back {old = old} new {totals} {waiting} kept added taken named =
       let same : (m i : ℕ) → credit_in new m i + debit_in old m i ≡ debit_in new m i + credit_in old m i =
       λ m i. omega (arith, added.balance m i, taken m i) in
@@ -147,16 +147,16 @@ module _ {S T : Type 0} {sorted : ℕ} where
         named = all_still old new named waiting kept.named;
         named_issues = kept.named_issues;
         members = members_still old new named kept.members;
-        order = sorted_still old new named sorted kept.order;
+        places = places_still old new named order kept.places;
         heap = kept.heap;
       }
 
   pub kept_accepted : (h : List NetEntry) (t : Trade) (old new : HashMap Holding Position S) (totals next : HashMap ℕ Totals T) (waiting queue : List Undue)
-      → IsKept h old sorted totals waiting → IsBook (Accepted t ∷ h)
+      → IsKept h old order totals waiting → IsBook (Accepted t ∷ h)
       → ((m i : ℕ) → credit_in new m i ≡ credit_in old m i) → ((m i : ℕ) → debit_in new m i ≡ debit_in old m i)
       → ((i : ℕ) → longs_in next i ≡ longs_in totals i) → ((i : ℕ) → shorts_in next i ≡ shorts_in totals i)
       → KeepNames old new totals next → IsNamed new (waiting_of t) → HasIssue next (waiting_of t)
-      → IsPermutation (waiting_of t ∷ waiting) queue → IsHeap earlier queue → IsKept (Accepted t ∷ h) new sorted next queue
+      → IsPermutation (waiting_of t ∷ waiting) queue → IsHeap earlier queue → IsKept (Accepted t ∷ h) new order next queue
   unfolding settled_in settled_out
   kept_accepted h t old new totals next waiting queue kept book credit debit longs shorts keep named issue perm heap = record {
     book = book;
@@ -166,14 +166,14 @@ module _ {S T : Type 0} {sorted : ℕ} where
     named = All-permutation (IsNamed new) (waiting_of t ∷ waiting) queue perm (All-cons (IsNamed new) (waiting_of t) waiting named (names_stay old new totals next waiting keep kept.named));
     named_issues = All-permutation (HasIssue next) (waiting_of t ∷ waiting) queue perm (All-cons (HasIssue next) (waiting_of t) waiting issue (issues_stay old new totals next waiting keep kept.named_issues));
     members = keep.members kept.members;
-    order = keep.order sorted kept.order;
+    places = keep.order order kept.places;
     heap = heap;
   }
 
   pub kept_settled : (h : List NetEntry) (member issue : ℕ) (z : ℤ) (old new : HashMap Holding Position S) (totals next : HashMap ℕ Totals T) (waiting : List Undue)
-      → IsKept h old sorted totals waiting → IsBook (Settled member issue z ∷ h)
+      → IsKept h old order totals waiting → IsBook (Settled member issue z ∷ h)
       → ((m i : ℕ) → credit_in new m i + (debit_in old m i + (if (member == m) && (issue == i) then debit_part z else 0)) ≡ debit_in new m i + (credit_in old m i + (if (member == m) && (issue == i) then credit_part z else 0)))
-      → AreTotalsOf next new → KeepNames old new totals next → IsKept (Settled member issue z ∷ h) new sorted next waiting
+      → AreTotalsOf next new → KeepNames old new totals next → IsKept (Settled member issue z ∷ h) new order next waiting
   unfolding settled_in settled_out
   kept_settled h member issue z old new totals next waiting kept book moved are keep = record {
     book = book;
@@ -183,22 +183,22 @@ module _ {S T : Type 0} {sorted : ℕ} where
     named = names_stay old new totals next waiting keep kept.named;
     named_issues = issues_stay old new totals next waiting keep kept.named_issues;
     members = keep.members kept.members;
-    order = keep.order sorted kept.order;
+    places = keep.order order kept.places;
     heap = kept.heap;
   }
 
   -- a number of the trades that are due after a netting, by those that waited
   due_then : (h : List NetEntry) (day : ℕ) (positions : HashMap Holding Position S) (totals : HashMap ℕ Totals T) (waiting : List Undue)
-      → IsKept h positions sorted totals waiting → (f : Undue → ℕ)
+      → IsKept h positions order totals waiting → (f : Undue → ℕ)
       → sum_by (λ t. f (waiting_of t)) (due (Netted day ∷ h)) ≡ sum_by (λ t. f (waiting_of t)) (due h) + sum_by (if_settled day f) waiting
   due_then h day positions totals waiting kept f = omega (arith, kept.undue (if_settled day f), due-netting f None day h)
 
   pub kept_netted : (h : List NetEntry) (day : ℕ) (old new : HashMap Holding Position S) (totals next : HashMap ℕ Totals T) (waiting queue : List Undue)
-      → IsKept h old sorted totals waiting → IsBook (Netted day ∷ h)
+      → IsKept h old order totals waiting → IsBook (Netted day ∷ h)
       → ((f : Undue → ℕ) → sum_by f queue ≡ sum_by (if_left day f) waiting)
       → ((m i : ℕ) → credit_in new m i + sum_by (bought_by m i) queue + (debit_in old m i + sum_by (sold_by m i) waiting) ≡ debit_in new m i + sum_by (sold_by m i) queue + (credit_in old m i + sum_by (bought_by m i) waiting))
       → AreTotalsOf next new → All (IsNamed new) queue → All (HasIssue next) queue → keys new ≡ keys old → IsHeap earlier queue
-      → IsKept (Netted day ∷ h) new sorted next queue
+      → IsKept (Netted day ∷ h) new order next queue
   unfolding bought sold settled_in settled_out
   kept_netted h day old new totals next waiting queue kept book left moved are named issues same heap = record {
     book = book;
@@ -220,13 +220,13 @@ module _ {S T : Type 0} {sorted : ℕ} where
     named = named;
     named_issues = issues;
     members = members_still old new same kept.members;
-    order = sorted_still old new same sorted kept.order;
+    places = places_still old new same order kept.places;
     heap = heap;
   }
 
   -- how many became due
   pub netted-count : (h : List NetEntry) (day count : ℕ) (old : HashMap Holding Position S) (totals : HashMap ℕ Totals T) (waiting queue : List Undue)
-      → IsKept h old sorted totals waiting
+      → IsKept h old order totals waiting
       → ((f : Undue → ℕ) → sum_by f queue ≡ sum_by (if_left day f) waiting)
       → count + sum_by (λ (t : Undue). 1) queue ≡ sum_by (λ (t : Undue). 1) waiting → count ≡ becoming_due h day
   netted-count h day count old totals waiting queue kept left all =
@@ -235,7 +235,7 @@ module _ {S T : Type 0} {sorted : ℕ} where
 
   -- the positions as after a netting of a day
   pub positions_netted : {h g : List NetEntry} → h ≡ g → {day : ℕ} {old new : HashMap Holding Position S} {totals : HashMap ℕ Totals T} {waiting : List Undue}
-      → IsKept h old sorted totals waiting → IsAdded day old new waiting → ArePositionsOf new (Netted day ∷ g)
+      → IsKept h old order totals waiting → IsAdded day old new waiting → ArePositionsOf new (Netted day ∷ g)
   unfolding bought sold settled_in settled_out
   positions_netted {h} same {day} {old} {new} {totals} {waiting} kept added =
       let due : (f : Undue → ℕ) → _ = due_then h day old totals waiting kept in
@@ -245,12 +245,12 @@ module _ {S T : Type 0} {sorted : ℕ} where
 
   -- nothing stands otherwise where all trades that wait settle later than the day of a netting
   none_due : (h : List NetEntry) (day : ℕ) (positions : HashMap Holding Position S) (totals : HashMap ℕ Totals T) (waiting : List Undue)
-      → IsKept h positions sorted totals waiting
+      → IsKept h positions order totals waiting
       → All (λ (t : Undue). day < t.settle) waiting → (f : Undue → ℕ) → sum_by (λ t. f (waiting_of t)) (due (Netted day ∷ h)) ≡ sum_by (λ t. f (waiting_of t)) (due h)
   none_due h day positions totals waiting kept later f = omega (arith, due_then h day positions totals waiting kept f, settled-left day f waiting, none-settled day f waiting later)
 
   pub rows_netted : {h g : List NetEntry} → h ≡ g → {day : ℕ} {positions : HashMap Holding Position S} {totals : HashMap ℕ Totals T} {waiting : List Undue}
-      → IsKept h positions sorted totals waiting → All (λ (t : Undue). day < t.settle) waiting → rows_of g ≡ rows_of (Netted day ∷ g)
+      → IsKept h positions order totals waiting → All (λ (t : Undue). day < t.settle) waiting → rows_of g ≡ rows_of (Netted day ∷ g)
   unfolding bought sold settled_in settled_out holdings_of
   rows_netted {h} same {day} {positions} {totals} {waiting} kept later =
       let none = none_due h day positions totals waiting kept later in
@@ -259,7 +259,7 @@ module _ {S T : Type 0} {sorted : ℕ} where
 
   -- the positions of a book stay near 0
   pub kept_near : {h : List NetEntry} {positions : HashMap Holding Position S} {totals : HashMap ℕ Totals T} {waiting : List Undue}
-      → IsKept h positions sorted totals waiting → AreNear positions waiting
+      → IsKept h positions order totals waiting → AreNear positions waiting
   kept_near {h} kept = record {
     long = λ m i. omega (arith, long-most h m i kept.book, kept.positions.balance m i, kept.undue (bought_by m i));
     short = λ m i. omega (arith, short-most h m i kept.book, kept.positions.balance m i, kept.undue (sold_by m i));
@@ -267,11 +267,11 @@ module _ {S T : Type 0} {sorted : ℕ} where
 
   -- the totals of an issue are the history's
   pub kept_longs : (h : List NetEntry) (positions : HashMap Holding Position S) (totals : HashMap ℕ Totals T) (waiting : List Undue) (issue : ℕ)
-      → IsKept h positions sorted totals waiting
+      → IsKept h positions order totals waiting
       → longs_in totals issue ≡ longs_of h issue
   kept_longs h positions totals waiting issue kept = longs_by_history totals positions h issue kept.totals kept.positions
 
   pub kept_shorts : (h : List NetEntry) (positions : HashMap Holding Position S) (totals : HashMap ℕ Totals T) (waiting : List Undue) (issue : ℕ)
-      → IsKept h positions sorted totals waiting
+      → IsKept h positions order totals waiting
       → shorts_in totals issue ≡ shorts_of h issue
   kept_shorts h positions totals waiting issue kept = shorts_by_history totals positions h issue kept.totals kept.positions

@@ -9,7 +9,7 @@ pub mod SumLemmas
 pub mod RowLemmas
 pub mod MemberLemmas
 pub mod IssueLemmas
-pub mod SortedLemmas
+pub mod PlaceLemmas
 pub mod BalanceLemmas
 pub mod TotalLemmas
 pub mod KeptLemmas

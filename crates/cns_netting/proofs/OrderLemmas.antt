@@ -1,13 +1,15 @@
 -- Rows in the order of their holdings are known by the sums over them.
-use Rattle.std.proofs.Common.{◌≡◌, ◌≤◌, ◌<◌, ℕ, suc, List, [], ◌∷◌, length, get_or, Bool, true, false, refl, sym, ap, ◌∙◌, arith, subst, inl, inr, Less, ◌⊎◌}
+use Rattle.std.proofs.Common.{◌≡◌, ◌≤◌, ◌<◌, ℕ, suc, List, [], ◌∷◌, length, get_or, Option, None, Some, Bool, true, false, refl, sym, ap, ◌∙◌, arith, subst, inl, inr, Less, ◌⊎◌}
 use Rattle.std.specs.Prelude.{◌&&◌, ◌==◌, All, sum_by, if◌then◌else◌}
-use Rattle.std.specs.List.{AllByRecursion}
+use Rattle.std.specs.List.{AllByRecursion, cons_option, filter_map}
+use Rattle.std.specs.Option.{option_cmp}
 use Rattle.std.specs.Ordering.{int_eq, is_lt}
 use Rattle.std.proofs.lemmas.Bool.{and_parts, eqb-true, true≢false}
 use Rattle.std.proofs.lemmas.Bool.Decides.{Decides-int_eq, nat_tests}
-use Rattle.std.proofs.lemmas.List.Elements.{All-weaker, recursion_from_All}
+use Rattle.std.proofs.lemmas.List.Elements.{All-cons, All-head, All-nil, All-tail, All-weaker, recursion_from_All}
 use Rattle.std.proofs.lemmas.List.Sums.{sum_by-cons}
 use Rattle.cns_ids.specs.Holding.{holding_cmp}
+use Rattle.cns_ids.specs.declared.holding.Holding.{Holding}
 use Rattle.cns_netting.specs.Positions.{AreInOrder, holding_of}
 use Rattle.cns_netting.specs.declared.position.PositionRow.{PositionRow}
 
@@ -22,6 +24,38 @@ pub in_order : (xs : List PositionRow)
     → AreInOrder xs
 in_order [] far = tt
 in_order (x ∷ xs) far = ((λ k d less e. true≢false (sym (ap is_lt e) ∙ far 0 (suc k) d (omega arith) (omega arith))), in_order xs (λ i j d le less. far (suc i) (suc j) d (omega arith) (omega arith)))
+
+module _ {X Y : Type 0} (P : Y → Type 0) (Q : X → Type 0) (made : X → Option Y) (each : (x : X) (y : Y) → made x ≡ Some y → Q x → P y) where
+  -- what holds of each item holds of all that is made of them
+  pub All-filter_map : (xs : List X) → All Q xs → All P (filter_map made xs)
+  All-filter_map [] all = All-nil P
+  All-filter_map (x ∷ xs) all = by (made x) refl (All-filter_map xs (All-tail Q x xs all))
+    where
+      by : (o : Option Y) → made x ≡ o → All P (filter_map made xs) → All P (cons_option o (filter_map made xs))
+      by None e rest = rest
+      by (Some y) e rest = All-cons P y (filter_map made xs) (each x y e (All-head Q x xs all)) rest
+
+module _ {X : Type 0} (key : X → Option Holding) (row_at : X → Option PositionRow) (own : (x : X) (row : PositionRow) → row_at x ≡ Some row → key x ≡ Some (holding_of row)) where
+  not_after : (x y : X) (row r : PositionRow) → row_at x ≡ Some row → row_at y ≡ Some r → is_lt (option_cmp holding_cmp (key y) (key x)) ≡ false
+      → holding_cmp (holding_of r) (holding_of row) ≡ Less → ⊥
+  not_after x y row r first later not_less less =
+      let one = own x row first in
+      let other = own y r later in
+      true≢false (sym (ap is_lt less) ∙ sym (λ t. is_lt (option_cmp holding_cmp (other t) (one t))) ∙ not_less)
+
+  -- so are the rows of items that stand by their holdings
+  pub in_order_by : (xs : List X)
+      → ((i j : ℕ) (d : X) → i ≤ j → j < length xs → is_lt (option_cmp holding_cmp (key (get_or xs j d)) (key (get_or xs i d))) ≡ false) → AreInOrder (filter_map row_at xs)
+  in_order_by [] far = tt
+  in_order_by (x ∷ xs) far = by (row_at x) refl (in_order_by xs (λ i j d le less. far (suc i) (suc j) d (omega arith) (omega arith)))
+    where
+      by : (o : Option PositionRow) → row_at x ≡ o → AreInOrder (filter_map row_at xs) → AreInOrder (cons_option o (filter_map row_at xs))
+      by None e rest = rest
+      by (Some row) e rest = (
+        All-filter_map (λ (r : PositionRow). holding_cmp (holding_of r) (holding_of row) ≡ Less → ⊥) (λ (y : X). is_lt (option_cmp holding_cmp (key y) (key x)) ≡ false) row_at
+            (λ y r later not_less. not_after x y row r e later not_less) xs (λ k d less. far 0 (suc k) d (omega arith) (omega arith)),
+        rest,
+      )
 
 -- ---- one row's count
 

@@ -1,5 +1,5 @@
 -- The rows of a history by the positions of its holdings: rows in order that have their sums are those.
-use Rattle.std.proofs.Common.{◌≡◌, ℕ, List, length, [], ◌∷◌, Option, Some, None, Bool, true, false, cond, refl, sym, ap, ◌∙◌, ◌+◌, arith, subst, Ordering, Less, Equal, Greater}
+use Rattle.std.proofs.Common.{◌≡◌, ℕ, List, [], ◌∷◌, Option, Some, None, Bool, true, false, cond, refl, sym, ap, ◌∙◌, ◌+◌, arith, subst, Ordering, Less, Equal, Greater}
 use Rattle.std.specs.Prelude.{◌||◌, ◌&&◌, ◌==◌, All, if◌then◌else◌, filter, sum_by}
 use Rattle.std.specs.List.{cons_option, filter_map, IsDistinct, list_any}
 use Rattle.std.specs.Map.{keys_of, lookup}
@@ -9,7 +9,7 @@ use Rattle.std.specs.HashMap.{HashMap}
 use Rattle.std.specs.BTreeSet.{insert_key}
 use Rattle.std.proofs.lemmas.Bool.Decides.{nat_tests}
 use Rattle.std.proofs.lemmas.Bool.{eq-eqb, or_parts}
-use Rattle.std.proofs.lemmas.List.Elements.{All-cons, All-head, All-nil, All-tail, All-weaker, recursion_from_All}
+use Rattle.std.proofs.lemmas.List.Elements.{All-weaker, recursion_from_All}
 use Rattle.cns_netting.specs.History.{bought, credit, credit_part, debit, debit_part, due_since, is_reached, latest, position_of, settled_in, settled_out, sold}
 use Rattle.cns_ids.specs.Holding.{holding_at, holding_cmp, holding_eq}
 use Rattle.cns_netting.specs.Rows.{holdings_of, is_row_in, open_row, rows_of}
@@ -20,7 +20,7 @@ use Rattle.cns_netting.specs.declared.entry.NetEntry.TheVariants.{Accepted, Nett
 use Rattle.cns_ids.specs.declared.holding.Holding.{Holding}
 use Rattle.cns_netting.specs.declared.position.PositionRow.{PositionRow}
 use Rattle.cns_netting.proofs.HoldingLemmas.{AreAscending, holdings-ascending}
-use Rattle.cns_netting.proofs.OrderLemmas.{AreRising, same_rows}
+use Rattle.cns_netting.proofs.OrderLemmas.{All-filter_map, AreRising, same_rows}
 use Rattle.cns_netting.proofs.PositionLemmas.{by_parts}
 use Rattle.cns_netting.proofs.SumLemmas.{agree, entries-sum, filter_map-sum, same_sums}
 use Rattle.cns_netting.proofs.TradeLemmas.{bought-due, sold-due}
@@ -219,17 +219,14 @@ rows-rising : (rows : Holding → Option PositionRow) → ((k : Holding) (row : 
 rows-rising rows own [] order = tt
 rows-rising rows own (k ∷ ks) order = by (rows k) refl (rows-rising rows own ks order.1)
   where
-    above : (x : Holding) (qs : List Holding) → All (λ (q : Holding). holding_cmp x q ≡ Less) qs → All (λ (r : PositionRow). holding_cmp x (holding_of r) ≡ Less) (filter_map rows qs)
-    above x [] less = All-nil _
-    above x (q ∷ qs) less = at (rows q) refl (above x qs (All-tail (λ (p : Holding). holding_cmp x p ≡ Less) q qs less))
-      where
-        at : (o : Option PositionRow) → rows q ≡ o → All (λ (r : PositionRow). holding_cmp x (holding_of r) ≡ Less) (filter_map rows qs) → All (λ (r : PositionRow). holding_cmp x (holding_of r) ≡ Less) (cons_option o (filter_map rows qs))
-        at None e rest = rest
-        at (Some row) e rest = All-cons (λ (r : PositionRow). holding_cmp x (holding_of r) ≡ Less) row (filter_map rows qs) (subst (λ (p : Holding). holding_cmp x p ≡ Less) (sym (own q row e)) (All-head (λ (p : Holding). holding_cmp x p ≡ Less) q qs less)) rest
+    above : All (λ (r : PositionRow). holding_cmp k (holding_of r) ≡ Less) (filter_map rows ks)
+    above =
+        All-filter_map (λ (r : PositionRow). holding_cmp k (holding_of r) ≡ Less) (λ (q : Holding). holding_cmp k q ≡ Less) rows
+        (λ q row e less. subst (λ (p : Holding). holding_cmp k p ≡ Less) (sym (own q row e)) less) ks order.0
 
     by : (o : Option PositionRow) → rows k ≡ o → AreRising (filter_map rows ks) → AreRising (cons_option o (filter_map rows ks))
     by None e rest = rest
-    by (Some row) e rest = (subst (λ (p : Holding). All (λ (r : PositionRow). holding_cmp p (holding_of r) ≡ Less) (filter_map rows ks)) (sym (own k row e)) (above k ks order.0), rest)
+    by (Some row) e rest = (subst (λ (p : Holding). All (λ (r : PositionRow). holding_cmp p (holding_of r) ≡ Less) (filter_map rows ks)) (sym (own k row e)) above, rest)
 
 rows_for : (issue : Option ℕ) (h : List NetEntry) → filter_map (row_for issue h) (holdings_of h) ≡ rows_if issue (rows_of h)
 rows_for None h = refl
@@ -293,18 +290,6 @@ pub rows_by_sums : {S : Type 0} (issue : Option ℕ) (positions : HashMap Holdin
 rows_by_sums issue positions h xs unique are sums order =
     rows_by_holdings issue positions h xs (keys_of positions.entries) unique are (no_row_by issue positions)
     (λ f. sums f ∙ entries-sum (λ q o. row_part f (row_if issue q o)) positions.entries unique) order
-
--- where no holding is named there is no row
-pub no_rows : {S : Type 0} (positions : HashMap Holding Position S) (h : List NetEntry) → length positions.entries ≡ 0 → ArePositionsOf positions h → [] ≡ rows_of h
-unfolding IsDistinct
-no_rows positions h none are =
-    let nothing : positions.entries ≡ [] = no_entries positions.entries none in
-    let unique : hash.IsUnique holding_eq positions = rw nothing tt in
-    rows_by_sums None positions h [] unique are (λ f. rw nothing refl) tt
-  where
-    no_entries : {A : Type 0} (xs : List A) → length xs ≡ 0 → xs ≡ []
-    no_entries [] e = refl
-    no_entries (x ∷ xs) e = absurd cc
 
 -- the sum over the rows of all holdings that are named is the one over those of the history
 pub sum_by_entries : {S : Type 0} (positions : HashMap Holding Position S) (h : List NetEntry) (f : PositionRow → ℕ) → hash.IsUnique holding_eq positions → ArePositionsOf positions h

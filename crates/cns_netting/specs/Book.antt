@@ -3,7 +3,7 @@ use Rattle.std.specs.Prelude.{◌≡◌, ℕ, ◌+◌, ◌≤◌, ◌&&◌, nat_
 use Rattle.std.specs.BinaryHeap.{IsHeap}
 use Rattle.std.specs.HashMap.{HashMap}
 use Rattle.cns_netting.specs.History.{accepted, credit_part, debit_part, settled_in, settled_out}
-use Rattle.cns_netting.specs.Positions.{AreOfMembers, ArePositionsOf, AreSortedUpTo, IsNamed}
+use Rattle.cns_netting.specs.Positions.{AreOfMembers, ArePlacesInOrder, ArePositionsOf, IsNamed}
 use Rattle.cns_netting.specs.Totals.{AreTotalsOf, HasIssue}
 use Rattle.cns_netting.specs.Undue.{earlier, waiting_of, undue}
 use Rattle.cns_netting.specs.declared.entry.NetEntry.{NetEntry}
@@ -51,8 +51,8 @@ pub record IsBook (h : List NetEntry) : Type 0 where
 
 -- what a book keeps beside its history: the position of each holding, the totals of each issue, and of the trades that are not due
 -- what netting needs, in a heap; the holdings and the issue of each such trade are named, each holding that is named is one of a member,
--- and the first ones, `sorted` of them, stand in order
-pub record IsKept {S T : Type 0} (h : List NetEntry) (holdings : HashMap Holding Position S) (sorted : ℕ) (issues : HashMap ℕ Totals T)
+-- and `order` has the places of the first ones in order
+pub record IsKept {S T : Type 0} (h : List NetEntry) (holdings : HashMap Holding Position S) (order : List ℕ) (issues : HashMap ℕ Totals T)
     (waiting : List Undue) : Type 0 where
   pub book : IsBook h
   pub positions : ArePositionsOf holdings h
@@ -61,7 +61,7 @@ pub record IsKept {S T : Type 0} (h : List NetEntry) (holdings : HashMap Holding
   pub named : All (IsNamed holdings) waiting
   pub named_issues : All (HasIssue issues) waiting
   pub members : AreOfMembers holdings
-  pub order : AreSortedUpTo sorted holdings
+  pub places : ArePlacesInOrder order holdings
   pub heap : IsHeap earlier waiting
 
 -- for how many more entries there is room: for none where two more holdings, one more issue, or one more trade that is not due,

@@ -1,9 +1,10 @@
 -- The position of each holding, by look-up.
 use Rattle.std.specs.Prelude.{◌≡◌, ℕ, zero, suc, ◌+◌, ◌≤◌, ◌&&◌, ◌==◌, Bool, false, List, [], ◌∷◌, All, Option, Some, None, IsSome, filter}
-use Rattle.std.specs.Prelude.{length, take, if◌then◌else◌}
+use Rattle.std.specs.Prelude.{◌++◌, length, slice_get, if◌then◌else◌}
 use Rattle.std.specs.declared.cmp.Ordering.TheVariants.{Less}
 use Rattle.std.specs.HashMap.{HashMap, get, keys}
-use Rattle.std.specs.List.Sorted.{IsSorted}
+use Rattle.std.specs.List.Sorted.{IsPermutation, IsSortedByKey}
+use Rattle.std.specs.Option.{option_cmp}
 use Rattle.cns_netting.specs.declared.undue.Undue.{Undue}
 use Rattle.cns_netting.specs.History.{credit, credit_part, debit, debit_part}
 use Rattle.cns_ids.specs.Holding.{holding_at, holding_cmp, holding_eq}
@@ -46,10 +47,16 @@ module _ {S : Type 0} where
   abbrev pub AreOfMembers : HashMap Holding Position S → Type 0
   AreOfMembers positions = (k : Holding) → IsSome (get holding_eq positions k) → IsMember k.member
 
--- the first n of the holdings that are named stand in order, by issue, then member
-pub record AreSortedUpTo {S : Type 0} (n : ℕ) (positions : HashMap Holding Position S) : Type 0 where
-  pub most : n ≤ length positions.entries
-  pub order : IsSorted holding_cmp (take n (keys positions))
+-- the places of the first n holdings
+unfoldable pub places_below : ℕ → List ℕ
+places_below zero = []
+places_below (suc n) = places_below n ++ n ∷ []
+
+-- the places of the first holdings that are named, as many as there are, each once, by issue, then member of the holdings there
+pub record ArePlacesInOrder {S : Type 0} (order : List ℕ) (positions : HashMap Holding Position S) : Type 0 where
+  pub most : length order ≤ length positions.entries
+  pub each : IsPermutation (places_below (length order)) order
+  pub sorted : IsSortedByKey (slice_get (keys positions)) (option_cmp holding_cmp) order
 
 -- each position is that of a history: what it has above 0 and below 0 differ as its credit and debit there
 pub record ArePositionsOf {S : Type 0} (positions : HashMap Holding Position S) (h : List NetEntry) : Type 0 where
@@ -64,6 +71,23 @@ row_by k (Some s) = if credit_part s.shares == debit_part s.shares then None els
 abbrev pub row_if : Option ℕ → Holding → Option Position → Option PositionRow
 row_if None k positions = row_by k positions
 row_if (Some issue) k positions = if k.issue == issue then row_by k positions else None
+
+-- the row of what stands in a place, where something does
+abbrev pub row_at : Option ℕ → Option (Holding × Position) → Option PositionRow
+row_at issue None = None
+row_at issue (Some e) = row_if issue e.0 (Some e.1)
+
+abbrev pub row_in_place : Option ℕ → List (Holding × Position) → ℕ → Option PositionRow
+row_in_place issue entries place = row_at issue (slice_get entries place)
+
+-- the issue of a holding; one after this issue where there is none
+abbrev pub issue_or : ℕ → Option Holding → ℕ
+issue_or issue None = issue + 1
+issue_or issue (Some k) = k.issue
+
+-- the issue of the holding in a place
+abbrev pub issue_in : {S : Type 0} → HashMap Holding Position S → ℕ → ℕ → ℕ
+issue_in positions issue place = issue_or issue (slice_get (keys positions) place)
 
 -- rows of an issue alone, where one is given
 abbrev pub rows_if : Option ℕ → List PositionRow → List PositionRow

@@ -30,13 +30,13 @@ use std::marker::Model;
 ///
 /// Contracts see the history of entries, the newest first, and for how many more there is room. Beside
 /// the history the book keeps the position of each holding, the totals of each issue's positions, and
-/// what netting needs of the trades that are not due, the earliest settlement first. The first
-/// `sorted` holdings stand in order, by issue, then member; those named since stand behind them.
+/// what netting needs of the trades that are not due, the earliest settlement first. `order` has the
+/// places of the first holdings, by issue, then member; those named since stand behind them.
 #[derive(Drop)]
 pub struct NetBook {
     entries: Vec<NetEntry>,
     positions: IndexMap<Holding, Position>,
-    sorted: usize,
+    order: Vec<u32>,
     totals: HashMap<Cusip, Totals>,
     undue: BinaryHeap<Undue>,
 }
@@ -54,7 +54,7 @@ impl Model for NetBook {
       room = room_of (vec_capacity b.entries - length b.entries.items) (spare b.positions) (spare b.totals) (heap_capacity b.undue - heap_len b.undue);
     } };
 
-    ghost invariant = { λ b. IsKept (reverse b.entries.items) b.positions b.sorted b.totals (heap_items b.undue) };
+    ghost invariant = { λ b. IsKept (reverse b.entries.items) b.positions b.order.items b.totals (heap_items b.undue) };
 }
 
 // Takes the memory that any entry needs.
@@ -141,7 +141,7 @@ impl NetBook {
         NetBook {
             entries: Vec::new(alloc),
             positions: IndexMap::new(alloc),
-            sorted: 0,
+            order: Vec::new(alloc),
             totals: HashMap::new(alloc),
             undue: BinaryHeap::new(alloc),
         }
@@ -289,7 +289,7 @@ impl NetBook {
         ensures same { self.new.history ≡ self.old.history }
         ensures left { self.old.room ≤ self.new.room }
     {
-        self.sorted = put_in_order(&mut self.positions, self.sorted);
+        put_in_order(&self.positions, &mut self.order);
     }
 
     /// The position of a member in an issue: bought less sold over the due trades, and settlements.
@@ -302,11 +302,11 @@ impl NetBook {
 
     /// The positions other than 0, by issue, then member.
     ///
-    /// Costs one pass over all holdings and a sort of the rows, which is one pass where they stand in order.
+    /// Costs one pass over all holdings, and a sort of the rows where some holdings stand in no order.
     pub fn rows(&self) -> Result<Vec<PositionRow>, AllocError>
         ensures { IfOk result (λ rows. rows.items ≡ rows_of self.now.history) }
     {
-        position_rows(*self.entries.allocator(), &self.positions)
+        position_rows(*self.entries.allocator(), &self.positions, &self.order)
     }
 
     /// The positions other than 0 in an issue, by member.
@@ -319,7 +319,7 @@ impl NetBook {
         position_rows_in(
             *self.entries.allocator(),
             &self.positions,
-            self.sorted,
+            &self.order,
             issue,
         )
     }
@@ -332,7 +332,7 @@ impl NetBook {
             return self.rows();
         }
         let after = positions_after(&self.positions, self.undue.as_slice(), day)?;
-        position_rows(*self.entries.allocator(), &after)
+        position_rows(*self.entries.allocator(), &after, &self.order)
     }
 
     /// The positions other than 0 that `net` of a date would leave, by issue, then member, as `rows_at`
@@ -348,7 +348,7 @@ impl NetBook {
             return self.rows();
         }
         add_due(&mut self.positions, self.undue.as_slice(), day);
-        let rows = position_rows(*self.entries.allocator(), &self.positions);
+        let rows = position_rows(*self.entries.allocator(), &self.positions, &self.order);
         take_due(&mut self.positions, self.undue.as_slice(), day);
         rows
     }

@@ -167,6 +167,7 @@ pub(crate) fn positions_after(
     requires long { (m i : ℕ) → credit_in positions.now m i + sum_by (if_settled day (bought_by m i)) undue.now ≤ debit_in positions.now m i + 3 * 10 ^ 18 }
     requires short { (m i : ℕ) → debit_in positions.now m i + sum_by (if_settled day (sold_by m i)) undue.now ≤ credit_in positions.now m i + 3 * 10 ^ 18 }
     ensures balance { IfOk result (λ after. (m i : ℕ) → credit_in after m i + (debit_in positions.now m i + sum_by (if_settled day (sold_by m i)) undue.now) ≡ debit_in after m i + (credit_in positions.now m i + sum_by (if_settled day (bought_by m i)) undue.now)) }
+    ensures keys { IfOk result (λ after. keys after ≡ keys positions.now) }
 {
     let mut after = copy_of(positions)?;
     add_due(&mut after, undue, day);

@@ -1,12 +1,17 @@
-ghost use Rattle.std.specs.Prelude.{◌≡◌, ℕ, ◌+◌, ◌*◌, ◌^◌, ◌≤◌, ◌<◌, ◌&&◌, ◌==◌, IsSome, if◌then◌else◌};
+ghost use Rattle.std.specs.Prelude.{◌≡◌, ℕ, ◌+◌, ◌*◌, ◌^◌, ◌≤◌, ◌<◌, ◌&&◌, ◌==◌, IsSome, List, OnErr, OnOk, length, slice_get, take, if◌then◌else◌};
 ghost use Rattle.std.specs.HashMap.{get, keys, spare};
+ghost use Rattle.std.specs.List.Sorted.{IsPermutation};
 ghost use Rattle.cns_ids.specs.Holding.{holding_at, holding_eq};
 ghost use Rattle.cns_netting.specs.History.{credit_part, debit_part};
-ghost use Rattle.cns_netting.specs.Positions.{bought_by, credit_in, debit_in, AreOfMembers, AreSortedUpTo, IsNamed, sold_by};
+ghost use Rattle.cns_netting.specs.Positions.{bought_by, credit_in, debit_in, AreOfMembers, ArePlacesInOrder, IsNamed, places_below, sold_by};
 
 use crate::undue::Undue;
 use cns_ids::{Cusip, Holding, MemberNo};
 use indexmap::IndexMap;
+use std::alloc::AllocError;
+
+// How many places are told apart by 32 bits.
+const MOST_PLACES: usize = 0x1_0000_0000;
 
 /// The position of a holding, in shares: above 0 to receive, below 0 to deliver.
 #[derive(Clone, Copy)]
@@ -73,7 +78,7 @@ fn name(positions: &mut IndexMap<Holding, Position>, member: MemberNo, issue: Cu
     ensures named { IsSome (get holding_eq positions.new (holding_at issue member)) }
     ensures still { (k : Holding) → IsSome (get holding_eq positions.old k) → IsSome (get holding_eq positions.new k) }
     ensures members { AreOfMembers positions.old → AreOfMembers positions.new }
-    ensures order { (n : ℕ) → AreSortedUpTo n positions.old → AreSortedUpTo n positions.new }
+    ensures order { (order : List ℕ) → ArePlacesInOrder order positions.old → ArePlacesInOrder order positions.new }
     ensures left { spare positions.old ≤ spare positions.new + 1 }
 {
     let Ok(entry) = positions.entry(Holding { issue, member }) else {
@@ -98,7 +103,7 @@ pub(crate) fn enter(
         ≡ debit_in positions.new m i + (credit_in positions.old m i + (if (member == m) && (issue == i) then credit else 0)) }
     ensures still { (k : Holding) → IsSome (get holding_eq positions.old k) → IsSome (get holding_eq positions.new k) }
     ensures members { AreOfMembers positions.old → AreOfMembers positions.new }
-    ensures order { (n : ℕ) → AreSortedUpTo n positions.old → AreSortedUpTo n positions.new }
+    ensures order { (order : List ℕ) → ArePlacesInOrder order positions.old → ArePlacesInOrder order positions.new }
     ensures credit_was { credit_part result.shares ≡ credit_in positions.old member issue }
     ensures debit_was { debit_part result.shares ≡ debit_in positions.old member issue }
 {
@@ -111,18 +116,58 @@ pub(crate) fn enter(
     was
 }
 
-/// Puts the holdings into order, and answers how many of them stand so: as many as before, where there
-/// is no memory for it.
-pub(crate) fn put_in_order(positions: &mut IndexMap<Holding, Position>, sorted: usize) -> usize
-    requires { AreSortedUpTo sorted positions.old }
-    ensures order { AreSortedUpTo result positions.new }
-    ensures same { (k : Holding) → get holding_eq positions.new k ≡ get holding_eq positions.old k }
-    ensures left { spare positions.old ≤ spare positions.new }
+/// The holding in a place, where one is named there.
+pub(crate) fn holding_in(positions: &IndexMap<Holding, Position>, place: u32) -> Option<Holding>
+    ensures { result ≡ slice_get (keys positions.now) place }
 {
-    if sorted < positions.len() && positions.sort_keys().is_ok() {
-        positions.len()
-    } else {
-        sorted
+    let (holding, _) = positions.get_index(place as usize)?;
+    Some(*holding)
+}
+
+// Adds the places behind those in order, up to an end.
+fn add_places(order: &mut Vec<u32>, end: usize) -> Result<(), AllocError>
+    requires len { length order.old.items ≤ end }
+    requires most { end ≤ 2 ^ 32 }
+    requires each { IsPermutation (places_below (length order.old.items)) order.old.items }
+    ensures each { OnOk result (IsPermutation (places_below end) order.new.items) }
+    ensures len { OnOk result (length order.new.items ≡ end) }
+    ensures kept { take (length order.old.items) order.new.items ≡ order.old.items }
+{
+    let first = order.len();
+    order.reserve(end - first)?;
+    for place in first..end {
+        order.push_reserved(place as u32);
+    }
+    Ok(())
+}
+
+// Puts the places of all holdings into order. Without memory for it, those that were in order may have
+// others behind them.
+fn sort_places(
+    positions: &IndexMap<Holding, Position>,
+    order: &mut Vec<u32>,
+) -> Result<(), AllocError>
+    requires before { ArePlacesInOrder order.old.items positions.now }
+    requires most { length positions.now.entries ≤ 2 ^ 32 }
+    ensures ok { OnOk result (ArePlacesInOrder order.new.items positions.now) }
+    ensures err { OnErr result (take (length order.old.items) order.new.items ≡ order.old.items) }
+{
+    add_places(order, positions.len())?;
+    order.sort_by_key(|place| holding_in(positions, *place))
+}
+
+/// Puts the places of all holdings into order. Where there is no memory for it the order stays as it was.
+pub(crate) fn put_in_order(positions: &IndexMap<Holding, Position>, order: &mut Vec<u32>)
+    requires { ArePlacesInOrder order.old.items positions.now }
+    ensures { ArePlacesInOrder order.new.items positions.now }
+{
+    let known = order.len();
+    let all = positions.len();
+    if known == all || all > MOST_PLACES {
+        return;
+    }
+    if sort_places(positions, order).is_err() {
+        order.truncate(known);
     }
 }
 
@@ -134,7 +179,7 @@ pub(crate) fn name_trade(positions: &mut IndexMap<Holding, Position>, trade: &Un
     ensures named { IsNamed positions.new trade.now }
     ensures still { (k : Holding) → IsSome (get holding_eq positions.old k) → IsSome (get holding_eq positions.new k) }
     ensures members { AreOfMembers positions.old → AreOfMembers positions.new }
-    ensures order { (n : ℕ) → AreSortedUpTo n positions.old → AreSortedUpTo n positions.new }
+    ensures order { (order : List ℕ) → ArePlacesInOrder order positions.old → ArePlacesInOrder order positions.new }
 {
     name(positions, trade.buyer, trade.issue);
     name(positions, trade.seller, trade.issue);

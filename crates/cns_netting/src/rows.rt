@@ -1,16 +1,18 @@
-ghost use Rattle.std.specs.Prelude.{◌≡◌, ℕ, ◌+◌, ◌<◌, ◌==◌, filter, IfOk, List, None, OnOk, Some, sum_by};
+ghost use Rattle.std.specs.Prelude.{◌≡◌, ℕ, ◌+◌, ◌++◌, ◌<◌, ◌==◌, filter, IfOk, List, nat_le, nat_lt, None, OnOk, Some, sum_by};
 ghost use Rattle.std.specs.HashMap.{get, IsUnique};
+ghost use Rattle.std.specs.List.{filter_map};
 ghost use Rattle.std.specs.List.Sorted.{IsNonDecreasingBy};
+ghost use Rattle.std.specs.Option.{option_to_list};
 ghost use Rattle.cns_ids.specs.Holding.{holding_eq};
 ghost use Rattle.cns_ids.specs.declared.holding.Holding.{Holding};
 ghost use Rattle.cns_netting.specs.Rows.{is_row_in, rows_of};
-ghost use Rattle.cns_netting.specs.Positions.{AreInOrder, AreOfMembers, ArePositionsOf, AreSortedUpTo, holdings_up_to, row_if, row_part};
+ghost use Rattle.cns_netting.specs.Positions.{AreInOrder, AreOfMembers, ArePlacesInOrder, ArePositionsOf, holdings_up_to, issue_in, row_if, row_in_place, row_part};
 ghost use Rattle.cns_netting.specs.declared.entry.NetEntry.{NetEntry};
 ghost use Rattle.cns_netting.specs.declared.position.PositionRow.{PositionRow};
 ghost use Rattle.cns_netting.specs.declared.positions.Position.{Position};
 
 use crate::position::PositionRow;
-use crate::positions::{Position, position_at};
+use crate::positions::{Position, holding_in, position_at};
 use cns_ids::{Cusip, Holding, MemberNo};
 use indexmap::IndexMap;
 use indexmap::map::Slice;
@@ -49,7 +51,8 @@ fn put_row(
     position: &Position,
     issue: Option<Cusip>,
 ) -> Result<(), AllocError>
-    ensures { OnOk result ((f : PositionRow → ℕ) → sum_by f rows.new.items ≡ sum_by f rows.old.items + row_part f (row_if issue holding.now (Some position.now))) }
+    ensures added { OnOk result (rows.new.items ≡ rows.old.items ++ option_to_list (row_if issue holding.now (Some position.now))) }
+    ensures sums { OnOk result ((f : PositionRow → ℕ) → sum_by f rows.new.items ≡ sum_by f rows.old.items + row_part f (row_if issue holding.now (Some position.now))) }
 {
     if let Some(row) = row_of(holding, position, issue) {
         rows.push(row)?;
@@ -72,50 +75,82 @@ fn put_rows(
     Ok(())
 }
 
-// The rows, in any order.
-fn rows_found(
-    alloc: Global,
+// Adds the row of the holding in a place, where it has one.
+fn put_in(
+    rows: &mut Vec<PositionRow>,
     all: &IndexMap<Holding, Position>,
-) -> Result<Vec<PositionRow>, AllocError>
-    ensures unique { OnOk result (IsUnique holding_eq all.now) }
-    ensures sums { IfOk result (λ rows. (f : PositionRow → ℕ) → sum_by f rows.items ≡ sum_by (λ e. row_part f (row_if None e.0 (Some e.1))) all.now.entries) }
+    place: u32,
+    issue: &Option<Cusip>,
+) -> Result<(), AllocError>
+    ensures { OnOk result (rows.new.items ≡ rows.old.items ++ option_to_list (row_in_place issue.now all.now.entries place)) }
 {
-    // Room for all at once, so that no row is moved as they grow.
-    let mut rows = Vec::with_capacity(alloc, all.len())?;
-    put_rows(&mut rows, &all.as_slice(), &None)?;
-    Ok(rows)
+    match all.get_index(place as usize) {
+        Some((holding, position)) => put_row(rows, holding, position, *issue),
+        None => Ok(()),
+    }
 }
 
-// The holdings of an issue among holdings that stand by issue.
-fn holdings_in<'a>(
-    entries: &Slice<'a, Holding, Position>,
-    issue: Cusip,
-) -> Slice<'a, Holding, Position>
-    requires { IsNonDecreasingBy (λ (e : Holding × Position). e.0.issue) entries.now }
-    ensures { result ≡ filter (λ e. e.0.issue == issue) entries.now }
+// Adds the rows of the holdings in some places, of an issue alone, where it is given.
+fn put_places(
+    rows: &mut Vec<PositionRow>,
+    all: &IndexMap<Holding, Position>,
+    places: &[u32],
+    issue: &Option<Cusip>,
+) -> Result<(), AllocError>
+    ensures { OnOk result (rows.new.items ≡ rows.old.items ++ filter_map (row_in_place issue.now all.now.entries) places.now) }
 {
-    let first = entries.partition_point(|holding, _| holding.issue < issue);
-    let (_, rest) = entries.split_at(first);
-    let count = rest.partition_point(|holding, _| holding.issue <= issue);
-    let (found, _) = rest.split_at(count);
-    found
+    for place in places {
+        put_in(rows, all, *place, issue)?;
+    }
+    Ok(())
 }
 
-// The rows of an issue, in any order: those of the holdings that stand in order, and those behind them.
+// Whether the holding in a place is of an earlier issue.
+fn is_before(all: &IndexMap<Holding, Position>, place: u32, issue: Cusip) -> bool
+    ensures { result ≡ nat_lt (issue_in all.now issue place) issue }
+{
+    match holding_in(all, place) {
+        Some(holding) => holding.issue < issue,
+        None => false,
+    }
+}
+
+// Whether the holding in a place is of an earlier issue, or of this one.
+fn is_up_to(all: &IndexMap<Holding, Position>, place: u32, issue: Cusip) -> bool
+    ensures { result ≡ nat_le (issue_in all.now issue place) issue }
+{
+    match holding_in(all, place) {
+        Some(holding) => holding.issue <= issue,
+        None => false,
+    }
+}
+
+// The places of the holdings of an issue.
+fn places_in<'a>(all: &IndexMap<Holding, Position>, order: &'a [u32], issue: Cusip) -> &'a [u32]
+    requires { ArePlacesInOrder order.now all.now }
+    ensures { result.now ≡ filter (λ place. issue_in all.now issue place == issue) order.now }
+{
+    let first = order.partition_point(|place| is_before(all, *place, issue));
+    let rest = &order[first..];
+    let count = rest.partition_point(|place| is_up_to(all, *place, issue));
+    &rest[..count]
+}
+
+// The rows of an issue, in any order: those of the holdings that stand in order, and of those named since.
 fn rows_by_place(
     alloc: Global,
     all: &IndexMap<Holding, Position>,
-    sorted: usize,
+    order: &[u32],
     issue: Cusip,
 ) -> Result<Vec<PositionRow>, AllocError>
-    requires { AreSortedUpTo sorted all.now }
+    requires { ArePlacesInOrder order.now all.now }
     ensures unique { OnOk result (IsUnique holding_eq all.now) }
     ensures sums { IfOk result (λ rows. (f : PositionRow → ℕ) → sum_by f rows.items
         ≡ sum_by (λ e. row_part f (row_if (Some issue) e.0 (Some e.1))) all.now.entries) }
 {
-    let (in_order, behind) = all.as_slice().split_at(sorted);
     let mut rows = Vec::new(alloc);
-    put_rows(&mut rows, &holdings_in(&in_order, issue), &Some(issue))?;
+    put_places(&mut rows, all, places_in(all, order, issue), &Some(issue))?;
+    let (_, behind) = all.as_slice().split_at(order.len());
     put_rows(&mut rows, &behind, &Some(issue))?;
     Ok(rows)
 }
@@ -175,17 +210,24 @@ fn sort_rows(rows: &mut Vec<PositionRow>)
     });
 }
 
-/// The positions other than 0, by issue, then member.
+/// The positions other than 0, by issue, then member. They need no sort where all holdings stand in
+/// order.
 pub(crate) fn position_rows(
     alloc: Global,
     positions: &IndexMap<Holding, Position>,
+    order: &[u32],
 ) -> Result<Vec<PositionRow>, AllocError>
+    requires { ArePlacesInOrder order.now positions.now }
     ensures { IfOk result (λ rows. (h : List NetEntry) → ArePositionsOf positions.now h → rows.items ≡ rows_of h) }
 {
-    if positions.is_empty() {
-        return Ok(Vec::new(alloc));
+    // Room for all at once, so that no row is moved as they grow.
+    let mut rows = Vec::with_capacity(alloc, positions.len())?;
+    put_places(&mut rows, positions, order, &None)?;
+    if order.len() == positions.len() {
+        return Ok(rows);
     }
-    let mut rows = rows_found(alloc, positions)?;
+    let (_, behind) = positions.as_slice().split_at(order.len());
+    put_rows(&mut rows, &behind, &None)?;
     sort_rows(&mut rows);
     Ok(rows)
 }
@@ -208,33 +250,32 @@ fn rows_by_member(
 fn rows_by_order(
     alloc: Global,
     positions: &IndexMap<Holding, Position>,
-    sorted: usize,
+    order: &[u32],
     issue: Cusip,
 ) -> Result<Vec<PositionRow>, AllocError>
-    requires { AreSortedUpTo sorted positions.now }
+    requires { ArePlacesInOrder order.now positions.now }
     ensures { IfOk result (λ rows. (h : List NetEntry) → ArePositionsOf positions.now h → rows.items ≡ filter (is_row_in issue) (rows_of h)) }
 {
-    let mut found = rows_by_place(alloc, positions, sorted, issue)?;
+    let mut found = rows_by_place(alloc, positions, order, issue)?;
     sort_rows(&mut found);
     Ok(found)
 }
 
-/// The positions other than 0 in an issue, by member, where the first `sorted` holdings stand in order.
-/// Where there are more holdings behind them than members it looks up each member, so that it costs no
-/// more than that.
+/// The positions other than 0 in an issue, by member. Where more holdings stand in no order than there
+/// are members it looks up each member, so that it costs no more than that.
 pub(crate) fn position_rows_in(
     alloc: Global,
     positions: &IndexMap<Holding, Position>,
-    sorted: usize,
+    order: &[u32],
     issue: Cusip,
 ) -> Result<Vec<PositionRow>, AllocError>
     requires members { AreOfMembers positions.now }
-    requires order { AreSortedUpTo sorted positions.now }
+    requires order { ArePlacesInOrder order.now positions.now }
     ensures { IfOk result (λ rows. (h : List NetEntry) → ArePositionsOf positions.now h → rows.items ≡ filter (is_row_in issue) (rows_of h)) }
 {
-    if positions.len() - sorted > usize::from(MEMBERS) {
+    if positions.len() - order.len() > usize::from(MEMBERS) {
         rows_by_member(alloc, positions, issue)
     } else {
-        rows_by_order(alloc, positions, sorted, issue)
+        rows_by_order(alloc, positions, order, issue)
     }
 }

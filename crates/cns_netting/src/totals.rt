@@ -1,8 +1,8 @@
-ghost use Rattle.std.specs.Prelude.{◌≡◌, ℕ, ◌+◌, ◌-◌, ◌*◌, ◌^◌, ◌<◌, ◌≤◌, ◌&&◌, ◌==◌, nat_eq, IsSome, if◌then◌else◌};
+ghost use Rattle.std.specs.Prelude.{◌≡◌, ℕ, ◌+◌, ◌-◌, ◌*◌, ◌^◌, ◌<◌, ◌≤◌, ◌&&◌, ◌==◌, nat_eq, IsSome, List, if◌then◌else◌};
 ghost use Rattle.std.specs.HashMap.{get, keys, spare};
 ghost use Rattle.cns_ids.specs.Holding.{holding_at, holding_eq};
 ghost use Rattle.cns_netting.specs.History.{credit_part, debit_part};
-ghost use Rattle.cns_netting.specs.Positions.{AreOfMembers, AreSortedUpTo, bought_by, credit_in, debit_in, IsNamed, sold_by};
+ghost use Rattle.cns_netting.specs.Positions.{AreOfMembers, ArePlacesInOrder, bought_by, credit_in, debit_in, IsNamed, sold_by};
 ghost use Rattle.cns_netting.specs.Totals.{AreTotalsOf, HasIssue, longs_in, shorts_in};
 
 use crate::positions::{Position, add, enter};
@@ -109,7 +109,7 @@ pub(crate) fn enter_counted(
         ≡ debit_in positions.new m i + (credit_in positions.old m i + (if (member == m) && (issue == i) then credit else 0)) }
     ensures still { (k : Holding) → IsSome (get holding_eq positions.old k) → IsSome (get holding_eq positions.new k) }
     ensures members { AreOfMembers positions.old → AreOfMembers positions.new }
-    ensures order { (n : ℕ) → AreSortedUpTo n positions.old → AreSortedUpTo n positions.new }
+    ensures order { (order : List ℕ) → ArePlacesInOrder order positions.old → ArePlacesInOrder order positions.new }
     ensures issues { (i : ℕ) → IsSome (get nat_eq totals.old i) → IsSome (get nat_eq totals.new i) }
     ensures totals { AreTotalsOf totals.new positions.new }
 {

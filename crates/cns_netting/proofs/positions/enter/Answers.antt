@@ -5,7 +5,7 @@ use Rattle.indexmap.specs.Entry.{map_with_value}
 use Rattle.cns_ids.specs.Holding.{holding_at, holding_eq}
 use Rattle.cns_ids.proofs.HoldingLemmas.{put-named}
 use Rattle.cns_netting.proofs.PositionLemmas.{parts_found, position_by, put-members, put-moves}
-use Rattle.cns_netting.proofs.SortedLemmas.{sorted_named}
+use Rattle.cns_netting.proofs.PlaceLemmas.{places_named}
 use Rattle.cns_netting.proofs.positions.enter.Goals as goal
 
 pub with-requires : goal.with-requires
@@ -33,9 +33,9 @@ returns-clause-members c =
     put-members c.args.member c.args.issue w (get holding_eq c.args.positions.now) _ (λ k. search (rules, (c.in-Ok.ensures.update.0 w).0)) (search rules)
 
 pub returns-clause-order : goal.returns-clause-order
-returns-clause-order c = λ n sorted.
+returns-clause-order c = λ order places.
     let w = c.with.result in
-    sorted_named c.args.positions.now _ (holding_at c.args.issue c.args.member) w (search (rules, c.in-Ok.ensures.update.1 w)) n sorted
+    places_named c.args.positions.now _ (holding_at c.args.issue c.args.member) w (search (rules, c.in-Ok.ensures.update.1 w)) order places
 
 pub returns-clause-credit_was : goal.returns-clause-credit_was
 returns-clause-credit_was c =

@@ -12,4 +12,4 @@ pub loop-holding-preserved : goal.loop-holding-preserved
 loop-holding-preserved c = λ f.
     let first = rest_more deref_pair c.loop-holding.holding-iterator c.next.new.self c.next.result (c.in-Some.holding, c.in-Some.position) c.in-Some.is c.next.ensures.steps in
     let weight = λ (e : Holding × Position). row_part f (row_if c.args.issue.now e.0 (Some e.1)) in
-    omega (arith, c.loop-holding.invariant f, ap (sum_by weight) first, sum_by-cons weight (c.in-Some.holding.now, c.in-Some.position.now) c.next.new.self, c.in_ok-put_row.ensures f)
+    omega (arith, c.loop-holding.invariant f, ap (sum_by weight) first, sum_by-cons weight (c.in-Some.holding.now, c.in-Some.position.now) c.next.new.self, c.in_ok-put_row.ensures.sums f)

@@ -1,30 +1,23 @@
-use Rattle.std.proofs.Common.{◌≡◌, Bool, ℕ, None, Some, false, ap, arith, subst, sym, take, drop, ◌∙◌}
-use Rattle.std.specs.Prelude.{◌==◌, if◌then◌else◌, sum_by}
-use Rattle.std.specs.List.Sorted.{IsNonDecreasingBy}
+use Rattle.std.proofs.Common.{◌≡◌, Bool, ℕ, Some, false, ap, arith, drop, length, ◌∙◌}
+use Rattle.std.specs.Prelude.{◌==◌, sum_by}
 use Rattle.std.proofs.lemmas.List.Sums.{sum_by-take-drop}
 use Rattle.cns_ids.specs.declared.holding.Holding.{Holding}
-use Rattle.cns_netting.specs.Positions.{row_by, row_if, row_part}
+use Rattle.cns_netting.specs.Positions.{issue_in, row_if, row_in_place, row_part}
 use Rattle.cns_netting.specs.declared.positions.Position.{Position}
-use Rattle.cns_netting.proofs.SortedLemmas.{stand_by_issue, sum_by-filter}
+use Rattle.cns_netting.proofs.PlaceLemmas.{other_issue, rows-sum, sum_by-filter}
+use Rattle.cns_netting.proofs.SumLemmas.{filter_map-sum}
 use Rattle.cns_netting.proofs.rows.rows_by_place.Goals as goal
-
-pub holdings_in-requires : goal.holdings_in-requires
-holdings_in-requires c =
-    let in_order = c.split_at-in_order.ensures.front ∙ ap (take c.args.sorted) c.as_slice.ensures.entries in
-    subst (IsNonDecreasingBy (λ (e : Holding × Position). e.0.issue)) (sym in_order) (stand_by_issue c.args.all.now c.args.sorted c.requires)
-
--- a holding of another issue has no row in it
-other_issue : (issue : ℕ) (e : Holding × Position) → (e.0.issue == issue) ≡ false → row_if (Some issue) e.0 (Some e.1) ≡ None
-other_issue issue e other = ap (λ b. if b then row_by e.0 (Some e.1) else None) other
 
 pub returns-clause-sums : goal.returns-clause-sums
 returns-clause-sums c = λ f.
-    let weight : Holding × Position → ℕ = λ e. row_part f (row_if (Some c.args.issue) e.0 (Some e.1)) in
-    let in_issue : Holding × Position → Bool = λ e. e.0.issue == c.args.issue in
-    let others : (e : Holding × Position) → in_issue e ≡ false → weight e ≡ 0 = λ e other. ap (row_part f) (other_issue c.args.issue e other) in
-    let in_order = ap (sum_by weight) (c.split_at-in_order.ensures.front ∙ ap (take c.args.sorted) c.as_slice.ensures.entries) in
-    let behind = ap (sum_by weight) (c.split_at-in_order.ensures.back ∙ ap (drop c.args.sorted) c.as_slice.ensures.entries) in
-    let found = ap (sum_by weight) c.holdings_in.ensures ∙ sum_by-filter weight in_issue others c.split_at-in_order.result.0 in
-    let none = ap (sum_by f) c.new-rows.ensures.items in
-    let both = sum_by-take-drop weight c.args.all.now.entries c.args.sorted in
-    omega (arith, c.in_ok-put_rows.ensures f, c.in_ok-put_rows-2.ensures f, none, found, in_order, behind, both)
+    let all = c.args.all.now in
+    let order = c.args.order.now in
+    let row = row_in_place (Some c.args.issue) all.entries in
+    let weight : ℕ → ℕ = λ p. row_part f (row p) in
+    let in_issue : ℕ → Bool = λ p. issue_in all c.args.issue p == c.args.issue in
+    let others : (p : ℕ) → in_issue p ≡ false → weight p ≡ 0 = λ p other. ap (row_part f) (other_issue all c.args.issue p other) in
+    let found = ap (sum_by weight) c.places_in.ensures ∙ sum_by-filter weight in_issue others order ∙ rows-sum (Some c.args.issue) all order c.requires f in
+    let put = ap (sum_by f) (rw c.new-rows.ensures.items at c.in_ok-put_places.ensures) ∙ filter_map-sum f row c.places_in.result.now in
+    let part : Holding × Position → ℕ = λ e. row_part f (row_if (Some c.args.issue) e.0 (Some e.1)) in
+    let behind = ap (sum_by part) (c.split_at-behind.ensures.back ∙ ap (drop (length order)) c.as_slice.ensures.entries) in
+    omega (arith, c.in_ok-put_rows.ensures f, put, found, behind, sum_by-take-drop part all.entries (length order))

@@ -5,8 +5,7 @@ use Rattle.cns_netting.proofs.book.NetBook.put_in_order.Goals as goal
 
 pub invariant_of-self : goal.invariant_of-self
 invariant_of-self c =
-    let put = c.put_in_order-self-inside in
     let totals = c.self.inside.totals in
     let waiting = heap_items c.self.inside.undue in
-    kept_room (reverse c.self.inside.entries.items) c.self.inside.positions put.new.positions totals totals waiting waiting put.ensures.same (λ i. refl) refl
-    put.result put.ensures.order c.self.invariant
+    kept_room (reverse c.self.inside.entries.items) c.self.inside.positions c.self.inside.positions totals totals waiting waiting (λ k. refl) (λ i. refl) refl
+    c.put_in_order.new.order.items c.put_in_order.ensures c.self.invariant

@@ -6,6 +6,7 @@ use Rattle.cns_netting.specs.Rows.{rows_of}
 use Rattle.cns_netting.specs.declared.entry.NetEntry.TheVariants.{Netted}
 use Rattle.cns_netting.specs.declared.position.PositionRow.{PositionRow}
 use Rattle.cns_netting.proofs.KeptLemmas.{all_still, IsAdded, kept_back, kept_near, long_back, long_by, positions_netted, rows_netted, short_back, short_by}
+use Rattle.cns_netting.proofs.PlaceLemmas.{places_still}
 use Rattle.cns_netting.proofs.book.NetBook.rows_after.Goals as goal
 
 pub add_due-requires : goal.add_due-requires
@@ -15,6 +16,9 @@ add_due-requires c =
       long = long_by c.args.day (kept_near c.self.invariant);
       short = short_by c.args.day (kept_near c.self.invariant);
     })
+
+pub position_rows-rows-requires : goal.position_rows-rows-requires
+position_rows-rows-requires c = rw c.deref.ensures.value (places_still c.self.inside.positions c.add_due.new.positions c.add_due.ensures.keys c.self.inside.order.items c.self.invariant.places)
 
 pub take_due-requires : goal.take_due-requires
 take_due-requires c =

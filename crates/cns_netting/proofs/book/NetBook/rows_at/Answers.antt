@@ -6,6 +6,7 @@ use Rattle.cns_netting.specs.Rows.{rows_of}
 use Rattle.cns_netting.specs.declared.entry.NetEntry.TheVariants.{Netted}
 use Rattle.cns_netting.specs.declared.position.PositionRow.{PositionRow}
 use Rattle.cns_netting.proofs.KeptLemmas.{IsAdded, kept_near, long_by, positions_netted, rows_netted, short_by}
+use Rattle.cns_netting.proofs.PlaceLemmas.{places_still}
 use Rattle.cns_netting.proofs.book.NetBook.rows_at.Goals as goal
 
 pub positions_after-requires : goal.positions_after-requires
@@ -15,6 +16,9 @@ positions_after-requires c =
       long = long_by c.args.day (kept_near c.self.invariant);
       short = short_by c.args.day (kept_near c.self.invariant);
     })
+
+pub position_rows-requires : goal.position_rows-requires
+position_rows-requires c = rw c.deref.ensures.value (places_still c.self.inside.positions c.in_ok-after.after c.in_ok-after.ensures.keys c.self.inside.order.items c.self.invariant.places)
 
 pub returns : goal.returns
 returns c =
