@@ -106,9 +106,3 @@ all_in_turn {A} [] act left old new same stays =
     subst (λ l. HasComeInTurn [] act l old new) (sym same) (subst (λ w. HasComeInTurn [] act act old w) (sym stays) here)
 all_in_turn {A} (e ∷ said) act left old new (next, is, rest) (between, leads, led) =
     come_more (text_in e) (text_said said) act next left old between new (next_in_turn e act next old between is leads) (all_in_turn said next left between new rest led)
-
--- a failure was planned, or was not
-pub plan_leads : (name : NodeName) (stands : Bool) (r : Result (Unit {0}) NotPlanned) (old new : World) → PlansSo name stands r (scene_of old) (scene_of new)
-    → LeadsInTurn (x.Planned name stands (is_ok r)) old new
-plan_leads name stands (Ok u) old new plans = plans
-plan_leads name stands (Err e) old new plans = plans

@@ -69,7 +69,7 @@ reads spelling allows fits rejected new place (reopened, bad) = no_bad_place spe
 
 nothing_agrees : (c : List ClearRecord) (p : List DepRecord) → c ≡ [] → p ≡ [] → Agree c p
 unfolding books_of
-nothing_agrees c p none nothing = rw (none, nothing) (record { ordered = All-nil (IsOrdered (orders_of []).orders); executed = All-nil (IsExecuted []) })
+nothing_agrees c p none nothing = rw (none, nothing) (record { executed = All-nil (IsOrdered (orders_of []).orders); confirmed = All-nil (IsExecuted []) })
 
 pub none_unopened : (input : Input) (clear depot : KeeperState) → IsUnopened false input new_keeper new_keeper clear depot → ⊥
 none_unopened input clear depot (start.Clear (replay.BadJournal place), rejected, long, (unread, same)) = reads spelling IsAllowed HasPayload rejected clear place unread

@@ -116,13 +116,6 @@ row_told line rows i x p q r lt is so one = record {
   writes = writes_more p q r so.told (line x) so.writes one;
 }
 
-pub row_breaks : {A : Type 0} (line : A → List ℕ) (rows : List A) (i : ℕ) (x : A) (p q : Output) (sent : Option (List ℕ)) → i < length rows → x ≡ get_or rows i x
-    → AreTold line rows i p q → BreaksOff (line x) q sent → BreaksOff (flat_map line rows) p sent
-row_breaks line rows i x p q sent lt is so one =
-    let rest = flat_map line (drop (i + 1) rows) in
-    subst (λ l. BreaksOff l p sent) (ap (λ l. so.told ++ l) (sym (lines_left line rows i x lt is)) ∙ so.rest_is)
-    (breaks_after p q sent so.told (line x ++ rest) so.writes (breaks_front q sent (line x) rest one))
-
 pub all_told : {A : Type 0} (line : A → List ℕ) (rows : List A) (i : ℕ) (p q : Output) → length rows ≤ i → AreTold line rows i p q → Writes (flat_map line rows) p q
 all_told line rows i p q le so =
     let all : so.told ≡ flat_map line rows = sym (append-nil so.told) ∙ ap (λ l. so.told ++ flat_map line l) (sym (drop_all i rows le)) ∙ so.rest_is in

@@ -29,10 +29,6 @@ no_room_front fault.Memory p s t full = omega (arith, full, length-append s t)
 pub puts_front : (e : OutputFault) (p q : Written) (a b : Option (List ℕ)) (s t : List ℕ) → Puts s (Err e) p q a b → Puts (s ++ t) (Err e) p q a b
 puts_front e p q a b s t (one, wide, full) = (breaks_front (output p a) b s t one, wide, no_room_front e p s t full)
 
--- nothing is told
-pub puts_nothing : (p : Written) (a : Option (List ℕ)) → Puts [] (Ok tt) p p a a
-puts_nothing p a = (prints_nothing (output p a), omega arith, tt)
-
 -- ---- rows, one after another
 
 -- the lines of the first so many rows were told

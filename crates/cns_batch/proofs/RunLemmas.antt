@@ -159,16 +159,6 @@ pub plain_is : (serves : ServesBy) (busy : Option ℕ) (n : ℕ) (c : Command) (
 plain_is serves busy n (command.Allocate issue) s not = absurd (not issue refl)
 plain_is serves busy n _ s not = refl
 
--- a command that begins no lot beside others
-pub first_plain : (serves : ServesBy) (n : ℕ) (c : Command) (cs : List Numbered) (rows : Supply) → ((issue lines : ℕ) → c ≡ command.Beside issue lines → ⊥)
-    → first_run serves (n, c) cs rows ≡ command_run serves None n c rows
-first_plain serves n (command.Beside issue lines) cs rows not = absurd (not issue lines refl)
-first_plain serves n _ cs rows not = refl
-
-pub beside_none : (c : Command) → ((issue lines : ℕ) → c ≡ command.Beside issue lines → ⊥) → ran_beside c ≡ 0
-beside_none (command.Beside issue lines) not = absurd (not issue lines refl)
-beside_none _ not = refl
-
 -- so many commands have run
 pub left_done : {A : Type 0} (i n : ℕ) (first old : List A) → i ≤ n → n ≤ i → old ≡ drop i first → old ≡ drop n first
 left_done i n first old le ge is = let same : i ≡ n = omega (arith, le, ge) in is ∙ ap (λ k. drop k first) same

@@ -62,14 +62,6 @@ refused fault.Csv shake r bytes sent told = refl
 refused fault.Memory shake r bytes sent told = inl refl
 refused _ shake r bytes sent told = absurd told
 
-pub workers_refused : (e : BatchFault) (shake : Option ℕ) (r : Result Input BatchFault) (known sent : Option (List ℕ)) (bytes : List ℕ) → IsInput known bytes → Tells e r
-    → (bytes : List ℕ) × IsInput known bytes × WritesByWorkers (Err e) shake bytes sent sent
-workers_refused e shake r known sent bytes all told = (bytes, all, refused e shake r bytes sent told)
-
 unopened : (short : Bool) (shake : Option ℕ) (bytes : List ℕ) (sent : Option (List ℕ)) → WritesByWorkers (Err (if short then fault.Memory else fault.Journal)) shake bytes sent sent
 unopened true shake bytes sent = inl refl
 unopened false shake bytes sent = refl
-
-pub workers_unopened : (why : StartFault) (shake : Option ℕ) (known sent : Option (List ℕ)) (bytes : List ℕ) → IsInput known bytes
-    → (bytes : List ℕ) × IsInput known bytes × WritesByWorkers (Err (fault_of_start why)) shake bytes sent sent
-workers_unopened why shake known sent bytes all = (bytes, all, unopened (is_short why) shake bytes sent)

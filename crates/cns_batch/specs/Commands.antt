@@ -6,9 +6,9 @@ use Rattle.cns_trades.specs.declared.row.Row.TheVariants as row
 use Rattle.cns_netting.specs.Rows.{rows_of}
 use Rattle.cns_allocate.specs.declared.planned.Planned.{Planned}
 use Rattle.cns_records.specs.declared.refusal.Refusal.TheVariants as refusal
+use Rattle.cns_clearing.specs.Books.{books_of}
 use Rattle.cns_clearing.specs.Pools.{rows_of as pools_of}
 use Rattle.cns_depository.specs.Balances.{balance_rows}
-use Rattle.cns_system.specs.Happens.{book}
 use Rattle.cns_shake.specs.Shake.{Lcg, event_of, pcg32}
 use Rattle.cns_shake.specs.declared.shaker.TheConstants.{DRAWS}
 use Rattle.cns_system.specs.Readers.{counts_of, unconfirmed}
@@ -91,7 +91,7 @@ failed name stands = Plans name stands (λ planned. tells (line_text (if planned
 
 abbrev pub report_text : Shown → List ℕ
 report_text w =
-    cycle_report_text (book w).latest (rows_of (book w).history) (pools_of (book w).orders w.open_lots)
+    let book = books_of w.clear.records in cycle_report_text book.latest (rows_of book.history) (pools_of book.orders w.open_lots)
     ++ flat_map balance_line (balance_rows w.openings w.depot.records) ++ codes "END\n"
 
 -- the report of what both nodes show

@@ -17,4 +17,5 @@ pub mod PlanLemmas
 pub mod AllocationLemmas
 pub mod PouredLemmas
 pub mod LeavesLemmas
+pub mod CallsLemmas
 pub mod BalanceLemmas

@@ -1,6 +1,8 @@
--- What each call of a clearing node answers, and what it leaves (this project's own rules). A refusal tells that those named
--- before it did not apply; only `Device` leaves anything changed.
-use Rattle.std.specs.Prelude.{◌≡◌, ◌≢◌, ℕ, ◌+◌, ◌^◌, ◌≤◌, min, Bool, true, false, List, [], ◌∷◌, ◌++◌, length, map, sum_by, Some, None, Result, Ok, Err}
+-- What each call of a clearing node comes to, by whether the node is down, its records and its open lots, and what it leaves (this project's own
+-- rules). The first refusal that applies is told.
+use Rattle.std.specs.Prelude.{◌≡◌, ◌⊎◌, ℕ, ◌+◌, ◌^◌, ◌≤◌, ◌==◌, min, not, Bool, true, false, List, [], ◌∷◌, ◌++◌, length, map, Some, None, Result, Ok, Err}
+use Rattle.std.specs.Option.{is_none, ok_or}
+use Rattle.cns_ids.specs.Steps.{◌>>=◌, ◌>>◌, need}
 use Rattle.cns_ids.specs.declared.cycle.CycleId.{CycleId}
 use Rattle.cns_trades.specs.Verdicts.{verdict}
 use Rattle.cns_trades.specs.declared.list.Verdict.{Verdict}
@@ -19,13 +21,15 @@ use Rattle.cns_pool.specs.Pool.{asked_sum}
 use Rattle.cns_pool.specs.declared.ticket.Ticket.{Ticket}
 use Rattle.cns_allocate.specs.Served.{IsServed}
 use Rattle.cns_allocate.specs.declared.planned.Planned.{Planned}
+use Rattle.cns_records.specs.Call.{CallLeaves, Deed, Commits, Tells}
+use Rattle.cns_records.specs.Refusals.{commit_refusal}
 use Rattle.cns_records.specs.declared.allocation.Allocation.{Allocation}
 use Rattle.cns_records.specs.declared.drawn.Drawn.{Drawn}
 use Rattle.cns_records.specs.declared.clear_record.ClearRecord.{ClearRecord}
 use Rattle.cns_records.specs.declared.clear_record.ClearRecord.TheVariants as entry
-use Rattle.cns_clearing.specs.Books.{are_spent, books_of, covers_on, deliveries_in, history_of, is_later, latest_of, orders_of, IsAllowed}
+use Rattle.cns_clearing.specs.Books.{are_spent, books_of, covers_on, deliveries_in, history_of, is_later, latest_of, orders_of}
 use Rattle.cns_clearing.specs.Lots.{IsAllocation, avail_in, lots_poured, new_lot}
-use Rattle.cns_clearing.specs.Node.{ClearNode, Added, Failed}
+use Rattle.cns_clearing.specs.Node.{ClearNode, IsCommitted}
 use Rattle.cns_clearing.specs.Pools.{free_of, lot_of}
 use Rattle.cns_clearing.specs.declared.lot.Lot.{Lot}
 use Rattle.cns_clearing.specs.declared.answer.Closed.{Closed}
@@ -35,58 +39,58 @@ use Rattle.cns_clearing.specs.declared.answer.Cycled.{Cycled}
 use Rattle.cns_clearing.specs.declared.answer.Taken.{Taken}
 use Rattle.cns_clearing.specs.declared.answer.Taken.TheVariants.{Done, Again}
 
+-- what a call that commits a record leaves of the node, by what it comes to
+abbrev pub Leaves : {X : Type 0} → Result (Deed ClearRecord X) Refusal → Result X Refusal → ClearNode → ClearNode → Type 0
+Leaves call result old new = CallLeaves commit_refusal IsCommitted call result old new
+
+-- the node answers
+abbrev pub up : Bool → Result (Unit {0}) Refusal
+up down = need (not down) refusal.Down
+
+-- ---- trades and settings
+
 -- the verdict of the accepted trades on a trade
 abbrev pub verdict_in : List ClearRecord → Trade → Verdict
 verdict_in c t = verdict (accepted (history_of c)) t
 
--- what a trade leaves, by its answer: only a new one is accepted
-abbrev pub TradeLeaves : Trade → Result (Unit {0}) Refusal → ClearNode → ClearNode → Type 0
-TradeLeaves t (Ok _) old new = IsAllowed old.log.records (entry.Accept t) × Added (entry.Accept t) old new
-TradeLeaves t (Err refusal.Down) old new = (old.log.down ≡ true) × (new ≡ old)
-TradeLeaves t (Err (refusal.Trade v)) old new = (old.log.down ≡ false) × (verdict_in old.log.records t ≡ v) × (v ≢ verdicts.New) × (new ≡ old)
-TradeLeaves t (Err refusal.OutOfMemory) old new = (old.log.down ≡ false) × IsAllowed old.log.records (entry.Accept t) × (new ≡ old)
-TradeLeaves t (Err refusal.Device) old new = IsAllowed old.log.records (entry.Accept t) × Failed (entry.Accept t) old new
-TradeLeaves t (Err _) old new = ⊥
+-- a trade is accepted where it is new
+unfoldable pub trade_call : Trade → Bool → List ClearRecord → Result (Deed ClearRecord (Unit {0})) Refusal
+trade_call t down c = up down >> elim (verdict_in c t) [ verdicts.New ↦ Ok (Commits (entry.Accept t) tt) | verdict ↦ Err (refusal.Trade verdict) ]
 
--- what the record of a setting leaves, by its answer
-abbrev pub SettingLeaves : ClearRecord → Result (Unit {0}) Refusal → ClearNode → ClearNode → Type 0
-SettingLeaves r (Ok _) old new = Added r old new
-SettingLeaves r (Err refusal.Down) old new = (old.log.down ≡ true) × (new ≡ old)
-SettingLeaves r (Err refusal.OutOfMemory) old new = (old.log.down ≡ false) × (new ≡ old)
-SettingLeaves r (Err refusal.Device) old new = Failed r old new
-SettingLeaves r (Err _) old new = ⊥
+unfoldable pub setting_call : ClearRecord → Bool → Result (Deed ClearRecord (Unit {0})) Refusal
+setting_call r down = up down >> Ok (Commits r tt)
+
+-- ---- cycles
 
 -- the covers that a cycle of this date orders after these records
 abbrev pub covers_in : List ClearRecord → ℕ → List Ask
 covers_in c day = covers_on (books_of c) day
 
--- how many trades a cycle made due, and the orders of its covers, the next ones, which are of this cycle
-pub record IsCycled (c : List ClearRecord) (id : CycleId) (done : Cycled) : Type 0 where
-  pub due : done.due ≡ becoming_due (history_of c) id.day
-  pub orders : done.orders ≡ next_orders (orders_of c) (Some id) (covers_in c id.day)
+-- what is told of a cycle: how many trades it made due, and the orders of its covers, the next ones, which are of this cycle
+abbrev pub cycled_of : List ClearRecord → CycleId → Cycled
+cycled_of c id = record { due = becoming_due (history_of c) id.day; orders = next_orders (orders_of c) (Some id) (covers_in c id.day) }
 
--- what a cycle leaves, by its answer
-abbrev pub CycleLeaves : CycleId → Result Cycled Refusal → ClearNode → ClearNode → Type 0
-CycleLeaves id (Ok done) old new =
-    IsAllowed old.log.records (entry.Cycle id) × (old.lots ≡ []) × IsCycled old.log.records id done × Added (entry.Cycle id) old new
-CycleLeaves id (Err refusal.Down) old new = (old.log.down ≡ true) × (new ≡ old)
-CycleLeaves id (Err refusal.CycleOrder) old new = (old.log.down ≡ false) × (is_later (latest_of old.log.records) id ≡ false) × (new ≡ old)
-CycleLeaves id (Err refusal.LotsOpen) old new = (old.log.down ≡ false) × (is_later (latest_of old.log.records) id ≡ true) × (old.lots ≢ []) × (new ≡ old)
-CycleLeaves id (Err refusal.NumbersSpent) old new =
-    (old.log.down ≡ false) × (is_later (latest_of old.log.records) id ≡ true) × (old.lots ≡ []) × (are_spent (orders_of old.log.records) (length (covers_in old.log.records id.day)) ≡ true) × (new ≡ old)
-CycleLeaves id (Err refusal.OutOfMemory) old new =
-    (old.log.down ≡ false) × (is_later (latest_of old.log.records) id ≡ true) × (old.lots ≡ []) × (are_spent (orders_of old.log.records) (length (covers_in old.log.records id.day)) ≡ false) × (new ≡ old)
-CycleLeaves id (Err refusal.Device) old new = IsAllowed old.log.records (entry.Cycle id) × (old.lots ≡ []) × Failed (entry.Cycle id) old new
-CycleLeaves id (Err _) old new = ⊥
+-- a cycle runs where it is later than the latest one, no lot is open, and there are numbers for its covers
+unfoldable pub cycle_call : CycleId → Bool → List ClearRecord → List Lot → Result (Deed ClearRecord Cycled) Refusal
+cycle_call id down c lots = do
+  up down
+  need (is_later (latest_of c) id) refusal.CycleOrder
+  need (length lots == 0) refusal.LotsOpen
+  need (not (are_spent (orders_of c) (length (covers_in c id.day)))) refusal.NumbersSpent
+  Ok (Commits (entry.Cycle id) (cycled_of c id))
 
--- what the opening of a lot leaves, by its answer: the lot has all shares of the issue that are there, and its plan
-abbrev pub LotOpenLeaves : ℕ → Result (List Planned) Refusal → ClearNode → ClearNode → Type 0
-LotOpenLeaves issue (Ok plan) old new =
-    (old.log.down ≡ false) × (lot_of old.lots issue ≡ None) × (plan ≡ (new_lot old.log.records issue).plan) × (new ≡ record old { lots = old.lots ++ new_lot old.log.records issue ∷ [] })
-LotOpenLeaves issue (Err refusal.Down) old new = (old.log.down ≡ true) × (new ≡ old)
-LotOpenLeaves issue (Err refusal.LotAlready) old new = (old.log.down ≡ false) × (lot_of old.lots issue ≢ None) × (new ≡ old)
-LotOpenLeaves issue (Err refusal.OutOfMemory) old new = (old.log.down ≡ false) × (lot_of old.lots issue ≡ None) × (new ≡ old)
-LotOpenLeaves issue (Err _) old new = ⊥
+-- ---- lots
+
+-- a lot is opened where none of the issue is open: it has all shares of the issue that are there, and its plan, which is told
+unfoldable pub open_call : ℕ → Bool → List ClearRecord → List Lot → Result (List Planned × List Lot) Refusal
+open_call issue down c lots = up down >> need (is_none (lot_of lots issue)) refusal.LotAlready >> Ok ((new_lot c issue).plan, lots ++ new_lot c issue ∷ [])
+
+-- what a lot gets that is poured into, and the lots then
+unfoldable pub pour_call : ℕ → Bool → List ClearRecord → List Lot → Result (ℕ × List Lot) Refusal
+pour_call issue down c lots = do
+  up down
+  need (not (is_none (lot_of lots issue))) refusal.NoLot
+  Ok (free_of (orders_of c) lots issue, lots_poured c issue lots)
 
 -- shares poured into a lot are those that were free, and with those it had it has all that are there, at most 10^18
 pub record IsPoured (node : ClearNode) (issue shares : ℕ) : Type 0 where
@@ -96,14 +100,6 @@ pub record IsPoured (node : ClearNode) (issue shares : ℕ) : Type 0 where
   pub all : lot.poured + shares ≡ avail_in node.log.records issue
   pub few : lot.poured + shares ≤ 10 ^ 18
 
--- what a pour leaves, by its answer
-abbrev pub LotPourLeaves : ℕ → Result ℕ Refusal → ClearNode → ClearNode → Type 0
-LotPourLeaves issue (Ok shares) old new =
-    (old.log.down ≡ false) × IsPoured old issue shares × (new ≡ record old { lots = lots_poured old.log.records issue old.lots })
-LotPourLeaves issue (Err refusal.Down) old new = (old.log.down ≡ true) × (new ≡ old)
-LotPourLeaves issue (Err refusal.NoLot) old new = (old.log.down ≡ false) × (lot_of old.lots issue ≡ None) × (new ≡ old)
-LotPourLeaves issue (Err _) old new = ⊥
-
 -- a ticket of a pool as that of a record
 abbrev pub drawn_of : Ticket → Drawn
 drawn_of t = record { member = t.member; start = t.start; asked = t.asked }
@@ -112,68 +108,75 @@ drawn_of t = record { member = t.member; start = t.start; asked = t.asked }
 abbrev pub allocation_of : Lot → List Ticket → Bool → Allocation
 allocation_of lot tickets sealed = record { issue = lot.issue; opened = lot.opened; upto = lot.upto; poured = lot.poured; sealed = sealed; drawn = map drawn_of tickets }
 
--- a lot may close with these tickets: they serve its plan, and the allocation is lawful at its place
-pub record MayClose (node : ClearNode) (issue : ℕ) (tickets : List Ticket) (sealed : Bool) (a : Allocation) : Type 0 where
-  pub lot : Lot
+-- the deliveries that it orders
+abbrev pub deliveries_by : Lot → List Ticket → Bool → List Ask
+deliveries_by lot tickets sealed = deliveries_in (allocation_of lot tickets sealed)
+
+-- what is told of a lot that was closed with these tickets: how many shares they were granted in all, and the orders of its deliveries, the next
+-- ones, which are of the latest cycle
+abbrev pub closed_of : Lot → List Ticket → Bool → List ClearRecord → Closed
+closed_of lot tickets sealed c =
+    record { granted = min lot.poured (asked_sum tickets); orders = next_orders (orders_of c) (latest_of c) (deliveries_by lot tickets sealed) }
+
+-- a lot of the node closes with these tickets, which serve its plan: the allocation is lawful at its place, and there are numbers for its deliveries
+pub record Closes (node : ClearNode) (issue : ℕ) (tickets : List Ticket) (sealed : Bool) (lot : Lot) : Type 0 where
   pub found : lot_of node.lots issue ≡ Some lot
   pub served : IsServed lot.plan tickets sealed
-  pub closes : a ≡ allocation_of lot tickets sealed
-  pub lawful : IsAllocation node.log.records a
+  pub lawful : IsAllocation node.log.records (allocation_of lot tickets sealed)
+  pub numbers : are_spent (orders_of node.log.records) (length (deliveries_by lot tickets sealed)) ≡ false
 
--- a lot closes with these tickets, and there are numbers for its deliveries
-pub record Closes (node : ClearNode) (issue : ℕ) (tickets : List Ticket) (sealed : Bool) (lot : Lot) : Type 0 where
-  pub may : MayClose node issue tickets sealed (allocation_of lot tickets sealed)
-  pub numbers : are_spent (orders_of node.log.records) (length (deliveries_in (allocation_of lot tickets sealed))) ≡ false
+-- why no lot of the issue closes with these tickets, which serve its plan
+abbrev pub ClosesNone : ClearNode → ℕ → List Ticket → Bool → Refusal → Type 0
+ClosesNone node issue tickets sealed refusal.NoLot = lot_of node.lots issue ≡ None
+ClosesNone node issue tickets sealed refusal.NumbersSpent =
+    (lot : Lot) × (lot_of node.lots issue ≡ Some lot) × (are_spent (orders_of node.log.records) (length (deliveries_by lot tickets sealed)) ≡ true)
+ClosesNone node issue tickets sealed _ = ⊥
 
--- what applies to the close of the lot of an issue where it is refused so before it takes memory
-abbrev pub CloseRefused : ℕ → List Ticket → Bool → Refusal → ClearNode → Type 0
-CloseRefused issue tickets sealed refusal.NoLot node = lot_of node.lots issue ≡ None
-CloseRefused issue tickets sealed refusal.BadTickets node = (lot : Lot) × (lot_of node.lots issue ≡ Some lot) × (IsServed lot.plan tickets sealed → ⊥)
-CloseRefused issue tickets sealed refusal.NumbersSpent node =
-    (a : Allocation) × MayClose node issue tickets sealed a × (are_spent (orders_of node.log.records) (length (deliveries_in a)) ≡ true)
-CloseRefused issue tickets sealed _ node = ⊥
+-- this lot may close with these tickets where there are numbers for its deliveries
+abbrev pub close_deed : List Ticket → Bool → List ClearRecord → Lot → Result (Deed ClearRecord Closed) Refusal
+close_deed tickets sealed c lot =
+    need (not (are_spent (orders_of c) (length (deliveries_by lot tickets sealed)))) refusal.NumbersSpent
+    >> Ok (Commits (entry.Allocate (allocation_of lot tickets sealed)) (closed_of lot tickets sealed c))
 
--- how many shares a close granted, which its orders ask for in all, and these orders, the next ones, which are of the latest cycle
-pub record IsClosed (c : List ClearRecord) (tickets : List Ticket) (a : Allocation) (done : Closed) : Type 0 where
-  pub granted : done.granted ≡ min a.poured (asked_sum tickets)
-  pub sum : sum_by (λ (x : Ask). x.asked) (deliveries_in a) ≡ done.granted
-  pub orders : done.orders ≡ next_orders (orders_of c) (latest_of c) (deliveries_in a)
+-- the lot of an issue closes with tickets that serve its plan
+unfoldable pub close_call : ℕ → List Ticket → Bool → Bool → List ClearRecord → List Lot → Result (Deed ClearRecord Closed) Refusal
+close_call issue tickets sealed down c lots = up down >> ok_or (lot_of lots issue) refusal.NoLot >>= close_deed tickets sealed c
 
--- what the close of a lot leaves, by its answer
+-- these tickets serve the plan of the lot of the issue, where the node has one
+abbrev pub AreServed : List Lot → ℕ → List Ticket → Bool → Type 0
+AreServed lots issue tickets sealed = (lot : Lot) → lot_of lots issue ≡ Some lot → IsServed lot.plan tickets sealed
+
+-- the node is up, and has a lot of the issue whose plan these tickets do not serve
+pub record HasBad (node : ClearNode) (issue : ℕ) (tickets : List Ticket) (sealed : Bool) : Type 0 where
+  pub up : node.log.down ≡ false
+  pub lot : Lot
+  pub found : lot_of node.lots issue ≡ Some lot
+  pub bad : IsServed lot.plan tickets sealed → ⊥
+
+-- what the close of a lot with any tickets leaves
 abbrev pub LotCloseLeaves : ℕ → List Ticket → Bool → Result Closed Refusal → ClearNode → ClearNode → Type 0
-LotCloseLeaves issue tickets sealed (Ok done) old new =
-    (a : Allocation) × MayClose old issue tickets sealed a × IsAllowed old.log.records (entry.Allocate a) × IsClosed old.log.records tickets a done × Added (entry.Allocate a) old new
-LotCloseLeaves issue tickets sealed (Err refusal.Down) old new = (old.log.down ≡ true) × (new ≡ old)
-LotCloseLeaves issue tickets sealed (Err refusal.NoLot) old new = (old.log.down ≡ false) × (lot_of old.lots issue ≡ None) × (new ≡ old)
-LotCloseLeaves issue tickets sealed (Err refusal.BadTickets) old new =
-    (old.log.down ≡ false) × ((lot : Lot) × (lot_of old.lots issue ≡ Some lot) × (IsServed lot.plan tickets sealed → ⊥)) × (new ≡ old)
-LotCloseLeaves issue tickets sealed (Err refusal.NumbersSpent) old new =
-    (old.log.down ≡ false) × ((a : Allocation) × MayClose old issue tickets sealed a × (are_spent (orders_of old.log.records) (length (deliveries_in a)) ≡ true)) × (new ≡ old)
-LotCloseLeaves issue tickets sealed (Err refusal.OutOfMemory) old new =
-    (old.log.down ≡ false) × ((a : Allocation) × MayClose old issue tickets sealed a × (are_spent (orders_of old.log.records) (length (deliveries_in a)) ≡ false)) × (new ≡ old)
-LotCloseLeaves issue tickets sealed (Err refusal.Device) old new =
-    (a : Allocation) × MayClose old issue tickets sealed a × IsAllowed old.log.records (entry.Allocate a) × Failed (entry.Allocate a) old new
-LotCloseLeaves issue tickets sealed (Err _) old new = ⊥
+LotCloseLeaves issue tickets sealed result old new =
+    (HasBad old issue tickets sealed × (result ≡ Err refusal.BadTickets) × (new ≡ old))
+    ⊎ ((HasBad old issue tickets sealed → ⊥) × Leaves (close_call issue tickets sealed old.log.down old.log.records old.lots) result old new)
 
--- what is answered for the number of an order
-abbrev pub OrderGives : ℕ → Result Order Refusal → ClearNode → Type 0
-OrderGives n (Ok o) node = (node.log.down ≡ false) × (order_of (orders_of node.log.records).orders n ≡ Some o)
-OrderGives n (Err refusal.Down) node = node.log.down ≡ true
-OrderGives n (Err refusal.UnknownMove) node = (node.log.down ≡ false) × (order_of (orders_of node.log.records).orders n ≡ None)
-OrderGives n (Err _) node = ⊥
+-- ---- orders and replies
+
+-- the order of a number
+unfoldable pub order_call : ℕ → Bool → List ClearRecord → Result Order Refusal
+order_call n down c = up down >> ok_or (order_of (orders_of c).orders n) refusal.UnknownMove
 
 -- what the orders and confirmations say of a reply
 abbrev pub answer_in : List ClearRecord → Reply → Confirm
 answer_in c r = confirm_answer (orders_of c) r
 
--- what a reply leaves, by its answer: only the first one of an order adds a record
-abbrev pub ReplyLeaves : Reply → Result Taken Refusal → ClearNode → ClearNode → Type 0
-ReplyLeaves r (Ok Done) old new = IsAllowed old.log.records (entry.Confirm r) × Added (entry.Confirm r) old new
-ReplyLeaves r (Ok Again) old new = (old.log.down ≡ false) × (answer_in old.log.records r ≡ answers.Again) × (new ≡ old)
-ReplyLeaves r (Err refusal.Down) old new = (old.log.down ≡ true) × (new ≡ old)
-ReplyLeaves r (Err refusal.UnknownMove) old new = (old.log.down ≡ false) × (answer_in old.log.records r ≡ answers.UnknownMove) × (new ≡ old)
-ReplyLeaves r (Err refusal.Conflict) old new = (old.log.down ≡ false) × (answer_in old.log.records r ≡ answers.Conflict) × (new ≡ old)
-ReplyLeaves r (Err refusal.TooMuch) old new = (old.log.down ≡ false) × (answer_in old.log.records r ≡ answers.TooMuch) × (new ≡ old)
-ReplyLeaves r (Err refusal.OutOfMemory) old new = (old.log.down ≡ false) × IsAllowed old.log.records (entry.Confirm r) × (new ≡ old)
-ReplyLeaves r (Err refusal.Device) old new = IsAllowed old.log.records (entry.Confirm r) × Failed (entry.Confirm r) old new
-ReplyLeaves r (Err _) old new = ⊥
+-- only the first reply to an order adds a record
+unfoldable pub reply_call : Reply → Bool → List ClearRecord → Result (Deed ClearRecord Taken) Refusal
+reply_call r down c =
+    up down
+    >> elim (answer_in c r) [
+      | answers.Done ↦ Ok (Commits (entry.Confirm r) Done)
+      | answers.Again ↦ Ok (Tells Again)
+      | answers.UnknownMove ↦ Err refusal.UnknownMove
+      | answers.Conflict ↦ Err refusal.Conflict
+      | answers.TooMuch ↦ Err refusal.TooMuch
+    ]

@@ -35,6 +35,12 @@ Added r old new = (old.log.down ≡ false) × LogCommits r (Ok tt) old.log new.l
 abbrev pub Failed : ClearRecord → ClearNode → ClearNode → Type 0
 Failed r old new = (old.log.down ≡ false) × LogCommits r (Err commit.Device) old.log new.log × (new.lots ≡ old.lots)
 
+-- what the commit of a record leaves of a node, by its answer
+abbrev pub IsCommitted : ClearRecord → Result (Unit {0}) CommitFault → ClearNode → ClearNode → Type 0
+IsCommitted r (Ok _) old new = Added r old new
+IsCommitted r (Err commit.OutOfMemory) old new = new ≡ old
+IsCommitted r (Err commit.Device) old new = Failed r old new
+
 -- what the call leaves that adds a record, by its answer: how many trades the record made due
 abbrev pub AddLeaves : ClearRecord → Result ℕ CommitFault → ClearNode → ClearNode → Type 0
 AddLeaves r (Ok due) old new = (due ≡ due_by (books_of old.log.records) r) × Added r old new

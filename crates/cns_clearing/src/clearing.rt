@@ -4,12 +4,14 @@ ghost use Rattle.cns_records.specs.Clear.{AreWritable, spelling};
 ghost use Rattle.cns_movements.specs.Book.{next_orders};
 ghost use Rattle.cns_netting.specs.Book.{IsBook};
 ghost use Rattle.cns_netting.specs.History.{due, longs_of, shorts_of};
+ghost use Rattle.cns_allocate.specs.Served.{IsServed};
 ghost use Rattle.cns_clearing.specs.Books.{AreEffects, AreSound, IsAllowed, IsLawful, are_spent, asks_of, books_of, history_of, latest_of, orders_of, rows_after};
 ghost use Rattle.cns_clearing.specs.Closing.{AreRecordable};
 ghost use Rattle.cns_clearing.specs.Lots.{AreLots, DoesNotDisturb, avail_in, new_lot, plan_in};
 ghost use Rattle.cns_clearing.specs.Position.{IsBetween, due_in, position_in};
 ghost use Rattle.cns_clearing.specs.Pools.{covered_of as covered_in, delivered_of as delivered_in, free_of as free_in, lent_of as lent_in, lot_of, out_of as out_in, rows_of};
-ghost use Rattle.cns_clearing.specs.Answers.{covers_in, CloseRefused, Closes, CycleLeaves, LotCloseLeaves, LotOpenLeaves, LotPourLeaves, OrderGives, ReplyLeaves, SettingLeaves, TradeLeaves};
+ghost use Rattle.cns_records.specs.Call.{Changes, Grows};
+ghost use Rattle.cns_clearing.specs.Answers.{close_call, covers_in, cycle_call, open_call, order_call, pour_call, reply_call, setting_call, trade_call, AreServed, Closes, ClosesNone, IsPoured, Leaves, LotCloseLeaves};
 ghost use Rattle.cns_clearing.specs.Node.{AddLeaves, IsOpened, IsUnread, NodePlanned, RestartLeaves};
 ghost use Rattle.cns_clearing.specs.declared.lot.Lot.{Lot};
 ghost use Rattle.cns_journal.specs.RecordLog.{IsGivenUp};
@@ -101,7 +103,7 @@ impl<K: Keeper> Clearing<K> {
     /// Costs look-ups of the trade's id and of its two holdings, a place among the trades that are not
     /// due, and one commit.
     pub fn take_trade(&mut self, trade: &Trade) -> Result<(), Refusal>
-        ensures { TradeLeaves trade.now result self.old self.new }
+        ensures { Leaves (trade_call trade.now self.old.log.down self.old.log.records) result self.old self.new }
     {
         let verdict = self.up()?.verdict(trade);
         if verdict != Verdict::New {
@@ -120,7 +122,7 @@ impl<K: Keeper> Clearing<K> {
     ///
     /// Costs a look-up and one commit.
     pub fn exempt(&mut self, member: MemberNo, issue: Cusip, shares: Shares) -> Result<(), Refusal>
-        ensures { SettingLeaves (Exempt member issue shares) result self.old self.new }
+        ensures { Leaves (setting_call (Exempt member issue shares) self.old.log.down) result self.old self.new }
     {
         self.set(ClearRecord::Exempt {
             member,
@@ -136,7 +138,7 @@ impl<K: Keeper> Clearing<K> {
     ///
     /// Costs a look-up and one commit.
     pub fn priority(&mut self, member: MemberNo, issue: Cusip, on: bool) -> Result<(), Refusal>
-        ensures { SettingLeaves (Priority member issue on) result self.old self.new }
+        ensures { Leaves (setting_call (Priority member issue on) self.old.log.down) result self.old self.new }
     {
         self.set(ClearRecord::Priority { member, issue, on })
     }
@@ -155,7 +157,7 @@ impl<K: Keeper> Clearing<K> {
     /// named since the latest cycle, look-ups for the trades that become due and for each short position,
     /// and one commit.
     pub fn cycle(&mut self, id: CycleId) -> Result<Cycled, Refusal>
-        ensures { CycleLeaves id result self.old self.new }
+        ensures { Leaves (cycle_call id self.old.log.down self.old.log.records self.old.lots) result self.old self.new }
     {
         let alloc = self.alloc;
         let books = self.up()?;
@@ -185,7 +187,8 @@ impl<K: Keeper> Clearing<K> {
     /// Costs the positions of the issue (`NetBook::rows_in`), a search by halves in those after the cycle
     /// before the latest, and look-ups: of the issue's lot, and for each member that is long in the issue.
     pub fn lot_open(&mut self, issue: Cusip) -> Result<Plan, Refusal>
-        ensures { LotOpenLeaves issue result self.old self.new }
+        ensures lots { Grows Refusal.OutOfMemory (open_call issue self.old.log.down self.old.log.records self.old.lots) result self.old.lots self.new.lots }
+        ensures log { self.new.log ≡ self.old.log }
     {
         self.up()?;
         if self.lot(issue).is_some() {
@@ -227,7 +230,11 @@ impl<K: Keeper> Clearing<K> {
     ///
     /// Costs look-ups.
     pub fn lot_pour(&mut self, issue: Cusip) -> Result<u64, Refusal>
-        ensures { LotPourLeaves issue result self.old self.new }
+        ensures lots { Changes (pour_call issue self.old.log.down self.old.log.records self.old.lots) result self.old.lots self.new.lots }
+        ensures log { self.new.log ≡ self.old.log }
+
+        // With the shares that it had the lot has all that are there, at most 10^18.
+        ensures poured { IfOk result (IsPoured self.old issue) }
     {
         self.up()?;
         let Some(lot) = self.lot(issue) else {
@@ -260,6 +267,26 @@ impl<K: Keeper> Clearing<K> {
         ensures { LotCloseLeaves issue tickets.now sealed result self.old self.new }
     {
         self.up()?;
+        if !self.is_served(issue, tickets, sealed) {
+            return Err(Refusal::BadTickets);
+        }
+        self.lot_close_served(issue, tickets, sealed)
+    }
+
+    /// Closes the lot of an issue as `lot_close` does, with tickets that serve its plan. So who knows that
+    /// they do need not have it tested once more.
+    ///
+    /// Costs its tickets, look-ups, and one commit.
+    pub fn lot_close_served(
+        &mut self,
+        issue: Cusip,
+        tickets: &[Ticket],
+        sealed: bool,
+    ) -> Result<Closed, Refusal>
+        requires served { AreServed self.old.lots issue tickets.now sealed }
+        ensures { Leaves (close_call issue tickets.now sealed self.old.log.down self.old.log.records self.old.lots) result self.old self.new }
+    {
+        self.up()?;
         let alloc = self.alloc;
         let lot = self.closing(issue, tickets, sealed)?;
         let poured = lot.poured.count();
@@ -279,7 +306,7 @@ impl<K: Keeper> Clearing<K> {
     ///
     /// Costs a look-up.
     pub fn order(&self, number: MoveNo) -> Result<Order, Refusal>
-        ensures { OrderGives number result self.now }
+        ensures { result ≡ order_call number self.now.log.down self.now.log.records }
     {
         let orders = self.up()?.orders();
         orders.get(number).ok_or(Refusal::UnknownMove)
@@ -294,7 +321,7 @@ impl<K: Keeper> Clearing<K> {
     ///
     /// Costs look-ups and one commit.
     pub fn take_reply(&mut self, reply: &Reply) -> Result<Taken, Refusal>
-        ensures { ReplyLeaves reply.now result self.old self.new }
+        ensures { Leaves (reply_call reply.now self.old.log.down self.old.log.records) result self.old self.new }
     {
         match self.up()?.answer(reply) {
             Confirmed::Done => {}
@@ -482,6 +509,7 @@ impl<K: Keeper> Clearing<K> {
         ensures whole { (issue : ℕ) → let book = orders_of self.now.log.records in
             free_in book self.now.lots issue + lent_in self.now.lots issue + out_in book issue + delivered_in book issue ≡ covered_in book issue }
         ensures lawful { IsLawful self.now.log.records }
+        ensures fits { AreWritable self.now.log.records }
 
         // Its entries keep all positions within 10^18 shares of 0.
         ensures small { IsBook result.now.history }
@@ -576,19 +604,28 @@ impl<K: Keeper> Clearing<K> {
         self.books().pooled().going_out(issue)
     }
 
+    // Whether tickets serve the plan of the lot of an issue, where there is one. It takes no memory.
+    fn is_served(&self, issue: Cusip, tickets: &[Ticket], sealed: bool) -> bool
+        ensures served { result ≡ true → AreServed self.now.lots issue tickets.now sealed }
+        ensures bad { result ≡ false → (lot : Lot) × (lot_of self.now.lots issue ≡ Some lot) × (IsServed lot.plan tickets.now sealed → ⊥) }
+    {
+        match self.lot(issue) {
+            Some(lot) => are_served(lot.plan.as_slice(), tickets, sealed),
+            None => true,
+        }
+    }
+
     // The lot of an issue, which closes with these tickets. It takes no memory.
     fn closing(&self, issue: Cusip, tickets: &[Ticket], sealed: bool) -> Result<&Lot, Refusal>
+        requires served { AreServed self.now.lots issue tickets.now sealed }
         ensures closes { IfOk result (λ lot. Closes self.now issue tickets.now sealed lot.now) }
         ensures recordable { OnOk result (AreRecordable tickets.now) }
-        ensures refused { IfErr result (λ refusal. CloseRefused issue tickets.now sealed refusal self.now) }
+        ensures refused { IfErr result (ClosesNone self.now issue tickets.now sealed) }
     {
         let lots = self.lots();
         let Some(lot) = lots.get(issue) else {
             return Err(Refusal::NoLot);
         };
-        if !are_served(lot.plan.as_slice(), tickets, sealed) {
-            return Err(Refusal::BadTickets);
-        }
         let count = delivery_count(tickets, lot.poured.count());
         if self.books().are_spent(count) {
             return Err(Refusal::NumbersSpent);
@@ -624,7 +661,7 @@ impl<K: Keeper> Clearing<K> {
         requires quiet { DoesNotDisturb entry self.old.lots }
         requires asks { [] ≡ asks_of (books_of self.old.log.records) entry }
         requires rows { [] ≡ rows_after (books_of self.old.log.records) entry }
-        ensures { SettingLeaves entry result self.old self.new }
+        ensures { Leaves (setting_call entry self.old.log.down) result self.old self.new }
     {
         self.up()?;
         let nothing = Effects::none(self.alloc);

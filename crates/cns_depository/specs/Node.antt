@@ -24,15 +24,15 @@ abbrev pub IsNode : DepNode → Type 0
 IsNode node = IsLawfulLog (IsExecutable node.openings) node.log
 
 -- what the commit of a record leaves, by its answer
-abbrev pub Commits : DepRecord → Result (Unit {0}) CommitFault → DepNode → DepNode → Type 0
-Commits r result old new = (old.log.down ≡ false) × LogCommits r result old.log new.log × (new.openings ≡ old.openings)
+abbrev pub IsCommitted : DepRecord → Result (Unit {0}) CommitFault → DepNode → DepNode → Type 0
+IsCommitted r result old new = (old.log.down ≡ false) × LogCommits r result old.log new.log × (new.openings ≡ old.openings)
 
 -- a node whose record was acknowledged, and one whose commit failed at the device
 abbrev pub Added : DepRecord → DepNode → DepNode → Type 0
-Added r old new = Commits r (Ok tt) old new
+Added r old new = IsCommitted r (Ok tt) old new
 
 abbrev pub Failed : DepRecord → DepNode → DepNode → Type 0
-Failed r old new = Commits r (Err commit.Device) old new
+Failed r old new = IsCommitted r (Err commit.Device) old new
 
 -- what a plan leaves, by its answer
 abbrev pub NodePlanned : Bool → Result (Unit {0}) NotPlanned → DepNode → DepNode → Type 0

@@ -2,8 +2,8 @@ ghost use Rattle.std.specs.Prelude.{◌≡◌, ◌+◌, ◌≤◌, true, false, 
 ghost use Rattle.cns_depository.specs.Openings.{opening_shares};
 ghost use Rattle.cns_depository.specs.Stock.{IsExecutable, IsLawfulDepot, IsNextMovement, execution, instructed_of, instruction_of, executed_of, movement_of, moved_in, moved_out, balance_of as balance_in};
 ghost use Rattle.cns_depository.specs.Balances.{balance_rows as balance_rows_of, AreComplete, AreAscending};
-ghost use Rattle.cns_depository.specs.Answers.{OrderLeaves, InstructLeaves, IsHeldAnswer, IsKnownAnswer, instructed_at, known_at};
-ghost use Rattle.cns_depository.specs.Node.{Commits, IsOpened, IsUnread, NodePlanned, RestartLeaves};
+ghost use Rattle.cns_depository.specs.Answers.{InstructLeaves, OrderLeaves, held_call, instruct_call, known_call, order_call};
+ghost use Rattle.cns_depository.specs.Node.{DepNode, IsCommitted, IsOpened, IsUnread, NodePlanned, RestartLeaves};
 ghost use Rattle.cns_journal.specs.RecordLog.{IsGivenUp};
 ghost use Rattle.cns_records.specs.Dep.{dep_spelling};
 
@@ -138,7 +138,7 @@ impl<K: Keeper> Depository<K> {
     /// `Device` nothing is executed, and the depository is down until it is restarted. Costs a few
     /// look-ups, and the commit of its record. (This project's own rule.)
     pub fn take_order(&mut self, order: &Order) -> Result<Answer, DepFault>
-        ensures { OrderLeaves order.now result self.old self.new }
+        ensures { OrderLeaves (order_call order.now self.old.log.down self.old.openings self.old.log.records) result self.old self.new }
     {
         if self.is_down() {
             return Err(DepFault::Down);
@@ -170,7 +170,7 @@ impl<K: Keeper> Depository<K> {
     /// is down until it is restarted. Costs a few look-ups, and the commit of its record. (This project's
     /// own rule.)
     pub fn instruct(&mut self, instruction: &Instruction) -> Result<Own, OwnFault>
-        ensures { InstructLeaves instruction.now result self.old self.new }
+        ensures { InstructLeaves (instruct_call instruction.now self.old.log.down self.old.openings self.old.log.records) result self.old self.new }
     {
         if self.is_down() {
             return Err(OwnFault::Down);
@@ -237,7 +237,7 @@ impl<K: Keeper> Depository<K> {
 impl<K: Keeper> Depository<K> {
     // The movement of the order of this number.
     fn known(&self, number: MoveNo) -> Option<Movement>
-        ensures { result ≡ known_at self.now number }
+        ensures { result ≡ movement_of (executed_of self.now.log.records) number }
     {
         self.stock.movement_at(self.log.records(), number)
     }
@@ -246,7 +246,7 @@ impl<K: Keeper> Depository<K> {
     fn execute(&mut self, movement: &Movement) -> Result<(), CommitFault>
         requires up { self.old.log.down ≡ false }
         requires next { IsNextMovement self.old.openings self.old.log.records movement.now }
-        ensures { Commits (execution movement.now) result self.old self.new }
+        ensures { IsCommitted (execution movement.now) result self.old self.new }
     {
         self.commit(movement.to_record())
     }
@@ -255,7 +255,7 @@ impl<K: Keeper> Depository<K> {
     fn commit(&mut self, entry: DepRecord) -> Result<(), CommitFault>
         requires up { self.old.log.down ≡ false }
         requires next { IsExecutable self.old.openings self.old.log.records entry }
-        ensures { Commits entry result self.old self.new }
+        ensures { IsCommitted entry result self.old self.new }
     {
         if self.stock.room().is_err() {
             return Err(CommitFault::OutOfMemory);
@@ -269,7 +269,7 @@ impl<K: Keeper> Depository<K> {
 
 // The answer to an order under whose number this movement was executed.
 fn again(known: &Movement, order: &Order) -> Result<Answer, DepFault>
-    ensures { IsKnownAnswer order.now known.now result }
+    ensures { (node : DepNode) → OrderLeaves (known_call order.now known.now) result node node }
 {
     if known.order.agrees_with(order) {
         Ok(Answer::Again(known.reply()))
@@ -280,7 +280,7 @@ fn again(known: &Movement, order: &Order) -> Result<Answer, DepFault>
 
 // The answer to an instruction under whose number its member's instruction was carried out.
 fn held_before(held: &Instruction, instruction: &Instruction) -> Result<Own, OwnFault>
-    ensures { IsHeldAnswer instruction.now held.now result }
+    ensures { (node : DepNode) → InstructLeaves (held_call instruction.now held.now) result node node }
 {
     if held == instruction {
         Ok(Own::Again)

@@ -5,3 +5,4 @@ pub mod DrawnLaws
 pub mod ClearLaws
 pub mod DepLaws
 pub mod InstructionLemmas
+pub mod CallLemmas

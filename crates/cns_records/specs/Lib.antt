@@ -4,3 +4,4 @@ pub mod Clear
 pub mod Instruction
 pub mod Dep
 pub mod Refusals
+pub mod Call

@@ -3,7 +3,7 @@ use Rattle.std.proofs.Common.{◌≡◌, ◌∙◌, ℕ, zero, suc, Bool, true, 
 use Rattle.std.specs.Prelude.{◌==◌, All, IfSome, slice_get}
 use Rattle.std.specs.List.{cons_option}
 use Rattle.std.proofs.lemmas.Bool.{eqb-true}
-use Rattle.std.proofs.lemmas.List.Elements.{All-cons, All-weaker}
+use Rattle.std.proofs.lemmas.List.Elements.{All-cons, All-head, All-nil, All-push, All-tail, All-weaker}
 use Rattle.std.proofs.lemmas.Option.{IfSome_then, none-some, same_Some}
 use Rattle.cns_movements.specs.Order.{order_of}
 use Rattle.cns_movements.specs.declared.order.Order.{Order}
@@ -13,17 +13,20 @@ use Rattle.cns_records.specs.declared.clear_record.ClearRecord.{ClearRecord}
 use Rattle.cns_records.specs.declared.clear_record.ClearRecord.TheVariants as entry
 use Rattle.cns_records.specs.declared.dep_record.DepRecord.{DepRecord}
 use Rattle.cns_clearing.specs.Books.{books_of, orders_of}
+use Rattle.cns_clearing.specs.declared.lot.Lot.{Lot}
 use Rattle.cns_journal.specs.Keeper.{KeeperState}
 use Rattle.cns_journal.specs.RecordLog.{LogState}
 use Rattle.cns_trades.specs.declared.opening.Opening.{Opening}
 use Rattle.cns_depository.specs.declared.movement.Movement.{Movement}
 use Rattle.cns_depository.specs.Stock.{executed_in, executed_of, movement_of}
 use Rattle.cns_depository.proofs.ExecutedLemmas.{IsWithin, lawful_within}
-use Rattle.cns_wire.specs.Frame.{order_frame, reply_frame}
-use Rattle.cns_system.specs.Accord.{Accord, FitsOrders, FitsStock, IsInAccord, IsKnown, IsOrderPacket, IsReplyPacket}
+use Rattle.cns_system.specs.Accord.{Accord, FitsOrders, FitsStock, IsInAccord, IsAsOrdered, SpellsOrder, SpellsReply}
 use Rattle.cns_system.specs.Agreement.{IsExecuted, IsOrdered}
 use Rattle.cns_system.specs.Start.{IsStarted}
-use Rattle.cns_system.specs.World.{World, order_in_packet, reply_in_packet}
+use Rattle.cns_system.specs.Happens.{with_reply_put}
+use Rattle.cns_system.specs.Lot.{LotState}
+use Rattle.cns_system.specs.Shown.{Shown, clear_failed, depot_added, depot_failed}
+use Rattle.cns_system.specs.World.{World}
 
 -- ---- what grows
 
@@ -41,7 +44,7 @@ order_stays (entry.Confirm r) c n o found = found
 ordered_stays : (u : ClearRecord) (c : List ClearRecord) (m : Movement) → IsOrdered (orders_of c).orders m → IsOrdered (orders_of (u ∷ c)).orders m
 ordered_stays u c m ordered = ((ordered.0.0, order_stays u c m.order.number ordered.0.0 ordered.0.1, ordered.0.2), ordered.1)
 
-known_stays : (u : ClearRecord) (c : List ClearRecord) (m : Movement) → IsKnown (orders_of c).orders m → IsKnown (orders_of (u ∷ c)).orders m
+known_stays : (u : ClearRecord) (c : List ClearRecord) (m : Movement) → IsAsOrdered (orders_of c).orders m → IsAsOrdered (orders_of (u ∷ c)).orders m
 known_stays u c m known = (ordered_stays u c m known.0, known.1)
 
 -- a record of the depository stays one that fits the orders
@@ -50,7 +53,7 @@ orders_fit_stays : (u : ClearRecord) (c : List ClearRecord) (movements : List Mo
 orders_fit_stays u c movements e fits = IfSome_then (executed_in e) fits (λ m its. (known_stays u c m its.0, its.1))
 
 -- what a record executes is known, and no movement of its number was executed before
-fits_known : (orders : List Order) (movements : List Movement) (e : DepRecord) → FitsOrders orders movements e → IfSome (executed_in e) (IsKnown orders)
+fits_known : (orders : List Order) (movements : List Movement) (e : DepRecord) → FitsOrders orders movements e → IfSome (executed_in e) (IsAsOrdered orders)
 fits_known orders movements e fits = IfSome_then (executed_in e) fits (λ m its. its.0)
 
 -- no movement of the number of this one was executed
@@ -70,10 +73,10 @@ executed_stays (Some m) movements r fresh done = (done.0, by (m.order.number == 
     by false other = done.1
 
 -- movements stay known as one that is known is executed, or none is
-known_more : (orders : List Order) (x : Option Movement) (movements : List Movement) → IfSome x (IsKnown orders) → All (IsKnown orders) movements
-    → All (IsKnown orders) (cons_option x movements)
+known_more : (orders : List Order) (x : Option Movement) (movements : List Movement) → IfSome x (IsAsOrdered orders) → All (IsAsOrdered orders) movements
+    → All (IsAsOrdered orders) (cons_option x movements)
 known_more orders None movements its all = all
-known_more orders (Some m) movements its all = All-cons (IsKnown orders) m movements its all
+known_more orders (Some m) movements its all = All-cons (IsAsOrdered orders) m movements its all
 
 -- the confirmations of one more record were executed too
 pub replies_fit : (u : ClearRecord) (c : List ClearRecord) (movements : List Movement) → FitsStock movements u → All (IsExecuted movements) (orders_of c).replies
@@ -94,139 +97,157 @@ fits_stays x movements (entry.Cycle id) fresh fits = tt
 fits_stays x movements (entry.Allocate a) fresh fits = tt
 fits_stays x movements (entry.Confirm r) fresh fits = executed_stays x movements r fresh fits
 
--- packets with one more at their end
-packet_cases : (P : List ℕ → Type 0) (xs : List (List ℕ)) (y : List ℕ) → ((k : ℕ) (x : List ℕ) → slice_get xs k ≡ Some x → P x) → P y
-    → (k : ℕ) (x : List ℕ) → slice_get (xs ++ y ∷ []) k ≡ Some x → P x
-packet_cases P [] y all here zero x e = subst P (same_Some y x e) here
-packet_cases P [] y all here (suc k) x e = absurd (none-some x e)
-packet_cases P (z ∷ zs) y all here zero x e = all zero x e
-packet_cases P (z ∷ zs) y all here (suc k) x e = packet_cases P zs y (λ j. all (suc j)) here k x e
+-- what is so of all is so of what is found in a place
+pub all_found : {A : Type 0} (P : A → Type 0) (xs : List A) (k : ℕ) (x : A) → All P xs → slice_get xs k ≡ Some x → P x
+all_found P [] k x all at = absurd (none-some x at)
+all_found P (y ∷ ys) zero x all at = subst P (same_Some y x at) (All-head P y ys all)
+all_found P (y ∷ ys) (suc k) x all at = all_found P ys k x (All-tail P y ys all) at
 
 -- a packet stays one of an order as records are added, and one of a reply as a movement of another number is executed
-order_packet_stays : (u : ClearRecord) (c : List ClearRecord) (bytes : List ℕ) → IsOrderPacket (orders_of c).orders bytes
-    → IsOrderPacket (orders_of (u ∷ c)).orders bytes
-order_packet_stays u c bytes i = record { order = i.order; found = order_stays u c i.order.number i.order i.found; frame = i.frame; reads = i.reads }
+order_spelt_stays : (u : ClearRecord) (c : List ClearRecord) (packet : Option Order) → SpellsOrder (orders_of c).orders packet → SpellsOrder (orders_of (u ∷ c)).orders packet
+order_spelt_stays u c packet is = IfSome_then packet is (λ o found. order_stays u c o.number o found)
 
-reply_packet_stays : (x : Option Movement) (movements : List Movement) (bytes : List ℕ) → IsNew movements x → IsReplyPacket movements bytes
-    → IsReplyPacket (cons_option x movements) bytes
-reply_packet_stays x movements bytes fresh i = record { reply = i.reply; done = executed_stays x movements i.reply fresh i.done; frame = i.frame; reads = i.reads }
-
--- the order that is read from a packet is that of its number, and the reply that is read from one tells of an executed movement
-pub packet_found : (orders : List Order) (bytes : List ℕ) (o : Order) → IsOrderPacket orders bytes → order_in_packet (Some bytes) ≡ Some o
-    → order_of orders o.number ≡ Some o
-packet_found orders bytes o i reads = subst (λ (q : Order). order_of orders q.number ≡ Some q) (same_Some i.order o (sym i.reads ∙ reads)) i.found
-
-pub packet_done : (movements : List Movement) (bytes : List ℕ) (r : Reply) → IsReplyPacket movements bytes → reply_in_packet (Some bytes) ≡ Some r → IsExecuted movements r
-packet_done movements bytes r i reads = subst (IsExecuted movements) (same_Some i.reply r (sym i.reads ∙ reads)) i.done
+reply_spelt_stays : (x : Option Movement) (movements : List Movement) (packet : Option Reply) → IsNew movements x → SpellsReply movements packet → SpellsReply (cons_option x movements) packet
+reply_spelt_stays x movements packet fresh is = IfSome_then packet is (λ r done. executed_stays x movements r fresh done)
 
 -- ---- what one node leaves
 
-module _ (c c' : LogState ClearRecord) (d : LogState DepRecord) (orders replies : List (List ℕ)) where
+module _ (w : Shown) (a : Accord w) where
   -- the clearing node has a record more
-  pub grown : (u : ClearRecord) → Accord c d orders replies → FitsStock (executed_of d.records) u → c'.records ≡ u ∷ c.records → c'.tried ≡ None → Accord c' d orders replies
-  grown u a fits more none =
-      let movements : List Movement = executed_of d.records in
+  pub grown : (u : ClearRecord) (open_lots : List Lot) (lots : List LotState) → FitsStock (executed_of w.depot.records) u → w.clear.tried ≡ None
+      → Accord (record w { clear = record w.clear { records = u ∷ w.clear.records }; open_lots = open_lots; lots = lots })
+  grown u open_lots lots fits none =
+      let movements : List Movement = executed_of w.depot.records in
       record {
-        known =
-            subst (λ (l : List ClearRecord). All (IsKnown (orders_of l).orders) movements) (sym more)
-            (All-weaker (IsKnown (orders_of c.records).orders) (IsKnown (orders_of (u ∷ c.records)).orders) (known_stays u c.records) movements a.known);
-        executed =
-            subst (λ (l : List ClearRecord). All (IsExecuted movements) (orders_of l).replies) (sym more) (replies_fit u c.records movements fits a.executed);
-        sent = λ k bytes at.
-            subst (λ (l : List ClearRecord). IsOrderPacket (orders_of l).orders bytes) (sym more) (order_packet_stays u c.records bytes (a.sent k bytes at));
+        executed = All-weaker (IsAsOrdered (orders_of w.clear.records).orders) (IsAsOrdered (orders_of (u ∷ w.clear.records)).orders) (known_stays u w.clear.records) movements a.executed;
+        confirmed = replies_fit u w.clear.records movements fits a.confirmed;
+        sent = All-weaker (SpellsOrder (orders_of w.clear.records).orders) (SpellsOrder (orders_of (u ∷ w.clear.records)).orders) (order_spelt_stays u w.clear.records) w.orders a.sent;
         answered = a.answered;
         clear_tried = λ v tried. absurd (none-some v (sym none ∙ tried));
-        depot_tried = λ e tried.
-            subst (λ (l : List ClearRecord). FitsOrders (orders_of l).orders movements e) (sym more) (orders_fit_stays u c.records movements e (a.depot_tried e tried));
+        depot_tried = λ e tried. orders_fit_stays u w.clear.records movements e (a.depot_tried e tried);
         clear_up = λ up. none;
         depot_up = a.depot_up;
       }
 
-  -- it has the records that it had, and perhaps one whose commit failed
-  pub kept : Accord c d orders replies → c'.records ≡ c.records → ((u : ClearRecord) → c'.tried ≡ Some u → FitsStock (executed_of d.records) u) → (c'.down ≡ false → c'.tried ≡ None)
-      → Accord c' d orders replies
-  kept a same fits up =
-      let movements : List Movement = executed_of d.records in
-      record {
-        known = subst (λ (l : List ClearRecord). All (IsKnown (orders_of l).orders) movements) (sym same) a.known;
-        executed = subst (λ (l : List ClearRecord). All (IsExecuted movements) (orders_of l).replies) (sym same) a.executed;
-        sent = λ k bytes at. subst (λ (l : List ClearRecord). IsOrderPacket (orders_of l).orders bytes) (sym same) (a.sent k bytes at);
-        answered = a.answered;
-        clear_tried = fits;
-        depot_tried = λ e tried. subst (λ (l : List ClearRecord). FitsOrders (orders_of l).orders movements e) (sym same) (a.depot_tried e tried);
-        clear_up = up;
-        depot_up = a.depot_up;
-      }
+  -- it has the records that it had, and one of which this is so whose commit failed
+  pub failed : (u : ClearRecord) → FitsStock (executed_of w.depot.records) u → Accord (clear_failed u w)
+  failed u fits = record {
+    executed = a.executed;
+    confirmed = a.confirmed;
+    sent = a.sent;
+    answered = a.answered;
+    clear_tried = λ v tried. subst (FitsStock (executed_of w.depot.records)) (same_Some u v tried) fits;
+    depot_tried = a.depot_tried;
+    clear_up = λ up. let no : true ≡ false = up in cc;
+    depot_up = a.depot_up;
+  }
 
-module _ (c : LogState ClearRecord) (d d' : LogState DepRecord) (orders replies : List (List ℕ)) where
-  -- the depository has a record more
-  pub executed_more : (e : DepRecord) → Accord c d orders replies → FitsOrders (orders_of c.records).orders (executed_of d.records) e
-      → d'.records ≡ e ∷ d.records → d'.tried ≡ None → Accord c d' orders replies
-  executed_more e a fits more none =
-      let known_orders : List Order = (orders_of c.records).orders in
-      let movements : List Movement = executed_of d.records in
+  -- the depository likewise
+  pub executed_more : (e : DepRecord) → FitsOrders (orders_of w.clear.records).orders (executed_of w.depot.records) e → w.depot.tried ≡ None → Accord (depot_added e w)
+  executed_more e fits none =
+      let known_orders : List Order = (orders_of w.clear.records).orders in
+      let movements : List Movement = executed_of w.depot.records in
       let x : Option Movement = executed_in e in
       let fresh : IsNew movements x = fits_new known_orders movements e fits in
       record {
-        known =
-            subst (λ (l : List DepRecord). All (IsKnown known_orders) (executed_of l)) (sym more)
-            (known_more known_orders x movements (fits_known known_orders movements e fits) a.known);
-        executed =
-            subst (λ (l : List DepRecord). All (IsExecuted (executed_of l)) (orders_of c.records).replies) (sym more)
-            (All-weaker (IsExecuted movements) (IsExecuted (cons_option x movements)) (λ r done. executed_stays x movements r fresh done) (orders_of c.records).replies a.executed);
+        executed = known_more known_orders x movements (fits_known known_orders movements e fits) a.executed;
+        confirmed = All-weaker (IsExecuted movements) (IsExecuted (cons_option x movements)) (λ r done. executed_stays x movements r fresh done) (orders_of w.clear.records).replies a.confirmed;
         sent = a.sent;
-        answered = λ k bytes at.
-            subst (λ (l : List DepRecord). IsReplyPacket (executed_of l) bytes) (sym more) (reply_packet_stays x movements bytes fresh (a.answered k bytes at));
-        clear_tried = λ u tried. subst (λ (l : List DepRecord). FitsStock (executed_of l) u) (sym more) (fits_stays x movements u fresh (a.clear_tried u tried));
+        answered = All-weaker (SpellsReply movements) (SpellsReply (cons_option x movements)) (λ packet is. reply_spelt_stays x movements packet fresh is) w.replies a.answered;
+        clear_tried = λ u tried. fits_stays x movements u fresh (a.clear_tried u tried);
         depot_tried = λ f tried. absurd (none-some f (sym none ∙ tried));
         clear_up = a.clear_up;
         depot_up = λ up. none;
       }
 
-  -- it has the records that it had, and perhaps one whose commit failed
-  pub stock_kept : Accord c d orders replies → d'.records ≡ d.records
-      → ((e : DepRecord) → d'.tried ≡ Some e → FitsOrders (orders_of c.records).orders (executed_of d.records) e)
-      → (d'.down ≡ false → d'.tried ≡ None) → Accord c d' orders replies
-  stock_kept a same fits up = record {
-    known = subst (λ (l : List DepRecord). All (IsKnown (orders_of c.records).orders) (executed_of l)) (sym same) a.known;
-    executed = subst (λ (l : List DepRecord). All (IsExecuted (executed_of l)) (orders_of c.records).replies) (sym same) a.executed;
+  pub stock_failed : (e : DepRecord) → FitsOrders (orders_of w.clear.records).orders (executed_of w.depot.records) e → Accord (depot_failed e w)
+  stock_failed e fits = record {
+    executed = a.executed;
+    confirmed = a.confirmed;
     sent = a.sent;
-    answered = λ k bytes at. subst (λ (l : List DepRecord). IsReplyPacket (executed_of l) bytes) (sym same) (a.answered k bytes at);
-    clear_tried = λ u tried. subst (λ (l : List DepRecord). FitsStock (executed_of l) u) (sym same) (a.clear_tried u tried);
-    depot_tried = λ e tried. subst (λ (l : List DepRecord). FitsOrders (orders_of c.records).orders (executed_of l) e) (sym same) (fits e tried);
+    answered = a.answered;
+    clear_tried = a.clear_tried;
+    depot_tried = λ f tried. subst (FitsOrders (orders_of w.clear.records).orders (executed_of w.depot.records)) (same_Some e f tried) fits;
     clear_up = a.clear_up;
-    depot_up = up;
+    depot_up = λ up. let no : true ≡ false = up in cc;
   }
 
--- a packet more on the link of orders, and one on that of replies
-pub order_put : (c : LogState ClearRecord) (d : LogState DepRecord) (orders replies : List (List ℕ)) (o : Order) → Accord c d orders replies
-    → order_of (orders_of c.records).orders o.number ≡ Some o → order_in_packet (Some (order_frame o)) ≡ Some o → Accord c d (orders ++ order_frame o ∷ []) replies
-order_put c d orders replies o a found reads = record {
-  known = a.known;
-  executed = a.executed;
-  sent = packet_cases (IsOrderPacket (orders_of c.records).orders) orders (order_frame o) a.sent (record { order = o; found = found; frame = refl; reads = reads });
-  answered = a.answered;
-  clear_tried = a.clear_tried;
-  depot_tried = a.depot_tried;
-  clear_up = a.clear_up;
-  depot_up = a.depot_up;
-}
+  -- a packet more on the link of orders, and one on that of replies
+  pub order_put : (o : Order) → order_of (orders_of w.clear.records).orders o.number ≡ Some o → Accord (record w { orders = w.orders ++ Some o ∷ [] })
+  order_put o found = record {
+    executed = a.executed;
+    confirmed = a.confirmed;
+    sent = All-push (SpellsOrder (orders_of w.clear.records).orders) w.orders (Some o) a.sent found;
+    answered = a.answered;
+    clear_tried = a.clear_tried;
+    depot_tried = a.depot_tried;
+    clear_up = a.clear_up;
+    depot_up = a.depot_up;
+  }
 
-pub reply_put : (c : LogState ClearRecord) (d : LogState DepRecord) (orders replies : List (List ℕ)) (r : Reply) → Accord c d orders replies
-    → IsExecuted (executed_of d.records) r → reply_in_packet (Some (reply_frame r)) ≡ Some r → Accord c d orders (replies ++ reply_frame r ∷ [])
-reply_put c d orders replies r a done reads = record {
-  known = a.known;
-  executed = a.executed;
-  sent = a.sent;
-  answered = packet_cases (IsReplyPacket (executed_of d.records)) replies (reply_frame r) a.answered (record { reply = r; done = done; frame = refl; reads = reads });
-  clear_tried = a.clear_tried;
-  depot_tried = a.depot_tried;
-  clear_up = a.clear_up;
-  depot_up = a.depot_up;
-}
+  pub reply_put : (r : Reply) → IsExecuted (executed_of w.depot.records) r → Accord (with_reply_put r w)
+  reply_put r done = record {
+    executed = a.executed;
+    confirmed = a.confirmed;
+    sent = a.sent;
+    answered = All-push (SpellsReply (executed_of w.depot.records)) w.replies (Some r) a.answered done;
+    clear_tried = a.clear_tried;
+    depot_tried = a.depot_tried;
+    clear_up = a.clear_up;
+    depot_up = a.depot_up;
+  }
+
+  -- a node that is put up has no undecided record; one that is put down keeps it
+  pub clear_read : (open_lots : List Lot) (lots : List LotState) → Accord (record w { clear = record w.clear { tried = None; down = false }; open_lots = open_lots; lots = lots })
+  clear_read open_lots lots = record {
+    executed = a.executed;
+    confirmed = a.confirmed;
+    sent = a.sent;
+    answered = a.answered;
+    clear_tried = λ u tried. absurd (none-some u tried);
+    depot_tried = a.depot_tried;
+    clear_up = λ up. refl;
+    depot_up = a.depot_up;
+  }
+
+  pub clear_unread : (open_lots : List Lot) (lots : List LotState) → Accord (record w { clear = record w.clear { down = true }; open_lots = open_lots; lots = lots })
+  clear_unread open_lots lots = record {
+    executed = a.executed;
+    confirmed = a.confirmed;
+    sent = a.sent;
+    answered = a.answered;
+    clear_tried = a.clear_tried;
+    depot_tried = a.depot_tried;
+    clear_up = λ up. let no : true ≡ false = up in cc;
+    depot_up = a.depot_up;
+  }
+
+  pub depot_read : Accord (record w { depot = record w.depot { tried = None; down = false } })
+  depot_read = record {
+    executed = a.executed;
+    confirmed = a.confirmed;
+    sent = a.sent;
+    answered = a.answered;
+    clear_tried = a.clear_tried;
+    depot_tried = λ e tried. absurd (none-some e tried);
+    clear_up = a.clear_up;
+    depot_up = λ up. refl;
+  }
+
+  pub depot_unread : Accord (record w { depot = record w.depot { down = true } })
+  depot_unread = record {
+    executed = a.executed;
+    confirmed = a.confirmed;
+    sent = a.sent;
+    answered = a.answered;
+    clear_tried = a.clear_tried;
+    depot_tried = a.depot_tried;
+    clear_up = a.clear_up;
+    depot_up = λ up. let no : true ≡ false = up in cc;
+  }
 
 -- executed movements are known where each is that of the order of its number, and moved no more than that asks for
-known_all : (orders : List Order) (movements : List Movement) → All IsWithin movements → All (IsOrdered orders) movements → All (IsKnown orders) movements
+known_all : (orders : List Order) (movements : List Movement) → All IsWithin movements → All (IsOrdered orders) movements → All (IsAsOrdered orders) movements
 known_all orders movements within ordered = λ i m inside. (ordered i m inside, within i m inside)
 
 -- nodes that were opened are in accord, as there is no packet yet
@@ -235,10 +256,10 @@ started openings clear depot w s =
     let none = ap (λ (l : LogState ClearRecord). l.tried) s.clear_opens.0.value in
     let stock_none = ap (λ (l : LogState DepRecord). l.tried) s.depot_opens.0.value in
     λ clear_honest depot_honest. record {
-      known = known_all (orders_of w.clear.clear.log.records).orders (executed_of w.depot.log.records) (lawful_within openings w.depot.log.records s.depot_opens.0.allowed) s.agree.ordered;
-      executed = s.agree.executed;
-      sent = λ k bytes at. absurd (none-some bytes (ap (λ (l : List (List ℕ)). slice_get l k) (sym s.orders) ∙ at));
-      answered = λ k bytes at. absurd (none-some bytes (ap (λ (l : List (List ℕ)). slice_get l k) (sym s.replies) ∙ at));
+      executed = known_all (orders_of w.clear.clear.log.records).orders (executed_of w.depot.log.records) (lawful_within openings w.depot.log.records s.depot_opens.0.allowed) s.agree.executed;
+      confirmed = s.agree.confirmed;
+      sent = rw s.orders (All-nil (SpellsOrder (orders_of w.clear.clear.log.records).orders));
+      answered = rw s.replies (All-nil (SpellsReply (executed_of w.depot.log.records)));
       clear_tried = λ u tried. absurd (none-some u (sym none ∙ tried));
       depot_tried = λ e tried. absurd (none-some e (sym stock_none ∙ tried));
       clear_up = λ up. none;

@@ -59,20 +59,20 @@ module _ (c : List ClearRecord) (p : List DepRecord) (book : Orders) (records : 
     (book_is : book ≡ orders_of c) (records_are : reverse records ≡ p) (replies_are : reverse replies ≡ book.replies) where
   pub agree_from : All (OfRecord (IsOrdered book.orders)) records → All (IsExecuted (executed_of p)) replies → Agree c p
   agree_from ordered executed = record {
-    ordered =
+    executed =
         subst (λ (b : Orders). All (IsOrdered b.orders) (executed_of p)) book_is
         (all_executed (IsOrdered book.orders) p
         (subst (All (OfRecord (IsOrdered book.orders))) records_are (all_turned (OfRecord (IsOrdered book.orders)) records ordered)));
-    executed = subst (All (IsExecuted (executed_of p))) (replies_are ∙ ap (λ (b : Orders). b.replies) book_is) (all_turned (IsExecuted (executed_of p)) replies executed);
+    confirmed = subst (All (IsExecuted (executed_of p))) (replies_are ∙ ap (λ (b : Orders). b.replies) book_is) (all_turned (IsExecuted (executed_of p)) replies executed);
   }
 
   pub ordered_from : Agree c p → All (OfRecord (IsOrdered book.orders)) records
   ordered_from agree =
       all_turned_back (OfRecord (IsOrdered book.orders)) records
       (subst (All (OfRecord (IsOrdered book.orders))) (sym records_are)
-      (all_records (IsOrdered book.orders) p (subst (λ (b : Orders). All (IsOrdered b.orders) (executed_of p)) (sym book_is) agree.ordered)))
+      (all_records (IsOrdered book.orders) p (subst (λ (b : Orders). All (IsOrdered b.orders) (executed_of p)) (sym book_is) agree.executed)))
 
   pub executed_from : Agree c p → All (IsExecuted (executed_of p)) replies
   executed_from agree =
       all_turned_back (IsExecuted (executed_of p)) replies
-      (subst (All (IsExecuted (executed_of p))) (sym (replies_are ∙ ap (λ (b : Orders). b.replies) book_is)) agree.executed)
+      (subst (All (IsExecuted (executed_of p))) (sym (replies_are ∙ ap (λ (b : Orders). b.replies) book_is)) agree.confirmed)

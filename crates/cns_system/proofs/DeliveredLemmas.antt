@@ -29,24 +29,24 @@ use Rattle.cns_depository.specs.declared.movement.Movement.{Movement}
 use Rattle.cns_depository.specs.Account.{giver}
 use Rattle.cns_depository.specs.Stock.{IsLawfulDepot, balance_of, executed_of, movement, movement_of}
 use Rattle.cns_depository.proofs.ExecutedLemmas.{AreOnce, covers_moved, deliveries_moved, lawful_once, moved_in_cns, moved_out_cns, moved_where}
-use Rattle.cns_system.specs.Accord.{IsKnown}
+use Rattle.cns_system.specs.Accord.{IsAsOrdered}
 use Rattle.cns_system.specs.Agreement.{IsExecuted}
 use Rattle.cns_system.proofs.AccordLemmas.{executed_stays}
 
 -- ---- the movement of a number
 
 -- the movement of a number is of that number, and known
-pub movement_known : (orders : List Order) (movements : List Movement) (n : ℕ) (m : Movement) → All (IsKnown orders) movements → movement_of movements n ≡ Some m
-    → IsKnown orders m × (m.order.number ≡ n)
+pub movement_known : (orders : List Order) (movements : List Movement) (n : ℕ) (m : Movement) → All (IsAsOrdered orders) movements → movement_of movements n ≡ Some m
+    → IsAsOrdered orders m × (m.order.number ≡ n)
 movement_known orders [] n m all found = absurd (none-some m found)
 movement_known orders (x ∷ xs) n m all found =
-    by (x.order.number == n) refl found (movement_known orders xs n m (All-tail (IsKnown orders) x xs all))
+    by (x.order.number == n) refl found (movement_known orders xs n m (All-tail (IsAsOrdered orders) x xs all))
   where
     by : (b : Bool) → (x.order.number == n) ≡ b → cond b (Some x) (movement_of xs n) ≡ Some m
-        → (movement_of xs n ≡ Some m → IsKnown orders m × (m.order.number ≡ n)) → IsKnown orders m × (m.order.number ≡ n)
+        → (movement_of xs n ≡ Some m → IsAsOrdered orders m × (m.order.number ≡ n)) → IsAsOrdered orders m × (m.order.number ≡ n)
     by true same is rest =
         let here = same_Some x m is in
-        subst (λ (y : Movement). IsKnown orders y × (y.order.number ≡ n)) here (All-head (IsKnown orders) x xs all, eqb-true x.order.number n same)
+        subst (λ (y : Movement). IsAsOrdered orders y × (y.order.number ≡ n)) here (All-head (IsAsOrdered orders) x xs all, eqb-true x.order.number n same)
     by false other is rest = rest is
 
 -- what is confirmed of a movement is what was executed of it
@@ -64,7 +64,7 @@ confirmed_as movements (r ∷ rs) n moved all found = by (r.number == n) refl fo
     by false other is rest = rest is
 
 -- the newest movement is found under its own number, and under another number the older ones decide
-movement_of_same : (m : Movement) (movements : List Movement) → movement_of (m ∷ movements) m.order.number ≡ Some m
+pub movement_of_same : (m : Movement) (movements : List Movement) → movement_of (m ∷ movements) m.order.number ≡ Some m
 movement_of_same m movements =
     let n : ℕ = m.order.number in
     cond-true (n == n) (Some m) (movement_of movements n) (eq-eqb n n refl)
@@ -90,11 +90,11 @@ none_executed test (o ∷ orders) =
 -- what the movements moved is what was executed of the orders, each of which has one movement at most, where a test counts orders that agree
 -- alike
 pub executed_sum : (test : Order → Bool) → ((a b : Order) → AgreesWith a b → test a ≡ test b)
-    → (orders : List Order) (movements : List Movement) → IsNumbered 1 orders → All (IsKnown orders) movements → AreOnce movements
+    → (orders : List Order) (movements : List Movement) → IsNumbered 1 orders → All (IsAsOrdered orders) movements → AreOnce movements
     → sum_by (moved_where test) movements ≡ sum_by (executed_where test movements) orders
 executed_sum test alike orders [] numbered known once = sym (none_executed test orders)
 executed_sum test alike orders (m ∷ ms) numbered known once =
-    let its = (All-head (IsKnown orders) m ms known).0.0 in
+    let its = (All-head (IsAsOrdered orders) m ms known).0.0 in
     let o : Order = its.0 in
     let n : ℕ = m.order.number in
     let number : o.number ≡ n = order_of_number orders n o its.1 in
@@ -105,7 +105,7 @@ executed_sum test alike orders (m ∷ ms) numbered known once =
     let now : executed_where test (m ∷ ms) o ≡ moved_where test m =
     ap (term (test o)) (ap (movement_of (m ∷ ms)) number ∙ movement_of_same m ms) ∙ ap (λ (b : Bool). if b then m.moved else 0) (sym (alike m.order o its.2)) in
     let before : executed_where test ms o ≡ 0 = ap (term (test o)) (ap (movement_of ms) number ∙ once.0) ∙ nothing_either (test o) 0 refl in
-    let rest = executed_sum test alike orders ms numbered (All-tail (IsKnown orders) m ms known) once.1 in
+    let rest = executed_sum test alike orders ms numbered (All-tail (IsAsOrdered orders) m ms known) once.1 in
     omega (arith, sum_by-cons (moved_where test) m ms, one, now, before, rest)
 
 -- ---- executed movements beside the clearing node's book
@@ -115,7 +115,7 @@ part_le : (b : Bool) (x y : ℕ) → x ≤ y → (if b then x else 0) ≤ (if b 
 part_le true x y le = le
 part_le false x y le = omega arith
 
-module _ (book : Orders) (movements : List Movement) (issue : ℕ) (numbered : IsNumbered 1 book.orders) (known : All (IsKnown book.orders) movements) (once : AreOnce movements)
+module _ (book : Orders) (movements : List Movement) (issue : ℕ) (numbered : IsNumbered 1 book.orders) (known : All (IsAsOrdered book.orders) movements) (once : AreOnce movements)
     (executed : All (IsExecuted movements) book.replies) where
   -- what is confirmed of an order was executed
   confirmed_executed : (o : Order) → moved_part book.replies o ≤ executed_part movements o
@@ -183,7 +183,7 @@ delivery_out o movements delivers =
 -- the CNS account has what a delivery asks for that was not executed: with it too deliveries take no more than covers brought, and
 -- what covers brought was executed
 delivery_there : (openings : List Opening) (c : List ClearRecord) (p : List DepRecord) (o : Order) → IsLawful c → IsLawfulDepot openings p
-    → All (IsKnown (orders_of c).orders) (executed_of p) → All (IsExecuted (executed_of p)) (orders_of c).replies → order_of (orders_of c).orders o.number ≡ Some o
+    → All (IsAsOrdered (orders_of c).orders) (executed_of p) → All (IsExecuted (executed_of p)) (orders_of c).replies → order_of (orders_of c).orders o.number ≡ Some o
     → movement_of (executed_of p) o.number ≡ None → o.kind ≡ Delivery → o.asked ≤ balance_of openings p Cns o.issue
 unfolding balance_of
 delivery_there openings c p o lawful stock_lawful known executed found fresh delivers =
@@ -192,16 +192,16 @@ delivery_there openings c p o lawful stock_lawful known executed found fresh del
     let m : Movement = record { order = o; moved = o.asked } in
     let numbered : IsNumbered 1 book.orders = (lawful_bounded c lawful).ordered.numbered in
     let once : AreOnce movements = lawful_once openings p stock_lawful in
-    let its : IsKnown book.orders m = (((o, found, agrees-refl o), λ is. refl), omega arith) in
+    let its : IsAsOrdered book.orders m = (((o, found, agrees-refl o), λ is. refl), omega arith) in
     let more : All (IsExecuted (m ∷ movements)) book.replies =
     All-weaker (IsExecuted movements) (IsExecuted (m ∷ movements)) (λ r done. executed_stays (Some m) movements r fresh done) book.replies executed in
     let brought = covers_executed book movements o.issue numbered known once executed in
-    let took = deliveries_executed book (m ∷ movements) o.issue numbered (All-cons (IsKnown book.orders) m movements its known) (fresh, once) more in
+    let took = deliveries_executed book (m ∷ movements) o.issue numbered (All-cons (IsAsOrdered book.orders) m movements its known) (fresh, once) more in
     omega (arith, brought, took, delivery_out o movements delivers, moved_in_cns p o.issue, moved_out_cns p o.issue, taken_covered c o.issue lawful)
 
 -- so it moves all that it asks for
 pub delivery_in_full : (openings : List Opening) (c : List ClearRecord) (p : List DepRecord) (o : Order) → IsLawful c → IsLawfulDepot openings p
-    → All (IsKnown (orders_of c).orders) (executed_of p) → All (IsExecuted (executed_of p)) (orders_of c).replies → order_of (orders_of c).orders o.number ≡ Some o
+    → All (IsAsOrdered (orders_of c).orders) (executed_of p) → All (IsExecuted (executed_of p)) (orders_of c).replies → order_of (orders_of c).orders o.number ≡ Some o
     → movement_of (executed_of p) o.number ≡ None → o.kind ≡ Delivery → (movement openings p o).moved ≡ o.asked
 delivery_in_full openings c p o lawful stock_lawful known executed found fresh delivers =
     let gives : giver o ≡ Cns = ap (λ (k : MoveKind). giver (record o { kind = k })) delivers in
@@ -211,7 +211,7 @@ delivery_in_full openings c p o lawful stock_lawful known executed found fresh d
 
 -- and the movement of a new order is known
 pub next_known : (openings : List Opening) (c : List ClearRecord) (p : List DepRecord) (o : Order) → IsLawful c → IsLawfulDepot openings p
-    → All (IsKnown (orders_of c).orders) (executed_of p) → All (IsExecuted (executed_of p)) (orders_of c).replies → order_of (orders_of c).orders o.number ≡ Some o
-    → movement_of (executed_of p) o.number ≡ None → IsKnown (orders_of c).orders (movement openings p o)
+    → All (IsAsOrdered (orders_of c).orders) (executed_of p) → All (IsExecuted (executed_of p)) (orders_of c).replies → order_of (orders_of c).orders o.number ≡ Some o
+    → movement_of (executed_of p) o.number ≡ None → IsAsOrdered (orders_of c).orders (movement openings p o)
 next_known openings c p o lawful stock_lawful known executed found fresh =
     (((o, found, agrees-refl o), λ delivers. delivery_in_full openings c p o lawful stock_lawful known executed found fresh delivers), min-le_left o.asked _)

@@ -1,12 +1,11 @@
 -- What entering the tickets of a busy lot leaves.
 use Rattle.std.proofs.Common.{◌≡◌, ◌∙◌, ◌<◌, ◌+◌, ℕ, zero, suc, Bool, true, false, not, cond, List, [], ◌∷◌, ◌++◌, length, take, drop, get_or, Option, Some, None, Result, Ok, Err, ap, sym, subst, refl, arith, inl, inr}
-use Rattle.std.specs.Prelude.{◌==◌, ◌&&◌, ◌||◌, eqb, All, IfErr, IfOk, IsErr, IsErrAnd, IsSomeAnd, OnErr, slice_get, slice_set, ◌-◌}
+use Rattle.std.specs.Prelude.{◌⊎◌, ◌==◌, ◌&&◌, ◌||◌, eqb, All, IfErr, IfOk, IsErr, IsErrAnd, OnErr, slice_get}
 use Rattle.std.proofs.lemmas.Bool.{eq-eqb, eqb-true, false_from_ne_true}
 use Rattle.std.proofs.lemmas.List.Elements.{All-filter, All-head, All-tail, All-weaker, filter_passes}
 use Rattle.std.proofs.lemmas.List.{drop_more, map-append, take-append-drop, take_more}
 use Rattle.std.proofs.lemmas.Option.{get_or_from_slice_get, same_Some, slice_get_within}
 use Rattle.cns_pool.specs.declared.ticket.Ticket.{Ticket}
-use Rattle.cns_allocate.specs.declared.turns.Turn.TheVariants as turn
 use Rattle.cns_records.specs.declared.refusal.Refusal.{Refusal}
 use Rattle.cns_records.specs.declared.refusal.Refusal.TheVariants as refusal
 use Rattle.cns_system.specs.Accord.{IsInAccord}
@@ -14,20 +13,25 @@ use Rattle.cns_system.specs.Begin.{IsRefusal}
 use Rattle.cns_system.specs.Finish.{AreAllEntered, AreCutOff, AreEntered, FinishGives, IsClosed, IsEnded, IsFinished, IsNotEntered, IsReleased, IsSealedFirst, draws, is_sealed, reserves, sealed_at, without_busy}
 use Rattle.cns_system.specs.Floor.{AreBusy, AreInOrder, BusyLot, FloorState, IsBusy, IsPlaceOf, NumbersRise, busy_at}
 use Rattle.cns_system.specs.Headline.{AreStrict, IsAgreed}
-use Rattle.cns_system.specs.Lot.{LotState, ticket_in, turn_in, with_ticket}
-use Rattle.cns_wire.specs.Packet.{at_number}
-use Rattle.cns_system.specs.Lots.{DrawLeaves, HasOpenLot, LotGives, ReserveLeaves, WouldDraw, WouldReserve}
+use Rattle.cns_system.specs.Lot.{LotState, with_seal, with_ticket}
+use Rattle.cns_ids.specs.Steps.{◌>>=◌}
+use Rattle.cns_system.specs.Lots.{going_lot, turn_ticket, reserve_call, ticket_call, with_lot}
+use Rattle.cns_system.specs.Happens.{Decision, happens, judged}
+use Rattle.cns_system.specs.Scene.{decision_at, scene_of}
+use Rattle.cns_system.specs.Shown.{Shown, shown_of}
 use Rattle.cns_system.specs.Numbered.{NumberedNode}
-use Rattle.cns_system.specs.Outcomes.{done_outcome, reserve_outcome}
 use Rattle.cns_system.specs.Run.{Occurs, Run}
-use Rattle.cns_system.specs.World.{World}
+use Rattle.cns_system.specs.World.{AreFrames, World}
 use Rattle.cns_system.specs.declared.event.Event.{Event}
 use Rattle.cns_system.specs.declared.event.Event.TheVariants as event
 use Rattle.cns_system.specs.declared.outcome.Outcome.{Outcome}
 use Rattle.cns_system.specs.declared.outcome.Outcome.TheVariants as outcomes
 use Rattle.cns_system.proofs.BeginLemmas.{occurs_refused}
+use Rattle.cns_system.proofs.ComesLemmas.{refused}
+use Rattle.cns_system.proofs.HappensLemmas.{happened}
+use Rattle.cns_system.proofs.LotsLemmas.{IsGoing}
+use Rattle.cns_system.proofs.ToldLemmas.{Refuses, seals_by}
 use Rattle.cns_system.proofs.FloorLemmas.{busy_number, match_some, none_busy, none_found}
-use Rattle.cns_system.proofs.LotsLemmas.{open-from, open-parts}
 use Rattle.cns_system.proofs.RunLemmas.{one_more}
 use Rattle.cns_system.proofs.SpareLemmas.{step_spares}
 
@@ -128,88 +132,30 @@ pub passed_on : {X : Type 0} (P : Result X Refusal → Type 0) (result : Result 
 passed_on P (Ok x) r is same holds = absurd (cc is)
 passed_on P (Err s) r is same holds = subst (λ (t : Refusal). P (Err t)) (sym same) holds
 
--- what is refused leaves a lot as it is
-pub would_not : (member : ℕ) (r : Refusal) (lot : LotState) → WouldDraw member (Err r) lot → DrawLeaves member (Err r) lot lot
-would_not member refusal.NotLong lot would = (would.1.0, refl)
-would_not member refusal.EarlierGroup lot would = (would.1.0, refl)
-would_not member refusal.Sealed lot would = (would.1.0, would.1.1, refl)
-would_not member _ lot would = absurd would.1
+-- what a reserve comes to where the next ticket of its member would be refused, or is this one
+abbrev drawing : ℕ → List LotState → LotState → Ticket → Result (Ticket × List LotState) Refusal
+drawing number lots lot ticket = Ok (ticket, with_lot number (with_ticket ticket lot) lots)
 
-pub would_not_reserve : (number member : ℕ) (r : Refusal) (lots : List LotState) → WouldReserve number member (Err r) lots → ReserveLeaves number member (Err r) lots lots
-would_not_reserve number member refusal.NoLot lots would = (would.1.0, refl)
-would_not_reserve number member refusal.StaleLot lots would = (would.1.0, refl)
-would_not_reserve number member refusal.NotLong lots would = (would.1.0, refl)
-would_not_reserve number member refusal.EarlierGroup lots would = (would.1.0, refl)
-would_not_reserve number member refusal.Sealed lots would = (would.1.0, refl)
-would_not_reserve number member _ lots would = absurd would.1
+would_refuse : (number member : ℕ) (r : Refusal) (lots : List LotState) → ticket_call number member lots ≡ Err r → reserve_call number member lots ≡ Err r
+would_refuse number member r lots is = by (going_lot lots number) is
+  where
+    of : (lot : LotState) (t : Result Ticket Refusal) → t ≡ Err r → (t >>= drawing number lots lot) ≡ Err r
+    of lot t is = rw is refl
 
--- no lot is found
-pub no_lot : {X : Type 0} (number member : ℕ) (r : Refusal) (lots : List LotState) (P : LotState → X → Type 0) → LotGives P number (Err r) lots → WouldReserve number member (Err r) lots
-no_lot number member refusal.NoLot lots P gives = (lots, (gives, refl))
-no_lot number member refusal.StaleLot lots P gives = (lots, (gives, refl))
-no_lot number member _ lots P gives = absurd gives
+    by : (g : Result LotState Refusal) → (g >>= λ lot. turn_ticket lot member) ≡ Err r → (g >>= λ lot. turn_ticket lot member >>= drawing number lots lot) ≡ Err r
+    by (Err f) is = let same : f ≡ r = cc in ap Err same
+    by (Ok lot) is = of lot (turn_ticket lot member) is
 
--- a lot that is found would draw what it would itself
-pub would_at : (number member : ℕ) (result : Result Ticket Refusal) (lots : List LotState) (l : LotState) → at_number lots number ≡ Some l → l.ended ≡ false
-    → WouldDraw member result l → WouldReserve number member result lots
-would_at number member (Ok t) lots l found going would =
-    (slice_set lots (number - 1) (with_ticket t l), open-from lots number _ l found going (would.1.0, would.1.1, would.1.2, refl))
-would_at number member (Err refusal.NotLong) lots l found going would = (lots, (open-from lots number _ l found going would.1.0, refl))
-would_at number member (Err refusal.EarlierGroup) lots l found going would = (lots, (open-from lots number _ l found going would.1.0, refl))
-would_at number member (Err refusal.Sealed) lots l found going would = (lots, (open-from lots number _ l found going (would.1.0, would.1.1), refl))
-would_at number member (Err _) lots l found going would = absurd would.1
+would_draw : (number member : ℕ) (t : Ticket) (lots : List LotState) → ticket_call number member lots ≡ Ok t → (new : List LotState) × (reserve_call number member lots ≡ Ok (t, new))
+would_draw number member t lots is = by (going_lot lots number) is
+  where
+    of : (lot : LotState) (x : Result Ticket Refusal) → x ≡ Ok t → (x >>= drawing number lots lot) ≡ Ok (t, with_lot number (with_ticket t lot) lots)
+    of lot x is = rw is refl
 
-pub would_found : (number member : ℕ) (result : Result Ticket Refusal) (lots : List LotState) (l : LotState) → HasOpenLot lots number (λ (k : LotState). l ≡ k)
-    → WouldDraw member result l → WouldReserve number member result lots
-would_found number member result lots l is would =
-    let at = open-parts lots number (λ (k : LotState). l ≡ k) is in
-    would_at number member result lots at.lot at.found at.going (subst (WouldDraw member result) at.holds would)
-
--- a reserve that would draw a ticket draws it
-record Draws (number member : ℕ) (t : Ticket) (lots : List LotState) : Type 0 where
-  lot : LotState
-  found : at_number lots number ≡ Some lot
-  going : lot.ended ≡ false
-  unsealed : lot.sealed ≡ false
-  turn : turn_in lot member ≡ turn.Next t.asked
-  ticket : t ≡ ticket_in lot member t.asked
-
-would_draws : (number member : ℕ) (t : Ticket) (lots : List LotState) → WouldReserve number member (Ok t) lots → Draws number member t lots
-would_draws number member t lots would =
-    let at = open-parts lots number _ would.1 in
-    record { lot = at.lot; found = at.found; going = at.going; unsealed = at.holds.0; turn = at.holds.1; ticket = at.holds.2 }
-
--- the lot that is found there is the same
-same_turn : (number member : ℕ) (t : Ticket) (lots : List LotState) (d : Draws number member t lots) (l : LotState) → at_number lots number ≡ Some l
-    → turn_in l member ≡ turn.Next t.asked
-same_turn number member t lots d l found = ap (λ (k : LotState). turn_in k member) (same_Some l d.lot (sym found ∙ d.found)) ∙ d.turn
-
-same_ticket : (number member : ℕ) (t s : Ticket) (lots : List LotState) (d : Draws number member t lots) (l : LotState) → at_number lots number ≡ Some l
-    → turn_in l member ≡ turn.Next s.asked → s ≡ ticket_in l member s.asked → s ≡ t
-same_ticket number member t s lots d l found next is =
-    let one : l ≡ d.lot = same_Some l d.lot (sym found ∙ d.found) in
-    let both : turn.Next s.asked ≡ turn.Next t.asked = sym next ∙ same_turn number member t lots d l found in
-    let asked : s.asked ≡ t.asked = cc in
-    is ∙ ap (λ (k : LotState). ticket_in k member s.asked) one ∙ ap (λ (n : ℕ). ticket_in d.lot member n) asked ∙ sym d.ticket
-
-drawn_is : (number member : ℕ) (t : Ticket) (result : Result Ticket Refusal) (lots new : List LotState) → Draws number member t lots
-    → ReserveLeaves number member result lots new → result ≡ Ok t
-drawn_is number member t (Ok s) lots new d leaves =
-    let at = open-parts lots number _ leaves in
-    ap Ok (same_ticket number member t s lots d at.lot at.found at.holds.1 at.holds.2)
-drawn_is number member t (Err refusal.NoLot) lots new d leaves = let no = sym d.found ∙ leaves.0 in cc
-drawn_is number member t (Err refusal.StaleLot) lots new d leaves =
-    let ended : d.lot.ended ≡ true = subst (λ (o : Option LotState). IsSomeAnd o (λ (l : LotState). l.ended ≡ true)) d.found leaves.0 in
-    let no = sym ended ∙ d.going in cc
-drawn_is number member t (Err refusal.NotLong) lots new d leaves =
-    let at = open-parts lots number _ leaves.0 in let no = sym at.holds ∙ same_turn number member t lots d at.lot at.found in cc
-drawn_is number member t (Err refusal.EarlierGroup) lots new d leaves =
-    let at = open-parts lots number _ leaves.0 in let no = sym at.holds ∙ same_turn number member t lots d at.lot at.found in cc
-drawn_is number member t (Err refusal.Sealed) lots new d leaves =
-    let at = open-parts lots number _ leaves.0 in
-    let one : at.lot ≡ d.lot = same_Some at.lot d.lot (sym at.found ∙ d.found) in
-    let no = sym at.holds.0 ∙ ap (λ (l : LotState). l.sealed) one ∙ d.unsealed in cc
-drawn_is number member t (Err _) lots new d leaves = absurd leaves
+    by : (g : Result LotState Refusal) → (g >>= λ lot. turn_ticket lot member) ≡ Ok t
+        → (new : List LotState) × ((g >>= λ lot. turn_ticket lot member >>= drawing number lots lot) ≡ Ok (t, new))
+    by (Err f) is = absurd (cc is)
+    by (Ok lot) is = (with_lot number (with_ticket t lot) lots, of lot (turn_ticket lot member) is)
 
 -- tickets as they are compared
 pub unlike : (s t : Ticket) → not (eqb s.member t.member && (eqb s.start t.start && eqb s.asked t.asked)) ≡ true → s ≡ t → ⊥
@@ -232,29 +178,33 @@ same_as s t so = by (eqb s.member t.member) (eqb s.start t.start) (eqb s.asked t
     by true false c m f n so = cc
     by false b c m f n so = cc
 
-pub draws_it : (lot member : ℕ) (t : Ticket) (outcome : Outcome) (old new : World) → WouldReserve lot member (Ok t) old.clear.lots
+happens_draws : (d : Decision) (lot member : ℕ) (t : Ticket) (w : Shown) → ticket_call lot member w.lots ≡ Ok t
+    → (left : Shown) × (happens d (event.Reserve lot member) w ≡ (outcomes.Drawn t, left))
+unfolding happens judged
+happens_draws d lot member t w would =
+    let draws = would_draw lot member t w.lots would in
+    (record w { lots = draws.0 }, rw (draws.1) refl)
+
+pub draws_it : (lot member : ℕ) (t : Ticket) (outcome : Outcome) (old new : World) → ticket_call lot member old.clear.lots ≡ Ok t
     → Occurs (event.Reserve lot member) outcome old new → Occurs (event.Reserve lot member) (outcomes.Drawn t) old new
 draws_it lot member t outcome old new would occurs =
-    let step = occurs.step in
-    let is = drawn_is lot member t step.3.0 old.clear.lots new.clear.lots (would_draws lot member t old.clear.lots would) step.3.2.0 in
-    subst (λ (o : Outcome). Occurs (event.Reserve lot member) o old new) (step.3.1 ∙ ap reserve_outcome is) occurs
+    let h = happened (event.Reserve lot member) outcome old new occurs.comes in
+    let draws = happens_draws (decision_at h.chance (event.Reserve lot member) (scene_of old)) lot member t (shown_of old) would in
+    let told : outcome ≡ outcomes.Drawn t = sym (ap (λ (p : Outcome × Shown). p.0) h.is) ∙ ap (λ (p : Outcome × Shown). p.0) draws.1 in
+    subst (λ (o : Outcome). Occurs (event.Reserve lot member) o old new) told occurs
 
 -- ---- tickets that are not entered
 
-pub stops : (lot : ℕ) (t : Ticket) (r : Refusal) (w : World) → WouldReserve lot t.member (Err r) w.clear.lots → IsInAccord w → IsAgreed w → IsNotEntered lot t r w w
-stops lot t r w would accord agreed =
+pub stops : (lot : ℕ) (t : Ticket) (r : Refusal) (w : World) → ticket_call lot t.member w.clear.lots ≡ Err r → IsInAccord w → AreFrames w.orders w.replies → IsAgreed w → IsNotEntered lot t r w w
+unfolding judged
+stops lot t r w would accord frames agreed =
     inl
-    (occurs_refused (event.Reserve lot t.member) r w (refl, refl, refl, (Err r, refl, (would_not_reserve lot t.member r w.clear.lots would, refl))) (λ a b. tt) accord agreed)
+    (occurs_refused (event.Reserve lot t.member) r w (refused (event.Reserve lot t.member) w r (rw (would_refuse lot t.member r w.clear.lots would) refl)) (λ a b. tt) accord frames agreed)
 
-pub differs : (lot : ℕ) (t next : Ticket) (w : World) → WouldReserve lot t.member (Ok next) w.clear.lots → (next ≡ t → ⊥) → IsNotEntered lot t refusal.BadTickets w w
-differs lot t next w would other =
-    let after : World = record w { clear = record w.clear { lots = would.0 } } in
-    inr (refl, refl, (next, other, (after, (refl, refl, refl, (Ok next, refl, (would.1, refl))))))
+pub differs : (lot : ℕ) (t next : Ticket) (w : World) → ticket_call lot t.member w.clear.lots ≡ Ok next → (next ≡ t → ⊥) → IsNotEntered lot t refusal.BadTickets w w
+differs lot t next w would other = inr (refl, refl, (next, other, would))
 
 -- ---- tickets that are entered
-
-pub none_entered : (lot : ℕ) (tickets : List Ticket) (told : List Outcome) (w : World) → told ≡ [] → AreEntered lot (take 0 tickets) told w w
-none_entered lot tickets told w none = record { told_is = none; drawn = refl }
 
 pub one_entered : (lot : ℕ) (tickets : List Ticket) (i : ℕ) (t : Ticket) (told : List Outcome) (old between new : World) → i < length tickets → t ≡ get_or tickets i t
     → AreEntered lot (take i tickets) told old between → Occurs (event.Reserve lot t.member) (outcomes.Drawn t) between new
@@ -284,12 +234,12 @@ cut_off lot tickets i t r told old between new below is entered stopped = record
 
 -- ---- the end of the lot
 
-sealed_when : (outcome : Outcome) (result : Result (Unit {0}) Refusal) → outcome ≡ done_outcome result → (outcome ≡ outcomes.Done → ⊥) → IsRefusal outcome
-sealed_when outcome (Ok u) told not = absurd (not told)
-sealed_when outcome (Err r) told not = (r, told)
-
 pub seal_refused : (lot : ℕ) (outcome : Outcome) (old new : World) → Occurs (event.Seal lot) outcome old new → (outcome ≡ outcomes.Done → ⊥) → IsRefusal outcome
-seal_refused lot outcome old new occurs not = let step = occurs.step in sealed_when outcome step.3.0 step.3.1 not
+seal_refused lot outcome old new occurs other = by (seals_by lot outcome old new occurs.comes)
+  where
+    by : Refuses outcome ⊎ ((l : LotState) × IsGoing old.clear.lots lot l × (outcome ≡ outcomes.Done) × (new.clear.lots ≡ with_lot lot (with_seal l) old.clear.lots)) → IsRefusal outcome
+    by (inl refuses) = refuses
+    by (inr (l, at, is, left)) = absurd (other is)
 
 -- ---- what stays so over all of it
 
@@ -306,7 +256,7 @@ goes_on old between new first then =
     record { strict = λ s. then.strict (first.strict s); rises = let a = first.rises in let b = then.rises in omega (arith, a, b) }
 
 goes_step : (e : Event) (outcome : Outcome) (old new : World) → Occurs e outcome old new → Goes old new
-goes_step e outcome old new occurs = record { strict = occurs.strict; rises = (step_spares e outcome old new occurs.step).longer }
+goes_step e outcome old new occurs = record { strict = occurs.strict; rises = (step_spares e outcome old new occurs.comes).longer }
 
 goes_run : (events : List Event) (told : List Outcome) (old new : World) → Run events told old new → Goes old new
 goes_run [] [] old new run = goes_same old new run

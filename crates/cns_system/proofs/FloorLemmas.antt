@@ -1,15 +1,18 @@
 -- Busy lots by number, and what an event leaves of them.
 use Rattle.std.proofs.Common.{◌≡◌, ◌∙◌, ◌≤◌, ◌<◌, ◌+◌, ℕ, zero, suc, Bool, true, false, cond, List, [], ◌∷◌, take, get_or, length, Option, Some, None, Result, Ok, Err, ap, sym, subst, refl, arith, inl, inr}
-use Rattle.std.specs.Prelude.{◌⊎◌, ◌==◌, All, MatchOption, option_map, slice_get, slice_set, unwrap_or, if◌then◌else◌}
+use Rattle.std.specs.Prelude.{◌⊎◌, ◌==◌, ◌-◌, All, IfErr, IfOk, MatchOption, option_map, slice_get, slice_set, unwrap_or, if◌then◌else◌}
 use Rattle.std.proofs.lemmas.Bool.{eq-eqb, eqb-false, eqb-true, false_from_ne_true}
 use Rattle.std.proofs.lemmas.List.Elements.{All-cons, All-head, All-map, All-nil, All-tail, All-weaker}
 use Rattle.std.proofs.lemmas.List.{set-get_or}
 use Rattle.std.proofs.lemmas.Option.{get_or_from_slice_get, same_Some, slice_get_within}
 use Rattle.cns_allocate.proofs.TurnLemmas.{find-passes}
-use Rattle.cns_clearing.specs.Answers.{LotPourLeaves}
-use Rattle.cns_clearing.specs.Lots.{avail_in, lots_poured, refilled}
-use Rattle.cns_clearing.specs.Node.{ClearNode}
-use Rattle.cns_clearing.specs.Pools.{lent_of, lot_of}
+use Rattle.cns_ids.specs.Steps.{◌>>=◌}
+use Rattle.cns_records.specs.Clear.{AreWritable}
+use Rattle.cns_clearing.specs.Answers.{IsPoured, up}
+use Rattle.cns_clearing.specs.Books.{IsLawful, orders_of}
+use Rattle.cns_clearing.proofs.PouredLemmas.{pour_adds}
+use Rattle.cns_clearing.specs.Lots.{AreLots, avail_in, lots_poured, refilled}
+use Rattle.cns_clearing.specs.Pools.{free_of, lent_of, lot_of}
 use Rattle.cns_clearing.specs.declared.lot.Lot.{Lot}
 use Rattle.cns_records.specs.declared.clear_record.ClearRecord.{ClearRecord}
 use Rattle.cns_records.specs.declared.refusal.Refusal.{Refusal}
@@ -18,11 +21,15 @@ use Rattle.cns_system.specs.Floor.{AreBusy, AreInOrder, BusyLot, BySystem, Floor
 use Rattle.cns_system.specs.Headline.{AreStrict}
 use Rattle.cns_system.specs.Lot.{LotState}
 use Rattle.cns_wire.specs.Packet.{at_number}
-use Rattle.cns_system.specs.Numbered.{AreTied, NumberedNode, PourLeaves}
+use Rattle.cns_system.specs.Numbered.{AreTied, NumberedNode, numbered_pour}
 use Rattle.cns_system.specs.Readers.{PlanStep}
 use Rattle.cns_system.specs.Run.{Occurs}
-use Rattle.cns_system.specs.Step.{Step}
-use Rattle.cns_system.specs.Outcomes.{pour_outcome}
+use Rattle.cns_system.specs.Happens.{Change, Decision, Leaves, judged}
+use Rattle.cns_system.specs.Scene.{Comes, decision_at, scene_of}
+use Rattle.cns_system.specs.Shown.{Shown, shown_of}
+use Rattle.cns_system.specs.Lots.{going_lot}
+use Rattle.cns_system.proofs.HappensLemmas.{Holds, checked_keeps, happened}
+use Rattle.cns_system.proofs.StepLemmas.{ok_then}
 use Rattle.cns_system.specs.World.{World}
 use Rattle.cns_system.specs.declared.event.Event.{Event}
 use Rattle.cns_system.specs.declared.event.Event.TheVariants as event
@@ -31,8 +38,8 @@ use Rattle.cns_system.specs.declared.event.NodeName.TheVariants as node
 use Rattle.cns_journal.specs.declared.keeper.NotPlanned.{NotPlanned}
 use Rattle.cns_system.specs.declared.outcome.Outcome.{Outcome}
 use Rattle.cns_system.specs.declared.outcome.Outcome.TheVariants as outcomes
-use Rattle.cns_system.proofs.LotsLemmas.{IsOpen, open-parts}
-use Rattle.cns_system.proofs.SpareLemmas.{KeepsTwins, Spares, pour_twins, spares_same, step_spares, step_twins, twins_same}
+use Rattle.cns_system.proofs.LotsLemmas.{going_parts}
+use Rattle.cns_system.proofs.SpareLemmas.{KeepsTwins, Spares, spares_same, step_spares, step_twins, steps_by, twins_same}
 use Rattle.cns_system.proofs.TiedLemmas.{found_of, found_poured}
 
 -- ---- the busy lot of a number
@@ -174,7 +181,7 @@ all_kept changed old new busy are spares twins spared = record {
 }
 
 -- an event that changes no busy lot, but one that has ended
-pub step_kept : (e : Event) (outcome : Outcome) (old new : World) (f : FloorState) → f.system ≡ old → AreTied old.clear.clear.lots old.clear.lots → Step e outcome old new
+pub step_kept : (e : Event) (outcome : Outcome) (old new : World) (f : FloorState) → f.system ≡ old → AreTied old.clear.clear.lots old.clear.lots → Comes e outcome old new
     → AreBusy old.clear f.busy → SparesBusy e f → AreBusy new.clear f.busy
 step_kept e outcome old new f is tied step are spared =
     all_kept (lot_changed e) old.clear new.clear f.busy are (step_spares e outcome old new step) (step_twins e outcome old new tied step)
@@ -187,6 +194,12 @@ plan_kept node.Clear stands result old new busy h are =
     all_kept None old.clear new.clear busy are (spares_same None old.clear.lots new.clear.lots h.1) (twins_same None old.clear new.clear h.0.1) (λ k d below some. let no = some in cc)
 plan_kept node.Depot stands result old new busy h are = subst (λ (n : NumberedNode). AreBusy n busy) (sym h.1) are
 
+-- what the clearing node's records and open lots are, whatever the keepers are
+pub record AreBacked (w : World) : Type 0 where
+  pub lawful : IsLawful w.clear.clear.log.records
+  pub fits : AreWritable w.clear.clear.log.records
+  pub lots : AreLots w.clear.clear.log.records w.clear.clear.lots
+
 -- ---- a pour
 
 -- the lot of an issue has all shares that are there once it is poured into
@@ -195,77 +208,137 @@ lent_poured c issue lots lot found =
     ap lent_by (found_poured c issue issue lots ∙ ap (option_map (refilled issue (length c) (avail_in c issue))) found)
     ∙ ap (λ (b : Bool). (if b then record lot { upto = length c; poured = avail_in c issue } else lot).poured) (eq-eqb lot.issue issue (found_of lots issue lot found))
 
--- what is poured into the lot of a number is poured into its cell
-poured_busy : (n shares : ℕ) (old new : NumberedNode) (b : BusyLot) → AreTied old.clear.lots old.lots → PourLeaves n (Ok shares) old new → IsBusy old b
-    → IsOpen old.lots n (λ (lot : LotState). LotPourLeaves lot.issue (Ok shares) old.clear new.clear) → IsBusy new (changed_at (busy_with_pour shares) n b)
-poured_busy n shares old new b tied h busy at = by (b.lot == n) refl
-  where
-    more : b.lot ≡ n → (l : LotState) → at_number old.lots b.lot ≡ Some l → IsFed new.clear.lots (busy_with_pour shares b) l
-    more same l found =
-        let pour = at.holds.1 in
-        let one : at.lot ≡ l = same_Some at.lot l (sym at.found ∙ ap (at_number old.lots) (sym same) ∙ found) in
-        let fed = busy.fed at.lot (ap (at_number old.lots) same ∙ at.found) at.going in
-        let before : b.poured ≡ pour.lot.poured = fed.poured ∙ ap lent_by pour.found in
-        let after : lent_of new.clear.lots at.lot.issue ≡ avail_in old.clear.log.records at.lot.issue =
-        ap (λ (c : ClearNode). lent_of c.lots at.lot.issue) at.holds.2 ∙ lent_poured old.clear.log.records at.lot.issue old.clear.lots pour.lot pour.found in
-        subst (IsFed new.clear.lots (busy_with_pour shares b)) one
-        (record { poured = ap (λ (p : ℕ). p + shares) before ∙ pour.all ∙ sym after; tickets = fed.tickets; unsealed = fed.unsealed })
-
-    by : (t : Bool) → (b.lot == n) ≡ t → IsBusy new (if t then busy_with_pour shares b else b)
-    by true e = record {
-      given = let a = busy.given in let len = ap length h.1 in omega arith;
-      fed = λ l here up. more (eqb-true b.lot n e) l (ap (λ (lots : List LotState). at_number lots b.lot) (sym h.1) ∙ here);
-    }
-    by false e =
-        busy_kept (Some n) old new b busy (spares_same (Some n) old.lots new.lots h.1) (pour_twins n (Ok shares) old new tied h)
-        (λ some. absurd (eqb-false b.lot n e (sym (same_Some n b.lot some))))
-
-pour_leaves : (n : ℕ) (result : Result ℕ Refusal) (old new : NumberedNode) (busy : List BusyLot) → AreTied old.clear.lots old.lots → PourLeaves n result old new → AreBusy old busy
-    → AreBusy new (busy_after_pour (pour_outcome result) n busy)
-pour_leaves n (Ok shares) old new busy tied h are = record {
-  each =
-      All-map (IsBusy new) (changed_at (busy_with_pour shares) n) busy
-      (All-weaker (IsBusy old) (λ (b : BusyLot). IsBusy new (changed_at (busy_with_pour shares) n b)) (λ b is. poured_busy n shares old new b tied h is (open-parts old.lots n _ h.0)) busy are.each);
-  order = order_stays (busy_with_pour shares) n (λ b. refl) busy are.order;
-}
-pour_leaves n (Err refusal.NoLot) old new busy tied h are = subst (λ (m : NumberedNode). AreBusy m busy) (sym h.1) are
-pour_leaves n (Err refusal.StaleLot) old new busy tied h are = subst (λ (m : NumberedNode). AreBusy m busy) (sym h.1) are
-pour_leaves n (Err refusal.Down) old new busy tied h are = subst (λ (m : NumberedNode). AreBusy m busy) (sym h.1) are
-pour_leaves n (Err _) old new busy tied h are = absurd h
-
-pub pour_kept : (n : ℕ) (outcome : Outcome) (old new : World) (busy : List BusyLot) → AreTied old.clear.clear.lots old.clear.lots → Step (event.LotPour n) outcome old new
-    → AreBusy old.clear busy → AreBusy new.clear (busy_after_pour outcome n busy)
-pour_kept n outcome old new busy tied h are =
-    subst (λ (o : Outcome). AreBusy new.clear (busy_after_pour o n busy)) (sym h.3.1) (pour_leaves n h.3.0 old.clear new.clear busy tied h.3.2 are)
-
--- the cell takes what was poured into the lot
-fits_when : (n shares : ℕ) (result : Result ℕ Refusal) (old new : NumberedNode) (busy : List BusyLot) → PourLeaves n result old new → outcomes.Poured shares ≡ pour_outcome result
-    → AreBusy old busy → PourFits n shares busy
-fits_when n shares (Ok more) old new busy h told are =
-    let at = open-parts old.lots n _ h.0 in
-    let same : shares ≡ more = cc in
-    let pour = at.holds.1 in
-    λ k d below number.
-    let fed = (are.each k d below).fed at.lot (ap (at_number old.lots) number ∙ at.found) at.going in
-    let poured = fed.poured ∙ ap lent_by pour.found in
-    let few = pour.few in omega (arith, same, few, poured)
-fits_when n shares (Err r) old new busy h told are = cc
-
-pub pour_fits : (n shares : ℕ) (outcome : Outcome) (old new : World) (busy : List BusyLot) → Step (event.LotPour n) outcome old new → outcome ≡ outcomes.Poured shares
-    → AreBusy old.clear busy → PourFits n shares busy
-pour_fits n shares outcome old new busy h told are = fits_when n shares h.3.0 old.clear new.clear busy h.3.2 (sym told ∙ h.3.1) are
-
 pub not_poured : (outcome : Outcome) (n : ℕ) (busy : List BusyLot) → ((shares : ℕ) → outcome ≡ outcomes.Poured shares → ⊥) → busy_after_pour outcome n busy ≡ busy
 not_poured (outcomes.Poured shares) n busy other = absurd (other shares refl)
 not_poured _ n busy other = refl
+
+-- what a pour into the lot of a number comes to, and leaves
+record PoursInto (n : ℕ) (outcome : Outcome) (w left : Shown) : Type 0 where
+  pub lot : LotState
+  pub going : going_lot w.lots n ≡ Ok lot
+  pub told : outcome ≡ outcomes.Poured (free_of (orders_of w.clear.records) w.open_lots lot.issue)
+  pub lots : left.lots ≡ w.lots
+  pub open_lots : left.open_lots ≡ lots_poured w.clear.records lot.issue w.open_lots
+
+-- or it is refused, and all lots stay
+record PoursNone (outcome : Outcome) (w left : Shown) : Type 0 where
+  pub lots : left.lots ≡ w.lots
+  pub open_lots : left.open_lots ≡ w.open_lots
+  pub none : (shares : ℕ) → outcome ≡ outcomes.Poured shares → ⊥
+
+abbrev Pours : ℕ → Shown → Outcome → Shown → Type 0
+Pours n w outcome left = PoursInto n outcome w left ⊎ PoursNone outcome w left
+
+pours_none : (n : ℕ) (w : Shown) (r : Refusal) → Pours n w (outcomes.Refused r) w
+pours_none n w r = inr (record { lots = refl; open_lots = refl; none = λ shares e. cc e })
+
+pours_hold : (n : ℕ) (d : Decision) (w : Shown) → IfOk (judged (event.LotPour n) w) (Holds (Pours n w) d w)
+unfolding judged numbered_pour
+pours_hold n d w =
+    let told : ℕ × List Lot → Result Change Refusal = λ poured. Ok (Leaves (outcomes.Poured poured.0) (record w { open_lots = poured.1 })) in
+    let pours : LotState → Result (ℕ × List Lot) Refusal =
+    λ lot. up w.clear.down >>= λ _. Ok (free_of (orders_of w.clear.records) w.open_lots lot.issue, lots_poured w.clear.records lot.issue w.open_lots) in
+    steps_by (Holds (Pours n w) d w) (going_lot w.lots n) pours told
+    (λ lot going.
+    ok_then (λ (p : ℕ × List Lot). IfOk (told p) (Holds (Pours n w) d w)) (up w.clear.down)
+    (λ _. Ok (free_of (orders_of w.clear.records) w.open_lots lot.issue, lots_poured w.clear.records lot.issue w.open_lots))
+    (λ u is. inl (record { lot = lot; going = going; told = refl; lots = refl; open_lots = refl })))
+
+pours_by : (n : ℕ) (outcome : Outcome) (old new : World) → Comes (event.LotPour n) outcome old new → Pours n (shown_of old) outcome (shown_of new)
+pours_by n outcome old new comes =
+    let e : Event = event.LotPour n in
+    let w : Shown = shown_of old in
+    let h = happened e outcome old new comes in
+    let d : Decision = decision_at h.chance e (scene_of old) in
+    let kept = checked_keeps (Pours n w) d w e (all_refused (judged e w)) (pours_none n w refusal.OutOfMemory) (pours_hold n d w) in
+    subst (λ (p : Outcome × Shown). Pours n w p.0 p.1) h.is kept
+  where
+    all_refused : (j : Result Change Refusal) → IfErr j (λ r. Pours n (shown_of old) (outcomes.Refused r) (shown_of old))
+    all_refused (Ok change) = tt
+    all_refused (Err r) = pours_none n (shown_of old) r
+
+-- a pour of these shares adds them to what the lot of the issue had, to all that are there
+added_by : (n : ℕ) (outcome : Outcome) (old new : World) → AreBacked old → (p : PoursInto n outcome (shown_of old) (shown_of new)) → AreTied old.clear.clear.lots old.clear.lots
+    → IsPoured old.clear.clear p.lot.issue (free_of (orders_of old.clear.clear.log.records) old.clear.clear.lots p.lot.issue)
+added_by n outcome old new backed p tied =
+    let at = going_parts old.clear.lots n p.lot p.going in
+    let twin = tied.each n p.lot at.found at.going in
+    let lent : lent_of old.clear.clear.lots p.lot.issue ≡ twin.twin.poured = ap lent_by twin.found in
+    pour_adds old.clear.clear p.lot.issue (free_of (orders_of old.clear.clear.log.records) old.clear.clear.lots p.lot.issue) twin.twin backed.lawful backed.fits backed.lots twin.found
+    (ap (λ (x : ℕ). avail_in old.clear.clear.log.records p.lot.issue - x) lent)
+
+-- what is poured into the lot of a number is poured into its cell
+poured_busy : (n : ℕ) (outcome : Outcome) (old new : World) (b : BusyLot) → AreBacked old → AreTied old.clear.clear.lots old.clear.lots → Comes (event.LotPour n) outcome old new
+    → (p : PoursInto n outcome (shown_of old) (shown_of new)) → IsBusy old.clear b
+    → IsBusy new.clear (changed_at (busy_with_pour (free_of (orders_of old.clear.clear.log.records) old.clear.clear.lots p.lot.issue)) n b)
+poured_busy n outcome old new b backed tied comes p busy = by (b.lot == n) refl
+  where
+    shares : ℕ
+    shares = free_of (orders_of old.clear.clear.log.records) old.clear.clear.lots p.lot.issue
+
+    more : b.lot ≡ n → (l : LotState) → at_number old.clear.lots b.lot ≡ Some l → IsFed new.clear.clear.lots (busy_with_pour shares b) l
+    more same l found =
+        let pour = added_by n outcome old new backed p tied in
+        let at = going_parts old.clear.lots n p.lot p.going in
+        let one : p.lot ≡ l = same_Some p.lot l (sym at.found ∙ ap (at_number old.clear.lots) (sym same) ∙ found) in
+        let fed = busy.fed p.lot (ap (at_number old.clear.lots) same ∙ at.found) at.going in
+        let before : b.poured ≡ pour.lot.poured = fed.poured ∙ ap lent_by pour.found in
+        let after : lent_of new.clear.clear.lots p.lot.issue ≡ avail_in old.clear.clear.log.records p.lot.issue =
+        ap (λ (ls : List Lot). lent_of ls p.lot.issue) p.open_lots ∙ lent_poured old.clear.clear.log.records p.lot.issue old.clear.clear.lots pour.lot pour.found in
+        subst (IsFed new.clear.clear.lots (busy_with_pour shares b)) one
+        (record { poured = ap (λ (x : ℕ). x + shares) before ∙ pour.all ∙ sym after; tickets = fed.tickets; unsealed = fed.unsealed })
+
+    by : (t : Bool) → (b.lot == n) ≡ t → IsBusy new.clear (if t then busy_with_pour shares b else b)
+    by true e = record {
+      given = let a = busy.given in let len = ap length p.lots in omega arith;
+      fed = λ l here up. more (eqb-true b.lot n e) l (ap (λ (lots : List LotState). at_number lots b.lot) (sym p.lots) ∙ here);
+    }
+    by false e =
+        busy_kept (Some n) old.clear new.clear b busy (step_spares (event.LotPour n) outcome old new comes) (step_twins (event.LotPour n) outcome old new tied comes)
+        (λ some. absurd (eqb-false b.lot n e (sym (same_Some n b.lot some))))
+
+pub pour_kept : (n : ℕ) (outcome : Outcome) (old new : World) (busy : List BusyLot) → AreBacked old → AreTied old.clear.clear.lots old.clear.lots → Comes (event.LotPour n) outcome old new
+    → AreBusy old.clear busy → AreBusy new.clear (busy_after_pour outcome n busy)
+pour_kept n outcome old new busy backed tied comes are = by (pours_by n outcome old new comes)
+  where
+    by : Pours n (shown_of old) outcome (shown_of new) → AreBusy new.clear (busy_after_pour outcome n busy)
+    by (inr none) =
+        subst (AreBusy new.clear) (sym (not_poured outcome n busy none.none))
+        (all_kept None old.clear new.clear busy are (spares_same None old.clear.lots new.clear.lots none.lots) (twins_same None old.clear new.clear none.open_lots)
+        (λ k d below some. let no = some in cc))
+    by (inl p) =
+        let shares = free_of (orders_of old.clear.clear.log.records) old.clear.clear.lots p.lot.issue in
+        subst (λ (o : Outcome). AreBusy new.clear (busy_after_pour o n busy)) (sym p.told)
+        (record {
+          each =
+              All-map (IsBusy new.clear) (changed_at (busy_with_pour shares) n) busy
+              (All-weaker (IsBusy old.clear) (λ (b : BusyLot). IsBusy new.clear (changed_at (busy_with_pour shares) n b)) (λ b is. poured_busy n outcome old new b backed tied comes p is) busy are.each);
+          order = order_stays (busy_with_pour shares) n (λ b. refl) busy are.order;
+        })
+
+-- the cell takes what was poured into the lot
+pub pour_fits : (n shares : ℕ) (outcome : Outcome) (old new : World) (busy : List BusyLot) → AreBacked old → AreTied old.clear.clear.lots old.clear.lots
+    → Comes (event.LotPour n) outcome old new → outcome ≡ outcomes.Poured shares → AreBusy old.clear busy → PourFits n shares busy
+pour_fits n shares outcome old new busy backed tied comes told are = by (pours_by n outcome old new comes)
+  where
+    poured_same : (a b : ℕ) → outcomes.Poured a ≡ outcomes.Poured b → a ≡ b
+    poured_same a b is = cc is
+
+    by : Pours n (shown_of old) outcome (shown_of new) → PourFits n shares busy
+    by (inr none) = absurd (none.none shares told)
+    by (inl p) =
+        let pour = added_by n outcome old new backed p tied in
+        let at = going_parts old.clear.lots n p.lot p.going in
+        let same : shares ≡ free_of (orders_of old.clear.clear.log.records) old.clear.clear.lots p.lot.issue = poured_same shares _ (sym told ∙ p.told) in
+        λ k d below number.
+        let fed = (are.each k d below).fed p.lot (ap (at_number old.clear.lots) number ∙ at.found) at.going in
+        let poured = fed.poured ∙ ap lent_by pour.found in
+        let few = pour.few in omega (arith, same, few, poured)
 
 -- ---- what an event comes to, by the busy lot that is found
 
 pub match_some : (found : Option BusyLot) (P : Type 0) (A : BusyLot → Type 0) (b : BusyLot) → found ≡ Some b → A b → MatchOption found P A
 match_some found P A b is a = subst (λ (o : Option BusyLot). MatchOption o P A) (sym is) a
-
-pub match_none : (found : Option BusyLot) (P : Type 0) (A : BusyLot → Type 0) → found ≡ None → P → MatchOption found P A
-match_none found P A is p = subst (λ (o : Option BusyLot). MatchOption o P A) (sym is) p
 
 -- both nodes and the link change by an event, or stay
 abbrev Goes : Outcome → FloorState → FloorState → Type 0
@@ -302,7 +375,7 @@ pub floor_rises : (e : Event) (o : Outcome) (old new : FloorState) → FloorStep
 floor_rises e o old new h = by (floor_goes e o old new h)
   where
     by : Goes o old new → NumbersRise old.system new.system
-    by (inl g) = (step_spares g.0 o old.system new.system g.1.step).longer
+    by (inl g) = (step_spares g.0 o old.system new.system g.1.comes).longer
     by (inr same) = (spares_same None old.system.clear.lots new.system.clear.lots (ap (λ (w : World). w.clear.lots) same)).longer
 
 -- ---- the cell's own events

@@ -1,6 +1,7 @@
 -- The headline, from the accord of both nodes and what each of them knows of its own records.
-use Rattle.std.proofs.Common.{◌≡◌, ◌∙◌, ℕ, Bool, true, false, List, Option, Some, None, ap, refl, arith}
-use Rattle.std.specs.Prelude.{◌&&◌, All, is_some, option_map, unwrap_or, if◌then◌else◌}
+use Rattle.std.proofs.Common.{◌≡◌, ◌∙◌, ℕ, Bool, true, false, List, Option, Some, None, ap, subst, refl, arith}
+use Rattle.std.proofs.lemmas.Option.{slice_get-map}
+use Rattle.std.specs.Prelude.{◌&&◌, All, is_some, map, option_map, slice_get, unwrap_or, if◌then◌else◌}
 use Rattle.cns_movements.specs.Order.{AgreesWith, IsNumbered, is_of, moved_of, moved_part, moved_sum}
 use Rattle.cns_movements.specs.declared.order.MoveKind.{MoveKind}
 use Rattle.cns_movements.specs.declared.order.MoveKind.TheVariants.{Cover, Delivery}
@@ -15,10 +16,11 @@ use Rattle.cns_depository.specs.declared.movement.Movement.{Movement}
 use Rattle.cns_depository.specs.Stock.{executed_of}
 use Rattle.cns_depository.proofs.BalanceLemmas.{moved_out_covered}
 use Rattle.cns_depository.proofs.ExecutedLemmas.{AreOnce, lawful_once, moved_in_cns}
-use Rattle.cns_system.specs.Accord.{AreLawful, IsInAccord, IsKnown}
+use Rattle.cns_system.specs.Accord.{AreLawful, IsInAccord, IsAsOrdered, IsOrderPacket, IsReplyPacket, SpellsOrder, SpellsReply}
 use Rattle.cns_system.specs.Agreement.{IsExecuted}
 use Rattle.cns_system.specs.Headline.{IsAgreed, IsBalanced, confirmed_sum}
-use Rattle.cns_system.specs.World.{World}
+use Rattle.cns_system.specs.World.{AreFrames, IsOrderFrame, IsReplyFrame, World, order_spelt, reply_spelt}
+use Rattle.cns_system.proofs.AccordLemmas.{all_found}
 use Rattle.cns_system.proofs.DeliveredLemmas.{confirmed_as, covers_executed, executed_part, executed_sum, executed_where}
 
 -- what confirmed orders moved is what the movements that both nodes hold moved
@@ -43,7 +45,7 @@ module _ (book : Orders) (movements : List Movement) (kind : MoveKind) (member i
   unfolding is_counted
   counted_alike a b agree = let f = agree_fields a b agree in rw (f.number, f.kind, f.member, f.issue) refl
 
-  pub confirmed_moved : IsNumbered 1 book.orders → All (IsKnown book.orders) movements → AreOnce movements
+  pub confirmed_moved : IsNumbered 1 book.orders → All (IsAsOrdered book.orders) movements → AreOnce movements
       → moved_sum book.orders book.replies kind member issue ≡ confirmed_sum movements book.replies kind member issue
   unfolding moved_sum confirmed_sum is_counted
   confirmed_moved numbered known once =
@@ -51,9 +53,20 @@ module _ (book : Orders) (movements : List Movement) (kind : MoveKind) (member i
       let parts = sum_same_from _ _ book.orders 1 numbered (λ o from. same_part o) in
       omega (arith, all, parts)
 
+-- a packet is one of an order, or of a reply, by what it spells
+spelt_at : {A : Type 0} (P : Option A → Type 0) (spelt : List ℕ → Option A) (packets : List (List ℕ)) (k : ℕ) (bytes : List ℕ) → All P (map spelt packets) → slice_get packets k ≡ Some bytes
+    → P (spelt bytes)
+spelt_at P spelt packets k bytes all at = all_found P (map spelt packets) k (spelt bytes) all (slice_get-map spelt packets k ∙ ap (option_map spelt) at)
+
+order_packet : (orders : List Order) (bytes : List ℕ) → IsOrderFrame bytes → SpellsOrder orders (order_spelt bytes) → IsOrderPacket orders bytes
+order_packet orders bytes frame spells = record { order = frame.order; found = subst (SpellsOrder orders) frame.reads spells; frame = frame.frame; reads = frame.reads }
+
+reply_packet : (movements : List Movement) (bytes : List ℕ) → IsReplyFrame bytes → SpellsReply movements (reply_spelt bytes) → IsReplyPacket movements bytes
+reply_packet movements bytes frame spells = record { reply = frame.reply; done = subst (SpellsReply movements) frame.reads spells; frame = frame.frame; reads = frame.reads }
+
 -- both nodes and the link are as the headline says
-pub agreed : (w : World) → AreLawful w → IsBalanced w → IsInAccord w → IsAgreed w
-agreed w lawful balanced accord honest depot_honest =
+pub agreed : (w : World) → AreLawful w → IsBalanced w → AreFrames w.orders w.replies → IsInAccord w → IsAgreed w
+agreed w lawful balanced frames accord honest depot_honest =
     let a = accord honest depot_honest in
     let c = w.clear.clear.log.records in
     let p = w.depot.log.records in
@@ -62,12 +75,12 @@ agreed w lawful balanced accord honest depot_honest =
     let numbered : IsNumbered 1 book.orders = (lawful_bounded c lawful.0).ordered.numbered in
     let once : AreOnce movements = lawful_once w.depot.openings p lawful.1 in
     let moved : (kind : MoveKind) (member issue : ℕ) → moved_sum book.orders book.replies kind member issue ≡ confirmed_sum movements book.replies kind member issue =
-    λ kind member issue. confirmed_moved book movements kind member issue a.executed numbered a.known once in
+    λ kind member issue. confirmed_moved book movements kind member issue a.confirmed numbered a.executed once in
     record {
-      executed = a.known;
-      confirmed = a.executed;
-      sent = a.sent;
-      answered = a.answered;
+      executed = a.executed;
+      confirmed = a.confirmed;
+      sent = λ k bytes at. order_packet (orders_of c).orders bytes (frames.orders_are k bytes at) (spelt_at (SpellsOrder (orders_of c).orders) order_spelt w.orders k bytes a.sent at);
+      answered = λ k bytes at. reply_packet movements bytes (frames.replies_are k bytes at) (spelt_at (SpellsReply movements) reply_spelt w.replies k bytes a.answered at);
       lawful = lawful.0;
       stock = lawful.1;
       given = λ account issue. moved_out_covered w.depot.openings p account issue lawful.1;
@@ -77,7 +90,7 @@ agreed w lawful balanced accord honest depot_honest =
       whole = λ issue. (balanced issue).1;
       backed = λ issue.
           let sums = balanced issue in
-          omega (arith, sums.1, covers_executed book movements issue numbered a.known once a.executed, moved_in_cns p issue);
+          omega (arith, sums.1, covers_executed book movements issue numbered a.executed once a.confirmed, moved_in_cns p issue);
       available = λ issue. let sums = balanced issue in omega (arith, sums.1);
       lent = λ issue. let sums = balanced issue in omega (arith, sums.1);
     }

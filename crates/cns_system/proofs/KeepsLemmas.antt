@@ -1,357 +1,259 @@
--- Each call of the depository keeps the two nodes and the link in accord, and so does each event; and each event keeps allocations that
--- close lots.
-use Rattle.std.proofs.Common.{◌≡◌, ◌∙◌, inl, inr, ℕ, Bool, true, false, List, ◌∷◌, Option, Some, None, Result, Ok, Err, ap, cond, refl, subst, sym}
-use Rattle.std.specs.Prelude.{◌==◌, ◌-◌, slice_get, if◌then◌else◌}
-use Rattle.std.proofs.lemmas.Bool.{eq-eqb}
+-- Each event keeps the two nodes and the link in accord, and allocations that close lots.
+use Rattle.std.proofs.Common.{◌≡◌, ◌∙◌, ◌+◌, ◌-◌, ◌++◌, [], ◌∷◌, ℕ, Bool, true, false, List, length, Option, Some, None, Result, Ok, Err, refl, sym, ap, subst, inl, inr}
+use Rattle.std.specs.Prelude.{◌==◌, All, IfErr, IfOk, map, slice_get, if◌then◌else◌}
+use Rattle.std.specs.Option.{ok_or, option_flatten}
 use Rattle.std.proofs.lemmas.Option.{none-some}
+use Rattle.cns_ids.specs.Steps.{◌>>=◌}
 use Rattle.cns_movements.specs.Order.{order_of}
 use Rattle.cns_movements.specs.declared.order.Order.{Order}
 use Rattle.cns_movements.specs.declared.order.Reply.{Reply}
-use Rattle.cns_movements.proofs.OrderLemmas.{order_of_number}
+use Rattle.cns_movements.proofs.AgreeLemmas.{agree_fields}
+use Rattle.cns_pool.specs.declared.ticket.Ticket.{Ticket}
+use Rattle.cns_wire.specs.Packet.{at_number}
+use Rattle.cns_records.specs.Call.{Deed}
+use Rattle.cns_records.specs.Call as call
 use Rattle.cns_records.specs.declared.clear_record.ClearRecord.{ClearRecord}
 use Rattle.cns_records.specs.declared.clear_record.ClearRecord.TheVariants as entry
 use Rattle.cns_records.specs.declared.dep_record.DepRecord.{DepRecord}
 use Rattle.cns_records.specs.declared.dep_record.DepRecord.TheVariants as dep
 use Rattle.cns_records.specs.declared.instruction.Instruction.{Instruction}
-use Rattle.cns_clearing.specs.Answers.{CycleLeaves, ReplyLeaves, SettingLeaves, TradeLeaves}
-use Rattle.cns_clearing.specs.Books.{orders_of}
-use Rattle.cns_journal.specs.RecordLog.{LogRestarts, LogState}
-use Rattle.cns_journal.specs.declared.record_log.ReplayFault.{ReplayFault}
-use Rattle.cns_journal.specs.declared.record_log.Restarted.{Restarted}
-use Rattle.cns_trades.specs.declared.opening.Opening.{Opening}
-use Rattle.cns_records.specs.Dep.{dep_spelling, HasDepPayload}
-use Rattle.cns_movements.proofs.AgreeLemmas.{agree_fields}
-use Rattle.cns_depository.specs.Answers.{InstructLeaves, OrderLeaves, known_at, next_movement, next_record}
-use Rattle.cns_depository.specs.Node.{DepNode}
-use Rattle.cns_depository.specs.Stock.{IsExecutable, executed_of, movement_of}
-use Rattle.cns_depository.specs.declared.movement.Movement.{Movement}
+use Rattle.cns_records.specs.declared.refusal.Refusal.{Refusal}
+use Rattle.cns_records.specs.declared.refusal.Refusal.TheVariants as refusal
+use Rattle.cns_clearing.specs.Answers.{cycle_call, reply_call, setting_call, trade_call, up}
+use Rattle.cns_clearing.specs.Books.{IsLawful, orders_of}
+use Rattle.cns_clearing.specs.declared.answer.Closed.{Closed}
+use Rattle.cns_clearing.specs.declared.answer.Cycled.{Cycled}
+use Rattle.cns_clearing.specs.declared.lot.Lot.{Lot}
+use Rattle.cns_depository.specs.Answers.{instruct_call, order_call, reply_to}
+use Rattle.cns_depository.specs.Stock.{IsLawfulDepot, executed_of, execution, movement, movement_of}
 use Rattle.cns_depository.specs.declared.fault.Answer.{Answer}
-use Rattle.cns_depository.specs.declared.fault.Answer.TheVariants as answer
 use Rattle.cns_depository.specs.declared.fault.DepFault.{DepFault}
-use Rattle.cns_depository.specs.declared.fault.DepFault.TheVariants as fault
 use Rattle.cns_depository.specs.declared.fault.Own.{Own}
-use Rattle.cns_depository.specs.declared.fault.Own.TheVariants as done
 use Rattle.cns_depository.specs.declared.fault.OwnFault.{OwnFault}
-use Rattle.cns_depository.specs.declared.fault.OwnFault.TheVariants as own
-use Rattle.cns_system.specs.Accord.{Accord, AreLawful, FitsOrders, FitsStock, IsInAccord, IsKnown}
+use Rattle.cns_depository.specs.declared.movement.Movement.{Movement}
+use Rattle.cns_system.specs.Accord.{Accord, AreLawful, FitsStock, IsInAccord, SpellsOrder, SpellsReply}
 use Rattle.cns_system.specs.Agreement.{IsExecuted}
-use Rattle.cns_system.specs.Lot.{with_seal}
-use Rattle.cns_system.specs.Lots.{LotLeaves, ReserveLeaves}
-use Rattle.cns_system.specs.Outcomes.{asked_outcome, close_outcome, cycle_outcome, done_outcome, open_outcome, pour_outcome, poured_outcome, reply_outcome, reserve_outcome, restart_outcome, trade_outcome}
-use Rattle.cns_system.specs.Numbered.{NumberedNode, CloseLeaves, OpenLeaves, PourLeaves}
-use Rattle.cns_wire.specs.Packet.{at_number}
-use Rattle.cns_system.specs.Step.{AtClear, ByLots, ByNode, ClearRestarts, DepotRestartStep, InstructStep, Looks, OrderInStep, OrderTaken, Puts, ReplyInStep, SendStep, Step}
-use Rattle.cns_system.specs.World.{World, order_in_packet, reply_in_packet}
+use Rattle.cns_system.specs.Happens.{Change, ClearReads, Decision, DepotReads, DeviceFails, FindsBad, Goes, Grows, Leaves, NoMemory, by_clear, by_order, by_own, clear_deed, judged, restarts, taken_told}
+use Rattle.cns_system.specs.Lot.{LotState, with_end, with_seal}
+use Rattle.cns_system.specs.Lots.{change_call, reserve_call}
+use Rattle.cns_system.specs.Numbered.{numbered_close, lots_ended, numbered_open, numbered_pour}
+use Rattle.cns_system.specs.Scene.{Chance, Comes, decision_at, scene_of, sight_of}
+use Rattle.cns_system.specs.World.{World}
+use Rattle.cns_system.specs.Shown.{Shown, shown_of, clear_added, clear_failed, depot_added, with_new_lot}
 use Rattle.cns_system.specs.declared.event.Event.{Event}
 use Rattle.cns_system.specs.declared.event.Event.TheVariants as event
 use Rattle.cns_system.specs.declared.event.NodeName.TheVariants as node
+use Rattle.cns_system.specs.declared.numbered.Opened.{Opened}
 use Rattle.cns_system.specs.declared.outcome.Outcome.{Outcome}
-use Rattle.cns_system.proofs.AccordLemmas.{executed_more, grown, kept, order_put, packet_done, packet_found, reply_put, stock_kept}
-use Rattle.cns_system.proofs.DeliveredLemmas.{next_known}
-use Rattle.cns_clearing.specs.Lots.{ClosesLot}
-use Rattle.cns_journal.specs.Replay.{AreAllowed}
-use Rattle.cns_journal.specs.RecordLog.{IsLawfulLog, MayStand}
-use Rattle.cns_journal.specs.declared.keeper.NotPlanned.{NotPlanned}
-use Rattle.cns_system.specs.Headline.{AreStrict}
-use Rattle.cns_system.specs.Readers.{PlanStep}
-use Rattle.cns_system.specs.declared.event.NodeName.{NodeName}
-use Rattle.cns_system.proofs.ClearLemmas.{IsPlain, event_keeps}
-use Rattle.cns_system.proofs.LogLemmas.{IsKept, Keeps, by_added, by_failed, by_log, planned_keeps, restart_keeps}
+use Rattle.cns_system.specs.declared.outcome.Outcome.TheVariants as outcomes
+use Rattle.cns_system.proofs.AccordLemmas.{all_found, clear_read, clear_unread, depot_read, depot_unread, executed_more, failed, grown, order_put, reply_put, stock_failed}
+use Rattle.cns_system.proofs.DeliveredLemmas.{movement_of_same, next_known}
+use Rattle.cns_movements.proofs.OrderLemmas.{order_of_number}
+use Rattle.cns_system.proofs.HappensLemmas.{Holds, checked_keeps, clear_holds, happened, tells_holds}
+use Rattle.cns_system.proofs.HonestLemmas.{AreBack, IsHonestly, honestly}
+use Rattle.cns_system.proofs.OrderDeeds.{IsOrderDeed, IsOwnDeed, order_deeds, own_deeds}
+use Rattle.cns_system.proofs.RecordedLemmas.{IsClose, Recorded, close_records, cycle_records, given, reply_records, setting_records, trade_records}
+use Rattle.cns_system.proofs.StepLemmas.{found_some, ok_then}
 
--- ---- the accord, of either log
+-- ---- restarts
 
--- with the clearing node's log
-pub accord_kept : (d : LogState DepRecord) (orders replies : List (List ℕ)) → IsKept (λ (c : LogState ClearRecord). Accord c d orders replies) (λ before u. FitsStock (executed_of d.records) u)
-accord_kept d orders replies = record {
-  grows = λ old new u a fits more none. grown old new d orders replies u a fits more none;
-  stays = λ old new a same fits up. kept old new d orders replies a same fits up;
-  tried = λ log u a tried. a.clear_tried u tried;
-  up = λ log a up. a.clear_up up;
-}
+-- so it is at the restart of an honest keeper
+abbrev pub GivesBack : Decision → Event → Shown → Type 0
+GivesBack d (event.Restart node.Clear) w = (c : List ClearRecord) → d ≡ ClearReads c → AreBack w.clear.tried w.clear.records c
+GivesBack d (event.Restart node.Depot) w = (p : List DepRecord) → d ≡ DepotReads p → AreBack w.depot.tried w.depot.records p
+GivesBack d _ w = Unit {0}
 
--- a record of the depository fits the orders of the clearing node's log
-abbrev FitsBook : LogState ClearRecord → List DepRecord → DepRecord → Type 0
-FitsBook c p e = FitsOrders (orders_of c.records).orders (executed_of p) e
+abbrev InAccord : Outcome → Shown → Type 0
+InAccord outcome w = Accord w
 
--- with the depository's log
-stock_accord_kept : (c : LogState ClearRecord) (orders replies : List (List ℕ)) → IsKept (λ (d : LogState DepRecord). Accord c d orders replies) (FitsBook c)
-stock_accord_kept c orders replies = record {
-  grows = λ old new e a fits more none. executed_more c old new orders replies e a fits more none;
-  stays = λ old new a same fits up. stock_kept c old new orders replies a same fits up;
-  tried = λ log e a tried. a.depot_tried e tried;
-  up = λ log a up. a.depot_up up;
-}
+-- ---- packets
 
--- ---- the calls of the depository
-
-module _ (c : LogState ClearRecord) (orders replies : List (List ℕ)) where
-  -- a call of the depository keeps the accord, where its keeper is honest
-  abbrev pub StockKeeps : LogState DepRecord → LogState DepRecord → Type 0
-  StockKeeps old new = Keeps (λ (d : LogState DepRecord). Accord c d orders replies) old new
-
-  stock_same : (old new : DepNode) → new ≡ old → StockKeeps old.log new.log
-  stock_same old new e = by_log (λ d. Accord c d orders replies) (FitsBook c) (stock_accord_kept c orders replies) old.log new.log (ap (λ (n : DepNode). n.log) e)
-
-  -- an order that the clearing node has, whose movement is known where it is new
-  order_keeps : (o : Order) (result : Result Answer DepFault) (old new : DepNode)
-      → (Accord c old.log orders replies → known_at old o.number ≡ None → IsKnown (orders_of c.records).orders (next_movement old o))
-      → OrderLeaves o result old new → StockKeeps old.log new.log
-  order_keeps o (Ok (answer.Done r)) old new known h =
-      by_added (λ d. Accord c d orders replies) (FitsBook c) (stock_accord_kept c orders replies) old.log new.log (next_record old o) (λ a. (known a h.0, h.0)) h.2.0 h.2.1
-  order_keeps o (Ok (answer.Again r)) old new known h = stock_same old new h.2
-  order_keeps o (Err fault.Down) old new known h = stock_same old new h.1
-  order_keeps o (Err fault.Conflict) old new known h = stock_same old new h.2
-  order_keeps o (Err fault.OutOfMemory) old new known h = stock_same old new h.2
-  order_keeps o (Err fault.Device) old new known h =
-      by_failed (λ d. Accord c d orders replies) (FitsBook c) (stock_accord_kept c orders replies) old.log new.log (next_record old o) (λ a. (known a h.0, h.0)) h.1.1
-
-  -- a member's own instruction, of which the clearing node's orders know nothing
-  instruct_keeps : (i : Instruction) (result : Result Own OwnFault) (old new : DepNode) → InstructLeaves i result old new → StockKeeps old.log new.log
-  instruct_keeps i (Ok done.Done) old new h =
-      by_added (λ d. Accord c d orders replies) (FitsBook c) (stock_accord_kept c orders replies) old.log new.log (dep.Own i) (λ a. tt) h.1.0 h.1.1
-  instruct_keeps i (Ok done.Again) old new h = stock_same old new h.2
-  instruct_keeps i (Err own.Down) old new h = stock_same old new h.1
-  instruct_keeps i (Err own.Conflict) old new h = stock_same old new h.2
-  instruct_keeps i (Err own.IssueSum) old new h = stock_same old new h.1
-  instruct_keeps i (Err own.TooFew) old new h = stock_same old new h.1
-  instruct_keeps i (Err own.OutOfMemory) old new h = stock_same old new h.2
-  instruct_keeps i (Err own.Device) old new h =
-      by_failed (λ d. Accord c d orders replies) (FitsBook c) (stock_accord_kept c orders replies) old.log new.log (dep.Own i) (λ a. tt) h.1.1
-
-  depot_restart_keeps : (openings : List Opening) (result : Result Restarted ReplayFault) (old new : LogState DepRecord)
-      → LogRestarts dep_spelling (IsExecutable openings) HasDepPayload result old new → StockKeeps old new
-  depot_restart_keeps openings =
-      restart_keeps (λ d. Accord c d orders replies) (FitsBook c) (stock_accord_kept c orders replies) dep_spelling (IsExecutable openings) HasDepPayload
-
--- a movement that was just executed, or was executed before, is one that the reply tells of
-done_executed : (o : Order) (r : Reply) (old new : DepNode) → OrderLeaves o (Ok (answer.Done r)) old new → IsExecuted (executed_of new.log.records) r
-done_executed o r old new h =
-    let m : Movement = next_movement old o in
-    subst (λ (l : List DepRecord). IsExecuted (executed_of l) r) (sym (ap (λ (l : LogState DepRecord). l.records) h.2.1.0))
-    (subst (IsExecuted (m ∷ executed_of old.log.records)) (sym h.1)
-    (m, ap (λ b. cond b (Some m) (known_at old o.number)) (eq-eqb o.number o.number refl), refl))
-
-again_executed : (o : Order) (r : Reply) (old new : DepNode) → OrderLeaves o (Ok (answer.Again r)) old new → IsExecuted (executed_of new.log.records) r
-again_executed o r old new h =
-    let known = h.1 in
-    let number : r.number ≡ o.number = ap (λ (x : Reply). x.number) known.3 ∙ (agree_fields known.0.order o known.2).number in
-    subst (λ (n : DepNode). IsExecuted (executed_of n.log.records) r) (sym h.2)
-    (known.0, ap (movement_of (executed_of old.log.records)) number ∙ known.1, sym (ap (λ (x : Reply). x.moved) known.3))
-
--- ---- events
-
--- what keeps the clearing node's log in accord with what is beside it, and leaves that as it is, keeps all in accord
-at_clear : (old new : World) → Keeps (λ (c : LogState ClearRecord). Accord c old.depot.log old.orders old.replies) old.clear.clear.log new.clear.clear.log
-    → new.depot ≡ old.depot → new.orders ≡ old.orders → new.replies ≡ old.replies → IsInAccord old → IsInAccord new
-at_clear old new now depot orders replies accord = λ clear_honest depot_honest.
-    let was_honest = sym now.0 ∙ clear_honest in
-    let before = accord was_honest (sym (ap (λ (n : DepNode). n.log.honest) depot) ∙ depot_honest) in
-    subst (λ (n : DepNode). Accord new.clear.clear.log n.log new.orders new.replies) (sym depot)
-    (subst (λ (l : List (List ℕ)). Accord new.clear.clear.log old.depot.log l new.replies) (sym orders)
-    (subst (λ (l : List (List ℕ)). Accord new.clear.clear.log old.depot.log old.orders l) (sym replies) (now.1 was_honest before)))
-
--- and so does what keeps the depository's log so
-at_depot : (old new : World) → StockKeeps old.clear.clear.log old.orders old.replies old.depot.log new.depot.log
-    → new.clear ≡ old.clear → new.orders ≡ old.orders → new.replies ≡ old.replies → IsInAccord old → IsInAccord new
-at_depot old new now clear orders replies accord = λ clear_honest depot_honest.
-    let was_honest = sym now.0 ∙ depot_honest in
-    let before = accord (sym (ap (λ (n : NumberedNode). n.clear.log.honest) clear) ∙ clear_honest) was_honest in
-    subst (λ (n : NumberedNode). Accord n.clear.log new.depot.log new.orders new.replies) (sym clear)
-    (subst (λ (l : List (List ℕ)). Accord old.clear.clear.log new.depot.log l new.replies) (sym orders)
-    (subst (λ (l : List (List ℕ)). Accord old.clear.clear.log new.depot.log old.orders l) (sym replies) (now.1 was_honest before)))
-
--- an event at the clearing node
-clear_step : {R : Type 0} (told : R → Outcome) (Leaves : R → NumberedNode → NumberedNode → Type 0) (outcome : Outcome) (old new : World)
-    → Keeps (λ (c : LogState ClearRecord). Accord c old.depot.log old.orders old.replies) old.clear.clear.log new.clear.clear.log
-    → AtClear told Leaves outcome old new → IsInAccord old → IsInAccord new
-clear_step told Leaves outcome old new now h = at_clear old new now h.0 h.1 h.2
-
--- an order is sent
-send_step : (number : ℕ) (outcome : Outcome) (old new : World) → SendStep number outcome old new → IsInAccord old → IsInAccord new
-send_step number outcome old new (inl h) accord =
-    let sent = h.2 in
-    subst IsInAccord (sym sent.put)
-    (λ clear_honest depot_honest.
-    order_put old.clear.clear.log old.depot.log old.orders old.replies sent.order (accord clear_honest depot_honest)
-    (subst (λ (n : ℕ). order_of (orders_of old.clear.clear.log.records).orders n ≡ Some sent.order)
-    (sym (order_of_number (orders_of old.clear.clear.log.records).orders number sent.order sent.found)) sent.found)
-    sent.reads)
-send_step number outcome old new (inr h) accord = subst IsInAccord (sym h.3) accord
-
--- what the depository's answer puts on the link
-puts_keep : (c : LogState ClearRecord) (o : Order) (result : Result Answer DepFault) (old new : World) → OrderLeaves o result old.depot new.depot → Puts result old new
-    → Accord c new.depot.log old.orders old.replies → Accord c new.depot.log old.orders new.replies
-puts_keep c o (Ok (answer.Done r)) old new h p a =
-    subst (λ (l : List (List ℕ)). Accord c new.depot.log old.orders l) (sym p.put)
-    (reply_put c new.depot.log old.orders old.replies r a (done_executed o r old.depot new.depot h) p.reads)
-puts_keep c o (Ok (answer.Again r)) old new h p a =
-    subst (λ (l : List (List ℕ)). Accord c new.depot.log old.orders l) (sym p.put)
-    (reply_put c new.depot.log old.orders old.replies r a (again_executed o r old.depot new.depot h) p.reads)
-puts_keep c o (Err fault) old new h p a = subst (λ (l : List (List ℕ)). Accord c new.depot.log old.orders l) (sym p) a
-
--- an order arrives: it is one that the clearing node sent
-order_taken : (k : ℕ) (bytes : List ℕ) (o : Order) (outcome : Outcome) (old new : World) → slice_get old.orders k ≡ Some bytes → order_in_packet (Some bytes) ≡ Some o
-    → new.clear ≡ old.clear → new.orders ≡ old.orders → OrderTaken o outcome old new → AreLawful old → IsInAccord old → IsInAccord new
-order_taken k bytes o outcome old new at reads clear orders (inl t) lawful accord = λ clear_honest depot_honest.
-    let known = λ (a : Accord old.clear.clear.log old.depot.log old.orders old.replies) (fresh : known_at old.depot o.number ≡ None).
-    next_known old.depot.openings old.clear.clear.log.records old.depot.log.records o lawful.0 lawful.1 a.known a.executed
-    (packet_found (orders_of old.clear.clear.log.records).orders bytes o (a.sent k bytes at) reads) fresh in
-    let now = order_keeps old.clear.clear.log old.orders old.replies o t.0 old.depot new.depot known t.2 in
-    let was_honest = sym now.0 ∙ depot_honest in
-    let before = accord (sym (ap (λ (n : NumberedNode). n.clear.log.honest) clear) ∙ clear_honest) was_honest in
-    subst (λ (n : NumberedNode). Accord n.clear.log new.depot.log new.orders new.replies) (sym clear)
-    (subst (λ (l : List (List ℕ)). Accord old.clear.clear.log new.depot.log l new.replies) (sym orders)
-    (puts_keep old.clear.clear.log o t.0 old new t.2 t.3 (now.1 was_honest before)))
-order_taken k bytes o outcome old new at reads clear orders (inr t) lawful accord = λ clear_honest depot_honest.
-    let before = accord (sym (ap (λ (n : NumberedNode). n.clear.log.honest) clear) ∙ clear_honest) (sym (ap (λ (n : DepNode). n.log.honest) t.1) ∙ depot_honest) in
-    subst (λ (n : NumberedNode). Accord n.clear.log new.depot.log new.orders new.replies) (sym clear)
-    (subst (λ (l : List (List ℕ)). Accord old.clear.clear.log new.depot.log l new.replies) (sym orders)
-    (subst (λ (n : DepNode). Accord old.clear.clear.log n.log old.orders new.replies) (sym t.1)
-    (subst (λ (l : List (List ℕ)). Accord old.clear.clear.log old.depot.log old.orders l) (sym t.2) before)))
-
--- a packet at a place, where there is one
-pub packet_place : (packets : List (List ℕ)) (number : ℕ) (bytes : List ℕ) → at_number packets number ≡ Some bytes → (k : ℕ) × (slice_get packets k ≡ Some bytes)
-packet_place packets number bytes at = by (number == 0) at
+-- an order in a packet is one that the packets spell
+pub spelt_in : {A : Type 0} (P : Option A → Type 0) (packets : List (Option A)) (packet : ℕ) (a : A) → All P packets → option_flatten (at_number packets packet) ≡ Some a → P (Some a)
+spelt_in P packets packet a all is = by (packet == 0) is
   where
-    by : (b : Bool) → (if b then None else slice_get packets (number - 1)) ≡ Some bytes → (k : ℕ) × (slice_get packets k ≡ Some bytes)
-    by true e = absurd (none-some bytes e)
-    by false e = (number - 1, e)
+    of : (found : Option (Option _)) → slice_get packets (packet - 1) ≡ found → option_flatten found ≡ Some a → P (Some a)
+    of None at is = absurd (none-some a is)
+    of (Some o) at is = subst P is (all_found P packets (packet - 1) o all at)
 
-order_arrives : (packet : Option (List ℕ)) (held : Option Order) (outcome : Outcome) (old new : World)
-    → ((bytes : List ℕ) → packet ≡ Some bytes → (k : ℕ) × (slice_get old.orders k ≡ Some bytes)) → order_in_packet packet ≡ held
-    → OrderInStep held outcome old new → AreLawful old → IsInAccord old → IsInAccord new
-order_arrives packet None outcome old new place is h lawful accord = subst IsInAccord (sym h.1) accord
-order_arrives None (Some o) outcome old new place is h lawful accord = absurd (none-some o is)
-order_arrives (Some bytes) (Some o) outcome old new place is h lawful accord =
-    let at = place bytes refl in
-    order_taken at.0 bytes o outcome old new at.1 is h.0 h.1 h.2 lawful accord
+    by : (none : Bool) → option_flatten (if none then None else slice_get packets (packet - 1)) ≡ Some a → P (Some a)
+    by true is = absurd (none-some a is)
+    by false is = of (slice_get packets (packet - 1)) refl is
 
--- a reply that arrives is of a movement that the depository executed
-reply_fits : (packet : Option (List ℕ)) (r : Reply) (w : World) → ((bytes : List ℕ) → packet ≡ Some bytes → (k : ℕ) × (slice_get w.replies k ≡ Some bytes))
-    → reply_in_packet packet ≡ Some r → Accord w.clear.clear.log w.depot.log w.orders w.replies → IsExecuted (executed_of w.depot.log.records) r
-reply_fits None r w place is a = absurd (none-some r is)
-reply_fits (Some bytes) r w place is a =
-    let at = place bytes refl in
-    packet_done (executed_of w.depot.log.records) bytes r (a.answered at.0 bytes at.1) is
+-- ---- the accord
 
-reply_arrives : (held : Option Reply) (outcome : Outcome) (old new : World)
-    → Keeps (λ (c : LogState ClearRecord). Accord c old.depot.log old.orders old.replies) old.clear.clear.log new.clear.clear.log
-    → ReplyInStep held outcome old new → IsInAccord old → IsInAccord new
-reply_arrives None outcome old new now h accord = subst IsInAccord (sym h.1) accord
-reply_arrives (Some r) outcome old new now h accord = clear_step (reply_outcome r) (ByNode (ReplyLeaves r)) outcome old new now h accord
-
--- a member's own instruction comes to the depository
-instruct_step : (i : Instruction) (outcome : Outcome) (old new : World) → InstructStep i outcome old new → IsInAccord old → IsInAccord new
-instruct_step i outcome old new h =
-    at_depot old new (instruct_keeps old.clear.clear.log old.orders old.replies i h.3.0 old.depot new.depot h.3.2) h.0 h.1 h.2
-
--- the depository restarts
-depot_restart_step : (outcome : Outcome) (old new : World) → DepotRestartStep outcome old new → IsInAccord old → IsInAccord new
-depot_restart_step outcome old new h =
-    at_depot old new (depot_restart_keeps old.clear.clear.log old.orders old.replies old.depot.openings h.3.0 old.depot.log new.depot.log h.3.2.0) h.0 h.1 h.2
-
--- records that are no confirmations fit the stock
-plain_fits : (movements : List Movement) (u : ClearRecord) → IsPlain u → FitsStock movements u
-plain_fits movements (entry.Accept t) plain = tt
-plain_fits movements (entry.Exempt m i s) plain = tt
-plain_fits movements (entry.Priority m i on) plain = tt
-plain_fits movements (entry.Cycle id) plain = tt
-plain_fits movements (entry.Allocate a) plain = tt
-plain_fits movements (entry.Confirm r) plain = absurd plain
-
--- each event keeps the clearing node's log in accord with what there was beside it
-log_keeps : (e : Event) (outcome : Outcome) (old new : World) → Step e outcome old new
-    → Keeps (λ (c : LogState ClearRecord). Accord c old.depot.log old.orders old.replies) old.clear.clear.log new.clear.clear.log
-log_keeps e outcome old new h =
-    event_keeps (λ c. Accord c old.depot.log old.orders old.replies) (λ before u. FitsStock (executed_of old.depot.log.records) u) (accord_kept old.depot.log old.orders old.replies)
-    (λ c u. plain_fits (executed_of old.depot.log.records) u) (λ c a is. tt) e outcome old new
-    (λ packet r is. reply_fits (at_number old.replies packet) r old (packet_place old.replies packet) is) h
-
--- each event keeps both nodes and the link in accord, as the records of both are lawful
-pub step_keeps : (e : Event) (outcome : Outcome) (old new : World) → AreLawful old → Step e outcome old new → IsInAccord old → IsInAccord new
-step_keeps (event.Trade t) outcome old new lawful h = clear_step trade_outcome (ByNode (TradeLeaves t)) outcome old new (log_keeps (event.Trade t) outcome old new h) h
-step_keeps (event.Exempt m i s) outcome old new lawful h =
-    clear_step done_outcome (ByNode (SettingLeaves (entry.Exempt m i s))) outcome old new (log_keeps (event.Exempt m i s) outcome old new h) h
-step_keeps (event.Priority m i on) outcome old new lawful h =
-    clear_step done_outcome (ByNode (SettingLeaves (entry.Priority m i on))) outcome old new (log_keeps (event.Priority m i on) outcome old new h) h
-step_keeps (event.Cycle id) outcome old new lawful h = clear_step cycle_outcome (ByNode (CycleLeaves id)) outcome old new (log_keeps (event.Cycle id) outcome old new h) h
-step_keeps (event.LotOpen issue) outcome old new lawful h = clear_step open_outcome (OpenLeaves issue) outcome old new (log_keeps (event.LotOpen issue) outcome old new h) h
-step_keeps (event.LotPour lot) outcome old new lawful h = clear_step pour_outcome (PourLeaves lot) outcome old new (log_keeps (event.LotPour lot) outcome old new h) h
-step_keeps (event.Reserve lot member) outcome old new lawful h =
-    clear_step reserve_outcome (ByLots (ReserveLeaves lot member)) outcome old new (log_keeps (event.Reserve lot member) outcome old new h) h
-step_keeps (event.LookPoured lot) outcome old new lawful h = clear_step poured_outcome (Looks lot) outcome old new (log_keeps (event.LookPoured lot) outcome old new h) h
-step_keeps (event.LookAsked lot) outcome old new lawful h = clear_step asked_outcome (Looks lot) outcome old new (log_keeps (event.LookAsked lot) outcome old new h) h
-step_keeps (event.Seal lot) outcome old new lawful h = clear_step done_outcome (ByLots (LotLeaves with_seal lot)) outcome old new (log_keeps (event.Seal lot) outcome old new h) h
-step_keeps (event.LotClose lot) outcome old new lawful h = clear_step close_outcome (CloseLeaves lot) outcome old new (log_keeps (event.LotClose lot) outcome old new h) h
-step_keeps (event.Send number) outcome old new lawful h = send_step number outcome old new h
-step_keeps (event.OrderIn packet) outcome old new lawful h =
-    order_arrives (at_number old.orders packet) (order_in_packet (at_number old.orders packet)) outcome old new (packet_place old.orders packet) refl h lawful
-step_keeps (event.ReplyIn packet) outcome old new lawful h =
-    reply_arrives (reply_in_packet (at_number old.replies packet)) outcome old new (log_keeps (event.ReplyIn packet) outcome old new h) h
-step_keeps (event.Own i) outcome old new lawful h = instruct_step i outcome old new h
-step_keeps (event.Restart node.Clear) outcome old new lawful h =
-    clear_step restart_outcome ClearRestarts outcome old new (log_keeps (event.Restart node.Clear) outcome old new h) h
-step_keeps (event.Restart node.Depot) outcome old new lawful h = depot_restart_step outcome old new h
-
--- ---- allocations that close lots
-
--- what was tried may stand after the same records
-may_stand : (old new : LogState ClearRecord) → new.records ≡ old.records → ((u : ClearRecord) → new.tried ≡ Some u → ClosesLot old.records u)
-    → (t : Option ClearRecord) → new.tried ≡ t → MayStand ClosesLot new.records t
-may_stand old new same fits None is = tt
-may_stand old new same fits (Some u) is = subst (λ (c : List ClearRecord). ClosesLot c u) (sym same) (fits u is)
-
-strict_kept : IsKept (IsLawfulLog ClosesLot) ClosesLot
-strict_kept = record {
-  grows = λ old new u a fits more none. record {
-    allowed = subst (AreAllowed ClosesLot) (sym more) (fits, a.allowed);
-    tried = subst (MayStand ClosesLot new.records) (sym none) tt;
-    up = λ up. none;
-  };
-  stays = λ old new a same fits up. record {
-    allowed = subst (AreAllowed ClosesLot) (sym same) a.allowed;
-    tried = may_stand old new same fits new.tried refl;
-    up = up;
-  };
-  tried = λ log u a tried. subst (MayStand ClosesLot log.records) tried a.tried;
-  up = λ log a up. a.up up;
+-- it does not read lots
+pub with_lots : (w : Shown) (open_lots : List Lot) (lots : List LotState) → Accord w → Accord (record w { open_lots = open_lots; lots = lots })
+with_lots w open_lots lots a = record {
+  executed = a.executed;
+  confirmed = a.confirmed;
+  sent = a.sent;
+  answered = a.answered;
+  clear_tried = a.clear_tried;
+  depot_tried = a.depot_tried;
+  clear_up = a.clear_up;
+  depot_up = a.depot_up;
 }
 
-plain_closes : (c : List ClearRecord) (u : ClearRecord) → IsPlain u → ClosesLot c u
-plain_closes c (entry.Accept t) plain = tt
-plain_closes c (entry.Exempt m i s) plain = tt
-plain_closes c (entry.Priority m i on) plain = tt
-plain_closes c (entry.Cycle id) plain = tt
-plain_closes c (entry.Allocate a) plain = absurd plain
-plain_closes c (entry.Confirm r) plain = tt
+module _ (d : Decision) (w : Shown) (a : Accord w) where
+  -- a record of the clearing node that fits what was executed
+  commits : (r : ClearRecord) (lots : List LotState) → w.clear.down ≡ false → FitsStock (executed_of w.depot.records) r
+      → Accord (record (clear_added r w) { lots = lots }) × Accord (clear_failed r w)
+  commits r lots up fits = (grown w a r (clear_added r w).open_lots lots fits (a.clear_up up), failed w a r fits)
 
--- each event keeps them
-pub step_strict : (e : Event) (outcome : Outcome) (old new : World) → Step e outcome old new → AreStrict old → AreStrict new
-step_strict e outcome old new h strict honest =
-    let now = event_keeps (IsLawfulLog ClosesLot) ClosesLot strict_kept plain_closes (λ c a is. is) e outcome old new (λ packet r is a. tt) h in
-    let was_honest = sym now.0 ∙ honest in
-    now.1 was_honest (strict was_honest)
+  -- a call whose record is a plain one
+  by_record : {X : Type 0} (told : X → Outcome) (lots_after : List LotState → List LotState) (deed : Result (Deed ClearRecord X) Refusal) (Q : ClearRecord → Type 0)
+      → ((r : ClearRecord) → Q r → FitsStock (executed_of w.depot.records) r) → IfOk deed (Recorded w.clear.down Q)
+      → IfOk (deed >>= λ k. Ok (clear_deed told lots_after w k)) (Holds InAccord d w)
+  by_record told lots_after deed Q fits records =
+      clear_holds InAccord d w told lots_after deed (λ x is. a)
+      (λ r x is. let here = given (Recorded w.clear.down Q) deed (call.Commits r x) is records in commits r (lots_after w.lots) here.0 (fits r here.1))
 
--- ---- a planned failure
+  -- an order that arrives is one that was sent
+  arrives : (o : Order) → IsLawful w.clear.records → IsLawfulDepot w.openings w.depot.records → order_of (orders_of w.clear.records).orders o.number ≡ Some o
+      → IfOk (by_order w (order_call o w.depot.down w.openings w.depot.records)) (Holds InAccord d w)
+  arrives o lawful stock_lawful found = by (order_call o w.depot.down w.openings w.depot.records) (order_deeds o w.depot.down w.openings w.depot.records)
+    where
+      by : (deed : Result (Deed DepRecord Answer) DepFault) → IfOk deed (IsOrderDeed o w.depot.down w.openings w.depot.records) → IfOk (by_order w deed) (Holds InAccord d w)
+      by (Err fault) is = tt
+      by (Ok (call.Tells x)) (known, at, agrees, is) =
+          let number : known.order.number ≡ o.number = (agree_fields known.order o agrees).number in
+          let executed : IsExecuted (executed_of w.depot.records) (reply_to known) = (known, ap (movement_of (executed_of w.depot.records)) number ∙ at, refl) in
+          rw is (reply_put w a (reply_to known) executed)
+      by (Ok (call.Commits e x)) (up, none, e_is, x_is) =
+          let m : Movement = movement w.openings w.depot.records o in
+          let known = next_known w.openings w.clear.records w.depot.records o lawful stock_lawful a.executed a.confirmed found none in
+          let executed : IsExecuted (m ∷ executed_of w.depot.records) (reply_to m) = (m, movement_of_same m (executed_of w.depot.records), refl) in
+          rw (e_is, x_is) (
+            reply_put (depot_added (execution m) w) (executed_more w a (execution m) (known, none) (a.depot_up up)) (reply_to m) executed,
+            stock_failed w a (execution m) (known, none),
+          )
 
--- it keeps both nodes and the link in accord
-pub planned_accord : (name : NodeName) (stands : Bool) (result : Result (Unit {0}) NotPlanned) (old new : World) → PlanStep name stands result old new → IsInAccord old → IsInAccord new
-planned_accord node.Clear stands result old new h =
-    let kept = accord_kept old.depot.log old.orders old.replies in
-    at_clear old new
-    (planned_keeps (λ (c : LogState ClearRecord). Accord c old.depot.log old.orders old.replies) (λ before u. FitsStock (executed_of old.depot.log.records) u) kept
-    stands result old.clear.clear.log new.clear.clear.log h.0.0) h.2 h.3 h.4
-planned_accord node.Depot stands result old new h =
-    let kept = stock_accord_kept old.clear.clear.log old.orders old.replies in
-    at_depot old new
-    (planned_keeps (λ (d : LogState DepRecord). Accord old.clear.clear.log d old.orders old.replies) (FitsBook old.clear.clear.log) kept
-    stands result old.depot.log new.depot.log h.0.0) h.1 h.2 h.3
+  instructs : (i : Instruction) → IfOk (by_own i w (instruct_call i w.depot.down w.openings w.depot.records)) (Holds InAccord d w)
+  instructs i = by (instruct_call i w.depot.down w.openings w.depot.records) (own_deeds i w.depot.down w.openings w.depot.records)
+    where
+      by : (deed : Result (Deed DepRecord Own) OwnFault) → IfOk deed (IsOwnDeed i w.depot.down) → IfOk (by_own i w deed) (Holds InAccord d w)
+      by (Err fault) is = tt
+      by (Ok (call.Tells x)) is = a
+      by (Ok (call.Commits e x)) (up, e_is) = rw e_is (executed_more w a (dep.Own i) tt (a.depot_up up), stock_failed w a (dep.Own i) tt)
 
--- and allocations that close lots
-pub planned_strict : (name : NodeName) (stands : Bool) (result : Result (Unit {0}) NotPlanned) (old new : World) → PlanStep name stands result old new → AreStrict old → AreStrict new
-planned_strict node.Clear stands result old new h strict honest =
-    let now = planned_keeps (IsLawfulLog ClosesLot) ClosesLot strict_kept stands result old.clear.clear.log new.clear.clear.log h.0.0 in
-    let was_honest = sym now.0 ∙ honest in
-    now.1 was_honest (strict was_honest)
-planned_strict node.Depot stands result old new h strict honest =
-    subst (λ (n : NumberedNode). n.clear.log.honest ≡ true → IsLawfulLog ClosesLot n.clear.log) (sym h.1) strict honest
+  -- a restart: the records come back that there were, and at most the one besides whose commit failed
+  clear_restarts : (c : List ClearRecord) (lots : List LotState) → AreBack w.clear.tried w.clear.records c
+      → Accord (record w { clear = record { records = c; tried = None; down = false }; open_lots = []; lots = lots })
+  clear_restarts c lots (inl same) = rw same (clear_read w a [] lots)
+  clear_restarts c lots (inr (r, tried, is)) = rw is (grown (record w { clear = record w.clear { tried = None; down = false }; open_lots = []; lots = lots }) (clear_read w a [] lots) r [] lots (a.clear_tried r tried) refl)
+
+  depot_restarts : (p : List DepRecord) → AreBack w.depot.tried w.depot.records p → Accord (record w { depot = record { records = p; tried = None; down = false } })
+  depot_restarts p (inl same) = rw same (depot_read w a)
+  depot_restarts p (inr (e, tried, is)) = rw is (executed_more (record w { depot = record w.depot { tried = None; down = false } }) (depot_read w a) e (a.depot_tried e tried) refl)
+
+clear_back : (d : Decision) (w : Shown) → Accord w → GivesBack d (event.Restart node.Clear) w → Accord (restarts d node.Clear w).1
+clear_back NoMemory w a back = clear_unread w a [] (map with_end w.lots)
+clear_back DeviceFails w a back = clear_unread w a [] (map with_end w.lots)
+clear_back (FindsBad place) w a back = clear_unread w a [] (map with_end w.lots)
+clear_back (ClearReads c) w a back = clear_restarts (ClearReads c) w a c (map with_end w.lots) (back c refl)
+clear_back Goes w a back = clear_read w a [] (map with_end w.lots)
+clear_back (DepotReads p) w a back = clear_read w a [] (map with_end w.lots)
+
+depot_back : (d : Decision) (w : Shown) → Accord w → GivesBack d (event.Restart node.Depot) w → Accord (restarts d node.Depot w).1
+depot_back NoMemory w a back = depot_unread w a
+depot_back DeviceFails w a back = depot_unread w a
+depot_back (FindsBad place) w a back = depot_unread w a
+depot_back (DepotReads p) w a back = depot_restarts (DepotReads p) w a p (back p refl)
+depot_back Goes w a back = depot_read w a
+depot_back (ClearReads c) w a back = depot_read w a
+
+-- whatever an accepted event leaves is in accord
+pub accord_holds : (d : Decision) (e : Event) (w : Shown) → IsLawful w.clear.records → IsLawfulDepot w.openings w.depot.records → Accord w → GivesBack d e w
+    → IfOk (judged e w) (Holds InAccord d w)
+unfolding judged
+accord_holds d (event.Trade t) w lawful stock a back =
+    by_record d w a (λ _. outcomes.Accepted) (λ ls. ls) (trade_call t w.clear.down w.clear.records) (λ r. r ≡ entry.Accept t) (λ r is. rw is tt) (trade_records t w.clear.down w.clear.records)
+accord_holds d (event.Exempt m i s) w lawful stock a back =
+    by_record d w a (λ _. outcomes.Done) (λ ls. ls) (setting_call (entry.Exempt m i s) w.clear.down) (λ r. r ≡ entry.Exempt m i s) (λ r is. rw is tt)
+    (setting_records (entry.Exempt m i s) w.clear.down)
+accord_holds d (event.Priority m i on) w lawful stock a back =
+    by_record d w a (λ _. outcomes.Done) (λ ls. ls) (setting_call (entry.Priority m i on) w.clear.down) (λ r. r ≡ entry.Priority m i on) (λ r is. rw is tt)
+    (setting_records (entry.Priority m i on) w.clear.down)
+accord_holds d (event.Cycle id) w lawful stock a back =
+    by_record d w a (λ (done : Cycled). outcomes.Cycled done) (λ ls. ls) (cycle_call id w.clear.down w.clear.records w.open_lots) (λ r. r ≡ entry.Cycle id) (λ r is. rw is tt)
+    (cycle_records id w.clear.down w.clear.records w.open_lots)
+accord_holds d (event.LotOpen issue) w lawful stock a back =
+    ok_then (Holds InAccord d w) (numbered_open issue w.clear.down w.clear.records w.open_lots w.lots)
+    (λ (opened : Opened × Lot). Ok (Grows (outcomes.LotOpened opened.0) (with_new_lot opened.1 w))) (λ opened is. with_lots w (with_new_lot opened.1 w).open_lots (with_new_lot opened.1 w).lots a)
+accord_holds d (event.LotPour number) w lawful stock a back =
+    ok_then (Holds InAccord d w) (numbered_pour number w.clear.down w.clear.records w.open_lots w.lots)
+    (λ (poured : ℕ × List Lot). Ok (Leaves (outcomes.Poured poured.0) (record w { open_lots = poured.1 }))) (λ poured is. with_lots w poured.1 w.lots a)
+accord_holds d (event.Reserve number member) w lawful stock a back =
+    ok_then (Holds InAccord d w) (reserve_call number member w.lots) (λ (drawn : Ticket × List LotState). Ok (Leaves (outcomes.Drawn drawn.0) (record w { lots = drawn.1 })))
+    (λ drawn is. with_lots w w.open_lots drawn.1 a)
+accord_holds d (event.Seal number) w lawful stock a back =
+    ok_then (Holds InAccord d w) (change_call with_seal number w.lots) (λ (sealed : Unit {0} × List LotState). Ok (Leaves outcomes.Done (record w { lots = sealed.1 })))
+    (λ sealed is. with_lots w w.open_lots sealed.1 a)
+accord_holds d (event.LotClose number) w lawful stock a back =
+    by_record d w a (λ (done : Closed). outcomes.Closed done) (lots_ended number) (numbered_close number w.clear.down w.clear.records w.open_lots w.lots) (IsClose number w.open_lots w.lots)
+    (λ r close. rw (close.is) tt) (close_records number w.clear.down w.clear.records w.open_lots w.lots)
+accord_holds d (event.Send number) w lawful stock a back =
+    let put : Order → Result Change Refusal = λ o. Ok (Grows (outcomes.Sent (length w.orders + 1)) (record w { orders = w.orders ++ Some o ∷ [] })) in
+    let orders = (orders_of w.clear.records).orders in
+    ok_then (Holds InAccord d w) (up w.clear.down) (λ _. ok_or (order_of orders number) refusal.UnknownMove >>= put) (λ u is.
+    ok_then (Holds InAccord d w) (ok_or (order_of orders number) refusal.UnknownMove) put (λ o there.
+    let found = found_some (order_of orders number) refusal.UnknownMove o there in
+    order_put w a o (subst (λ (n : ℕ). order_of orders n ≡ Some o) (sym (order_of_number orders number o found)) found)))
+accord_holds d (event.OrderIn packet) w lawful stock a back =
+    ok_then (Holds InAccord d w) (ok_or (option_flatten (at_number w.orders packet)) refusal.NoPacket) (λ (o : Order). by_order w (order_call o w.depot.down w.openings w.depot.records))
+    (λ o there.
+    arrives d w a o lawful stock
+    (spelt_in (SpellsOrder (orders_of w.clear.records).orders) w.orders packet o a.sent (found_some (option_flatten (at_number w.orders packet)) refusal.NoPacket o there)))
+accord_holds d (event.ReplyIn packet) w lawful stock a back =
+    ok_then (Holds InAccord d w) (ok_or (option_flatten (at_number w.replies packet)) refusal.NoPacket) (λ (r : Reply). by_clear (taken_told r) w (reply_call r w.clear.down w.clear.records))
+    (λ r there.
+    let executed = spelt_in (SpellsReply (executed_of w.depot.records)) w.replies packet r a.answered (found_some (option_flatten (at_number w.replies packet)) refusal.NoPacket r there) in
+    by_record d w a (taken_told r) (λ ls. ls) (reply_call r w.clear.down w.clear.records) (λ k. k ≡ entry.Confirm r) (λ k is. rw is executed)
+    (reply_records r w.clear.down w.clear.records))
+accord_holds d (event.Own i) w lawful stock a back = instructs d w a i
+accord_holds d (event.Restart node.Clear) w lawful stock a back = clear_back d w a back
+accord_holds d (event.Restart node.Depot) w lawful stock a back = depot_back d w a back
+accord_holds d e w lawful stock a back = tells_holds (Holds InAccord d w) w e refl (λ o. a)
+
+-- ---- restarts of honest keepers
+
+pub clear_gives : (chance : Chance) (w : World) → w.clear.clear.log.honest ≡ true → GivesBack (decision_at chance (event.Restart node.Clear) (scene_of w)) (event.Restart node.Clear) (shown_of w)
+clear_gives chance w honest c is =
+    by (honestly ClearReads (sight_of w.clear.clear.log) w.clear.clear.log.tried w.clear.clear.log.records honest chance)
+  where
+    by : IsHonestly ClearReads w.clear.clear.log.tried w.clear.clear.log.records (decision_at chance (event.Restart node.Clear) (scene_of w)) → AreBack w.clear.clear.log.tried w.clear.clear.log.records c
+    by (inl short) = absurd (cc (short, is))
+    by (inr (inl device)) = absurd (cc (device, is))
+    by (inr (inr (read, reads, are))) = let same : read ≡ c = cc (reads, is) in subst (AreBack w.clear.clear.log.tried w.clear.clear.log.records) same are
+
+depot_gives : (chance : Chance) (w : World) → w.depot.log.honest ≡ true → GivesBack (decision_at chance (event.Restart node.Depot) (scene_of w)) (event.Restart node.Depot) (shown_of w)
+depot_gives chance w honest p is =
+    by (honestly DepotReads (sight_of w.depot.log) w.depot.log.tried w.depot.log.records honest chance)
+  where
+    by : IsHonestly DepotReads w.depot.log.tried w.depot.log.records (decision_at chance (event.Restart node.Depot) (scene_of w)) → AreBack w.depot.log.tried w.depot.log.records p
+    by (inl short) = absurd (cc (short, is))
+    by (inr (inl device)) = absurd (cc (device, is))
+    by (inr (inr (read, reads, are))) = let same : read ≡ p = cc (reads, is) in subst (AreBack w.depot.log.tried w.depot.log.records) same are
+
+gives_back : (e : Event) (chance : Chance) (w : World) → w.clear.clear.log.honest ≡ true → w.depot.log.honest ≡ true → GivesBack (decision_at chance e (scene_of w)) e (shown_of w)
+gives_back (event.Restart node.Clear) chance w clear depot = clear_gives chance w clear
+gives_back (event.Restart node.Depot) chance w clear depot = depot_gives chance w depot
+gives_back e chance w clear depot = tt
+
+-- what is so of what there was is so of it at each refusal
+pub refused_keeps : {A : Type 0} (P : Type 0) (j : Result A Refusal) → P → IfErr j (λ _. P)
+refused_keeps P (Ok a) p = tt
+refused_keeps P (Err r) p = p
+
+-- each event keeps both nodes and the link in accord, where the records are lawful
+pub step_keeps : (e : Event) (outcome : Outcome) (old new : World) → AreLawful old → Comes e outcome old new → IsInAccord old → IsInAccord new
+step_keeps e outcome old new lawful comes accord clear_honest depot_honest =
+    let h = happened e outcome old new comes in
+    let was = sym h.clear_honest ∙ clear_honest in
+    let was_depot = sym h.depot_honest ∙ depot_honest in
+    let a : Accord (shown_of old) = accord was was_depot in
+    let d : Decision = decision_at h.chance e (scene_of old) in
+    let kept = checked_keeps InAccord d (shown_of old) e (refused_keeps (Accord (shown_of old)) (judged e (shown_of old)) a) a
+    (accord_holds d e (shown_of old) lawful.0 lawful.1 a (gives_back e h.chance old was was_depot)) in
+    subst Accord (ap (λ (p : Outcome × Shown). p.1) h.is) kept

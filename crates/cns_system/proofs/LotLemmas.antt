@@ -1,5 +1,5 @@
 -- A lot as it is stored, as it is opened and after one more ticket.
-use Rattle.std.proofs.Common.{◌≡◌, ◌≤◌, ◌+◌, ℕ, List, [], ◌∷◌, length, arith}
+use Rattle.std.proofs.Common.{◌≡◌, ◌≤◌, ◌+◌, ℕ, List, ◌∷◌, length, arith}
 use Rattle.std.specs.Prelude.{All, IsPermutation}
 use Rattle.std.proofs.lemmas.List.Elements.{All-head}
 use Rattle.std.proofs.lemmas.List.Sorted.{All-permutation, IsPermutation-sym, length_permutation, sum_by-IsPermutation}
@@ -10,7 +10,7 @@ use Rattle.cns_allocate.specs.Plan.{IsPlan}
 use Rattle.cns_allocate.specs.Served.{turn_of, without}
 use Rattle.cns_allocate.specs.declared.planned.Planned.{Planned}
 use Rattle.cns_allocate.specs.declared.turns.Turn.TheVariants.{Next}
-use Rattle.cns_allocate.proofs.TurnLemmas.{IsPlan-none, IsPlan-without, find-without, turn-parts}
+use Rattle.cns_allocate.proofs.TurnLemmas.{IsPlan-without, find-without, turn-parts}
 use Rattle.cns_system.specs.Lot.{planned_sum}
 use Rattle.cns_system.specs.Entry.{IsEntry}
 
@@ -44,9 +44,6 @@ turn-has left member asked is next =
 pub IsEntry_new : (plan left : List Planned) (pool : Pooled) → IsPlan plan → left ≡ plan → pool ≡ new_pool (planned_sum plan) 0 (length plan) → IsEntry left pool
 IsEntry_new plan left pool is is_left is_pool =
     rw (is_pool, is_left) (record { plan = is; budget = omega arith; calls = omega arith })
-
-pub IsEntry_ended : (left : List Planned) (pool : Pooled) → left ≡ [] → pool ≡ new_pool 0 0 0 → IsEntry left pool
-IsEntry_ended left pool is_left is_pool = IsEntry_new [] left pool IsPlan-none is_left is_pool
 
 -- a lot whose pool has drawn the next ticket of a member whose turn it was
 pub IsEntry_drawn : (before left : List Planned) (old pool : Pooled) (member asked : ℕ) → IsEntry before old → turn_of before member ≡ Next asked

@@ -1,38 +1,69 @@
--- What the calls of a node with its lots by number leave.
-use Rattle.std.proofs.Common.{◌≡◌, ◌≤◌, ℕ, List, [], ◌∷◌, ◌++◌, length, Option, Some, None, Result, Ok, Err, Bool, true, false, ap, sym, subst, refl, arith, ◌∙◌, inl, inr}
-use Rattle.std.specs.Prelude.{◌==◌, ◌⊎◌, IsSomeAnd, option_map, unwrap_or, if◌then◌else◌, slice_set, ◌-◌}
+-- What the calls of a node with its lots by number come to and leave.
+use Rattle.std.proofs.Common.{◌+◌, ◌≡◌, ◌≤◌, ◌<◌, ◌-◌, ◌∙◌, ℕ, List, [], ◌∷◌, ◌++◌, length, Option, Some, None, Result, Ok, Err, Bool, true, false, ap, sym, subst, refl, arith, inl, inr}
+use Rattle.std.specs.Prelude.{◌==◌, ◌⊎◌, ◌||◌, slice_set, not, nat_lt, IfErr, IfOk, IsSome, option_map, unwrap_or, if◌then◌else◌}
+use Rattle.std.specs.Option.{ok_or}
 use Rattle.std.proofs.lemmas.Bool.{eqb-true, false_from_ne_true}
+use Rattle.std.proofs.lemmas.Bool.Decides.{nat_tests}
 use Rattle.std.proofs.lemmas.Option.{same_Some}
+use Rattle.cns_ids.specs.Steps.{◌>>=◌, ◌>>◌, need}
 use Rattle.cns_netting.specs.Book.{IsBook}
 use Rattle.cns_netting.specs.declared.entry.NetEntry.{NetEntry}
 use Rattle.cns_covers.proofs.BoundLemmas.{settled_most}
+use Rattle.cns_journal.specs.declared.record_log.CommitFault.TheVariants as commit
 use Rattle.cns_pool.specs.declared.ticket.Ticket.{Ticket}
 use Rattle.cns_allocate.specs.Plan.{IsPlan}
 use Rattle.cns_allocate.specs.Served.{IsServed, turn_of, without}
 use Rattle.cns_allocate.specs.declared.planned.Planned.{Planned}
+use Rattle.cns_allocate.specs.declared.turns.Turn.{Turn}
+use Rattle.cns_allocate.specs.declared.turns.Turn.TheVariants as turn
 use Rattle.cns_allocate.proofs.PlanLemmas.{IsPlan-plan_of, bounded_longs}
 use Rattle.cns_allocate.proofs.ServedLemmas.{served_more, served_none, served_whole, waiting-none, waiting_more}
 use Rattle.cns_allocate.proofs.TotalLemmas.{plan_of-total}
+use Rattle.cns_records.specs.Call.{CallLeaves, Changes, Deed, Grows}
+use Rattle.cns_records.specs.Call as call
+use Rattle.cns_records.specs.Refusals.{commit_refusal}
 use Rattle.cns_records.specs.declared.clear_record.ClearRecord.{ClearRecord}
-use Rattle.cns_clearing.specs.Answers.{LotCloseLeaves, LotOpenLeaves, LotPourLeaves}
+use Rattle.cns_records.specs.declared.clear_record.ClearRecord.TheVariants as entry
+use Rattle.cns_records.proofs.CallLemmas.{changed}
+use Rattle.cns_clearing.specs.Answers as clear
+use Rattle.cns_clearing.specs.Answers.{AreServed, Leaves, allocation_of, close_deed, closed_of}
 use Rattle.cns_clearing.specs.Books.{IsLawful, books_of, history_of, orders_of}
-use Rattle.cns_clearing.specs.Lots.{avail_in, longs_among, lots_poured, plan_in, refilled, without_lot}
+use Rattle.cns_clearing.specs.Lots.{avail_in, longs_among, lots_after, lots_poured, plan_in, refilled, without_lot}
 use Rattle.cns_clearing.specs.Lots as node
 use Rattle.cns_clearing.specs.Node.{ClearNode}
 use Rattle.cns_clearing.specs.Pools.{free_of, lent_of, lot_of}
 use Rattle.cns_clearing.proofs.BooksLemmas.{lawful_bounded}
+use Rattle.cns_clearing.proofs.CallsLemmas.{pours}
 use Rattle.cns_clearing.specs.declared.answer.Closed.{Closed}
 use Rattle.cns_records.specs.declared.refusal.Refusal.{Refusal}
 use Rattle.cns_records.specs.declared.refusal.Refusal.TheVariants as refusal
 use Rattle.cns_clearing.specs.declared.lot.Lot.{Lot}
-use Rattle.cns_system.specs.Lot.{LotState, IsOfPlan, new_lot, planned_sum, ticket_in, with_end, with_seal, with_ticket}
+use Rattle.cns_system.specs.Lot.{LotState, IsOfPlan, numbered_lot, planned_sum, ticket_in, with_end, with_seal, with_ticket}
 use Rattle.cns_wire.specs.Packet.{at_number}
-use Rattle.cns_system.specs.Lots.{HasOpenLot, IsTurnFor, LotLeaves, ReserveLeaves}
-use Rattle.cns_system.specs.Numbered.{AreTied, CloseLeaves, IsMet, NumberedNode}
-use Rattle.cns_system.proofs.LotsLemmas.{open-from, open-parts}
+use Rattle.cns_system.specs.Lots.{change_call, going_lot, turn_ticket, reserve_call, with_lot}
+use Rattle.cns_system.specs.Numbered.{AreTied, IsNumberedCommit, NumberedNode, numbered_close, lots_ended, numbered_open, opening_call, numbered_pour, with_opened}
+use Rattle.cns_system.proofs.LotsLemmas.{IsGoing, going_parts}
+use Rattle.cns_system.proofs.RecordedLemmas.{Recorded}
+use Rattle.cns_system.proofs.StepLemmas.{ok_then}
 use Rattle.cns_system.proofs.TiedLemmas.{found_of, found_poured, found_without, poured_keeps, tied_changed, tied_more}
 
 -- ---- changes of the lots by number alone
+
+-- what holds of the lots, and of those that the lot of a number makes of them, holds of what a call leaves
+pub changed_by : {X : Type 0} (P : List LotState → Type 0) (lots : List LotState) (n : ℕ) (f : LotState → Result (X × List LotState) Refusal) (result : Result X Refusal)
+    (after : List LotState) → P lots → ((l : LotState) → IsGoing lots n l → IfOk (f l) (λ xs. P xs.1)) → Changes (going_lot lots n >>= f) result lots after → P after
+changed_by P lots n f result after here next h = by (going_lot lots n) refl h
+  where
+    of : (l : LotState) (r : Result _ Refusal) → f l ≡ r → IfOk (f l) (λ xs. P xs.1) → Changes (f l) result lots after → P after
+    of l (Err r) is next h = let left : (result ≡ Err r) × (after ≡ lots) = rw is at h in subst P (sym left.1) here
+    of l (Ok xs) is next h =
+        let left : (result ≡ Ok xs.0) × (after ≡ xs.1) = rw is at h in
+        let held : P xs.1 = rw is at next in
+        subst P (sym left.1) held
+
+    by : (g : Result LotState Refusal) → going_lot lots n ≡ g → Changes (g >>= f) result lots after → P after
+    by (Err r) is h = subst P (sym h.1) here
+    by (Ok l) is h = of l (f l) refl (next l (going_parts lots n l is)) h
 
 -- a lot that stays of its issue and its plan
 stays_tied : (open_lots : List Lot) (lots : List LotState) (n : ℕ) (l x : LotState) → AreTied open_lots lots → at_number lots n ≡ Some l → l.ended ≡ false
@@ -43,38 +74,65 @@ stays_tied open_lots lots n l x are found going issue stays =
     (λ up. record { twin = tied.twin; found = ap (lot_of open_lots) issue ∙ tied.found; is = stays tied.twin.plan tied.is })
     (λ other differ. refl)
 
+-- what a ticket that is drawn tells of the lot
+pub record IsDrawn (lot : LotState) (member : ℕ) (t : Ticket) : Type 0 where
+  pub asked : ℕ
+  pub turn_is : turn_of lot.turns member ≡ turn.Next asked
+  pub unsealed : lot.sealed ≡ false
+  pub is : t ≡ ticket_in lot member asked
+
+pub ticket_parts : (lot : LotState) (member : ℕ) (t : Ticket) → turn_ticket lot member ≡ Ok t → IsDrawn lot member t
+ticket_parts lot member t is = by (turn_of lot.turns member) refl is
+  where
+    drawn : (asked : ℕ) (b : Bool) → lot.sealed ≡ b → turn_of lot.turns member ≡ turn.Next asked → (need (not b) refusal.Sealed >> Ok (ticket_in lot member asked)) ≡ Ok t → IsDrawn lot member t
+    drawn asked true sealed next is = absurd (cc is)
+    drawn asked false sealed next is = record { asked = asked; turn_is = next; unsealed = sealed; is = let same : ticket_in lot member asked ≡ t = cc in sym same }
+
+    by : (u : Turn) → turn_of lot.turns member ≡ u
+        → (elim u [ turn.NotLong ↦ Err refusal.NotLong | turn.EarlierGroup ↦ Err refusal.EarlierGroup | turn.Next asked ↦ Ok asked ]
+        >>= λ asked. need (not lot.sealed) refusal.Sealed >> Ok (ticket_in lot member asked)) ≡ Ok t → IsDrawn lot member t
+    by turn.NotLong e is = absurd (cc is)
+    by turn.EarlierGroup e is = absurd (cc is)
+    by (turn.Next asked) e is = drawn asked lot.sealed refl e is
+
 -- a lot whose next ticket was drawn
-pub drawn_stays : (plan : List Planned) (l : LotState) (member : ℕ) (t : Ticket) → IsTurnFor member l t.asked → t ≡ ticket_in l member t.asked → IsOfPlan plan l
-    → IsOfPlan plan (with_ticket t l)
-drawn_stays plan l member t turn next is = record {
+pub drawn_stays : (plan : List Planned) (l : LotState) (member : ℕ) (t : Ticket) → IsDrawn l member t → IsOfPlan plan l → IsOfPlan plan (with_ticket t l)
+drawn_stays plan l member t drawn is = record {
   is = is.is;
   served =
-      subst (λ (u : Ticket). IsServed plan (l.tickets ++ u ∷ []) true) (sym next)
-      (served_more plan l.tickets member t.asked is.is is.served (ap (λ (left : List Planned). turn_of left member) (sym is.turns) ∙ turn));
+      subst (λ (u : Ticket). IsServed plan (l.tickets ++ u ∷ []) true) (sym drawn.is)
+      (served_more plan l.tickets member drawn.asked is.is is.served (ap (λ (left : List Planned). turn_of left member) (sym is.turns) ∙ drawn.turn_is));
   turns = ap (without t.member) is.turns ∙ sym (waiting_more plan l.tickets t);
 }
 
-pub seal_tied : (open_lots : List Lot) (n : ℕ) (r : Result (Unit {0}) Refusal) (lots after : List LotState) → AreTied open_lots lots → LotLeaves with_seal n r lots after
-    → AreTied open_lots after
-seal_tied open_lots n (Ok u) lots after are h =
-    let at = open-parts lots n (λ (l : LotState). after ≡ slice_set lots (n - 1) (with_seal l)) h in
-    subst (AreTied open_lots) (sym at.holds) (stays_tied open_lots lots n at.lot (with_seal at.lot) are at.found at.going refl (λ plan is. record { is = is.is; served = is.served; turns = is.turns }))
-seal_tied open_lots n (Err refusal.NoLot) lots after are h = subst (AreTied open_lots) (sym h.1) are
-seal_tied open_lots n (Err refusal.StaleLot) lots after are h = subst (AreTied open_lots) (sym h.1) are
-seal_tied open_lots n (Err _) lots after are h = absurd h
+pub seal_tied : (open_lots : List Lot) (n : ℕ) (r : Result (Unit {0}) Refusal) (lots after : List LotState) → AreTied open_lots lots
+    → Changes (change_call with_seal n lots) r lots after → AreTied open_lots after
+seal_tied open_lots n r lots after are h =
+    changed_by (AreTied open_lots) lots n (λ l. Ok (tt, with_lot n (with_seal l) lots)) r after are
+    (λ l at. stays_tied open_lots lots n l (with_seal l) are at.found at.going refl (λ plan is. record { is = is.is; served = is.served; turns = is.turns })) h
 
 pub reserve_tied : (open_lots : List Lot) (n member : ℕ) (r : Result Ticket Refusal) (lots after : List LotState) → AreTied open_lots lots
-    → ReserveLeaves n member r lots after → AreTied open_lots after
-reserve_tied open_lots n member (Ok ticket) lots after are h =
-    let at = open-parts lots n _ h in
-    subst (AreTied open_lots) (sym at.holds.3) (stays_tied open_lots lots n at.lot (with_ticket ticket at.lot) are at.found at.going refl
-    (λ plan is. drawn_stays plan at.lot member ticket at.holds.1 at.holds.2 is))
-reserve_tied open_lots n member (Err refusal.NoLot) lots after are h = subst (AreTied open_lots) (sym h.1) are
-reserve_tied open_lots n member (Err refusal.StaleLot) lots after are h = subst (AreTied open_lots) (sym h.1) are
-reserve_tied open_lots n member (Err refusal.NotLong) lots after are h = subst (AreTied open_lots) (sym h.1) are
-reserve_tied open_lots n member (Err refusal.EarlierGroup) lots after are h = subst (AreTied open_lots) (sym h.1) are
-reserve_tied open_lots n member (Err refusal.Sealed) lots after are h = subst (AreTied open_lots) (sym h.1) are
-reserve_tied open_lots n member (Err _) lots after are h = absurd h
+    → Changes (reserve_call n member lots) r lots after → AreTied open_lots after
+reserve_tied open_lots n member r lots after are h =
+    changed_by (AreTied open_lots) lots n (λ l. turn_ticket l member >>= λ t. Ok (t, with_lot n (with_ticket t l) lots)) r after are
+    (λ l at. ok_then (λ xs. AreTied open_lots xs.1) (turn_ticket l member) (λ t. Ok (t, with_lot n (with_ticket t l) lots))
+    (λ t is. stays_tied open_lots lots n l (with_ticket t l) are at.found at.going refl (λ plan of. drawn_stays plan l member t (ticket_parts l member t is) of))) h
+
+-- ---- calls of the node alone
+
+-- a call whose record is no allocation leaves the node's open lots
+pub call_lots : {X : Type 0} (deed : Result (Deed ClearRecord X) Refusal) (Q : ClearRecord → Type 0) (result : Result X Refusal) (old new : ClearNode)
+    → ((r : ClearRecord) → Q r → (lots : List Lot) → lots_after r lots ≡ lots) → IfOk deed (Recorded old.log.down Q) → Leaves deed result old new → new.lots ≡ old.lots
+call_lots (Err r) Q result old new quiet records (answer, same) = ap (λ (n : ClearNode). n.lots) same
+call_lots (Ok (call.Tells x)) Q result old new quiet records (answer, same) = ap (λ (n : ClearNode). n.lots) same
+call_lots (Ok (call.Commits r x)) Q result old new quiet records (Ok u, answer, added) = added.2 ∙ quiet r records.1 old.lots
+call_lots (Ok (call.Commits r x)) Q result old new quiet records (Err commit.OutOfMemory, answer, same) = ap (λ (n : ClearNode). n.lots) same
+call_lots (Ok (call.Commits r x)) Q result old new quiet records (Err commit.Device, answer, failed) = failed.2
+
+-- and so those by number stay tied to them
+pub call_tied : {X : Type 0} (deed : Result (Deed ClearRecord X) Refusal) (Q : ClearRecord → Type 0) (result : Result X Refusal) (old new : ClearNode) (lots : List LotState)
+    → ((r : ClearRecord) → Q r → (ls : List Lot) → lots_after r ls ≡ ls) → IfOk deed (Recorded old.log.down Q) → AreTied old.lots lots → Leaves deed result old new → AreTied new.lots lots
+call_tied deed Q result old new lots quiet records are left = subst (λ (ls : List Lot). AreTied ls lots) (sym (call_lots deed Q result old new quiet records left)) are
 
 -- ---- an opening
 
@@ -99,44 +157,44 @@ all_free c open_lots issue none =
     let lent : lent_of open_lots issue ≡ 0 = ap (λ (o : Option Lot). unwrap_or (option_map (λ (l : Lot). l.poured) o) 0) none in omega (arith, lent)
 
 -- a lot as it is opened is of its plan
-new_stays : (issue : ℕ) (plan : List Planned) → IsPlan plan → IsOfPlan plan (new_lot issue plan)
+new_stays : (issue : ℕ) (plan : List Planned) → IsPlan plan → IsOfPlan plan (numbered_lot issue plan)
 new_stays issue plan is = record { is = is; served = served_none plan is; turns = sym (waiting-none plan) }
 
 pub open_tied : (old new : ClearNode) (lots after : List LotState) (issue : ℕ) (plan : List Planned) (lot : LotState) → AreTied old.lots lots → lot_of old.lots issue ≡ None
-    → new ≡ record old { lots = old.lots ++ node.new_lot old.log.records issue ∷ [] } → plan ≡ plan_in old.log.records issue → IsPlan plan → lot ≡ new_lot issue plan
+    → new ≡ record old { lots = old.lots ++ node.new_lot old.log.records issue ∷ [] } → plan ≡ plan_in old.log.records issue → IsPlan plan → lot ≡ numbered_lot issue plan
     → after ≡ lots ++ lot ∷ [] → AreTied new.lots after
 open_tied old new lots after issue plan lot are none opened is_plan lawful is_lot is =
     let one : IsOfPlan (plan_in old.log.records issue) lot =
-    subst (IsOfPlan (plan_in old.log.records issue)) (sym is_lot) (subst (λ (ps : List Planned). IsOfPlan ps (new_lot issue plan)) is_plan (new_stays issue plan lawful)) in
+    subst (IsOfPlan (plan_in old.log.records issue)) (sym is_lot) (subst (λ (ps : List Planned). IsOfPlan ps (numbered_lot issue plan)) is_plan (new_stays issue plan lawful)) in
     subst (λ (l : List Lot). AreTied l after) (sym (ap (λ (n : ClearNode). n.lots) opened))
     (subst (AreTied (old.lots ++ node.new_lot old.log.records issue ∷ [])) (sym is)
     (tied_more old.lots lots (node.new_lot old.log.records issue) lot are (ap (λ (l : LotState). lot_of old.lots l.issue) is_lot ∙ none) (ap (λ (l : LotState). l.issue) (sym is_lot)) one))
 
--- a refused opening leaves the node
-pub open_refused : (issue : ℕ) (f : Refusal) (old new : ClearNode) → LotOpenLeaves issue (Err f) old new → new ≡ old
-open_refused issue refusal.Down old new h = h.1
-open_refused issue refusal.LotAlready old new h = h.2
-open_refused issue refusal.OutOfMemory old new h = h.2
-open_refused issue _ old new h = absurd h
+pub opening_down : (issue : ℕ) (n : NumberedNode) → n.clear.log.down ≡ true → opening_call issue n ≡ Err refusal.Down
+unfolding numbered_open
+opening_down issue n is = rw is refl
+
+pub opening_again : (issue : ℕ) (n : NumberedNode) → n.clear.log.down ≡ false → IsSome (lot_of n.clear.lots issue) → opening_call issue n ≡ Err refusal.LotAlready
+unfolding numbered_open
+opening_again issue n up some = by (lot_of n.clear.lots issue) refl some
+  where
+    by : (o : Option Lot) → lot_of n.clear.lots issue ≡ o → IsSome o → opening_call issue n ≡ Err refusal.LotAlready
+    by None found some = let no : false ≡ true = some in cc
+    by (Some lot) found some = rw (up, found) refl
+
+pub opening_spent : (issue : ℕ) (n : NumberedNode) → n.clear.log.down ≡ false → lot_of n.clear.lots issue ≡ None → 1000000 ≤ length n.lots → opening_call issue n ≡ Err refusal.LotsSpent
+unfolding numbered_open
+opening_spent issue n up none spent = let full : nat_lt (length n.lots) 1000000 ≡ false = grind (arith, nat_tests, spent) in rw (up, none, full) refl
+
+pub opening_goes : (issue : ℕ) (n : NumberedNode) → n.clear.log.down ≡ false → lot_of n.clear.lots issue ≡ None → length n.lots < 1000000
+    → let lot = node.new_lot n.clear.log.records issue in
+    opening_call issue n ≡ Ok (record { number = length n.lots + 1; poured = lot.poured; plan = lot.plan }, with_opened lot n)
+unfolding numbered_open
+opening_goes issue n up none room = let few : nat_lt (length n.lots) 1000000 ≡ true = grind (arith, nat_tests, room) in rw (up, none, few) refl
 
 -- ---- a lot that is open
 
--- the node has it
-pub no_twin : (open_lots : List Lot) (lots : List LotState) (n issue : ℕ) (l : LotState) → AreTied open_lots lots → at_number lots n ≡ Some l → l.ended ≡ false
-    → issue ≡ l.issue → lot_of open_lots issue ≡ None → ⊥
-no_twin open_lots lots n issue l are found going is none =
-    let tied = are.each n l found going in
-    let no : None ≡ Some tied.twin = sym none ∙ ap (lot_of open_lots) is ∙ tied.found in cc
-
 -- ---- a pour
-
-pub pour_never : (old new : ClearNode) (lots : List LotState) (n issue : ℕ) (f : Refusal) → AreTied old.lots lots → HasOpenLot lots n (λ (l : LotState). issue ≡ l.issue)
-    → old.log.down ≡ false → LotPourLeaves issue (Err f) old new → ⊥
-pour_never old new lots n issue refusal.Down are has up h = let no : true ≡ false = sym h.0 ∙ up in cc
-pour_never old new lots n issue refusal.NoLot are has up h =
-    let at = open-parts lots n (λ (l : LotState). issue ≡ l.issue) has in
-    no_twin old.lots lots n issue at.lot are at.found at.going at.holds h.1
-pour_never old new lots n issue _ are has up h = absurd h
 
 poured_other : (c : List ClearRecord) (issue : ℕ) (l : Lot) → (l.issue ≡ issue → ⊥) → refilled issue (length c) (avail_in c issue) l ≡ l
 poured_other c issue l differ =
@@ -149,16 +207,50 @@ others_poured c issue other lots differ = found_poured c issue other lots ∙ by
     by None e = refl
     by (Some l) e = ap Some (poured_other c issue l (λ is. differ (sym (found_of lots other l e) ∙ is)))
 
+-- the lot of a number is poured into, as the node pours into its lot of the issue
+pub poured_of : (number : ℕ) (node : ClearNode) (lots : List LotState) (l : LotState) (new : List Lot) (shares : ℕ) → AreTied node.lots lots → going_lot lots number ≡ Ok l
+    → node.log.down ≡ false → Changes (clear.pour_call l.issue node.log.down node.log.records node.lots) (Ok shares) node.lots new
+    → Changes (numbered_pour number node.log.down node.log.records node.lots lots) (Ok shares) node.lots new × (new ≡ lots_poured node.log.records l.issue node.lots)
+unfolding numbered_pour
+poured_of number node lots l new shares are going up h =
+    let at = going_parts lots number l going in
+    let twin = are.each number l at.found at.going in
+    let free = free_of (orders_of node.log.records) node.lots l.issue in
+    let left : (Ok shares ≡ Ok free) × (new ≡ lots_poured node.log.records l.issue node.lots) =
+    rw (pours l.issue node.log.down node.log.records node.lots twin.twin up twin.found) at h in (
+      changed (numbered_pour number node.log.down node.log.records node.lots lots) free (lots_poured node.log.records l.issue node.lots) (Ok shares) node.lots new (rw (going, up) refl) left.0 left.1,
+      left.1,
+    )
+
+pub pour_none : (number : ℕ) (down : Bool) (c : List ClearRecord) (open_lots : List Lot) (lots : List LotState) (r : Refusal) → going_lot lots number ≡ Err r
+    → numbered_pour number down c open_lots lots ≡ Err r
+unfolding numbered_pour
+pour_none number down c open_lots lots r none = rw none refl
+
+pub pour_down : (number : ℕ) (down : Bool) (c : List ClearRecord) (open_lots : List Lot) (lots : List LotState) (l : LotState) → going_lot lots number ≡ Ok l → down ≡ true
+    → numbered_pour number down c open_lots lots ≡ Err refusal.Down
+unfolding numbered_pour
+pour_down number down c open_lots lots l going is = rw (going, is) refl
+
+-- the node never refuses it
+pub pour_never : (number : ℕ) (node : ClearNode) (lots : List LotState) (l : LotState) (new : List Lot) (r : Refusal) → AreTied node.lots lots → going_lot lots number ≡ Ok l
+    → node.log.down ≡ false → Changes (clear.pour_call l.issue node.log.down node.log.records node.lots) (Err r) node.lots new → ⊥
+pour_never number node lots l new r are going up h =
+    let at = going_parts lots number l going in
+    let twin = are.each number l at.found at.going in
+    let left : (Err r ≡ Ok (free_of (orders_of node.log.records) node.lots l.issue)) × (new ≡ lots_poured node.log.records l.issue node.lots) =
+    rw (pours l.issue node.log.down node.log.records node.lots twin.twin up twin.found) at h in
+    cc left.0
+
 -- a pour leaves the lots of other issues, and the plan of its own
-pub pour_tied : (old new : ClearNode) (lots : List LotState) (issue shares : ℕ) → AreTied old.lots lots → LotPourLeaves issue (Ok shares) old new → AreTied new.lots lots
-pour_tied old new lots issue shares are h =
-    let c : List ClearRecord = old.log.records in
-    subst (λ (l : List Lot). AreTied l lots) (sym (ap (λ (m : ClearNode). m.lots) h.2)) (record {
+pub pour_tied : (c : List ClearRecord) (open_lots after : List Lot) (lots : List LotState) (issue : ℕ) → AreTied open_lots lots → after ≡ lots_poured c issue open_lots → AreTied after lots
+pour_tied c open_lots after lots issue are poured =
+    subst (λ (l : List Lot). AreTied l lots) (sym poured) (record {
       each = λ m k at up.
           let tied = are.each m k at up in
           record {
             twin = refilled issue (length c) (avail_in c issue) tied.twin;
-            found = found_poured c issue k.issue old.lots ∙ ap (option_map (refilled issue (length c) (avail_in c issue))) tied.found;
+            found = found_poured c issue k.issue open_lots ∙ ap (option_map (refilled issue (length c) (avail_in c issue))) tied.found;
             is = subst (λ (ps : List Planned). IsOfPlan ps k) (sym (poured_keeps (λ (l : Lot). l.plan) c issue tied.twin refl)) tied.is;
           };
       once = are.once;
@@ -166,39 +258,28 @@ pour_tied old new lots issue shares are h =
 
 -- ---- a close
 
--- what a change of an open lot leaves
-pub change_is : (change : LotState → LotState) (n : ℕ) (r : Result (Unit {0}) Refusal) (lots after : List LotState) (l : LotState) → at_number lots n ≡ Some l → l.ended ≡ false
-    → LotLeaves change n r lots after → after ≡ slice_set lots (n - 1) (change l)
-change_is change n (Ok u) lots after l found going h =
-    let at = open-parts lots n (λ (k : LotState). after ≡ slice_set lots (n - 1) (change k)) h in
-    at.holds ∙ ap (λ (k : LotState). slice_set lots (n - 1) (change k)) (same_Some at.lot l (sym at.found ∙ found))
-change_is change n (Err refusal.NoLot) lots after l found going h = let no : None ≡ Some l = sym h.0 ∙ found in cc
-change_is change n (Err refusal.StaleLot) lots after l found going h =
-    let Q : Option LotState → Type 0 = λ o. IsSomeAnd o (λ (k : LotState). k.ended ≡ true) in
-    let ended : l.ended ≡ true = subst Q found h.0 in
-    let no : true ≡ false = sym ended ∙ going in cc
-change_is change n (Err _) lots after l found going h = absurd h
+-- a lot is sealed, or nobody waits for a ticket of it
+abbrev pub IsMet : LotState → Type 0
+IsMet lot = (lot.sealed ≡ true) ⊎ (lot.turns ≡ [])
 
-pub close_tied : (old new : ClearNode) (lots after : List LotState) (n issue : ℕ) (tickets : List Ticket) (sealed : Bool) (done : Closed) (l : LotState)
-    (r : Result (Unit {0}) Refusal) → AreTied old.lots lots → HasOpenLot lots n (λ (k : LotState). l ≡ k) → issue ≡ l.issue
-    → LotCloseLeaves issue tickets sealed (Ok done) old new → LotLeaves with_end n r lots after → AreTied new.lots after
-close_tied old new lots after n issue tickets sealed done l r are has is h ends =
-    let at = open-parts lots n (λ (k : LotState). l ≡ k) has in
-    let issue_is : issue ≡ at.lot.issue = is ∙ ap (λ (k : LotState). k.issue) at.holds in
-    let after_is = change_is with_end n r lots after at.lot at.found at.going ends in
-    let closes : h.0.issue ≡ at.lot.issue = ap (λ a. a.issue) h.1.closes ∙ found_of old.lots issue h.1.lot h.1.found ∙ issue_is in
-    let left : List Lot = without_lot h.0.issue old.lots in
-    subst (λ (ls : List Lot). AreTied ls after) (sym h.4.2)
-    (subst (AreTied left) (sym after_is)
-    (tied_changed old.lots left lots n at.lot (with_end at.lot) are at.found at.going refl
-    (λ up. absurd (let no : true ≡ false = up in cc))
-    (λ other differ. found_without h.0.issue other old.lots (λ e. differ (e ∙ closes)))))
+pub met_told : (l : LotState) → IsMet l → (l.sealed || (length l.turns == 0)) ≡ true
+met_told l met = by l.sealed refl met
+  where
+    by : (b : Bool) → l.sealed ≡ b → IsMet l → (b || (length l.turns == 0)) ≡ true
+    by true e m = refl
+    by false e (inl sealed) = let no : false ≡ true = sym e ∙ sealed in cc
+    by false e (inr nobody) = rw nobody refl
 
-pub close_no_lot : (open_lots : List Lot) (lots : List LotState) (n issue : ℕ) (l : LotState) → AreTied open_lots lots → HasOpenLot lots n (λ (k : LotState). l ≡ k)
-    → issue ≡ l.issue → lot_of open_lots issue ≡ None → ⊥
-close_no_lot open_lots lots n issue l are has is none =
-    let at = open-parts lots n (λ (k : LotState). l ≡ k) has in
-    no_twin open_lots lots n issue at.lot are at.found at.going (is ∙ ap (λ (k : LotState). k.issue) at.holds) none
+pub not_met : (l : LotState) → (IsMet l → ⊥) → (l.sealed || (length l.turns == 0)) ≡ false
+not_met l waits = by l.sealed refl
+  where
+    none : (ts : List Planned) → l.turns ≡ ts → (length ts == 0) ≡ false
+    none [] e = absurd (waits (inr e))
+    none (t ∷ ts) e = grind (arith, nat_tests)
+
+    by : (b : Bool) → l.sealed ≡ b → (b || (length l.turns == 0)) ≡ false
+    by true e = absurd (waits (inl e))
+    by false e = none l.turns refl
 
 -- the tickets of a lot that is sealed, or in which nobody waits, serve its plan
 pub met_served : (plan : List Planned) (l : LotState) → IsOfPlan plan l → IsMet l → IsServed plan l.tickets l.sealed
@@ -209,46 +290,121 @@ met_served plan l is met = by l.sealed refl met
     by false e (inl is_sealed) = let no : true ≡ false = sym is_sealed ∙ e in cc
     by false e (inr nobody) = served_whole plan l.tickets is.is is.served (sym is.turns ∙ nobody)
 
-pub close_no_bad : (open_lots : List Lot) (lots : List LotState) (n issue : ℕ) (tickets : List Ticket) (sealed : Bool) (l : LotState) → AreTied open_lots lots
-    → HasOpenLot lots n (λ (k : LotState). l ≡ k) → issue ≡ l.issue → tickets ≡ l.tickets → sealed ≡ l.sealed → IsMet l
-    → ((twin : Lot) × (lot_of open_lots issue ≡ Some twin) × (IsServed twin.plan tickets sealed → ⊥)) → ⊥
-close_no_bad open_lots lots n issue tickets sealed l are has is drawn seal met bad =
-    let at = open-parts lots n (λ (k : LotState). l ≡ k) has in
-    let found : at_number lots n ≡ Some l = at.found ∙ ap Some (sym at.holds) in
-    let going : l.ended ≡ false = ap (λ (k : LotState). k.ended) at.holds ∙ at.going in
-    let tied = are.each n l found going in
-    let served = met_served tied.twin.plan l tied.is met in
-    let same : tied.twin.plan ≡ bad.0.plan = ap (λ (k : Lot). k.plan) (same_Some tied.twin bad.0 (sym tied.found ∙ ap (lot_of open_lots) (sym is) ∙ bad.1)) in
-    bad.2 (rw (drawn, seal) (subst (λ (ps : List Planned). IsServed ps l.tickets l.sealed) same served))
+-- so they serve that of the node's lot
+pub served_by : (number : ℕ) (open_lots : List Lot) (lots : List LotState) (l : LotState) → AreTied open_lots lots → going_lot lots number ≡ Ok l → IsMet l
+    → AreServed open_lots l.issue l.tickets l.sealed
+served_by number open_lots lots l are going met = λ twin found.
+    let at = going_parts lots number l going in
+    let tied = are.each number l at.found at.going in
+    let same : tied.twin ≡ twin = same_Some tied.twin twin (sym tied.found ∙ found) in
+    subst (λ (k : Lot). IsServed k.plan l.tickets l.sealed) same (met_served tied.twin.plan l tied.is met)
 
--- what a close leaves that the node refused
-pub close_refused : (n : ℕ) (f : Refusal) (old new : NumberedNode) (issue : ℕ) (tickets : List Ticket) (sealed : Bool) (l : LotState)
-    → AreTied old.clear.lots old.lots → HasOpenLot old.lots n (λ (k : LotState). l ≡ k) → issue ≡ l.issue → tickets ≡ l.tickets
-    → sealed ≡ l.sealed → IsMet l → old.clear.log.down ≡ false → LotCloseLeaves issue tickets sealed (Err f) old.clear new.clear → new.lots ≡ old.lots
-    → CloseLeaves n (Err f) old new
-close_refused n f old new issue tickets sealed l are has is drawn seal met up h same = by f h
+-- the close of the lot of a number is that of the node's lot of its issue
+pub close_is : (number : ℕ) (down : Bool) (c : List ClearRecord) (open_lots : List Lot) (lots : List LotState) (l : LotState) → going_lot lots number ≡ Ok l → down ≡ false → IsMet l
+    → numbered_close number down c open_lots lots ≡ clear.close_call l.issue l.tickets l.sealed down c open_lots
+unfolding numbered_close clear.close_call
+close_is number down c open_lots lots l going up met = rw (going, up, met_told l met) refl
+
+pub close_none : (number : ℕ) (down : Bool) (c : List ClearRecord) (open_lots : List Lot) (lots : List LotState) (r : Refusal) → going_lot lots number ≡ Err r
+    → numbered_close number down c open_lots lots ≡ Err r
+unfolding numbered_close
+close_none number down c open_lots lots r none = rw none refl
+
+pub close_down : (number : ℕ) (down : Bool) (c : List ClearRecord) (open_lots : List Lot) (lots : List LotState) (l : LotState) → going_lot lots number ≡ Ok l → down ≡ true
+    → numbered_close number down c open_lots lots ≡ Err refusal.Down
+unfolding numbered_close
+close_down number down c open_lots lots l going is = rw (going, is) refl
+
+pub close_unserved : (number : ℕ) (down : Bool) (c : List ClearRecord) (open_lots : List Lot) (lots : List LotState) (l : LotState) → going_lot lots number ≡ Ok l → down ≡ false
+    → (IsMet l → ⊥) → numbered_close number down c open_lots lots ≡ Err refusal.Unserved
+unfolding numbered_close
+close_unserved number down c open_lots lots l going up waits = rw (going, up, not_met l waits) refl
+
+-- what the node's close comes to where it is not refused: the record of its lot
+pub record IsCloseOf (issue : ℕ) (tickets : List Ticket) (sealed : Bool) (c : List ClearRecord) (lots : List Lot) (d : Deed ClearRecord Closed) : Type 0 where
+  pub lot : Lot
+  pub found : lot_of lots issue ≡ Some lot
+  pub is : d ≡ call.Commits (entry.Allocate (allocation_of lot tickets sealed)) (closed_of lot tickets sealed c)
+
+pub close_record : (issue : ℕ) (tickets : List Ticket) (sealed down : Bool) (c : List ClearRecord) (lots : List Lot)
+    → IfOk (clear.close_call issue tickets sealed down c lots) (IsCloseOf issue tickets sealed c lots)
+unfolding clear.close_call
+close_record issue tickets sealed down c lots = by down (lot_of lots issue) refl
   where
-    found : at_number old.lots n ≡ Some l
-    found = let at = open-parts old.lots n (λ (k : LotState). l ≡ k) has in at.found ∙ ap Some (sym at.holds)
+    numbers : (lot : Lot) (spent : Bool) → lot_of lots issue ≡ Some lot
+        → IfOk (need (not spent) refusal.NumbersSpent >> Ok (call.Commits (entry.Allocate (allocation_of lot tickets sealed)) (closed_of lot tickets sealed c))) (IsCloseOf issue tickets sealed c lots)
+    numbers lot true found = tt
+    numbers lot false found = record { lot = lot; found = found; is = refl }
 
-    going : l.ended ≡ false
-    going = let at = open-parts old.lots n (λ (k : LotState). l ≡ k) has in ap (λ (k : LotState). k.ended) at.holds ∙ at.going
+    by : (b : Bool) (o : Option Lot) → lot_of lots issue ≡ o
+        → IfOk (clear.up b >> ok_or o refusal.NoLot >>= close_deed tickets sealed c) (IsCloseOf issue tickets sealed c lots)
+    by true o found = tt
+    by false None found = tt
+    by false (Some lot) found = numbers lot _ found
 
-    whole : new.clear ≡ old.clear → new ≡ old
-    whole e = rw (e, same) refl
+-- the end of a lot that has not ended
+pub end_is : (lots after : List LotState) (number : ℕ) (l : LotState) (r : Result (Unit {0}) Refusal) → going_lot lots number ≡ Ok l → Changes (change_call with_end number lots) r lots after
+    → after ≡ lots_ended number lots
+end_is lots after number l r going h =
+    let at = going_parts lots number l going in
+    let left : (r ≡ Ok tt) × (after ≡ with_lot number (with_end l) lots) = rw going at h in
+    left.1 ∙ sym (ap (λ (o : Option LotState). elim o [ None ↦ lots | Some k ↦ with_lot number (with_end k) lots ]) at.found)
 
-    -- the node's own answer, of the lot's issue, tickets and seal
-    its : (g : Refusal) → LotCloseLeaves issue tickets sealed (Err g) old.clear new.clear → LotCloseLeaves l.issue l.tickets l.sealed (Err g) old.clear new.clear
-    its g left =
-        subst (λ (b : Bool). LotCloseLeaves l.issue l.tickets b (Err g) old.clear new.clear) seal
-        (subst (λ (ts : List Ticket). LotCloseLeaves l.issue ts sealed (Err g) old.clear new.clear) drawn
-        (subst (λ (i : ℕ). LotCloseLeaves i tickets sealed (Err g) old.clear new.clear) is left))
+-- what the node's close leaves is what that of the lot's number does, where the lot ends just where the close is not refused
+pub closed_by : (number : ℕ) (old : NumberedNode) (l : LotState) (result : Result Closed Refusal) (new : ClearNode) (after : List LotState) → going_lot old.lots number ≡ Ok l
+    → old.clear.log.down ≡ false → IsMet l → Leaves (clear.close_call l.issue l.tickets l.sealed old.clear.log.down old.clear.log.records old.clear.lots) result old.clear new
+    → IfOk result (λ _. after ≡ lots_ended number old.lots) → IfErr result (λ _. after ≡ old.lots)
+    → CallLeaves commit_refusal (IsNumberedCommit (lots_ended number)) (numbered_close number old.clear.log.down old.clear.log.records old.clear.lots old.lots) result old
+    (record { clear = new; lots = after })
+closed_by number old l result new after going up met left ended kept =
+    rw (close_is number old.clear.log.down old.clear.log.records old.clear.lots old.lots l going up met)
+    (by (clear.close_call l.issue l.tickets l.sealed old.clear.log.down old.clear.log.records old.clear.lots)
+    (close_record l.issue l.tickets l.sealed old.clear.log.down old.clear.log.records old.clear.lots) left)
+  where
+    by : (d : Result (Deed ClearRecord Closed) Refusal) → IfOk d (IsCloseOf l.issue l.tickets l.sealed old.clear.log.records old.clear.lots) → Leaves d result old.clear new
+        → CallLeaves commit_refusal (IsNumberedCommit (lots_ended number)) d result old (record { clear = new; lots = after })
+    by (Err r) is (answer, same) = (answer, rw (same, rw answer at kept) refl)
+    by (Ok (call.Tells x)) is left = absurd (cc is.is)
+    by (Ok (call.Commits r x)) is (Ok u, answer, left) = (Ok u, answer, (left, rw answer at ended))
+    by (Ok (call.Commits r x)) is (Err fault, answer, left) = (Err fault, answer, (left, rw answer at kept))
 
-    by : (g : Refusal) → LotCloseLeaves issue tickets sealed (Err g) old.clear new.clear → CloseLeaves n (Err g) old new
-    by refusal.Down left = absurd (let no : true ≡ false = sym left.0 ∙ up in cc)
-    by refusal.NoLot left = absurd (close_no_lot old.clear.lots old.lots n issue l are has is left.1)
-    by refusal.BadTickets left = absurd (close_no_bad old.clear.lots old.lots n issue tickets sealed l are has is drawn seal met left.1)
-    by refusal.NumbersSpent left = (open-from old.lots n _ l found going (met, its refusal.NumbersSpent left), whole left.2)
-    by refusal.OutOfMemory left = (open-from old.lots n _ l found going (met, its refusal.OutOfMemory left), whole left.2)
-    by refusal.Device left = (open-from old.lots n _ l found going (met, its refusal.Device left), same)
-    by _ left = absurd left
+-- a close that is refused leaves the node's open lots
+pub close_keeps : (old new : ClearNode) (l : LotState) (r : Refusal) → Leaves (clear.close_call l.issue l.tickets l.sealed old.log.down old.log.records old.lots) (Err r) old new
+    → new.lots ≡ old.lots
+close_keeps old new l r left = by (clear.close_call l.issue l.tickets l.sealed old.log.down old.log.records old.lots) left
+  where
+    by : (d : Result (Deed ClearRecord Closed) Refusal) → Leaves d (Err r) old new → new.lots ≡ old.lots
+    by (Err f) (answer, same) = ap (λ (n : ClearNode). n.lots) same
+    by (Ok (call.Tells x)) (answer, same) = absurd (cc answer)
+    by (Ok (call.Commits e x)) (Ok u, answer, left) = absurd (cc answer)
+    by (Ok (call.Commits e x)) (Err commit.OutOfMemory, answer, same) = ap (λ (n : ClearNode). n.lots) same
+    by (Ok (call.Commits e x)) (Err commit.Device, answer, failed) = failed.2
+
+-- one that is not takes the lot of its issue from them
+pub close_takes : (old new : ClearNode) (l : LotState) (done : Closed) → Leaves (clear.close_call l.issue l.tickets l.sealed old.log.down old.log.records old.lots) (Ok done) old new
+    → new.lots ≡ without_lot l.issue old.lots
+close_takes old new l done left =
+    by (clear.close_call l.issue l.tickets l.sealed old.log.down old.log.records old.lots)
+    (close_record l.issue l.tickets l.sealed old.log.down old.log.records old.lots) left
+  where
+    by : (d : Result (Deed ClearRecord Closed) Refusal) → IfOk d (IsCloseOf l.issue l.tickets l.sealed old.log.records old.lots) → Leaves d (Ok done) old new
+        → new.lots ≡ without_lot l.issue old.lots
+    by (Err f) is (answer, same) = absurd (cc answer)
+    by (Ok (call.Tells x)) is left = absurd (cc is.is)
+    by (Ok (call.Commits r x)) is (Ok u, answer, added) =
+        let record_is : r ≡ entry.Allocate (allocation_of is.lot l.tickets l.sealed) = cc is.is in
+        added.2 ∙ rw record_is (ap (λ (i : ℕ). without_lot i old.lots) (found_of old.lots l.issue is.lot is.found))
+    by (Ok (call.Commits r x)) is (Err commit.OutOfMemory, answer, same) = absurd (cc answer)
+    by (Ok (call.Commits r x)) is (Err commit.Device, answer, failed) = absurd (cc answer)
+
+-- and the lots by number stay tied to them
+pub close_tied : (old new : ClearNode) (lots after : List LotState) (number : ℕ) (l : LotState) → AreTied old.lots lots → going_lot lots number ≡ Ok l
+    → new.lots ≡ without_lot l.issue old.lots → after ≡ lots_ended number lots → AreTied new.lots after
+close_tied old new lots after number l are going taken ended =
+    let at = going_parts lots number l going in
+    let after_is : after ≡ with_lot number (with_end l) lots =
+    ended ∙ ap (λ (o : Option LotState). elim o [ None ↦ lots | Some k ↦ with_lot number (with_end k) lots ]) at.found in
+    subst (λ (ls : List Lot). AreTied ls after) (sym taken)
+    (subst (AreTied (without_lot l.issue old.lots)) (sym after_is)
+    (tied_changed old.lots (without_lot l.issue old.lots) lots number l (with_end l) are at.found at.going refl (λ up. absurd (let no : true ≡ false = up in cc))
+    (λ other differ. found_without l.issue other old.lots differ)))

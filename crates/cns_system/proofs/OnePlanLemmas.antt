@@ -1,6 +1,6 @@
 -- The tickets that are entered of a lot that was busy are of its plan.
-use Rattle.std.proofs.Common.{◌≡◌, ◌∙◌, ◌-◌, ℕ, Bool, true, false, List, [], ◌∷◌, ◌++◌, Some, Result, Ok, Err, ap, sym, subst, refl, inl, inr}
-use Rattle.std.specs.Prelude.{◌==◌, slice_set}
+use Rattle.std.proofs.Common.{◌≡◌, ◌∙◌, ◌-◌, ℕ, Bool, true, false, List, [], ◌∷◌, ◌++◌, Some, Ok, ap, sym, subst, refl, inl, inr}
+use Rattle.std.specs.Prelude.{◌==◌, ◌⊎◌, slice_set}
 use Rattle.std.specs.List.{list_any}
 use Rattle.std.proofs.lemmas.List.{append_assoc, append-nil}
 use Rattle.std.proofs.lemmas.Option.{same_Some}
@@ -15,16 +15,22 @@ use Rattle.cns_system.specs.Finish.{AreCutOff, AreEntered, AreOfLot, AreOfOnePla
 use Rattle.cns_system.specs.Floor.{AreBusy, BusyLot, FloorState, IsBusy, busy_at}
 use Rattle.cns_system.specs.Lot.{IsOfPlan, LotState, with_seal, with_ticket}
 use Rattle.cns_wire.specs.Packet.{at_number}
-use Rattle.cns_system.specs.Lots.{ArePlanned, LotLeaves, ReserveLeaves}
-use Rattle.cns_system.specs.Numbered.{AreTied, CloseLeaves, IsMet, NumberedNode}
-use Rattle.cns_system.specs.Outcomes.{close_outcome, done_outcome, reserve_outcome}
+use Rattle.cns_records.specs.declared.clear_record.ClearRecord.{ClearRecord}
+use Rattle.cns_system.specs.Lots.{ArePlanned, reserve_call, with_lot}
+use Rattle.cns_system.specs.Numbered.{AreTied}
+use Rattle.cns_system.specs.Scene.{Comes}
+use Rattle.cns_system.specs.declared.event.Event.TheVariants as event
 use Rattle.cns_system.specs.Run.{Run}
 use Rattle.cns_system.specs.World.{World}
 use Rattle.cns_system.specs.declared.outcome.Outcome.{Outcome}
 use Rattle.cns_system.specs.declared.outcome.Outcome.TheVariants as outcomes
 use Rattle.cns_system.proofs.FloorLemmas.{busy_number}
-use Rattle.cns_system.proofs.LotsLemmas.{open-parts}
-use Rattle.cns_system.proofs.NumberedLemmas.{drawn_stays, met_served}
+use Rattle.cns_system.proofs.LotsLemmas as lots
+use Rattle.cns_system.proofs.LotsLemmas.{going_parts}
+use Rattle.cns_system.proofs.RecordedLemmas.{IsClose}
+use Rattle.cns_system.proofs.StrictLemmas.{is_met}
+use Rattle.cns_system.proofs.ToldLemmas.{Refuses, closes_by, draw_parts, drawn_of, seals_by}
+use Rattle.cns_system.proofs.NumberedLemmas.{IsMet, drawn_stays, met_served}
 use Rattle.cns_system.proofs.TiedLemmas.{at_place, from_place, get_set_same}
 
 -- ---- the lot while tickets are entered
@@ -48,39 +54,32 @@ found_updated lots n l x found =
     let at = at_place lots n l found in from_place (slice_set lots (n - 1) x) n x at.0 (get_set_same lots (n - 1) l x at.1)
 
 has_more : (plan : List Planned) (n member : ℕ) (t : Ticket) (lots new : List LotState) (tickets : List Ticket) → Has plan n lots tickets
-    → ReserveLeaves n member (Ok t) lots new → Has plan n new (tickets ++ t ∷ [])
+    → reserve_call n member lots ≡ Ok (t, new) → Has plan n new (tickets ++ t ∷ [])
 has_more plan n member t lots new tickets has leaves =
-    let at = open-parts lots n _ leaves in
-    let one : at.lot ≡ has.lot = same_Some at.lot has.lot (sym at.found ∙ has.found) in
+    let at = draw_parts n member t lots new leaves in
+    let one : at.lot ≡ has.lot = same_Some at.lot has.lot (sym at.at.found ∙ has.found) in
     record {
       lot = with_ticket t at.lot;
-      found = ap (λ (ls : List LotState). at_number ls n) at.holds.3 ∙ found_updated lots n at.lot (with_ticket t at.lot) at.found;
-      of = drawn_stays plan at.lot member t at.holds.1 at.holds.2 (subst (IsOfPlan plan) (sym one) has.of);
+      found = ap (λ (ls : List LotState). at_number ls n) at.new_is ∙ found_updated lots n at.lot (with_ticket t at.lot) at.at.found;
+      of = drawn_stays plan at.lot member t at.drawn (subst (IsOfPlan plan) (sym one) has.of);
       tickets_are = ap (λ (l : LotState). l.tickets ++ t ∷ []) one ∙ ap (λ (ts : List Ticket). ts ++ t ∷ []) has.tickets_are;
       unsealed = ap (λ (l : LotState). l.sealed) one ∙ has.unsealed;
     }
-
-drawn_leaves : (n member : ℕ) (t : Ticket) (result : Result Ticket Refusal) (lots new : List LotState) → outcomes.Drawn t ≡ reserve_outcome result
-    → ReserveLeaves n member result lots new → ReserveLeaves n member (Ok t) lots new
-drawn_leaves n member t (Ok s) lots new told leaves = let same : s ≡ t = cc in subst (λ (u : Ticket). ReserveLeaves n member (Ok u) lots new) same leaves
-drawn_leaves n member t (Err r) lots new told leaves = cc
 
 has_all : (plan : List Planned) (n : ℕ) (ts us : List Ticket) (old new : World) → Run (reserves n ts) (draws ts) old new → Has plan n old.clear.lots us
     → Has plan n new.clear.lots (us ++ ts)
 has_all plan n [] us old new run has =
     subst (λ (l : List Ticket). Has plan n new.clear.lots l) (sym (append-nil us)) (subst (λ (w : World). Has plan n w.clear.lots us) (sym run) has)
 has_all plan n (t ∷ ts) us old new run has =
-    let step = run.1.step in
-    let leaves = drawn_leaves n t.member t step.3.0 old.clear.lots run.0.clear.lots step.3.1 step.3.2.0 in
+    let leaves = drawn_of n t.member t old run.0 run.1.comes in
     let more = has_more plan n t.member t old.clear.lots run.0.clear.lots us has leaves in
     subst (λ (l : List Ticket). Has plan n new.clear.lots l) (append_assoc us (t ∷ []) ts) (has_all plan n ts (us ++ t ∷ []) run.0 new run.2 more)
 
 -- a ticket was drawn of a lot that had not ended
 drawn_going : (n : ℕ) (t : Ticket) (ts : List Ticket) (old mid : World) → Run (reserves n (t ∷ ts)) (draws (t ∷ ts)) old mid → IsGoing n old.clear.lots
 drawn_going n t ts old mid run =
-    let step = run.1.step in
-    let at = open-parts old.clear.lots n _ (drawn_leaves n t.member t step.3.0 old.clear.lots run.0.clear.lots step.3.1 step.3.2.0) in
-    record { lot = at.lot; found = at.found; going = at.going }
+    let at = draw_parts n t.member t old.clear.lots run.0.clear.lots (drawn_of n t.member t old run.0 run.1.comes) in
+    record { lot = at.lot; found = at.at.found; going = at.at.going }
 
 -- ---- the lot before that
 
@@ -135,34 +134,32 @@ record Ends (n : ℕ) (lots : List LotState) (last : List Outcome) : Type 0 wher
   going : list_any is_close last ≡ true → IsGoing n lots
   met : list_any is_close last ≡ true → list_any is_done last ≡ false → (l : LotState) → at_number lots n ≡ Some l → IsMet l
 
-close_ends : (n : ℕ) (result : Result Closed Refusal) (old new : NumberedNode) (outcome : Outcome) → outcome ≡ close_outcome result → CloseLeaves n result old new
-    → Ends n old.lots (outcome ∷ [])
-close_ends n (Ok done) old new outcome told leaves =
-    let at = open-parts old.lots n _ leaves in
-    record {
-      none = ap (λ (o : Outcome). drawn_in (o ∷ [])) told;
-      going = λ closed. record { lot = at.lot; found = at.found; going = at.going };
-      met = λ closed unsealed l found. subst IsMet (same_Some at.lot l (sym at.found ∙ found)) at.holds.0;
-    }
-close_ends n (Err r) old new outcome told leaves = record {
-  none = ap (λ (o : Outcome). drawn_in (o ∷ [])) told;
-  going = λ closed. let no = sym (ap (λ (o : Outcome). list_any is_close (o ∷ [])) told) ∙ closed in cc;
-  met = λ closed unsealed l found. let no = sym (ap (λ (o : Outcome). list_any is_close (o ∷ [])) told) ∙ closed in cc;
-}
-
-closed_ends : (n : ℕ) (last : List Outcome) (old new : World) → IsClosed n last old new → Ends n old.clear.lots last
-closed_ends n last old new h =
-    let step = h.2.step in
-    subst (Ends n old.clear.lots) (sym h.1) (close_ends n step.3.0 old.clear new.clear h.0 step.3.1 step.3.2)
-
 refused_ends : (n : ℕ) (lots : List LotState) (r : Refusal) → Ends n lots (outcomes.Refused r ∷ [])
 refused_ends n lots r = record { none = refl; going = λ closed. cc; met = λ closed unsealed l found. cc }
 
+close_ends : (n : ℕ) (outcome : Outcome) (old new : World) → Comes (event.LotClose n) outcome old new → Ends n old.clear.lots (outcome ∷ [])
+close_ends n outcome old new comes = by (closes_by n outcome old new comes)
+  where
+    by : Refuses outcome ⊎ ((done : Closed) × (outcome ≡ outcomes.Closed done) × (r : ClearRecord) × IsClose n old.clear.clear.lots old.clear.lots r) → Ends n old.clear.lots (outcome ∷ [])
+    by (inl (r, is)) = rw is (refused_ends n old.clear.lots r)
+    by (inr (done, is, r, close)) =
+        let at = going_parts old.clear.lots n close.lot close.going in
+        rw is (record {
+          none = refl;
+          going = λ closed. record { lot = close.lot; found = at.found; going = at.going };
+          met = λ closed unsealed l found. subst IsMet (same_Some close.lot l (sym at.found ∙ found)) (is_met close.lot close.met);
+        })
+
+closed_ends : (n : ℕ) (last : List Outcome) (old new : World) → IsClosed n last old new → Ends n old.clear.lots last
+closed_ends n last old new h = subst (Ends n old.clear.lots) (sym h.1) (close_ends n h.0 old new h.2.comes)
+
 -- a lot was sealed that had not ended
-sealed_going : (n : ℕ) (result : Result (Unit {0}) Refusal) (lots new : List LotState) → outcomes.Done ≡ done_outcome result → LotLeaves with_seal n result lots new
-    → IsGoing n lots
-sealed_going n (Ok u) lots new told leaves = let at = open-parts lots n _ leaves in record { lot = at.lot; found = at.found; going = at.going }
-sealed_going n (Err r) lots new told leaves = cc
+sealed_going : (n : ℕ) (old new : World) → Comes (event.Seal n) outcomes.Done old new → IsGoing n old.clear.lots
+sealed_going n old new comes = by (seals_by n outcomes.Done old new comes)
+  where
+    by : Refuses outcomes.Done ⊎ ((lot : LotState) × lots.IsGoing old.clear.lots n lot × (outcomes.Done ≡ outcomes.Done) × (new.clear.lots ≡ with_lot n (with_seal lot) old.clear.lots)) → IsGoing n old.clear.lots
+    by (inl (r, is)) = absurd (cc is)
+    by (inr (lot, at, is, left)) = record { lot = lot; found = at.found; going = at.going }
 
 seal_ends : (n : ℕ) (last : List Outcome) (old new : World) → IsSealedFirst n last old new → Ends n old.clear.lots last
 seal_ends n last old new (inl h) =
@@ -171,7 +168,7 @@ seal_ends n last old new (inr h) =
     let rest = closed_ends n h.0 h.1 new h.4 in
     subst (Ends n old.clear.lots) (sym h.2) (record {
       none = rest.none;
-      going = λ closed. let step = h.3.step in sealed_going n step.3.0 old.clear.lots h.1.clear.lots step.3.1 step.3.2.0;
+      going = λ closed. sealed_going n old h.1 h.3.comes;
       met = λ closed unsealed l found. cc;
     })
 

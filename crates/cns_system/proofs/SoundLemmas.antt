@@ -1,44 +1,48 @@
 -- What no event comes to while both nodes and the link are in accord.
-use Rattle.std.proofs.Common.{◌≡◌, ◌≤◌, ◌∙◌, ◌⊎◌, inl, inr, ℕ, Bool, true, false, List, Option, Some, None, Result, Ok, Err, ap, refl, subst, sym, arith}
-use Rattle.std.specs.Prelude.{◌≢◌, All, nat_lt, slice_get, if◌then◌else◌}
+use Rattle.std.proofs.Common.{◌≡◌, ◌≤◌, ◌∙◌, ◌+◌, ◌⊎◌, inl, inr, ℕ, Bool, true, false, List, length, Option, Some, None, Result, Ok, Err, ap, refl, subst, sym, arith}
+use Rattle.std.specs.Prelude.{◌≢◌, All, IfErr, IfOk, not, nat_lt, if◌then◌else◌}
+use Rattle.std.specs.Option.{ok_or, option_flatten}
+use Rattle.std.proofs.lemmas.Option.{same_Some}
+use Rattle.cns_ids.specs.Steps.{◌>>◌, need}
+use Rattle.cns_trades.specs.declared.opening.Opening.{Opening}
+use Rattle.cns_movements.specs.Order.{AgreesWith, moved_of, order_of}
+use Rattle.cns_movements.proofs.AgreeLemmas.{agree_fields, agrees_with-holds}
+use Rattle.cns_records.specs.Call.{Deed}
+use Rattle.cns_records.specs.Call as call
+use Rattle.cns_records.specs.declared.clear_record.ClearRecord.TheVariants as entry
+use Rattle.cns_records.specs.declared.dep_record.DepRecord.{DepRecord}
+use Rattle.cns_clearing.specs.Answers.{reply_call, up}
+use Rattle.cns_depository.specs.Answers.{dep_refusal, executes, known_call, order_call}
+use Rattle.cns_depository.specs.Stock.{executed_of, movement, movement_of}
+use Rattle.cns_system.specs.Accord.{Accord, IsInAccord, IsAsOrdered, IsSound, SpellsOrder, SpellsReply, StaysSound}
+use Rattle.cns_system.specs.Happens.{Change, ClearReads, Decision, DepotReads, DeviceFails, FindsBad, Goes, NoMemory, answer_told, by_clear, by_order, judged, restarted, taken_told}
+use Rattle.cns_system.specs.Scene.{Chance, Comes, decision_at, scene_of, sight_of}
+use Rattle.cns_system.specs.Shown.{LogShown, Shown, shown_of}
+use Rattle.cns_system.specs.World.{World}
+use Rattle.cns_system.proofs.HappensLemmas.{Holds, checked_keeps, clear_holds, happened}
+use Rattle.cns_system.proofs.HonestLemmas.{IsHonestly, honestly}
+use Rattle.cns_system.proofs.KeepsLemmas.{spelt_in}
+use Rattle.cns_system.proofs.StepLemmas.{err_after, err_found, found_some, ok_then}
 use Rattle.std.proofs.lemmas.Bool.{eq-eqb, ltb-true}
-use Rattle.std.proofs.lemmas.Option.{none-some, same_Some}
 use Rattle.cns_movements.specs.Book.{Orders}
 use Rattle.cns_movements.specs.Confirm.{answer_by, confirm_answer}
-use Rattle.cns_movements.specs.Order.{AgreesWith, moved_of, order_of}
 use Rattle.cns_movements.specs.declared.book.Confirm.{Confirm}
 use Rattle.cns_movements.specs.declared.book.Confirm.TheVariants as confirm
 use Rattle.cns_movements.specs.declared.order.Order.{Order}
 use Rattle.cns_movements.specs.declared.order.Reply.{Reply}
-use Rattle.cns_movements.proofs.AgreeLemmas.{agree_fields}
 use Rattle.cns_depository.specs.declared.movement.Movement.{Movement}
-use Rattle.cns_depository.specs.Stock.{executed_of, movement_of}
-use Rattle.cns_clearing.specs.Answers.{ReplyLeaves}
 use Rattle.cns_clearing.specs.Books.{orders_of}
-use Rattle.cns_clearing.specs.Node.{ClearNode}
 use Rattle.cns_clearing.specs.declared.answer.Taken.{Taken}
 use Rattle.cns_clearing.specs.declared.answer.Taken.TheVariants as taken
-use Rattle.cns_journal.specs.declared.record_log.ReplayFault.{ReplayFault}
-use Rattle.cns_journal.specs.declared.record_log.ReplayFault.TheVariants as replay
-use Rattle.cns_journal.specs.declared.record_log.Restarted.{Restarted}
-use Rattle.cns_depository.specs.Answers.{OrderLeaves}
-use Rattle.cns_depository.specs.Node.{DepNode}
-use Rattle.cns_journal.specs.RecordLog.{LogRestarts, LogState}
 use Rattle.cns_depository.specs.declared.fault.Answer.{Answer}
 use Rattle.cns_depository.specs.declared.fault.Answer.TheVariants as answer
 use Rattle.cns_depository.specs.declared.fault.DepFault.{DepFault}
 use Rattle.cns_depository.specs.declared.fault.DepFault.TheVariants as fault
-use Rattle.cns_system.specs.Accord.{Accord, IsInAccord, IsKnown, StaysSound}
-use Rattle.cns_system.specs.Outcomes.{order_outcome, reply_outcome, restart_outcome}
 use Rattle.cns_wire.specs.Packet.{at_number}
-use Rattle.cns_system.specs.Step.{OrderInStep, OrderTaken, ReplyInStep, Step}
-use Rattle.cns_system.specs.World.{World, order_in_packet, reply_in_packet}
 use Rattle.cns_system.specs.declared.event.Event.{Event}
 use Rattle.cns_system.specs.declared.event.Event.TheVariants as event
 use Rattle.cns_system.specs.declared.event.NodeName.TheVariants as node
-use Rattle.cns_system.proofs.AccordLemmas.{packet_done, packet_found}
 use Rattle.cns_system.proofs.DeliveredLemmas.{confirmed_as, movement_known}
-use Rattle.cns_system.proofs.KeepsLemmas.{packet_place}
 use Rattle.cns_system.specs.declared.outcome.Outcome.{Outcome}
 use Rattle.cns_system.specs.declared.outcome.Outcome.TheVariants as outcomes
 use Rattle.cns_records.specs.declared.refusal.Refusal.{Refusal}
@@ -46,7 +50,7 @@ use Rattle.cns_records.specs.declared.refusal.Refusal.TheVariants as refusal
 use Rattle.cns_system.specs.Agreement.{IsExecuted}
 
 -- an executed order of a number agrees with the order of that number
-pub executed_agrees : (orders : List Order) (movements : List Movement) (o : Order) (m : Movement) → All (IsKnown orders) movements → order_of orders o.number ≡ Some o
+pub executed_agrees : (orders : List Order) (movements : List Movement) (o : Order) (m : Movement) → All (IsAsOrdered orders) movements → order_of orders o.number ≡ Some o
     → movement_of movements o.number ≡ Some m → AgreesWith m.order o
 executed_agrees orders movements o m all found executed =
     let known = movement_known orders movements o.number m all executed in
@@ -54,7 +58,7 @@ executed_agrees orders movements o m all found executed =
     subst (AgreesWith m.order) (same_Some its.0 o (sym its.1 ∙ ap (order_of orders) known.1 ∙ found)) its.2
 
 -- a reply of an executed movement is a first or a repeated confirmation
-pub answer_known : (book : Orders) (movements : List Movement) (r : Reply) → All (IsKnown book.orders) movements → All (IsExecuted movements) book.replies → IsExecuted movements r
+pub answer_known : (book : Orders) (movements : List Movement) (r : Reply) → All (IsAsOrdered book.orders) movements → All (IsExecuted movements) book.replies → IsExecuted movements r
     → (confirm_answer book r ≡ confirm.Done) ⊎ (confirm_answer book r ≡ confirm.Again)
 answer_known book movements r known executed done =
     let order = movement_known book.orders movements r.number done.0 known done.1 in
@@ -79,95 +83,145 @@ answer_known book movements r known executed done =
 
 -- ---- events
 
+abbrev Sound : Event → Outcome → Shown → Type 0
+Sound e outcome w = IsSound e outcome
+
 -- an order that came agrees with what was executed under its number
-order_sound : (o : Order) (packet : ℕ) (result : Result Answer DepFault) (old new : DepNode) (orders : List Order) → All (IsKnown orders) (executed_of old.log.records)
-    → order_of orders o.number ≡ Some o → OrderLeaves o result old new → order_outcome packet result ≢ outcomes.Refused refusal.Conflict
-order_sound o packet (Ok (answer.Done r)) old new orders all found h = λ e. cc e
-order_sound o packet (Ok (answer.Again r)) old new orders all found h = λ e. cc e
-order_sound o packet (Err fault.Down) old new orders all found h = λ e. cc e
-order_sound o packet (Err fault.Conflict) old new orders all found h = λ e. h.1.2 (executed_agrees orders (executed_of old.log.records) o h.1.0 all found h.1.1)
-order_sound o packet (Err fault.OutOfMemory) old new orders all found h = λ e. cc e
-order_sound o packet (Err fault.Device) old new orders all found h = λ e. cc e
-
--- what a reply that came comes to
-abbrev IsSoundReply : Outcome → Type 0
-IsSoundReply outcome =
-    (outcome ≢ outcomes.Refused refusal.UnknownMove) × (outcome ≢ outcomes.Refused refusal.Conflict) × (outcome ≢ outcomes.Refused refusal.TooMuch)
-
--- a first or a repeated confirmation is no refusal
-not_refused : (a : Confirm) → (a ≡ confirm.Done) ⊎ (a ≡ confirm.Again) → (a ≢ confirm.UnknownMove) × (a ≢ confirm.Conflict) × (a ≢ confirm.TooMuch)
-not_refused a (inl done) = (λ e. cc (done, e), λ e. cc (done, e), λ e. cc (done, e))
-not_refused a (inr again) = (λ e. cc (again, e), λ e. cc (again, e), λ e. cc (again, e))
-
-reply_sound : (r : Reply) (result : Result Taken Refusal) (old new : ClearNode)
-    → (confirm_answer (orders_of old.log.records) r ≢ confirm.UnknownMove) × (confirm_answer (orders_of old.log.records) r ≢ confirm.Conflict)
-    × (confirm_answer (orders_of old.log.records) r ≢ confirm.TooMuch)
-    → ReplyLeaves r result old new → IsSoundReply (reply_outcome r result)
-reply_sound r (Ok taken.Done) old new sound h = (λ e. cc e, λ e. cc e, λ e. cc e)
-reply_sound r (Ok taken.Again) old new sound h = (λ e. cc e, λ e. cc e, λ e. cc e)
-reply_sound r (Err refusal.Down) old new sound h = (λ e. cc e, λ e. cc e, λ e. cc e)
-reply_sound r (Err refusal.UnknownMove) old new sound h = absurd (sound.0 h.1)
-reply_sound r (Err refusal.Conflict) old new sound h = absurd (sound.1 h.1)
-reply_sound r (Err refusal.TooMuch) old new sound h = absurd (sound.2 h.1)
-reply_sound r (Err refusal.OutOfMemory) old new sound h = (λ e. cc e, λ e. cc e, λ e. cc e)
-reply_sound r (Err refusal.Device) old new sound h = (λ e. cc e, λ e. cc e, λ e. cc e)
-reply_sound r (Err _) old new sound h = absurd h
-
-restart_sound : {R : Type 0} (spelling : R → List ℕ) (allows : List R → R → Type 0) (fits : R → Type 0) (result : Result Restarted ReplayFault)
-    (old new : LogState R) (place : ℕ) → old.honest ≡ true → LogRestarts spelling allows fits result old new → restart_outcome result ≢ outcomes.Refused (refusal.BadJournal place)
-restart_sound spelling allows fits (Ok r) old new place honest h = λ e. cc e
-restart_sound spelling allows fits (Err replay.OutOfMemory) old new place honest h = λ e. cc e
-restart_sound spelling allows fits (Err (replay.BadJournal at)) old new place honest h = absurd (h.2 honest)
-restart_sound spelling allows fits (Err replay.Device) old new place honest h = λ e. cc e
-
-order_in_sound : (packet : Option (List ℕ)) (held : Option Order) (outcome : Outcome) (old new : World)
-    → ((bytes : List ℕ) → packet ≡ Some bytes → (k : ℕ) × (slice_get old.orders k ≡ Some bytes)) → order_in_packet packet ≡ held
-    → OrderInStep held outcome old new → Accord old.clear.clear.log old.depot.log old.orders old.replies → outcome ≢ outcomes.Refused refusal.Conflict
-order_in_sound packet None outcome old new place is h a = λ e. cc (h.0, e)
-order_in_sound None (Some o) outcome old new place is h a = absurd (none-some o is)
-order_in_sound (Some bytes) (Some o) outcome old new place is h a = taken_sound h.2
+order_unrefused : (o : Order) (down : Bool) (openings : List Opening) (p : List DepRecord)
+    → ((known : Movement) → movement_of (executed_of p) o.number ≡ Some known → AgreesWith known.order o) → IfErr (order_call o down openings p) (λ f. f ≢ fault.Conflict)
+unfolding order_call
+order_unrefused o down openings p agrees = by down (movement_of (executed_of p) o.number) refl
   where
-    at : (k : ℕ) × (slice_get old.orders k ≡ Some bytes)
-    at = place bytes refl
+    by : (b : Bool) (found : Option Movement) → movement_of (executed_of p) o.number ≡ found
+        → IfErr (need (not b) fault.Down >> elim found [ None ↦ Ok (executes (movement openings p o)) | Some known ↦ known_call o known ]) (λ f. f ≢ fault.Conflict)
+    by true found is = λ e. cc e
+    by false None is = tt
+    by false (Some known) is = rw (agrees_with-holds known.order o (agrees known is)) tt
 
-    taken_sound : OrderTaken o outcome old new → outcome ≢ outcomes.Refused refusal.Conflict
-    taken_sound (inl t) = λ e.
-        order_sound o _ t.0 old.depot new.depot (orders_of old.clear.clear.log.records).orders a.known
-        (packet_found (orders_of old.clear.clear.log.records).orders bytes o (a.sent at.0 bytes at.1) is) t.2 (sym t.1 ∙ e)
-    taken_sound (inr t) = λ e. cc (t.0, e)
+same_refusal : (f : DepFault) → f ≢ fault.Conflict → outcomes.Refused (dep_refusal f) ≢ outcomes.Refused refusal.Conflict
+same_refusal fault.Down isnt e = cc e
+same_refusal fault.Conflict isnt e = isnt refl
+same_refusal fault.OutOfMemory isnt e = cc e
+same_refusal fault.Device isnt e = cc e
 
-reply_in_sound : (packet : Option (List ℕ)) (held : Option Reply) (outcome : Outcome) (old new : World)
-    → ((bytes : List ℕ) → packet ≡ Some bytes → (k : ℕ) × (slice_get old.replies k ≡ Some bytes)) → reply_in_packet packet ≡ held
-    → ReplyInStep held outcome old new → Accord old.clear.clear.log old.depot.log old.orders old.replies → IsSoundReply outcome
-reply_in_sound packet None outcome old new place is h a = (λ e. cc (h.0, e), λ e. cc (h.0, e), λ e. cc (h.0, e))
-reply_in_sound None (Some r) outcome old new place is h a = absurd (none-some r is)
-reply_in_sound (Some bytes) (Some r) outcome old new place is h a =
-    let at = place bytes refl in
-    let done = packet_done (executed_of old.depot.log.records) bytes r (a.answered at.0 bytes at.1) is in
-    let known = answer_known (orders_of old.clear.clear.log.records) (executed_of old.depot.log.records) r a.known a.executed done in
-    subst IsSoundReply (sym h.3.1)
-    (reply_sound r h.3.0 old.clear.clear new.clear.clear (not_refused (confirm_answer (orders_of old.clear.clear.log.records) r) known) h.3.2.0)
+module _ (d : Decision) (w : Shown) (a : Accord w) where
+  -- an order that came is of the orders, so that it meets no other one under its number
+  order_err : (packet : ℕ) (o : Order) → order_of (orders_of w.clear.records).orders o.number ≡ Some o
+      → IfErr (by_order w (order_call o w.depot.down w.openings w.depot.records)) (λ r. outcomes.Refused r ≢ outcomes.Refused refusal.Conflict)
+  order_err packet o found =
+      by (order_call o w.depot.down w.openings w.depot.records)
+      (order_unrefused o w.depot.down w.openings w.depot.records
+      (λ known at. executed_agrees (orders_of w.clear.records).orders (executed_of w.depot.records) o known a.executed found at))
+    where
+      by : (deed : Result (Deed DepRecord Answer) DepFault) → IfErr deed (λ f. f ≢ fault.Conflict) → IfErr (by_order w deed) (λ r. outcomes.Refused r ≢ outcomes.Refused refusal.Conflict)
+      by (Ok deed) unrefused = tt
+      by (Err f) unrefused = same_refusal f unrefused
+
+  order_told : (packet : ℕ) (o : Order) → IfOk (by_order w (order_call o w.depot.down w.openings w.depot.records)) (Holds (Sound (event.OrderIn packet)) d w)
+  order_told packet o = by (order_call o w.depot.down w.openings w.depot.records)
+    where
+      told : (place : ℕ) (x : Answer) → answer_told place x ≢ outcomes.Refused refusal.Conflict
+      told place (answer.Done r) e = cc e
+      told place (answer.Again r) e = cc e
+
+      by : (deed : Result (Deed DepRecord Answer) DepFault) → IfOk (by_order w deed) (Holds (Sound (event.OrderIn packet)) d w)
+      by (Err f) = tt
+      by (Ok (call.Tells x)) = told (length w.replies + 1) x
+      by (Ok (call.Commits e x)) = (told (length w.replies + 1) x, λ e. cc e)
+
+  -- a reply that came is of a movement that was executed, so that it is a first or a repeated confirmation
+  reply_err : (packet : ℕ) (r : Reply) → IsExecuted (executed_of w.depot.records) r
+      → IfErr (by_clear (taken_told r) w (reply_call r w.clear.down w.clear.records)) (λ f. IsSound (event.ReplyIn packet) (outcomes.Refused f))
+  unfolding reply_call
+  reply_err packet r executed =
+      by w.clear.down (confirm_answer (orders_of w.clear.records) r) (answer_known (orders_of w.clear.records) (executed_of w.depot.records) r a.executed a.confirmed executed)
+    where
+      by : (down : Bool) (answer : Confirm) → (answer ≡ confirm.Done) ⊎ (answer ≡ confirm.Again)
+          → IfErr (by_clear (taken_told r) w (up down >> elim answer [
+            | confirm.Done ↦ Ok (call.Commits (entry.Confirm r) taken.Done)
+            | confirm.Again ↦ Ok (call.Tells taken.Again)
+            | confirm.UnknownMove ↦ Err refusal.UnknownMove
+            | confirm.Conflict ↦ Err refusal.Conflict
+            | confirm.TooMuch ↦ Err refusal.TooMuch
+          ])) (λ f. IsSound (event.ReplyIn packet) (outcomes.Refused f))
+      by true answer is = (λ e. cc e, λ e. cc e, λ e. cc e)
+      by false answer (inl is) = rw is tt
+      by false answer (inr is) = rw is tt
+
+  reply_holds : (packet : ℕ) (r : Reply) → IfOk (by_clear (taken_told r) w (reply_call r w.clear.down w.clear.records)) (Holds (Sound (event.ReplyIn packet)) d w)
+  reply_holds packet r =
+      clear_holds (Sound (event.ReplyIn packet)) d w (taken_told r) (λ ls. ls) (reply_call r w.clear.down w.clear.records) (λ x is. told x) (λ k x is. (told x, (λ e. cc e, λ e. cc e, λ e. cc e)))
+    where
+      told : (x : Taken) → IsSound (event.ReplyIn packet) (taken_told r x)
+      told taken.Done = (λ e. cc e, λ e. cc e, λ e. cc e)
+      told taken.Again = (λ e. cc e, λ e. cc e, λ e. cc e)
+
+-- no journal of an honest keeper is bad
+restart_told : {R : Type 0} (d : Decision) (reads : List R → Decision) (tried : Option R) (records : List R) (log : LogShown R) (read : List R) (left : LogShown R → Shown)
+    → ((c : List R) (place : ℕ) → reads c ≢ FindsBad place) → IsHonestly reads tried records d → (place : ℕ) → (restarted d log read left).0 ≢ outcomes.Refused (refusal.BadJournal place)
+restart_told NoMemory reads tried records log read left never is place e = cc e
+restart_told DeviceFails reads tried records log read left never is place e = cc e
+restart_told Goes reads tried records log read left never is place e = cc e
+restart_told (ClearReads c) reads tried records log read left never is place e = cc e
+restart_told (DepotReads p) reads tried records log read left never is place e = cc e
+restart_told (FindsBad at) reads tried records log read left never (inl is) place e = cc is
+restart_told (FindsBad at) reads tried records log read left never (inr (inl is)) place e = cc is
+restart_told (FindsBad at) reads tried records log read left never (inr (inr (c, is, are))) place e = never c at (sym is)
+
+module _ (e : Event) (outcome : Outcome) (old new : World) (comes : Comes e outcome old new) (accord : IsInAccord old) (clear_honest : old.clear.clear.log.honest ≡ true)
+    (depot_honest : old.depot.log.honest ≡ true) where
+  by_judgement : ((chance : Chance) → let d = decision_at chance e (scene_of old) in Accord (shown_of old)
+      → IfErr (judged e (shown_of old)) (λ r. IsSound e (outcomes.Refused r)) × IsSound e (outcomes.Refused refusal.OutOfMemory) × IfOk (judged e (shown_of old)) (Holds (Sound e) d (shown_of old)))
+      → IsSound e outcome
+  by_judgement by =
+      let h = happened e outcome old new comes in
+      let d : Decision = decision_at h.chance e (scene_of old) in
+      let parts = by h.chance (accord clear_honest depot_honest) in
+      let sound = checked_keeps (Sound e) d (shown_of old) e parts.0 parts.1 parts.2 in
+      subst (IsSound e) (ap (λ (p : Outcome × Shown). p.0) h.is) sound
 
 -- what no event comes to
-pub step_sound : (e : Event) (outcome : Outcome) (old new : World) → Step e outcome old new → IsInAccord old → StaysSound old e outcome
-step_sound (event.Trade t) outcome old new h accord = λ c d. tt
-step_sound (event.Exempt m i s) outcome old new h accord = λ c d. tt
-step_sound (event.Priority m i on) outcome old new h accord = λ c d. tt
-step_sound (event.Cycle id) outcome old new h accord = λ c d. tt
-step_sound (event.LotOpen issue) outcome old new h accord = λ c d. tt
-step_sound (event.LotPour lot) outcome old new h accord = λ c d. tt
-step_sound (event.Reserve lot member) outcome old new h accord = λ c d. tt
-step_sound (event.LookPoured lot) outcome old new h accord = λ c d. tt
-step_sound (event.LookAsked lot) outcome old new h accord = λ c d. tt
-step_sound (event.Seal lot) outcome old new h accord = λ c d. tt
-step_sound (event.LotClose lot) outcome old new h accord = λ c d. tt
-step_sound (event.Send number) outcome old new h accord = λ c d. tt
-step_sound (event.OrderIn packet) outcome old new h accord = λ c d.
-    order_in_sound (at_number old.orders packet) (order_in_packet (at_number old.orders packet)) outcome old new (packet_place old.orders packet) refl h (accord c d)
-step_sound (event.ReplyIn packet) outcome old new h accord = λ c d.
-    reply_in_sound (at_number old.replies packet) (reply_in_packet (at_number old.replies packet)) outcome old new (packet_place old.replies packet) refl h (accord c d)
-step_sound (event.Own i) outcome old new h accord = λ c d. tt
-step_sound (event.Restart node.Clear) outcome old new h accord = λ c d. λ place e.
-    restart_sound _ _ _ h.3.0 old.clear.clear.log new.clear.clear.log place c h.3.2.0.0 (sym h.3.1 ∙ e)
-step_sound (event.Restart node.Depot) outcome old new h accord = λ c d. λ place e.
-    restart_sound _ _ _ h.3.0 old.depot.log new.depot.log place d h.3.2.0 (sym h.3.1 ∙ e)
+pub step_sound : (e : Event) (outcome : Outcome) (old new : World) → Comes e outcome old new → IsInAccord old → StaysSound old e outcome
+unfolding judged
+step_sound (event.OrderIn packet) outcome old new comes accord = λ c d.
+    let w : Shown = shown_of old in
+    let held : Result Order Refusal = ok_or (option_flatten (at_number w.orders packet)) refusal.NoPacket in
+    let next : Order → Result Change Refusal = λ o. by_order w (order_call o w.depot.down w.openings w.depot.records) in
+    by_judgement (event.OrderIn packet) outcome old new comes accord c d (λ chance a.
+    let found = λ (o : Order) (there : held ≡ Ok o).
+    spelt_in (SpellsOrder (orders_of w.clear.records).orders) w.orders packet o a.sent (found_some (option_flatten (at_number w.orders packet)) refusal.NoPacket o there) in (
+      err_after (λ r. outcomes.Refused r ≢ outcomes.Refused refusal.Conflict) held next (err_found (λ r. outcomes.Refused r ≢ outcomes.Refused refusal.Conflict) (option_flatten (at_number w.orders packet)) refusal.NoPacket (λ e. cc e))
+          (λ o there. order_err (decision_at chance (event.OrderIn packet) (scene_of old)) w a packet o (found o there)),
+      (λ e. cc e),
+      ok_then (Holds (Sound (event.OrderIn packet)) (decision_at chance (event.OrderIn packet) (scene_of old)) w) held next
+          (λ o there. order_told (decision_at chance (event.OrderIn packet) (scene_of old)) w a packet o),
+    ))
+step_sound (event.ReplyIn packet) outcome old new comes accord = λ c d.
+    let w : Shown = shown_of old in
+    let held : Result Reply Refusal = ok_or (option_flatten (at_number w.replies packet)) refusal.NoPacket in
+    let next : Reply → Result Change Refusal = λ r. by_clear (taken_told r) w (reply_call r w.clear.down w.clear.records) in
+    by_judgement (event.ReplyIn packet) outcome old new comes accord c d (λ chance a.
+    let found = λ (r : Reply) (there : held ≡ Ok r).
+    spelt_in (SpellsReply (executed_of w.depot.records)) w.replies packet r a.answered (found_some (option_flatten (at_number w.replies packet)) refusal.NoPacket r there) in (
+      err_after (λ f. IsSound (event.ReplyIn packet) (outcomes.Refused f)) held next
+          (err_found (λ f. IsSound (event.ReplyIn packet) (outcomes.Refused f)) (option_flatten (at_number w.replies packet)) refusal.NoPacket (λ e. cc e, λ e. cc e, λ e. cc e))
+          (λ r there. reply_err (decision_at chance (event.ReplyIn packet) (scene_of old)) w a packet r (found r there)),
+      (λ e. cc e, λ e. cc e, λ e. cc e),
+      ok_then (Holds (Sound (event.ReplyIn packet)) (decision_at chance (event.ReplyIn packet) (scene_of old)) w) held next
+          (λ r there. reply_holds (decision_at chance (event.ReplyIn packet) (scene_of old)) w a packet r),
+    ))
+step_sound (event.Restart node.Clear) outcome old new comes accord = λ c d.
+    by_judgement (event.Restart node.Clear) outcome old new comes accord c d (λ chance a. (
+      tt,
+      (λ place e. cc e),
+      restart_told (decision_at chance (event.Restart node.Clear) (scene_of old)) ClearReads old.clear.clear.log.tried old.clear.clear.log.records (shown_of old).clear _ _ (λ x place e. cc e)
+          (honestly ClearReads (sight_of old.clear.clear.log) old.clear.clear.log.tried old.clear.clear.log.records c chance),
+    ))
+step_sound (event.Restart node.Depot) outcome old new comes accord = λ c d.
+    by_judgement (event.Restart node.Depot) outcome old new comes accord c d (λ chance a. (
+      tt,
+      (λ place e. cc e),
+      restart_told (decision_at chance (event.Restart node.Depot) (scene_of old)) DepotReads old.depot.log.tried old.depot.log.records (shown_of old).depot _ _ (λ x place e. cc e)
+          (honestly DepotReads (sight_of old.depot.log) old.depot.log.tried old.depot.log.records d chance),
+    ))
+step_sound e outcome old new comes accord = λ c d. tt

@@ -1,39 +1,56 @@
--- What each event may leave of the lots by number.
-use Rattle.std.proofs.Common.{◌≡◌, ◌∙◌, ◌≤◌, ◌-◌, ℕ, true, false, not, List, [], ◌∷◌, ◌++◌, length, map, Option, Some, None, Result, Ok, Err, ap, sym, subst, refl, arith, inl, inr, length-set}
-use Rattle.std.specs.Prelude.{◌⊎◌, slice_get, slice_set}
-use Rattle.std.proofs.lemmas.List.{length-append, length-map}
-use Rattle.cns_clearing.specs.Answers.{CycleLeaves, ReplyLeaves, SettingLeaves, TradeLeaves}
-use Rattle.cns_clearing.specs.Lots.{lots_after}
-use Rattle.cns_clearing.specs.Node.{ClearNode}
-use Rattle.cns_clearing.specs.Pools.{lot_of}
-use Rattle.cns_clearing.specs.declared.answer.Closed.{Closed}
-use Rattle.cns_clearing.specs.declared.answer.Cycled.{Cycled}
-use Rattle.cns_clearing.specs.declared.answer.Taken.{Taken}
-use Rattle.cns_clearing.specs.declared.answer.Taken.TheVariants as taken
-use Rattle.cns_clearing.specs.declared.lot.Lot.{Lot}
-use Rattle.cns_ids.specs.declared.cycle.CycleId.{CycleId}
-use Rattle.cns_records.specs.declared.allocation.Allocation.{Allocation}
-use Rattle.cns_records.specs.declared.clear_record.ClearRecord.{ClearRecord}
-use Rattle.cns_records.specs.declared.clear_record.ClearRecord.TheVariants as entry
-use Rattle.cns_trades.specs.declared.trade.Trade.{Trade}
+-- What each event may leave of the lots by number, and of the node's open lots of their issues.
+use Rattle.std.proofs.Common.{◌≡◌, ◌≤◌, ◌∙◌, ◌+◌, ◌-◌, ◌++◌, [], ◌∷◌, ℕ, true, false, List, length, Option, Some, None, Result, Ok, Err, refl, sym, ap, subst, arith, inl, inr}
+use Rattle.std.specs.Prelude.{slice_set, not, IfOk, map, slice_get, ◌⊎◌}
+use Rattle.std.specs.Option.{ok_or, option_flatten}
+use Rattle.cns_ids.specs.Steps.{◌>>=◌}
+use Rattle.cns_movements.specs.Order.{order_of}
 use Rattle.cns_movements.specs.declared.order.Order.{Order}
 use Rattle.cns_movements.specs.declared.order.Reply.{Reply}
 use Rattle.cns_pool.specs.declared.ticket.Ticket.{Ticket}
+use Rattle.cns_wire.specs.Packet.{at_number}
+use Rattle.cns_records.specs.Call.{Deed}
+use Rattle.cns_records.specs.Call as call
+use Rattle.cns_records.specs.declared.clear_record.ClearRecord.{ClearRecord}
+use Rattle.cns_records.specs.declared.clear_record.ClearRecord.TheVariants as entry
+use Rattle.cns_records.specs.declared.dep_record.DepRecord.{DepRecord}
+use Rattle.cns_records.specs.declared.instruction.Instruction.{Instruction}
 use Rattle.cns_records.specs.declared.refusal.Refusal.{Refusal}
 use Rattle.cns_records.specs.declared.refusal.Refusal.TheVariants as refusal
-use Rattle.cns_wire.specs.Packet.{at_number}
-use Rattle.cns_system.specs.Floor.{has_not_ended, is_open, lot_changed}
+use Rattle.cns_clearing.specs.Answers.{cycle_call, reply_call, setting_call, trade_call, up}
+use Rattle.cns_clearing.specs.Books.{orders_of}
+use Rattle.cns_clearing.specs.declared.answer.Closed.{Closed}
+use Rattle.cns_clearing.specs.declared.answer.Cycled.{Cycled}
+use Rattle.cns_clearing.specs.declared.lot.Lot.{Lot}
+use Rattle.cns_depository.specs.Answers.{instruct_call, order_call}
+use Rattle.cns_depository.specs.declared.fault.Answer.{Answer}
+use Rattle.cns_depository.specs.declared.fault.DepFault.{DepFault}
+use Rattle.cns_depository.specs.declared.fault.Own.{Own}
+use Rattle.cns_depository.specs.declared.fault.OwnFault.{OwnFault}
+use Rattle.cns_system.specs.Happens.{Change, ClearReads, Decision, DepotReads, DeviceFails, FindsBad, Goes, Grows, Leaves, NoMemory, by_clear, by_order, by_own, judged, restarts, taken_told}
 use Rattle.cns_system.specs.Lot.{LotState, with_end, with_seal}
-use Rattle.cns_system.specs.Lots.{LotLeaves, ReserveLeaves}
-use Rattle.cns_system.specs.Numbered.{NumberedNode, AreTied, CloseLeaves, OpenLeaves, PourLeaves}
-use Rattle.cns_system.specs.Step.{OrderInStep, ReplyInStep, SendStep, Step}
-use Rattle.cns_system.specs.World.{World, order_in_packet, reply_in_packet}
+use Rattle.cns_system.specs.Lots.{going_lot}
+use Rattle.cns_system.specs.Numbered.{AreTied, NumberedNode, numbered_close, lots_ended, numbered_open, numbered_pour}
+use Rattle.cns_system.specs.Scene.{Comes, decision_at, scene_of}
+use Rattle.cns_system.specs.World.{World}
+use Rattle.cns_system.specs.Shown.{Shown, shown_of, clear_added, clear_failed, with_new_lot}
 use Rattle.cns_system.specs.declared.event.Event.{Event}
 use Rattle.cns_system.specs.declared.event.Event.TheVariants as event
 use Rattle.cns_system.specs.declared.event.NodeName.TheVariants as node
 use Rattle.cns_system.specs.declared.numbered.Opened.{Opened}
 use Rattle.cns_system.specs.declared.outcome.Outcome.{Outcome}
-use Rattle.cns_system.proofs.LotsLemmas.{open-parts}
+use Rattle.cns_system.specs.declared.outcome.Outcome.TheVariants as outcomes
+use Rattle.cns_system.proofs.HappensLemmas.{Holds, checked_keeps, clear_holds, happened, tells_holds}
+use Rattle.cns_system.proofs.RecordedLemmas.{IsClose, Recorded, close_records, cycle_records, given, reply_records, setting_records, trade_records}
+use Rattle.cns_system.proofs.StepLemmas.{ok_then}
+use Rattle.cns_system.proofs.KeepsLemmas.{refused_keeps}
+use Rattle.std.proofs.lemmas.List.{length-append, length-map, length-set}
+use Rattle.cns_clearing.specs.Lots.{lots_after, lots_poured}
+use Rattle.cns_clearing.specs.Pools.{free_of, lot_of}
+use Rattle.cns_system.specs.Floor.{has_not_ended, is_open, lot_changed}
+use Rattle.cns_system.specs.Lots.{turn_ticket, with_lot}
+use Rattle.cns_system.specs.Lot.{with_ticket}
+use Rattle.cns_system.specs.Lot.{numbered_lot}
+use Rattle.cns_system.proofs.LotsLemmas.{going_parts}
 use Rattle.cns_system.proofs.NumberedLemmas.{others_poured}
 use Rattle.cns_system.proofs.TiedLemmas.{at_changed, at_place, ended_at, found_more, found_of, found_without, from_place, get_more}
 
@@ -86,92 +103,6 @@ spares_ended changed old new is = record {
       let no : true ≡ false = sym (ended_at old n l (ap (λ (lots : List LotState). at_number lots n) (sym is) ∙ found)) ∙ going in cc;
 }
 
--- no lot changes
-node_same : (changed : Option ℕ) (old new : NumberedNode) → new ≡ old → Spares changed old.lots new.lots
-node_same changed old new same = spares_same changed old.lots new.lots (ap (λ (n : NumberedNode). n.lots) same)
-
-world_same : (changed : Option ℕ) (old new : World) → new ≡ old → Spares changed old.clear.lots new.clear.lots
-world_same changed old new same = spares_same changed old.clear.lots new.clear.lots (ap (λ (w : World). w.clear.lots) same)
-
--- ---- by what the calls leave
-
-open_spares : (changed : Option ℕ) (issue : ℕ) (result : Result Opened Refusal) (old new : NumberedNode) → OpenLeaves issue result old new → Spares changed old.lots new.lots
-open_spares changed issue (Ok opened) old new h = spares_more changed old.lots new.lots _ h.3
-open_spares changed issue (Err refusal.Down) old new h = node_same changed old new h.1
-open_spares changed issue (Err refusal.LotAlready) old new h = node_same changed old new h.2
-open_spares changed issue (Err refusal.LotsSpent) old new h = node_same changed old new h.3
-open_spares changed issue (Err refusal.OutOfMemory) old new h = node_same changed old new h.3
-open_spares changed issue (Err _) old new h = absurd h
-
-pour_spares : (n : ℕ) (result : Result ℕ Refusal) (old new : NumberedNode) → PourLeaves n result old new → Spares (Some n) old.lots new.lots
-pour_spares n (Ok shares) old new h = spares_same (Some n) old.lots new.lots h.1
-pour_spares n (Err refusal.NoLot) old new h = node_same (Some n) old new h.1
-pour_spares n (Err refusal.StaleLot) old new h = node_same (Some n) old new h.1
-pour_spares n (Err refusal.Down) old new h = node_same (Some n) old new h.1
-pour_spares n (Err _) old new h = absurd h
-
-reserve_spares : (n member : ℕ) (result : Result Ticket Refusal) (old new : List LotState) → ReserveLeaves n member result old new → Spares (Some n) old new
-reserve_spares n member (Ok ticket) old new h =
-    let at = open-parts old n _ h in spares_update old new n at.lot _ at.found at.going at.holds.3
-reserve_spares n member (Err refusal.NoLot) old new h = spares_same (Some n) old new h.1
-reserve_spares n member (Err refusal.StaleLot) old new h = spares_same (Some n) old new h.1
-reserve_spares n member (Err refusal.NotLong) old new h = spares_same (Some n) old new h.1
-reserve_spares n member (Err refusal.EarlierGroup) old new h = spares_same (Some n) old new h.1
-reserve_spares n member (Err refusal.Sealed) old new h = spares_same (Some n) old new h.1
-reserve_spares n member (Err _) old new h = absurd h
-
-seal_spares : (n : ℕ) (result : Result (Unit {0}) Refusal) (old new : List LotState) → LotLeaves with_seal n result old new → Spares (Some n) old new
-seal_spares n (Ok done) old new h =
-    let at = open-parts old n _ h in spares_update old new n at.lot _ at.found at.going at.holds
-seal_spares n (Err refusal.NoLot) old new h = spares_same (Some n) old new h.1
-seal_spares n (Err refusal.StaleLot) old new h = spares_same (Some n) old new h.1
-seal_spares n (Err _) old new h = absurd h
-
-close_spares : (n : ℕ) (result : Result Closed Refusal) (old new : NumberedNode) → CloseLeaves n result old new → Spares (Some n) old.lots new.lots
-close_spares n (Ok done) old new h =
-    let at = open-parts old.lots n _ h in spares_update old.lots new.lots n at.lot _ at.found at.going at.holds.2
-close_spares n (Err refusal.NoLot) old new h = node_same (Some n) old new h.1
-close_spares n (Err refusal.StaleLot) old new h = node_same (Some n) old new h.1
-close_spares n (Err refusal.Down) old new h = node_same (Some n) old new h.1
-close_spares n (Err refusal.Unserved) old new h = node_same (Some n) old new h.1
-close_spares n (Err refusal.NumbersSpent) old new h = node_same (Some n) old new h.1
-close_spares n (Err refusal.OutOfMemory) old new h = node_same (Some n) old new h.1
-close_spares n (Err refusal.Device) old new h = spares_same (Some n) old.lots new.lots h.1
-close_spares n (Err _) old new h = absurd h
-
-send_spares : (changed : Option ℕ) (n : ℕ) (outcome : Outcome) (old new : World) → SendStep n outcome old new → Spares changed old.clear.lots new.clear.lots
-send_spares changed n outcome old new (inl h) = spares_same changed old.clear.lots new.clear.lots (ap (λ (w : World). w.clear.lots) h.2.put)
-send_spares changed n outcome old new (inr h) = world_same changed old new h.3
-
-order_spares : (changed : Option ℕ) (held : Option Order) (outcome : Outcome) (old new : World) → OrderInStep held outcome old new → Spares changed old.clear.lots new.clear.lots
-order_spares changed None outcome old new h = world_same changed old new h.1
-order_spares changed (Some o) outcome old new h = node_same changed old.clear new.clear h.0
-
-reply_spares : (changed : Option ℕ) (held : Option Reply) (outcome : Outcome) (old new : World) → ReplyInStep held outcome old new → Spares changed old.clear.lots new.clear.lots
-reply_spares changed None outcome old new h = world_same changed old new h.1
-reply_spares changed (Some r) outcome old new h = spares_same changed old.clear.lots new.clear.lots h.3.2.1
-
--- ---- events
-
-pub step_spares : (e : Event) (outcome : Outcome) (old new : World) → Step e outcome old new → Spares (lot_changed e) old.clear.lots new.clear.lots
-step_spares (event.Trade t) outcome old new h = spares_same None old.clear.lots new.clear.lots h.3.2.1
-step_spares (event.Exempt m i s) outcome old new h = spares_same None old.clear.lots new.clear.lots h.3.2.1
-step_spares (event.Priority m i on) outcome old new h = spares_same None old.clear.lots new.clear.lots h.3.2.1
-step_spares (event.Cycle id) outcome old new h = spares_same None old.clear.lots new.clear.lots h.3.2.1
-step_spares (event.LotOpen issue) outcome old new h = open_spares None issue h.3.0 old.clear new.clear h.3.2
-step_spares (event.LotPour lot) outcome old new h = pour_spares lot h.3.0 old.clear new.clear h.3.2
-step_spares (event.Reserve lot member) outcome old new h = reserve_spares lot member h.3.0 old.clear.lots new.clear.lots h.3.2.0
-step_spares (event.LookPoured lot) outcome old new h = node_same None old.clear new.clear h.3.2.1
-step_spares (event.LookAsked lot) outcome old new h = node_same None old.clear new.clear h.3.2.1
-step_spares (event.Seal lot) outcome old new h = seal_spares lot h.3.0 old.clear.lots new.clear.lots h.3.2.0
-step_spares (event.LotClose lot) outcome old new h = close_spares lot h.3.0 old.clear new.clear h.3.2
-step_spares (event.Send number) outcome old new h = send_spares None number outcome old new h
-step_spares (event.OrderIn packet) outcome old new h = order_spares None (order_in_packet (at_number old.orders packet)) outcome old new h
-step_spares (event.ReplyIn packet) outcome old new h = reply_spares None (reply_in_packet (at_number old.replies packet)) outcome old new h
-step_spares (event.Own i) outcome old new h = node_same None old.clear new.clear h.0
-step_spares (event.Restart node.Clear) outcome old new h = spares_ended None old.clear.lots new.clear.lots h.3.2.1
-step_spares (event.Restart node.Depot) outcome old new h = node_same None old.clear new.clear h.0
-
 -- ---- the node's open lots of the issues of such lots
 
 -- the node's open lot stays of the issue of each lot that has not ended, but for the one of this number, where it had not ended
@@ -183,126 +114,203 @@ KeepsTwins changed old new =
 pub twins_same : (changed : Option ℕ) (old new : NumberedNode) → new.clear.lots ≡ old.clear.lots → KeepsTwins changed old new
 twins_same changed old new same n l spared found now going = ap (λ (lots : List Lot). lot_of lots l.issue) same
 
-twins_node : (changed : Option ℕ) (old new : NumberedNode) → new ≡ old → KeepsTwins changed old new
-twins_node changed old new same = twins_same changed old new (ap (λ (n : NumberedNode). n.clear.lots) same)
+-- so it is of what is shown
+abbrev ShownTwins : Option ℕ → Shown → Shown → Type 0
+ShownTwins changed w left =
+    (n : ℕ) (l : LotState) → (changed ≡ Some n → is_open w.lots n ≡ false) → at_number w.lots n ≡ Some l → at_number left.lots n ≡ Some l → l.ended ≡ false
+    → lot_of left.open_lots l.issue ≡ lot_of w.open_lots l.issue
 
 -- a lot that is not of the number is of another issue
-other_issue : (old : NumberedNode) (m n : ℕ) (k l : LotState) → AreTied old.clear.lots old.lots → at_number old.lots m ≡ Some k → k.ended ≡ false
-    → at_number old.lots n ≡ Some l → l.ended ≡ false → (Some m ≡ Some n → is_open old.lots n ≡ false) → l.issue ≡ k.issue → ⊥
-other_issue old m n k l are found going there up spared same =
+other_issue : (w : Shown) (m n : ℕ) (k l : LotState) → AreTied w.open_lots w.lots → at_number w.lots m ≡ Some k → k.ended ≡ false
+    → at_number w.lots n ≡ Some l → l.ended ≡ false → (Some m ≡ Some n → is_open w.lots n ≡ false) → l.issue ≡ k.issue → ⊥
+other_issue w m n k l are found going there up spared same =
     let one : n ≡ m = are.once n m l k there found up going same in
-    let no : true ≡ false = sym (open_found old.lots n l there up) ∙ spared (ap Some (sym one)) in cc
+    let no : true ≡ false = sym (open_found w.lots n l there up) ∙ spared (ap Some (sym one)) in cc
 
-open_twins : (changed : Option ℕ) (issue : ℕ) (result : Result Opened Refusal) (old new : NumberedNode) → AreTied old.clear.lots old.lots → OpenLeaves issue result old new
-    → KeepsTwins changed old new
-open_twins changed issue (Ok opened) old new are h = λ n l spared found now going.
-    let tied = are.each n l found going in
-    ap (λ (c : ClearNode). lot_of c.lots l.issue) h.2.3 ∙ found_more old.clear.lots _ tied.twin l.issue tied.found ∙ sym tied.found
-open_twins changed issue (Err refusal.Down) old new are h = twins_node changed old new h.1
-open_twins changed issue (Err refusal.LotAlready) old new are h = twins_node changed old new h.2
-open_twins changed issue (Err refusal.LotsSpent) old new are h = twins_node changed old new h.3
-open_twins changed issue (Err refusal.OutOfMemory) old new are h = twins_node changed old new h.3
-open_twins changed issue (Err _) old new are h = absurd h
+-- ---- events
 
-pub pour_twins : (m : ℕ) (result : Result ℕ Refusal) (old new : NumberedNode) → AreTied old.clear.lots old.lots → PourLeaves m result old new → KeepsTwins (Some m) old new
-pour_twins m (Ok shares) old new are h = λ n l spared found now going.
-    let at = open-parts old.lots m _ h.0 in
-    ap (λ (c : ClearNode). lot_of c.lots l.issue) at.holds.2
-    ∙ others_poured old.clear.log.records at.lot.issue l.issue old.clear.lots (other_issue old m n at.lot l are at.found at.going found going spared)
-pour_twins m (Err refusal.NoLot) old new are h = twins_node (Some m) old new h.1
-pour_twins m (Err refusal.StaleLot) old new are h = twins_node (Some m) old new h.1
-pour_twins m (Err refusal.Down) old new are h = twins_node (Some m) old new h.1
-pour_twins m (Err _) old new are h = absurd h
+-- what an event leaves of the lots, and of the node's open ones
+record KeepsLots (changed : Option ℕ) (w left : Shown) : Type 0 where
+  pub spares : Spares changed w.lots left.lots
+  pub twins : AreTied w.open_lots w.lots → ShownTwins changed w left
 
-close_twins : (m : ℕ) (result : Result Closed Refusal) (old new : NumberedNode) → AreTied old.clear.lots old.lots → CloseLeaves m result old new → KeepsTwins (Some m) old new
-close_twins m (Ok done) old new are h = λ n l spared found now going.
-    let at = open-parts old.lots m _ h in
-    let closes = at.holds.1 in
-    let issue : closes.0.issue ≡ at.lot.issue = ap (λ (a : Allocation). a.issue) closes.1.closes ∙ found_of old.clear.lots at.lot.issue closes.1.lot closes.1.found in
-    ap (λ (lots : List Lot). lot_of lots l.issue) closes.4.2
-    ∙ found_without closes.0.issue l.issue old.clear.lots (λ e. other_issue old m n at.lot l are at.found at.going found going spared (e ∙ issue))
-close_twins m (Err refusal.NoLot) old new are h = twins_node (Some m) old new h.1
-close_twins m (Err refusal.StaleLot) old new are h = twins_node (Some m) old new h.1
-close_twins m (Err refusal.Down) old new are h = twins_node (Some m) old new h.1
-close_twins m (Err refusal.Unserved) old new are h = twins_node (Some m) old new h.1
-close_twins m (Err refusal.NumbersSpent) old new are h = twins_node (Some m) old new h.1
-close_twins m (Err refusal.OutOfMemory) old new are h = twins_node (Some m) old new h.1
-close_twins m (Err refusal.Device) old new are h =
-    let at = open-parts old.lots m _ h.0 in twins_same (Some m) old new at.holds.1.3.2
-close_twins m (Err _) old new are h = absurd h
+both_same : (changed : Option ℕ) (w left : Shown) → left.lots ≡ w.lots → left.open_lots ≡ w.open_lots → KeepsLots changed w left
+both_same changed w left lots open_lots = record {
+  spares = spares_same changed w.lots left.lots lots;
+  twins = λ are n l spared found now going. ap (λ (ls : List Lot). lot_of ls l.issue) open_lots;
+}
 
-ended_twins : (changed : Option ℕ) (old new : NumberedNode) → new.lots ≡ map with_end old.lots → KeepsTwins changed old new
-ended_twins changed old new is n l spared found now going =
-    let no : true ≡ false = sym (ended_at old.lots n l (ap (λ (lots : List LotState). at_number lots n) (sym is) ∙ now)) ∙ going in cc
+abbrev Kept : Option ℕ → Shown → Outcome → Shown → Type 0
+Kept changed w outcome left = KeepsLots changed w left
 
--- calls that no open lot knows of
-lots_of : (old new : ClearNode) → new ≡ old → new.lots ≡ old.lots
-lots_of old new same = ap (λ (c : ClearNode). c.lots) same
+module _ (changed : Option ℕ) (d : Decision) (w : Shown) where
+  -- a call whose record opens and closes no lot
+  by_quiet : {X : Type 0} (told : X → Outcome) (deed : Result (Deed ClearRecord X) Refusal) (Q : ClearRecord → Type 0)
+      → ((r : ClearRecord) → Q r → (lots : List Lot) → lots_after r lots ≡ lots) → IfOk deed (Recorded w.clear.down Q) → IfOk (by_clear told w deed) (Holds (Kept changed w) d w)
+  by_quiet told deed Q quiet records =
+      clear_holds (Kept changed w) d w told (λ ls. ls) deed (λ x is. both_same changed w w refl refl)
+      (λ r x is.
+      let here = given (Recorded w.clear.down Q) deed (call.Commits r x) is records in
+      (both_same changed w (record (clear_added r w) { lots = w.lots }) refl (quiet r here.1 w.open_lots), both_same changed w (clear_failed r w) refl refl))
 
-trade_lots : (t : Trade) (result : Result (Unit {0}) Refusal) (old new : ClearNode) → TradeLeaves t result old new → new.lots ≡ old.lots
-trade_lots t (Ok done) old new h = h.1.2
-trade_lots t (Err refusal.Down) old new h = lots_of old new h.1
-trade_lots t (Err (refusal.Trade v)) old new h = lots_of old new h.3
-trade_lots t (Err refusal.OutOfMemory) old new h = lots_of old new h.2
-trade_lots t (Err refusal.Device) old new h = h.1.2
-trade_lots t (Err _) old new h = absurd h
+  by_depot : (deed : Result (Deed DepRecord Answer) DepFault) → IfOk (by_order w deed) (Holds (Kept changed w) d w)
+  by_depot (Err fault) = tt
+  by_depot (Ok (call.Tells x)) = both_same changed w _ refl refl
+  by_depot (Ok (call.Commits e x)) = (both_same changed w _ refl refl, both_same changed w _ refl refl)
 
-setting_lots : (r : ClearRecord) (result : Result (Unit {0}) Refusal) (old new : ClearNode) → lots_after r old.lots ≡ old.lots → SettingLeaves r result old new → new.lots ≡ old.lots
-setting_lots r (Ok done) old new none h = h.2 ∙ none
-setting_lots r (Err refusal.Down) old new none h = lots_of old new h.1
-setting_lots r (Err refusal.OutOfMemory) old new none h = lots_of old new h.1
-setting_lots r (Err refusal.Device) old new none h = h.2
-setting_lots r (Err _) old new none h = absurd h
+  instructs : (i : Instruction) (deed : Result (Deed DepRecord Own) OwnFault) → IfOk (by_own i w deed) (Holds (Kept changed w) d w)
+  instructs i (Err fault) = tt
+  instructs i (Ok (call.Tells x)) = both_same changed w _ refl refl
+  instructs i (Ok (call.Commits e x)) = (both_same changed w _ refl refl, both_same changed w _ refl refl)
 
-cycle_lots : (id : CycleId) (result : Result Cycled Refusal) (old new : ClearNode) → CycleLeaves id result old new → new.lots ≡ old.lots
-cycle_lots id (Ok done) old new h = h.3.2
-cycle_lots id (Err refusal.Down) old new h = lots_of old new h.1
-cycle_lots id (Err refusal.CycleOrder) old new h = lots_of old new h.2
-cycle_lots id (Err refusal.LotsOpen) old new h = lots_of old new h.3
-cycle_lots id (Err refusal.NumbersSpent) old new h = lots_of old new h.4
-cycle_lots id (Err refusal.OutOfMemory) old new h = lots_of old new h.4
-cycle_lots id (Err refusal.Device) old new h = h.2.2
-cycle_lots id (Err _) old new h = absurd h
+-- a lot more is opened
+opened_kept : (w : Shown) (lot : Lot) → KeepsLots None w (with_new_lot lot w)
+opened_kept w lot = record {
+  spares = spares_more None w.lots (with_new_lot lot w).lots (numbered_lot lot.issue lot.plan) refl;
+  twins = λ are n l spared found now going.
+      let tied = are.each n l found going in
+      found_more w.open_lots lot tied.twin l.issue tied.found ∙ sym tied.found;
+}
 
-reply_lots : (r : Reply) (result : Result Taken Refusal) (old new : ClearNode) → ReplyLeaves r result old new → new.lots ≡ old.lots
-reply_lots r (Ok taken.Done) old new h = h.1.2
-reply_lots r (Ok taken.Again) old new h = lots_of old new h.2
-reply_lots r (Err refusal.Down) old new h = lots_of old new h.1
-reply_lots r (Err refusal.UnknownMove) old new h = lots_of old new h.2
-reply_lots r (Err refusal.Conflict) old new h = lots_of old new h.2
-reply_lots r (Err refusal.TooMuch) old new h = lots_of old new h.2
-reply_lots r (Err refusal.OutOfMemory) old new h = lots_of old new h.2
-reply_lots r (Err refusal.Device) old new h = h.1.2
-reply_lots r (Err _) old new h = absurd h
+-- the lot of a number takes another state
+changed_kept : (w : Shown) (number : ℕ) (lot x : LotState) → going_lot w.lots number ≡ Ok lot → KeepsLots (Some number) w (record w { lots = with_lot number x w.lots })
+changed_kept w number lot x going =
+    let at = going_parts w.lots number lot going in
+    record {
+      spares = spares_update w.lots (with_lot number x w.lots) number lot x at.found at.going refl;
+      twins = λ are n l spared found now up. refl;
+    }
 
-send_twins : (changed : Option ℕ) (n : ℕ) (outcome : Outcome) (old new : World) → SendStep n outcome old new → KeepsTwins changed old.clear new.clear
-send_twins changed n outcome old new (inl h) = twins_node changed old.clear new.clear (ap (λ (w : World). w.clear) h.2.put)
-send_twins changed n outcome old new (inr h) = twins_node changed old.clear new.clear (ap (λ (w : World). w.clear) h.3)
+-- it is poured into
+poured_kept : (w : Shown) (number : ℕ) (lot : LotState) → going_lot w.lots number ≡ Ok lot
+    → KeepsLots (Some number) w (record w { open_lots = lots_poured w.clear.records lot.issue w.open_lots })
+poured_kept w number lot going =
+    let at = going_parts w.lots number lot going in
+    record {
+      spares = spares_same (Some number) w.lots w.lots refl;
+      twins = λ are n l spared found now up.
+          others_poured w.clear.records lot.issue l.issue w.open_lots (other_issue w number n lot l are at.found at.going found up spared);
+    }
 
-order_twins : (changed : Option ℕ) (held : Option Order) (outcome : Outcome) (old new : World) → OrderInStep held outcome old new → KeepsTwins changed old.clear new.clear
-order_twins changed None outcome old new h = twins_node changed old.clear new.clear (ap (λ (w : World). w.clear) h.1)
-order_twins changed (Some o) outcome old new h = twins_node changed old.clear new.clear h.0
+-- it is closed
+closed_kept : (w : Shown) (number : ℕ) (r : ClearRecord) → IsClose number w.open_lots w.lots r
+    → KeepsLots (Some number) w (record (clear_added r w) { lots = lots_ended number w.lots })
+closed_kept w number r close =
+    let lot = close.lot in
+    let at = going_parts w.lots number lot close.going in
+    let ended : lots_ended number w.lots ≡ with_lot number (with_end lot) w.lots =
+    ap (λ (o : Option LotState). elim o [ None ↦ w.lots | Some k ↦ with_lot number (with_end k) w.lots ]) at.found in
+    let issue : close.twin.issue ≡ lot.issue = found_of w.open_lots lot.issue close.twin close.found in
+    record {
+      spares = spares_update w.lots (lots_ended number w.lots) number lot (with_end lot) at.found at.going ended;
+      twins = λ are n l spared found now up.
+          ap (λ (k : ClearRecord). lot_of (lots_after k w.open_lots) l.issue) close.is
+          ∙ found_without close.twin.issue l.issue w.open_lots (λ e. other_issue w number n lot l are at.found at.going found up spared (e ∙ issue));
+    }
 
-reply_twins : (changed : Option ℕ) (held : Option Reply) (outcome : Outcome) (old new : World) → ReplyInStep held outcome old new → KeepsTwins changed old.clear new.clear
-reply_twins changed None outcome old new h = twins_node changed old.clear new.clear (ap (λ (w : World). w.clear) h.1)
-reply_twins changed (Some r) outcome old new h = twins_same changed old.clear new.clear (reply_lots r h.3.0 old.clear.clear new.clear.clear h.3.2.0)
+-- all lots end
+ended_kept : (w left : Shown) → left.lots ≡ map with_end w.lots → KeepsLots None w left
+ended_kept w left is = record {
+  spares = spares_ended None w.lots left.lots is;
+  twins = λ are n l spared found now going.
+      let no : true ≡ false = sym (ended_at w.lots n l (ap (λ (lots : List LotState). at_number lots n) (sym is) ∙ now)) ∙ going in cc;
+}
 
-pub step_twins : (e : Event) (outcome : Outcome) (old new : World) → AreTied old.clear.clear.lots old.clear.lots → Step e outcome old new
-    → KeepsTwins (lot_changed e) old.clear new.clear
-step_twins (event.Trade t) outcome old new are h = twins_same None old.clear new.clear (trade_lots t h.3.0 old.clear.clear new.clear.clear h.3.2.0)
-step_twins (event.Exempt m i s) outcome old new are h = twins_same None old.clear new.clear (setting_lots (entry.Exempt m i s) h.3.0 old.clear.clear new.clear.clear refl h.3.2.0)
-step_twins (event.Priority m i on) outcome old new are h = twins_same None old.clear new.clear (setting_lots (entry.Priority m i on) h.3.0 old.clear.clear new.clear.clear refl h.3.2.0)
-step_twins (event.Cycle id) outcome old new are h = twins_same None old.clear new.clear (cycle_lots id h.3.0 old.clear.clear new.clear.clear h.3.2.0)
-step_twins (event.LotOpen issue) outcome old new are h = open_twins None issue h.3.0 old.clear new.clear are h.3.2
-step_twins (event.LotPour lot) outcome old new are h = pour_twins lot h.3.0 old.clear new.clear are h.3.2
-step_twins (event.Reserve lot member) outcome old new are h = twins_same (Some lot) old.clear new.clear (lots_of old.clear.clear new.clear.clear h.3.2.1)
-step_twins (event.LookPoured lot) outcome old new are h = twins_node None old.clear new.clear h.3.2.1
-step_twins (event.LookAsked lot) outcome old new are h = twins_node None old.clear new.clear h.3.2.1
-step_twins (event.Seal lot) outcome old new are h = twins_same (Some lot) old.clear new.clear (lots_of old.clear.clear new.clear.clear h.3.2.1)
-step_twins (event.LotClose lot) outcome old new are h = close_twins lot h.3.0 old.clear new.clear are h.3.2
-step_twins (event.Send number) outcome old new are h = send_twins None number outcome old new h
-step_twins (event.OrderIn packet) outcome old new are h = order_twins None (order_in_packet (at_number old.orders packet)) outcome old new h
-step_twins (event.ReplyIn packet) outcome old new are h = reply_twins None (reply_in_packet (at_number old.replies packet)) outcome old new h
-step_twins (event.Own i) outcome old new are h = twins_node None old.clear new.clear h.0
-step_twins (event.Restart node.Clear) outcome old new are h = ended_twins None old.clear new.clear h.3.2.1
-step_twins (event.Restart node.Depot) outcome old new are h = twins_node None old.clear new.clear h.0
+restart_kept : (d : Decision) (w : Shown) → KeepsLots None w (restarts d node.Clear w).1
+restart_kept NoMemory w = ended_kept w _ refl
+restart_kept DeviceFails w = ended_kept w _ refl
+restart_kept (FindsBad place) w = ended_kept w _ refl
+restart_kept (ClearReads c) w = ended_kept w _ refl
+restart_kept Goes w = ended_kept w _ refl
+restart_kept (DepotReads p) w = ended_kept w _ refl
+
+depot_kept : (d : Decision) (w : Shown) → KeepsLots None w (restarts d node.Depot w).1
+depot_kept NoMemory w = both_same None w _ refl refl
+depot_kept DeviceFails w = both_same None w _ refl refl
+depot_kept (FindsBad place) w = both_same None w _ refl refl
+depot_kept (ClearReads c) w = both_same None w _ refl refl
+depot_kept Goes w = both_same None w _ refl refl
+depot_kept (DepotReads p) w = both_same None w _ refl refl
+
+-- what is given in steps of which the first two are a call
+pub steps_by : {A B C E : Type 0} (P : C → Type 0) (first : Result A E) (second : A → Result B E) (third : B → Result C E)
+    → ((a : A) → first ≡ Ok a → IfOk (second a) (λ (b : B). IfOk (third b) P)) → IfOk ((first >>= second) >>= third) P
+steps_by {A} {B} {C} {E} P first second third rest = by first rest
+  where
+    after : (r : Result B E) → IfOk r (λ (b : B). IfOk (third b) P) → IfOk (r >>= third) P
+    after (Ok b) h = h
+    after (Err e) h = tt
+
+    by : (r : Result A E) → ((a : A) → r ≡ Ok a → IfOk (second a) (λ (b : B). IfOk (third b) P)) → IfOk ((r >>= second) >>= third) P
+    by (Err e) rest = tt
+    by (Ok x) rest = after (second x) (rest x refl)
+
+lots_hold : (d : Decision) (e : Event) (w : Shown) → IfOk (judged e w) (Holds (Kept (lot_changed e) w) d w)
+unfolding judged numbered_pour
+lots_hold d (event.Trade t) w =
+    by_quiet None d w (λ _. outcomes.Accepted) (trade_call t w.clear.down w.clear.records) (λ r. r ≡ entry.Accept t) (λ r is ls. rw is refl) (trade_records t w.clear.down w.clear.records)
+lots_hold d (event.Exempt m i s) w =
+    by_quiet None d w (λ _. outcomes.Done) (setting_call (entry.Exempt m i s) w.clear.down) (λ r. r ≡ entry.Exempt m i s) (λ r is ls. rw is refl) (setting_records (entry.Exempt m i s) w.clear.down)
+lots_hold d (event.Priority m i on) w =
+    by_quiet None d w (λ _. outcomes.Done) (setting_call (entry.Priority m i on) w.clear.down) (λ r. r ≡ entry.Priority m i on) (λ r is ls. rw is refl)
+    (setting_records (entry.Priority m i on) w.clear.down)
+lots_hold d (event.Cycle id) w =
+    by_quiet None d w (λ (done : Cycled). outcomes.Cycled done) (cycle_call id w.clear.down w.clear.records w.open_lots) (λ r. r ≡ entry.Cycle id) (λ r is ls. rw is refl)
+    (cycle_records id w.clear.down w.clear.records w.open_lots)
+lots_hold d (event.LotOpen issue) w =
+    ok_then (Holds (Kept None w) d w) (numbered_open issue w.clear.down w.clear.records w.open_lots w.lots)
+    (λ (opened : Opened × Lot). Ok (Grows (outcomes.LotOpened opened.0) (with_new_lot opened.1 w))) (λ opened is. opened_kept w opened.1)
+lots_hold d (event.LotPour number) w =
+    let told : ℕ × List Lot → Result Change Refusal = λ poured. Ok (Leaves (outcomes.Poured poured.0) (record w { open_lots = poured.1 })) in
+    let pours : LotState → Result (ℕ × List Lot) Refusal =
+    λ lot. up w.clear.down >>= λ _. Ok (free_of (orders_of w.clear.records) w.open_lots lot.issue, lots_poured w.clear.records lot.issue w.open_lots) in
+    steps_by (Holds (Kept (Some number) w) d w) (going_lot w.lots number) pours told
+    (λ lot going. ok_then (λ (p : ℕ × List Lot). IfOk (told p) (Holds (Kept (Some number) w) d w)) (up w.clear.down)
+    (λ _. Ok (free_of (orders_of w.clear.records) w.open_lots lot.issue, lots_poured w.clear.records lot.issue w.open_lots)) (λ u is. poured_kept w number lot going))
+lots_hold d (event.Reserve number member) w =
+    let told : Ticket × List LotState → Result Change Refusal = λ drawn. Ok (Leaves (outcomes.Drawn drawn.0) (record w { lots = drawn.1 })) in
+    steps_by (Holds (Kept (Some number) w) d w) (going_lot w.lots number) (λ lot. turn_ticket lot member >>= λ t. Ok (t, with_lot number (with_ticket t lot) w.lots)) told
+    (λ lot going. ok_then (λ (p : Ticket × List LotState). IfOk (told p) (Holds (Kept (Some number) w) d w)) (turn_ticket lot member)
+    (λ t. Ok (t, with_lot number (with_ticket t lot) w.lots)) (λ t is. changed_kept w number lot (with_ticket t lot) going))
+lots_hold d (event.Seal number) w =
+    let told : Unit {0} × List LotState → Result Change Refusal = λ sealed. Ok (Leaves outcomes.Done (record w { lots = sealed.1 })) in
+    steps_by (Holds (Kept (Some number) w) d w) (going_lot w.lots number) (λ lot. Ok (tt {0}, with_lot number (with_seal lot) w.lots)) told (λ lot going. changed_kept w number lot (with_seal lot) going)
+lots_hold d (event.LotClose number) w =
+    clear_holds (Kept (Some number) w) d w (λ (done : Closed). outcomes.Closed done) (lots_ended number) (numbered_close number w.clear.down w.clear.records w.open_lots w.lots)
+    (λ x is. both_same (Some number) w w refl refl)
+    (λ r x is.
+    let here = given (Recorded w.clear.down (IsClose number w.open_lots w.lots)) (numbered_close number w.clear.down w.clear.records w.open_lots w.lots) (call.Commits r x) is
+    (close_records number w.clear.down w.clear.records w.open_lots w.lots) in
+    (closed_kept w number r here.1, both_same (Some number) w (clear_failed r w) refl refl))
+lots_hold d (event.Send number) w =
+    let put : Order → Result Change Refusal = λ o. Ok (Grows (outcomes.Sent (length w.orders + 1)) (record w { orders = w.orders ++ Some o ∷ [] })) in
+    let orders = (orders_of w.clear.records).orders in
+    ok_then (Holds (Kept None w) d w) (up w.clear.down) (λ _. ok_or (order_of orders number) refusal.UnknownMove >>= put) (λ u is.
+    ok_then (Holds (Kept None w) d w) (ok_or (order_of orders number) refusal.UnknownMove) put (λ o there. both_same None w _ refl refl))
+lots_hold d (event.OrderIn packet) w =
+    ok_then (Holds (Kept None w) d w) (ok_or (option_flatten (at_number w.orders packet)) refusal.NoPacket) (λ (o : Order). by_order w (order_call o w.depot.down w.openings w.depot.records))
+    (λ o there. by_depot None d w (order_call o w.depot.down w.openings w.depot.records))
+lots_hold d (event.ReplyIn packet) w =
+    ok_then (Holds (Kept None w) d w) (ok_or (option_flatten (at_number w.replies packet)) refusal.NoPacket) (λ (r : Reply). by_clear (taken_told r) w (reply_call r w.clear.down w.clear.records))
+    (λ r there.
+    by_quiet None d w (taken_told r) (reply_call r w.clear.down w.clear.records) (λ k. k ≡ entry.Confirm r) (λ k is ls. rw is refl) (reply_records r w.clear.down w.clear.records))
+lots_hold d (event.Own i) w = instructs None d w i (instruct_call i w.depot.down w.openings w.depot.records)
+lots_hold d (event.Restart node.Clear) w = restart_kept d w
+lots_hold d (event.Restart node.Depot) w = depot_kept d w
+lots_hold d e w = tells_holds (Holds (Kept None w) d w) w e refl (λ o. both_same None w w refl refl)
+
+step_keeps_lots : (e : Event) (outcome : Outcome) (old new : World) → Comes e outcome old new
+    → KeepsLots (lot_changed e) (shown_of old) (shown_of new)
+step_keeps_lots e outcome old new comes =
+    let h = happened e outcome old new comes in
+    let d : Decision = decision_at h.chance e (scene_of old) in
+    let same = both_same (lot_changed e) (shown_of old) (shown_of old) refl refl in
+    let kept = checked_keeps (Kept (lot_changed e) (shown_of old)) d (shown_of old) e
+    (refused_keeps (KeepsLots (lot_changed e) (shown_of old) (shown_of old)) (judged e (shown_of old)) same) same (lots_hold d e (shown_of old)) in
+    subst (KeepsLots (lot_changed e) (shown_of old)) (ap (λ (p : Outcome × Shown). p.1) h.is) kept
+
+pub step_spares : (e : Event) (outcome : Outcome) (old new : World) → Comes e outcome old new → Spares (lot_changed e) old.clear.lots new.clear.lots
+step_spares e outcome old new comes = (step_keeps_lots e outcome old new comes).spares
+
+pub step_twins : (e : Event) (outcome : Outcome) (old new : World) → AreTied old.clear.clear.lots old.clear.lots → Comes e outcome old new → KeepsTwins (lot_changed e) old.clear new.clear
+step_twins e outcome old new are comes = (step_keeps_lots e outcome old new comes).twins are

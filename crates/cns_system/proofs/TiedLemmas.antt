@@ -83,7 +83,7 @@ get_set_other (y ∷ lots) zero (suc j) x differ = refl
 get_set_other (y ∷ lots) (suc i) zero x differ = refl
 get_set_other (y ∷ lots) (suc i) (suc j) x differ = get_set_other lots i j x (λ e. differ (ap suc e))
 
-pub get_more : (lots : List LotState) (i : ℕ) (x l : LotState) → slice_get (lots ++ x ∷ []) i ≡ Some l → (slice_get lots i ≡ Some l) ⊎ ((i ≡ length lots) × (x ≡ l))
+pub get_more : {A : Type 0} (lots : List A) (i : ℕ) (x l : A) → slice_get (lots ++ x ∷ []) i ≡ Some l → (slice_get lots i ≡ Some l) ⊎ ((i ≡ length lots) × (x ≡ l))
 get_more [] zero x l found = inr (refl, same_Some x l found)
 get_more [] (suc i) x l found = cc
 get_more (y ∷ lots) zero x l found = inl found

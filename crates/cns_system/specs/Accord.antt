@@ -1,10 +1,9 @@
 -- What is so of both nodes and the link after any events, where both keepers are honest.
-use Rattle.std.specs.Prelude.{◌≡◌, ◌≢◌, ◌≤◌, ℕ, true, false, List, All, Some, None, IfSome, slice_get}
+use Rattle.std.specs.Prelude.{◌≡◌, ◌≢◌, ◌≤◌, ℕ, true, false, List, All, Option, Some, None, IfSome}
 use Rattle.cns_movements.specs.Order.{order_of}
 use Rattle.cns_movements.specs.declared.order.Order.{Order}
 use Rattle.cns_movements.specs.declared.order.Reply.{Reply}
 use Rattle.cns_wire.specs.Frame.{order_frame, reply_frame}
-use Rattle.cns_journal.specs.RecordLog.{LogState}
 use Rattle.cns_records.specs.declared.clear_record.ClearRecord.{ClearRecord}
 use Rattle.cns_records.specs.declared.clear_record.ClearRecord.TheVariants as entry
 use Rattle.cns_records.specs.declared.dep_record.DepRecord.{DepRecord}
@@ -12,6 +11,7 @@ use Rattle.cns_clearing.specs.Books.{IsLawful, orders_of}
 use Rattle.cns_depository.specs.declared.movement.Movement.{Movement}
 use Rattle.cns_depository.specs.Stock.{IsLawfulDepot, executed_in, executed_of, movement_of}
 use Rattle.cns_system.specs.Agreement.{IsExecuted, IsOrdered}
+use Rattle.cns_system.specs.Shown.{Shown, shown_of}
 use Rattle.cns_system.specs.World.{World, order_in_packet, reply_in_packet}
 use Rattle.cns_system.specs.declared.event.Event.{Event}
 use Rattle.cns_system.specs.declared.event.Event.TheVariants as event
@@ -21,8 +21,8 @@ use Rattle.cns_records.specs.declared.refusal.Refusal.TheVariants as refusal
 
 -- an executed movement is that of the order of its number: they agree, so its member, issue, kind and quantity asked for are the same in
 -- both nodes, and its cycle, where both have one; a delivery moved all of that quantity, and a cover no more than it
-abbrev pub IsKnown : List Order → Movement → Type 0
-IsKnown orders m = IsOrdered orders m × (m.moved ≤ m.order.asked)
+abbrev pub IsAsOrdered : List Order → Movement → Type 0
+IsAsOrdered orders m = IsOrdered orders m × (m.moved ≤ m.order.asked)
 
 -- a record of the clearing node fits what was executed: a confirmation is of a movement that was executed, and moved so much
 abbrev pub FitsStock : List Movement → ClearRecord → Type 0
@@ -35,7 +35,7 @@ FitsStock movements (entry.Confirm r) = IsExecuted movements r
 
 -- a record of the depository fits what was ordered: where it executes a movement, that is known, and no other was executed under its number
 abbrev pub FitsOrders : List Order → List Movement → DepRecord → Type 0
-FitsOrders orders movements e = IfSome (executed_in e) (λ (m : Movement). IsKnown orders m × (movement_of movements m.order.number ≡ None))
+FitsOrders orders movements e = IfSome (executed_in e) (λ (m : Movement). IsAsOrdered orders m × (movement_of movements m.order.number ≡ None))
 
 -- a packet of an order is the frame of an order that is found under its number, and reads as it
 pub record IsOrderPacket (orders : List Order) (bytes : List ℕ) : Type 0 where
@@ -51,20 +51,27 @@ pub record IsReplyPacket (movements : List Movement) (bytes : List ℕ) : Type 0
   pub frame : bytes ≡ reply_frame reply
   pub reads : reply_in_packet (Some bytes) ≡ Some reply
 
--- the two nodes' records agree, each packet is the frame of the order of its number or of the reply to a movement that was executed,
--- and so it stays where a record whose commit failed comes back; a node that is up has no such record
-pub record Accord (clear : LogState ClearRecord) (depot : LogState DepRecord) (orders replies : List (List ℕ)) : Type 0 where
-  pub known : All (IsKnown (orders_of clear.records).orders) (executed_of depot.records)
-  pub executed : All (IsExecuted (executed_of depot.records)) (orders_of clear.records).replies
-  pub sent : (k : ℕ) (bytes : List ℕ) → slice_get orders k ≡ Some bytes → IsOrderPacket (orders_of clear.records).orders bytes
-  pub answered : (k : ℕ) (bytes : List ℕ) → slice_get replies k ≡ Some bytes → IsReplyPacket (executed_of depot.records) bytes
-  pub clear_tried : (u : ClearRecord) → clear.tried ≡ Some u → FitsStock (executed_of depot.records) u
-  pub depot_tried : (e : DepRecord) → depot.tried ≡ Some e → FitsOrders (orders_of clear.records).orders (executed_of depot.records) e
-  pub clear_up : clear.down ≡ false → clear.tried ≡ None
-  pub depot_up : depot.down ≡ false → depot.tried ≡ None
+-- a packet that spells an order spells that of its number; and one that spells a reply tells of an executed movement
+abbrev pub SpellsOrder : List Order → Option Order → Type 0
+SpellsOrder orders packet = IfSome packet (λ (o : Order). order_of orders o.number ≡ Some o)
+
+abbrev pub SpellsReply : List Movement → Option Reply → Type 0
+SpellsReply movements packet = IfSome packet (IsExecuted movements)
+
+-- the two nodes' records agree, each packet spells the order of its number or the reply to a movement that was executed, and so it stays where a
+-- record whose commit failed comes back; a node that is up has no such record
+pub record Accord (w : Shown) : Type 0 where
+  pub executed : All (IsAsOrdered (orders_of w.clear.records).orders) (executed_of w.depot.records)
+  pub confirmed : All (IsExecuted (executed_of w.depot.records)) (orders_of w.clear.records).replies
+  pub sent : All (SpellsOrder (orders_of w.clear.records).orders) w.orders
+  pub answered : All (SpellsReply (executed_of w.depot.records)) w.replies
+  pub clear_tried : (u : ClearRecord) → w.clear.tried ≡ Some u → FitsStock (executed_of w.depot.records) u
+  pub depot_tried : (e : DepRecord) → w.depot.tried ≡ Some e → FitsOrders (orders_of w.clear.records).orders (executed_of w.depot.records) e
+  pub clear_up : w.clear.down ≡ false → w.clear.tried ≡ None
+  pub depot_up : w.depot.down ≡ false → w.depot.tried ≡ None
 
 abbrev pub IsInAccord : World → Type 0
-IsInAccord w = w.clear.clear.log.honest ≡ true → w.depot.log.honest ≡ true → Accord w.clear.clear.log w.depot.log w.orders w.replies
+IsInAccord w = w.clear.clear.log.honest ≡ true → w.depot.log.honest ≡ true → Accord (shown_of w)
 
 -- each record of each node may stand after those before it
 abbrev pub AreLawful : World → Type 0

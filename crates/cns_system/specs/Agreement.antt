@@ -21,5 +21,5 @@ IsExecuted movements r = (m : Movement) × (movement_of movements r.number ≡ S
 
 -- the records of a clearing node and those of a depository agree
 pub record Agree (c : List ClearRecord) (p : List DepRecord) : Type 0 where
-  pub ordered : All (IsOrdered (orders_of c).orders) (executed_of p)
-  pub executed : All (IsExecuted (executed_of p)) (orders_of c).replies
+  pub executed : All (IsOrdered (orders_of c).orders) (executed_of p)
+  pub confirmed : All (IsExecuted (executed_of p)) (orders_of c).replies

@@ -7,8 +7,8 @@ use Rattle.cns_system.specs.declared.entry.LotEntry.TheInside.{Inside}
 use Rattle.cns_system.specs.Lot.{LotState, planned_sum}
 
 -- the lot that is stored
-abbrev pub lot_of : Inside → LotState
-lot_of e = record { issue = e.issue; turns = e.turns; tickets = e.pool.tickets; sealed = e.pool.sealed; ended = e.ended }
+abbrev pub entry_state : Inside → LotState
+entry_state e = record { issue = e.issue; turns = e.turns; tickets = e.pool.tickets; sealed = e.pool.sealed; ended = e.ended }
 
 -- those who wait for a ticket, and a pool with room for the tickets of all of them
 pub record IsEntry (left : List Planned) (pool : Pooled) : Type 0 where

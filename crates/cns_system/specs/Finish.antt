@@ -1,5 +1,5 @@
 -- A lot whose workers have ended, what they drew entered (this project's own rules).
-use Rattle.std.specs.Prelude.{◌≡◌, ◌≢◌, ◌⊎◌, ◌==◌, ◌||◌, ℕ, Bool, true, false, not, List, [], ◌∷◌, ◌++◌, Option, Some, None, IsPermutation, MatchOption, filter, map}
+use Rattle.std.specs.Prelude.{◌≡◌, ◌≢◌, ◌⊎◌, ◌==◌, ◌||◌, ℕ, Bool, true, false, not, List, [], ◌∷◌, ◌++◌, Option, Some, None, Ok, IsPermutation, MatchOption, filter, map}
 use Rattle.std.specs.List.{filter_map, list_any}
 use Rattle.std.specs.List.Sorted.{IsNonDecreasingBy}
 use Rattle.cns_pool.specs.declared.ticket.Ticket.{Ticket}
@@ -13,9 +13,9 @@ use Rattle.cns_records.specs.declared.refusal.Refusal.TheVariants as refusal
 use Rattle.cns_system.specs.Begin.{IsRefusal}
 use Rattle.cns_system.specs.Floor.{BusyLot, FloorState, busy_at}
 use Rattle.cns_system.specs.Lot.{IsPlanOf, LotState}
+use Rattle.cns_system.specs.Lots.{ticket_call}
 use Rattle.cns_wire.specs.Packet.{at_number}
 use Rattle.cns_system.specs.Run.{Occurs, Run}
-use Rattle.cns_system.specs.Step.{Step}
 use Rattle.cns_system.specs.World.{World}
 use Rattle.cns_system.specs.declared.event.Event.{Event}
 use Rattle.cns_system.specs.declared.event.Event.TheVariants as event
@@ -45,7 +45,7 @@ draws tickets = map (λ (t : Ticket). outcomes.Drawn t) tickets
 
 -- a reserve would draw another ticket than this one
 abbrev pub WouldDiffer : ℕ → Ticket → World → Type 0
-WouldDiffer lot t w = (other : Ticket) × (other ≢ t) × ((after : World) × Step (event.Reserve lot t.member) (outcomes.Drawn other) w after)
+WouldDiffer lot t w = (other : Ticket) × (other ≢ t) × (ticket_call lot t.member w.clear.lots ≡ Ok other)
 
 -- a ticket is not entered: its reserve is refused; or it would draw another ticket, and does not happen
 abbrev pub IsNotEntered : ℕ → Ticket → Refusal → World → World → Type 0

@@ -11,7 +11,7 @@ use Rattle.cns_system.specs.Lot.{LotState}
 use Rattle.cns_wire.specs.Packet.{at_number}
 use Rattle.cns_system.specs.Numbered.{NumberedNode}
 use Rattle.cns_system.specs.Run.{Occurs}
-use Rattle.cns_system.specs.World.{World}
+use Rattle.cns_system.specs.World.{AreFrames, World}
 use Rattle.cns_system.specs.declared.event.Event.{Event}
 use Rattle.cns_system.specs.declared.event.Event.TheVariants as event
 use Rattle.cns_system.specs.declared.outcome.Outcome.{Outcome}
@@ -57,6 +57,7 @@ pub record AreBusy (node : NumberedNode) (busy : List BusyLot) : Type 0 where
 -- clearing node has lent to each in its cell
 pub record IsLawfulFloor (f : FloorState) : Type 0 where
   pub accord : IsInAccord f.system
+  pub frames : AreFrames f.system.orders f.system.replies
   pub headline : IsAgreed f.system
   pub busy : AreBusy f.system.clear f.busy
 

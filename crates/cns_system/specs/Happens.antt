@@ -1,44 +1,159 @@
 -- What happens at each event, as a function of what the surroundings decide (this project's own rules). Each event has one case, which tells
 -- its refusals in their order; a refusal leaves all as it was, but for `Device`, which puts the node down and leaves its record undecided, and
--- for a refused restart.
-use Rattle.std.specs.Prelude.{ℕ, ◌+◌, ◌==◌, ◌||◌, not, min, nat_lt, true, false, List, [], ◌∷◌, ◌++◌, length, map, Some, None, Result, Ok, Err}
-use Rattle.std.specs.Option.{is_none, ok_or, option_flatten}
-use Rattle.cns_ids.specs.Steps.{◌>>=◌, ◌>>◌, need}
-use Rattle.cns_trades.specs.declared.list.Verdict.TheVariants as verdicts
-use Rattle.cns_trades.specs.Verdicts.{verdict}
-use Rattle.cns_netting.specs.History.{accepted, becoming_due}
-use Rattle.cns_movements.specs.Book.{next_orders}
-use Rattle.cns_movements.specs.Confirm.{confirm_answer}
-use Rattle.cns_movements.specs.Order.{agrees_with, order_of}
-use Rattle.cns_movements.specs.declared.book.Confirm.TheVariants as answers
+-- for a refused restart. (A keeper is who keeps a node's journal; it is honest where its journal reads back what it acknowledged.)
+use Rattle.std.specs.Prelude.{ℕ, ◌+◌, ◌==◌, true, false, List, [], ◌∷◌, ◌++◌, length, map, Some, None, Result, Ok, Err}
+use Rattle.std.specs.Option.{ok_or, option_flatten}
+use Rattle.cns_ids.specs.Steps.{◌>>=◌, ◌>>◌}
+use Rattle.cns_movements.specs.Order.{order_of}
 use Rattle.cns_movements.specs.declared.order.Reply.{Reply}
 use Rattle.cns_wire.specs.Packet.{at_number}
 use Rattle.cns_pool.specs.Pool.{asked_sum}
-use Rattle.cns_allocate.specs.Served.{turn_of}
-use Rattle.cns_allocate.specs.declared.turns.Turn.TheVariants as turn
+use Rattle.cns_records.specs.Call.{Deed}
+use Rattle.cns_records.specs.Call as call
 use Rattle.cns_records.specs.declared.clear_record.ClearRecord.{ClearRecord}
 use Rattle.cns_records.specs.declared.clear_record.ClearRecord.TheVariants as entry
-use Rattle.cns_records.specs.Instruction.{same_instruction}
 use Rattle.cns_records.specs.declared.dep_record.DepRecord.{DepRecord}
-use Rattle.cns_records.specs.declared.dep_record.DepRecord.TheVariants as dep
+use Rattle.cns_records.specs.declared.instruction.Instruction.{Instruction}
 use Rattle.cns_records.specs.declared.refusal.Refusal.{Refusal}
 use Rattle.cns_records.specs.declared.refusal.Refusal.TheVariants as refusal
-use Rattle.cns_clearing.specs.Answers.{allocation_of}
-use Rattle.cns_clearing.specs.Books.{Books, are_spent, books_of, covers_on, deliveries_in, is_later}
-use Rattle.cns_clearing.specs.Lots.{new_lot}
-use Rattle.cns_clearing.specs.Pools.{free_of, lent_of, lot_of}
-use Rattle.cns_depository.specs.Answers.{own_fault_refusal, own_refused, reply_to}
-use Rattle.cns_depository.specs.Stock.{executed_of, execution, instructed_of, instruction_of, movement, movement_of, own_refusal}
-use Rattle.cns_system.specs.Lot.{LotState, ticket_in, with_end, with_seal, with_ticket}
-use Rattle.cns_system.specs.Shown.{Shown, LogShown, clear_added, clear_failed, depot_added, depot_failed, with_lot, with_new_lot, with_pour}
+use Rattle.cns_clearing.specs.Answers.{cycle_call, reply_call, setting_call, trade_call, up}
+use Rattle.cns_clearing.specs.Books.{orders_of}
+use Rattle.cns_clearing.specs.Pools.{lent_of}
+use Rattle.cns_clearing.specs.declared.answer.Closed.{Closed}
+use Rattle.cns_clearing.specs.declared.answer.Cycled.{Cycled}
+use Rattle.cns_clearing.specs.declared.answer.Taken.{Taken}
+use Rattle.cns_clearing.specs.declared.answer.Taken.TheVariants as taken
+use Rattle.cns_depository.specs.Answers.{dep_refusal, instruct_call, order_call, own_fault_refusal}
+use Rattle.cns_depository.specs.declared.fault.Answer.{Answer}
+use Rattle.cns_depository.specs.declared.fault.Answer.TheVariants as answer
+use Rattle.cns_depository.specs.declared.fault.DepFault.{DepFault}
+use Rattle.cns_depository.specs.declared.fault.Own.{Own}
+use Rattle.cns_depository.specs.declared.fault.Own.TheVariants as own
+use Rattle.cns_depository.specs.declared.fault.OwnFault.{OwnFault}
+use Rattle.cns_system.specs.Lot.{LotState, with_end, with_seal}
+use Rattle.cns_system.specs.Lots.{change_call, going_lot, reserve_call}
+use Rattle.cns_system.specs.Numbered.{numbered_close, lots_ended, numbered_open, numbered_pour}
+use Rattle.cns_system.specs.Shown.{Shown, LogShown, clear_added, clear_failed, depot_added, depot_failed, with_new_lot}
 use Rattle.cns_system.specs.declared.event.Event.{Event}
 use Rattle.cns_system.specs.declared.event.Event.TheVariants as event
+use Rattle.cns_system.specs.declared.event.NodeName.{NodeName}
 use Rattle.cns_system.specs.declared.event.NodeName.TheVariants as node
 use Rattle.cns_system.specs.declared.outcome.Outcome.{Outcome}
 use Rattle.cns_system.specs.declared.outcome.Outcome.TheVariants as outcomes
 
--- what the surroundings decide at an event, and nothing else does: nothing is in the way; there is no memory; the device fails; at a
--- restart the journal gives these records, the newest first, or its payload in this place is the first that is bad
+-- ---- by the state alone
+
+-- what an event that is not refused by the state of the nodes and the link tells and leaves:
+--   `Leaves`: so it is in any case, without memory and without a record
+--   `Grows`: so it is where there is memory for it; it has no record
+--   `Commits`: so it is once its record is acknowledged; where the commit fails at the device, the last world is left
+--   `Restarts`: the node reads its journal again
+pub data Change : Type 0 where
+  Leaves : Outcome → Shown → Change
+  Grows : Outcome → Shown → Change
+  Commits : Outcome → Shown → Shown → Change
+  Restarts : NodeName → Change
+
+-- what a call of the clearing node comes to, as that of an event; once a record is acknowledged, this becomes of the lots by number (what becomes of
+-- the node's open lots is said in `clear_added`)
+abbrev pub clear_deed : {X : Type 0} → (X → Outcome) → (List LotState → List LotState) → Shown → Deed ClearRecord X → Change
+clear_deed told ends w (call.Tells x) = Leaves (told x) w
+clear_deed told ends w (call.Commits r x) = Commits (told x) (record (clear_added r w) { lots = ends w.lots }) (clear_failed r w)
+
+abbrev pub by_clear : {X : Type 0} → (X → Outcome) → Shown → Result (Deed ClearRecord X) Refusal → Result Change Refusal
+by_clear told w deed = deed >>= λ d. Ok (clear_deed told (λ lots. lots) w d)
+
+-- what a reply comes to at the clearing node
+abbrev pub taken_told : Reply → Taken → Outcome
+taken_told r t = elim t [ taken.Done ↦ outcomes.Confirmed r | taken.Again ↦ outcomes.ConfirmedAgain r ]
+
+-- what an order comes to at the depository, and its reply as the next packet on the link of replies
+abbrev pub with_reply_put : Reply → Shown → Shown
+with_reply_put r w = record w { replies = w.replies ++ Some r ∷ [] }
+
+abbrev pub answer_reply : Answer → Reply
+answer_reply a = elim a [ answer.Done r ↦ r | answer.Again r ↦ r ]
+
+abbrev pub answer_told : ℕ → Answer → Outcome
+answer_told packet (answer.Done r) = outcomes.Executed r packet
+answer_told packet (answer.Again r) = outcomes.ExecutedAgain r packet
+
+abbrev pub order_deed : Shown → Deed DepRecord Answer → Change
+order_deed w (call.Tells a) = Grows (answer_told (length w.replies + 1) a) (with_reply_put (answer_reply a) w)
+order_deed w (call.Commits e a) = Commits (answer_told (length w.replies + 1) a) (with_reply_put (answer_reply a) (depot_added e w)) (depot_failed e w)
+
+abbrev pub by_order : Shown → Result (Deed DepRecord Answer) DepFault → Result Change Refusal
+by_order w deed = elim deed [ Err fault ↦ Err (dep_refusal fault) | Ok d ↦ Ok (order_deed w d) ]
+
+-- what a member's own instruction comes to there
+abbrev pub own_told : Instruction → Own → Outcome
+own_told i o = elim o [ own.Done ↦ outcomes.Instructed i | own.Again ↦ outcomes.InstructedAgain i ]
+
+abbrev pub own_deed : Instruction → Shown → Deed DepRecord Own → Change
+own_deed i w (call.Tells o) = Leaves (own_told i o) w
+own_deed i w (call.Commits e o) = Commits (own_told i o) (depot_added e w) (depot_failed e w)
+
+abbrev pub by_own : Instruction → Shown → Result (Deed DepRecord Own) OwnFault → Result Change Refusal
+by_own i w deed = elim deed [ Err fault ↦ Err (own_fault_refusal fault) | Ok d ↦ Ok (own_deed i w d) ]
+
+-- what an event comes to by the state alone, or its first refusal. The refusals of each event, in their order (a trade's own are those of its verdict):
+--   Trade           Down, Trade
+--   Exempt          Down
+--   Priority        Down
+--   Cycle           Down, CycleOrder, LotsOpen, NumbersSpent
+--   LotOpen         Down, LotAlready, LotsSpent
+--   LotPour         NoLot, StaleLot, Down
+--   Reserve         NoLot, StaleLot, NotLong (also of a member that has its ticket), EarlierGroup, Sealed
+--   LookPoured, LookAsked, Seal   NoLot, StaleLot
+--   LotClose        NoLot, StaleLot, Down, Unserved, NumbersSpent
+--   Send            Down, UnknownMove
+--   OrderIn         NoPacket, Down, Conflict
+--   ReplyIn         NoPacket, Down, UnknownMove, Conflict, TooMuch
+--   Own             Down, Conflict, IssueSum or TooFew
+--   Restart         none
+-- A ticket, a seal and a look do not ask whether the clearing node is up: a node that restarts ends its lots. `LotBusy` is of a floor alone, and
+-- `BadTickets` of a close whose tickets are not those that were drawn.
+unfoldable pub judged : Event → Shown → Result Change Refusal
+judged (event.Trade t) w = by_clear (λ _. outcomes.Accepted) w (trade_call t w.clear.down w.clear.records)
+judged (event.Exempt member issue shares) w = by_clear (λ _. outcomes.Done) w (setting_call (entry.Exempt member issue shares) w.clear.down)
+judged (event.Priority member issue on) w = by_clear (λ _. outcomes.Done) w (setting_call (entry.Priority member issue on) w.clear.down)
+judged (event.Cycle id) w = by_clear (λ (done : Cycled). outcomes.Cycled done) w (cycle_call id w.clear.down w.clear.records w.open_lots)
+judged (event.LotOpen issue) w =
+    numbered_open issue w.clear.down w.clear.records w.open_lots w.lots >>= λ opened. Ok (Grows (outcomes.LotOpened opened.0) (with_new_lot opened.1 w))
+judged (event.LotPour number) w =
+    numbered_pour number w.clear.down w.clear.records w.open_lots w.lots >>= λ poured. Ok (Leaves (outcomes.Poured poured.0) (record w { open_lots = poured.1 }))
+judged (event.Reserve number member) w = reserve_call number member w.lots >>= λ drawn. Ok (Leaves (outcomes.Drawn drawn.0) (record w { lots = drawn.1 }))
+judged (event.LookPoured number) w = going_lot w.lots number >>= λ lot. Ok (Leaves (outcomes.LookedPoured (lent_of w.open_lots lot.issue)) w)
+judged (event.LookAsked number) w = going_lot w.lots number >>= λ lot. Ok (Leaves (outcomes.LookedAsked (asked_sum lot.tickets) lot.sealed) w)
+judged (event.Seal number) w = change_call with_seal number w.lots >>= λ sealed. Ok (Leaves outcomes.Done (record w { lots = sealed.1 }))
+judged (event.LotClose number) w =
+    numbered_close number w.clear.down w.clear.records w.open_lots w.lots >>= λ d. Ok (clear_deed (λ (done : Closed). outcomes.Closed done) (lots_ended number) w d)
+judged (event.Send number) w = do
+  up w.clear.down
+  o ← ok_or (order_of (orders_of w.clear.records).orders number) refusal.UnknownMove
+  Ok (Grows (outcomes.Sent (length w.orders + 1)) (record w { orders = w.orders ++ Some o ∷ [] }))
+judged (event.OrderIn packet) w = do
+  o ← ok_or (option_flatten (at_number w.orders packet)) refusal.NoPacket
+  by_order w (order_call o w.depot.down w.openings w.depot.records)
+judged (event.ReplyIn packet) w = do
+  r ← ok_or (option_flatten (at_number w.replies packet)) refusal.NoPacket
+  by_clear (taken_told r) w (reply_call r w.clear.down w.clear.records)
+judged (event.Own i) w = by_own i w (instruct_call i w.depot.down w.openings w.depot.records)
+judged (event.Restart name) w = Ok (Restarts name)
+
+-- what the answer of a node's call comes to
+abbrev pub outcome_of : {X : Type 0} → (X → Outcome) → Result X Refusal → Outcome
+outcome_of told (Ok x) = told x
+outcome_of told (Err r) = outcomes.Refused r
+
+-- ---- by what the surroundings decide
+
+-- what the surroundings decide at an event, and nothing else does:
+--   `Goes`: nothing is in the way
+--   `NoMemory`: there is none; what takes none goes on all the same
+--   `DeviceFails`: the device fails, at a commit or a restart; what has neither goes on all the same
+--   `ClearReads`, `DepotReads`: at a restart of that node its journal gives these records, the newest first; else as `Goes`
+--   `FindsBad`: at a restart the journal's payload in this place is the first that is bad; else as `Goes`
 pub data Decision : Type 0 where
   Goes : Decision
   NoMemory : Decision
@@ -47,126 +162,30 @@ pub data Decision : Type 0 where
   DepotReads : List DepRecord → Decision
   FindsBad : ℕ → Decision
 
--- what an event comes to, and leaves, or the refusal of one that leaves all as it was
-abbrev pub Judged : Type 0
-Judged = Result (Outcome × Shown) Refusal
-
--- this happens where there is memory for it
-abbrev pub grows : Decision → Outcome × Shown → Judged
-grows d happening = elim d [ NoMemory ↦ Err refusal.OutOfMemory | _ ↦ Ok happening ]
-
--- this happens once a record is acknowledged; where its commit failed at the device, this is left
-abbrev pub commits : Decision → Outcome × Shown → Shown → Judged
-commits d happening failed = elim d [ NoMemory ↦ Err refusal.OutOfMemory | DeviceFails ↦ Ok (outcomes.Refused refusal.Device, failed) | _ ↦ Ok happening ]
-
--- a record of the clearing node is committed, and this is told
-abbrev pub clear_commits : Decision → ClearRecord → Outcome → Shown → Judged
-clear_commits d r told w = commits d (told, clear_added r w) (clear_failed r w)
-
--- what the clearing node's records come to
-abbrev pub book : Shown → Books
-book w = books_of w.clear.records
-
--- the clearing node answers
-abbrev pub clear_up : Shown → Result (Unit {0}) Refusal
-clear_up w = need (not w.clear.down) refusal.Down
-
--- the lot of a number, which has not ended
-abbrev pub going_lot : Shown → ℕ → Result LotState Refusal
-going_lot w number = ok_or (at_number w.lots number) refusal.NoLot >>= λ lot. need (not lot.ended) refusal.StaleLot >> Ok lot
-
--- a reply is put on the link, as its next packet
-abbrev pub with_reply : Reply → Shown → Shown
-with_reply r w = record w { replies = w.replies ++ Some r ∷ [] }
-
 -- a restart of a node with this log, whose journal gives these records, and what is left by the log; where it is refused, the node is down
-abbrev pub restarted : {R : Type 0} → Decision → LogShown R → List R → (LogShown R → Shown) → Judged
-restarted NoMemory log read left = Ok (outcomes.Refused refusal.OutOfMemory, left (record log { down = true }))
-restarted DeviceFails log read left = Ok (outcomes.Refused refusal.Device, left (record log { down = true }))
-restarted (FindsBad place) log read left = Ok (outcomes.Refused (refusal.BadJournal place), left (record log { down = true }))
-restarted _ log read left = Ok (outcomes.Restarted (length read) (length read == length log.records + 1), left (record { records = read; tried = None; down = false }))
+abbrev pub restarted : {R : Type 0} → Decision → LogShown R → List R → (LogShown R → Shown) → Outcome × Shown
+restarted NoMemory log read left = (outcomes.Refused refusal.OutOfMemory, left (record log { down = true }))
+restarted DeviceFails log read left = (outcomes.Refused refusal.Device, left (record log { down = true }))
+restarted (FindsBad place) log read left = (outcomes.Refused (refusal.BadJournal place), left (record log { down = true }))
+restarted _ log read left = (outcomes.Restarted (length read) (length read == length log.records + 1), left (record { records = read; tried = None; down = false }))
 
--- an event that is not refused, or its first refusal
-unfoldable pub judged : Decision → Event → Shown → Judged
-judged d (event.Trade t) w = do
-  clear_up w
-  elim (verdict (accepted (book w).history) t) [ verdicts.New ↦ clear_commits d (entry.Accept t) outcomes.Accepted w | verdict ↦ Err (refusal.Trade verdict) ]
-judged d (event.Exempt member issue shares) w = clear_up w >> clear_commits d (entry.Exempt member issue shares) outcomes.Done w
-judged d (event.Priority member issue on) w = clear_up w >> clear_commits d (entry.Priority member issue on) outcomes.Done w
-judged d (event.Cycle id) w = do
-  clear_up w
-  need (is_later (book w).latest id) refusal.CycleOrder
-  need (length w.open_lots == 0) refusal.LotsOpen
-  let asks = covers_on (book w) id.day
-  need (not (are_spent (book w).orders (length asks))) refusal.NumbersSpent
-  clear_commits d (entry.Cycle id) (outcomes.Cycled (record { due = becoming_due (book w).history id.day; orders = next_orders (book w).orders (Some id) asks })) w
-judged d (event.LotOpen issue) w = do
-  clear_up w
-  need (is_none (lot_of w.open_lots issue)) refusal.LotAlready
-  need (nat_lt (length w.lots) 1000000) refusal.LotsSpent
-  let lot = new_lot w.clear.records issue
-  grows d (outcomes.LotOpened (record { number = length w.lots + 1; poured = lot.poured; plan = lot.plan }), with_new_lot lot w)
-judged d (event.LotPour number) w = do
-  lot ← going_lot w number
-  clear_up w
-  Ok (outcomes.Poured (free_of (book w).orders w.open_lots lot.issue), with_pour lot.issue w)
-judged d (event.Reserve number member) w = do
-  lot ← going_lot w number
-  asked ← elim (turn_of lot.turns member) [ turn.NotLong ↦ Err refusal.NotLong | turn.EarlierGroup ↦ Err refusal.EarlierGroup | turn.Next asked ↦ Ok asked ]
-  need (not lot.sealed) refusal.Sealed
-  let ticket = ticket_in lot member asked
-  Ok (outcomes.Drawn ticket, with_lot number (with_ticket ticket lot) w)
-judged d (event.LookPoured number) w = going_lot w number >>= λ lot. Ok (outcomes.LookedPoured (lent_of w.open_lots lot.issue), w)
-judged d (event.LookAsked number) w = going_lot w number >>= λ lot. Ok (outcomes.LookedAsked (asked_sum lot.tickets) lot.sealed, w)
-judged d (event.Seal number) w = going_lot w number >>= λ lot. Ok (outcomes.Done, with_lot number (with_seal lot) w)
-judged d (event.LotClose number) w = do
-  lot ← going_lot w number
-  clear_up w
-  need (lot.sealed || (length lot.turns == 0)) refusal.Unserved
-  twin ← ok_or (lot_of w.open_lots lot.issue) refusal.NoLot
-  let a = allocation_of twin lot.tickets lot.sealed
-  need (not (are_spent (book w).orders (length (deliveries_in a)))) refusal.NumbersSpent
-  let told = outcomes.Closed (record { granted = min a.poured (asked_sum lot.tickets); orders = next_orders (book w).orders (book w).latest (deliveries_in a) })
-  commits d (told, with_lot number (with_end lot) (clear_added (entry.Allocate a) w)) (clear_failed (entry.Allocate a) w)
-judged d (event.Send number) w = do
-  clear_up w
-  o ← ok_or (order_of (book w).orders.orders number) refusal.UnknownMove
-  grows d (outcomes.Sent (length w.orders + 1), record w { orders = w.orders ++ Some o ∷ [] })
-judged d (event.OrderIn packet) w = do
-  o ← ok_or (option_flatten (at_number w.orders packet)) refusal.NoPacket
-  need (not w.depot.down) refusal.Down
-  let m = movement w.openings w.depot.records o
-  let e = execution m
-  elim (movement_of (executed_of w.depot.records) o.number) [
-    | None ↦ commits d (outcomes.Executed (reply_to m) (length w.replies + 1), with_reply (reply_to m) (depot_added e w)) (depot_failed e w)
-    | Some known ↦ need (agrees_with known.order o) refusal.Conflict >> grows d (outcomes.ExecutedAgain (reply_to known) (length w.replies + 1), with_reply (reply_to known) w)
-  ]
-judged d (event.ReplyIn packet) w = do
-  r ← ok_or (option_flatten (at_number w.replies packet)) refusal.NoPacket
-  clear_up w
-  elim (confirm_answer (book w).orders r) [
-    | answers.Done ↦ clear_commits d (entry.Confirm r) (outcomes.Confirmed r) w
-    | answers.Again ↦ Ok (outcomes.ConfirmedAgain r, w)
-    | answers.UnknownMove ↦ Err refusal.UnknownMove
-    | answers.Conflict ↦ Err refusal.Conflict
-    | answers.TooMuch ↦ Err refusal.TooMuch
-  ]
-judged d (event.Own i) w = do
-  need (not w.depot.down) refusal.Down
-  elim (instruction_of (instructed_of w.depot.records) i.member i.number) [
-    | None ↦ elim (own_refusal w.openings w.depot.records i) [
-      | None ↦ commits d (outcomes.Instructed i, depot_added (dep.Own i) w) (depot_failed (dep.Own i) w)
-      | Some why ↦ Err (own_fault_refusal (own_refused why))
-    ]
-    | Some held ↦ need (same_instruction held i) refusal.Conflict >> Ok (outcomes.InstructedAgain i, w)
-  ]
-judged d (event.Restart node.Clear) w =
+-- a restart of the clearing node ends all lots, also where it is refused
+abbrev pub restarts : Decision → NodeName → Shown → Outcome × Shown
+restarts d node.Clear w =
     restarted d w.clear (elim d [ ClearReads c ↦ c | _ ↦ w.clear.records ]) (λ log. record w { clear = log; open_lots = []; lots = map with_end w.lots })
-judged d (event.Restart node.Depot) w = restarted d w.depot (elim d [ DepotReads p ↦ p | _ ↦ w.depot.records ]) (λ log. record w { depot = log })
+restarts d node.Depot w = restarted d w.depot (elim d [ DepotReads p ↦ p | _ ↦ w.depot.records ]) (λ log. record w { depot = log })
 
--- what happens at an event: one that is refused leaves all as it was
-abbrev pub settled : Shown → Judged → Outcome × Shown
-settled w judgement = elim judgement [ Ok happening ↦ happening | Err r ↦ (outcomes.Refused r, w) ]
+-- what becomes of a change
+abbrev pub changed : Decision → Shown → Change → Outcome × Shown
+changed d w (Leaves outcome left) = (outcome, left)
+changed d w (Grows outcome left) = elim d [ NoMemory ↦ (outcomes.Refused refusal.OutOfMemory, w) | _ ↦ (outcome, left) ]
+changed d w (Commits outcome left failed) =
+    elim d [ NoMemory ↦ (outcomes.Refused refusal.OutOfMemory, w) | DeviceFails ↦ (outcomes.Refused refusal.Device, failed) | _ ↦ (outcome, left) ]
+changed d w (Restarts name) = restarts d name w
+
+-- what happens at an event: one that is refused by its judgement leaves all as it was
+abbrev pub decided : Decision → Shown → Result Change Refusal → Outcome × Shown
+decided d w judgement = elim judgement [ Ok change ↦ changed d w change | Err r ↦ (outcomes.Refused r, w) ]
 
 unfoldable pub happens : Decision → Event → Shown → Outcome × Shown
-happens d e w = settled w (judged d e w)
+happens d e w = decided d w (judged e w)

@@ -19,7 +19,7 @@ use Rattle.cns_depository.specs.declared.account.Account.{Account}
 use Rattle.cns_depository.specs.declared.account.Account.TheVariants.{Cns}
 use Rattle.cns_depository.specs.declared.movement.Movement.{Movement}
 use Rattle.cns_journal.specs.RecordLog.{IsLawfulLog}
-use Rattle.cns_system.specs.Accord.{IsKnown, IsOrderPacket, IsReplyPacket}
+use Rattle.cns_system.specs.Accord.{IsAsOrdered, IsOrderPacket, IsReplyPacket}
 use Rattle.cns_system.specs.Agreement.{IsExecuted}
 use Rattle.cns_system.specs.World.{World}
 
@@ -44,12 +44,13 @@ abbrev pub pool_of : List ClearRecord → List Lot → ℕ → ℕ
 pool_of c lots issue = free_of (orders_of c) lots issue + lent_of lots issue + out_of (orders_of c) issue
 
 -- the clearing node's records and its open lots, the depository's openings and records, and the packets that were put on the link of
--- orders and on that of replies
+-- orders and on that of replies. A cover brings shares from a member's account to the CNS account, a delivery takes them from there to a
+-- member's; a movement is confirmed once the clearing node has the depository's reply, and an order is open until then
 pub record Headline (c : List ClearRecord) (lots : List Lot) (openings : List Opening) (p : List DepRecord) (orders replies : List (List ℕ)) : Type 0 where
   -- Same: each executed movement agrees with the order of its number at the clearing node, so it has its kind, member, issue and quantity,
   -- and its cycle, where both have one; a delivery moved all that it asks for, and a cover no more than it. Each confirmed movement was
   -- executed, and moved so much.
-  pub executed : All (IsKnown (orders_of c).orders) (executed_of p)
+  pub executed : All (IsAsOrdered (orders_of c).orders) (executed_of p)
   pub confirmed : All (IsExecuted (executed_of p)) (confirmed_of c)
   -- Link: each packet of an order is the frame of the order of its number, and each packet of a reply that of an executed movement.
   pub sent : (k : ℕ) (bytes : List ℕ) → slice_get orders k ≡ Some bytes → IsOrderPacket (orders_of c).orders bytes
@@ -74,14 +75,14 @@ pub record Headline (c : List ClearRecord) (lots : List Lot) (openings : List Op
   pub available : (issue : ℕ) → delivered_of (orders_of c) issue + out_of (orders_of c) issue ≤ covered_of (orders_of c) issue
   pub lent : (issue : ℕ) → lent_of lots issue ≤ avail_of (orders_of c) issue
 
--- the headline of both nodes, where both keepers are honest
+-- the headline of both nodes, where both keepers are honest: where each one's journal reads back what it acknowledged
 abbrev pub IsAgreed : World → Type 0
 IsAgreed w =
     w.clear.clear.log.honest ≡ true → w.depot.log.honest ≡ true
     → Headline w.clear.clear.log.records w.clear.clear.lots w.depot.openings w.depot.log.records w.orders w.replies
 
 -- what the clearing node alone knows of its sums: in each issue longs less shorts are the shares that confirmed covers brought, less
--- those that confirmed deliveries took; and the former are free, lent or out, or confirmed deliveries took them
+-- those that confirmed deliveries took; and what confirmed covers brought is free, lent or out, or confirmed deliveries took it
 abbrev pub IsBalanced : World → Type 0
 IsBalanced w =
     (issue : ℕ)

@@ -2,12 +2,10 @@ pub mod Lot
 pub mod Entry
 pub mod Lots
 pub mod Numbered
-pub mod Outcomes
 pub mod World
-pub mod Step
 pub mod Shown
 pub mod Happens
-pub mod Decisions
+pub mod Devices
 pub mod Agreement
 pub mod Start
 pub mod Accord

@@ -4,11 +4,10 @@ use Rattle.std.specs.Prelude.{◌≡◌, ℕ, Bool, true, false, List, [], ◌�
 use Rattle.cns_pool.specs.declared.ticket.Ticket.{Ticket}
 use Rattle.cns_pool.specs.Pool.{asked_sum}
 use Rattle.cns_allocate.specs.Plan.{IsPlan}
-use Rattle.cns_allocate.specs.Served.{IsServed, turn_of, waiting, without}
+use Rattle.cns_allocate.specs.Served.{IsServed, waiting, without}
 use Rattle.cns_allocate.specs.declared.planned.Planned.{Planned}
 use Rattle.cns_records.specs.declared.clear_record.ClearRecord.{ClearRecord}
 use Rattle.cns_clearing.specs.Lots.{plan_in}
-use Rattle.cns_allocate.specs.declared.turns.Turn.{Turn}
 
 -- its issue, the members that wait for a ticket, the tickets in the order in which they were drawn, whether it is sealed, and whether
 -- it has ended
@@ -31,12 +30,8 @@ pub record IsPlanOf (c : List ClearRecord) (issue : ℕ) (plan : List Planned) :
   pub is : plan ≡ plan_in before issue
 
 -- a lot as it is opened: each member of the plan waits
-abbrev pub new_lot : ℕ → List Planned → LotState
-new_lot issue plan = record { issue = issue; turns = plan; tickets = []; sealed = false; ended = false }
-
--- what a member is answered that asks a lot for a ticket, sealed or not
-abbrev pub turn_in : LotState → ℕ → Turn
-turn_in lot member = turn_of lot.turns member
+abbrev pub numbered_lot : ℕ → List Planned → LotState
+numbered_lot issue plan = record { issue = issue; turns = plan; tickets = []; sealed = false; ended = false }
 
 -- the ticket of this many shares that a member draws next
 abbrev pub ticket_in : LotState → ℕ → ℕ → Ticket

@@ -1,17 +1,27 @@
--- A clearing node with its lots by number, and what each call answers and leaves (this project's own rules). A refusal tells that
--- those named before it did not apply; only `Device` leaves anything changed.
-use Rattle.std.specs.Prelude.{◌≡◌, ◌≢◌, ◌⊎◌, ℕ, ◌+◌, ◌<◌, ◌≤◌, true, false, List, [], ◌∷◌, ◌++◌, length, Some, None, Result, Ok, Err, slice_set, ◌-◌}
-use Rattle.cns_clearing.specs.Answers.{LotCloseLeaves, LotOpenLeaves, LotPourLeaves}
-use Rattle.cns_clearing.specs.Lots.{avail_in, plan_in}
-use Rattle.cns_clearing.specs.Node.{ClearNode}
-use Rattle.cns_clearing.specs.Pools.{lot_of}
-use Rattle.cns_clearing.specs.declared.lot.Lot.{Lot}
-use Rattle.cns_clearing.specs.declared.answer.Closed.{Closed}
+-- A clearing node with its lots by number, and what each call of it comes to, by whether the node is down, its records, its open lots and the lots
+-- by number (this project's own rules). The first refusal that applies is told.
+use Rattle.std.specs.Prelude.{◌≡◌, ℕ, ◌+◌, ◌==◌, ◌||◌, nat_lt, Bool, false, List, [], ◌∷◌, ◌++◌, length, Some, None, Result, Ok, Err}
+use Rattle.std.specs.Option.{is_none, ok_or}
+use Rattle.cns_ids.specs.Steps.{◌>>=◌, ◌>>◌, need}
+use Rattle.cns_journal.specs.declared.record_log.CommitFault.{CommitFault}
+use Rattle.cns_wire.specs.Packet.{at_number}
+use Rattle.cns_pool.specs.Pool.{asked_sum}
+use Rattle.cns_records.specs.Call.{Deed}
+use Rattle.cns_records.specs.declared.clear_record.ClearRecord.{ClearRecord}
 use Rattle.cns_records.specs.declared.refusal.Refusal.{Refusal}
 use Rattle.cns_records.specs.declared.refusal.Refusal.TheVariants as refusal
-use Rattle.cns_system.specs.Lot.{LotState, IsOfPlan, new_lot, with_end}
-use Rattle.cns_wire.specs.Packet.{at_number}
-use Rattle.cns_system.specs.Lots.{HasEndedLot, HasOpenLot}
+use Rattle.cns_clearing.specs.Answers.{close_deed, up}
+use Rattle.cns_clearing.specs.Books.{orders_of}
+use Rattle.cns_clearing.specs.Lots.{lots_poured, new_lot}
+use Rattle.cns_clearing.specs.Node.{ClearNode}
+use Rattle.cns_clearing.specs.Node as node
+use Rattle.cns_clearing.specs.Pools.{free_of, lent_of, lot_of}
+use Rattle.cns_clearing.specs.declared.lot.Lot.{Lot}
+use Rattle.cns_clearing.specs.declared.answer.Closed.{Closed}
+use Rattle.cns_system.specs.Lot.{LotState, IsOfPlan, with_end}
+use Rattle.cns_system.specs.Lot.{numbered_lot}
+use Rattle.cns_system.specs.Lots.{going_lot, with_lot}
+use Rattle.cns_system.specs.declared.entry.Look.{Look}
 use Rattle.cns_system.specs.declared.numbered.Opened.{Opened}
 
 -- the node, and the lots in the order of their numbers
@@ -30,57 +40,51 @@ pub record AreTied (open_lots : List Lot) (lots : List LotState) : Type 0 where
   pub each : (number : ℕ) (lot : LotState) → at_number lots number ≡ Some lot → lot.ended ≡ false → IsTied open_lots lot
   pub once : (m n : ℕ) (k l : LotState) → at_number lots m ≡ Some k → at_number lots n ≡ Some l → k.ended ≡ false → l.ended ≡ false → k.issue ≡ l.issue → m ≡ n
 
--- an opened lot has the next number, all shares of the issue that are there, at most 10^18, and its plan
-pub record IsOpened (node : NumberedNode) (issue : ℕ) (opened : Opened) : Type 0 where
-  pub number : opened.number ≡ length node.lots + 1
-  pub poured : opened.poured ≡ avail_in node.clear.log.records issue
-  pub few : opened.poured ≤ 1000000000000000000
-  pub plan : opened.plan ≡ plan_in node.clear.log.records issue
+-- a lot is opened: what is told of it, and the lot
+unfoldable pub numbered_open : ℕ → Bool → List ClearRecord → List Lot → List LotState → Result (Opened × Lot) Refusal
+numbered_open issue down c open_lots lots = do
+  up down
+  need (is_none (lot_of open_lots issue)) refusal.LotAlready
+  need (nat_lt (length lots) 1000000) refusal.LotsSpent
+  let lot = new_lot c issue
+  Ok (record { number = length lots + 1; poured = lot.poured; plan = lot.plan }, lot)
 
--- what the opening of a lot leaves, by its answer
-abbrev pub OpenLeaves : ℕ → Result Opened Refusal → NumberedNode → NumberedNode → Type 0
-OpenLeaves issue (Ok opened) old new =
-    (length old.lots < 1000000) × IsOpened old issue opened × LotOpenLeaves issue (Ok (plan_in old.clear.log.records issue)) old.clear new.clear
-    × (new.lots ≡ old.lots ++ new_lot issue (plan_in old.clear.log.records issue) ∷ [])
-OpenLeaves issue (Err refusal.Down) old new = (old.clear.log.down ≡ true) × (new ≡ old)
-OpenLeaves issue (Err refusal.LotAlready) old new = (old.clear.log.down ≡ false) × (lot_of old.clear.lots issue ≢ None) × (new ≡ old)
-OpenLeaves issue (Err refusal.LotsSpent) old new =
-    (old.clear.log.down ≡ false) × (lot_of old.clear.lots issue ≡ None) × (1000000 ≤ length old.lots) × (new ≡ old)
-OpenLeaves issue (Err refusal.OutOfMemory) old new =
-    (old.clear.log.down ≡ false) × (lot_of old.clear.lots issue ≡ None) × (length old.lots < 1000000) × (new ≡ old)
-OpenLeaves issue (Err _) old new = ⊥
+-- the node with this lot opened
+abbrev pub with_opened : Lot → NumberedNode → NumberedNode
+with_opened lot n = record {
+  clear = record n.clear { lots = n.clear.lots ++ lot ∷ [] };
+  lots = n.lots ++ numbered_lot lot.issue lot.plan ∷ [];
+}
 
--- what a pour leaves, by its answer: the node pours into its lot of the issue of the lot of the number
-abbrev pub PourLeaves : ℕ → Result ℕ Refusal → NumberedNode → NumberedNode → Type 0
-PourLeaves number (Ok shares) old new =
-    HasOpenLot old.lots number (λ (lot : LotState). LotPourLeaves lot.issue (Ok shares) old.clear new.clear) × (new.lots ≡ old.lots)
-PourLeaves number (Err refusal.NoLot) old new = (at_number old.lots number ≡ None) × (new ≡ old)
-PourLeaves number (Err refusal.StaleLot) old new = HasEndedLot old.lots number × (new ≡ old)
-PourLeaves number (Err refusal.Down) old new = HasOpenLot old.lots number (λ (lot : LotState). old.clear.log.down ≡ true) × (new ≡ old)
-PourLeaves number (Err _) old new = ⊥
+-- so it is, and this node is left
+abbrev pub opening_call : ℕ → NumberedNode → Result (Opened × NumberedNode) Refusal
+opening_call issue n = numbered_open issue n.clear.log.down n.clear.log.records n.clear.lots n.lots >>= λ opened. Ok (opened.0, with_opened opened.1 n)
 
--- a lot is sealed, or nobody waits for a ticket of it
-abbrev pub IsMet : LotState → Type 0
-IsMet lot = (lot.sealed ≡ true) ⊎ (lot.turns ≡ [])
+-- what the lot of a number gets that is poured into, and the open lots then
+unfoldable pub numbered_pour : ℕ → Bool → List ClearRecord → List Lot → List LotState → Result (ℕ × List Lot) Refusal
+numbered_pour number down c open_lots lots = do
+  lot ← going_lot lots number
+  up down
+  Ok (free_of (orders_of c) open_lots lot.issue, lots_poured c lot.issue open_lots)
 
--- what a close leaves, by its answer: the node closes the lot of the issue with the tickets and the seal of the lot of the number
-abbrev pub CloseLeaves : ℕ → Result Closed Refusal → NumberedNode → NumberedNode → Type 0
-CloseLeaves number (Ok done) old new =
-    HasOpenLot old.lots number
-    (λ (lot : LotState).
-    IsMet lot × LotCloseLeaves lot.issue lot.tickets lot.sealed (Ok done) old.clear new.clear × (new.lots ≡ slice_set old.lots (number - 1) (with_end lot)))
-CloseLeaves number (Err refusal.NoLot) old new = (at_number old.lots number ≡ None) × (new ≡ old)
-CloseLeaves number (Err refusal.StaleLot) old new = HasEndedLot old.lots number × (new ≡ old)
-CloseLeaves number (Err refusal.Down) old new = HasOpenLot old.lots number (λ (lot : LotState). old.clear.log.down ≡ true) × (new ≡ old)
-CloseLeaves number (Err refusal.Unserved) old new =
-    HasOpenLot old.lots number (λ (lot : LotState). (old.clear.log.down ≡ false) × (lot.sealed ≡ false) × (lot.turns ≢ [])) × (new ≡ old)
-CloseLeaves number (Err refusal.NumbersSpent) old new =
-    HasOpenLot old.lots number
-    (λ (lot : LotState). IsMet lot × LotCloseLeaves lot.issue lot.tickets lot.sealed (Err refusal.NumbersSpent) old.clear new.clear) × (new ≡ old)
-CloseLeaves number (Err refusal.OutOfMemory) old new =
-    HasOpenLot old.lots number
-    (λ (lot : LotState). IsMet lot × LotCloseLeaves lot.issue lot.tickets lot.sealed (Err refusal.OutOfMemory) old.clear new.clear) × (new ≡ old)
-CloseLeaves number (Err refusal.Device) old new =
-    HasOpenLot old.lots number
-    (λ (lot : LotState). IsMet lot × LotCloseLeaves lot.issue lot.tickets lot.sealed (Err refusal.Device) old.clear new.clear) × (new.lots ≡ old.lots)
-CloseLeaves number (Err _) old new = ⊥
+-- the lot of a number is closed with the tickets that were drawn of it, where it is sealed, or nobody waits for a ticket of it
+unfoldable pub numbered_close : ℕ → Bool → List ClearRecord → List Lot → List LotState → Result (Deed ClearRecord Closed) Refusal
+numbered_close number down c open_lots lots = do
+  lot ← going_lot lots number
+  up down
+  need (lot.sealed || (length lot.turns == 0)) refusal.Unserved
+  twin ← ok_or (lot_of open_lots lot.issue) refusal.NoLot
+  close_deed lot.tickets lot.sealed c twin
+
+-- the lots once that of a number has ended
+abbrev pub lots_ended : ℕ → List LotState → List LotState
+lots_ended number lots = elim (at_number lots number) [ None ↦ lots | Some lot ↦ with_lot number (with_end lot) lots ]
+
+-- what the commit of a record leaves of the node with its lots, by its answer; once it is acknowledged, this becomes of the lots by number
+abbrev pub IsNumberedCommit : (List LotState → List LotState) → ClearRecord → Result (Unit {0}) CommitFault → NumberedNode → NumberedNode → Type 0
+IsNumberedCommit lots_after r done old new =
+    node.IsCommitted r done old.clear new.clear × (new.lots ≡ elim done [ Ok _ ↦ lots_after old.lots | Err _ ↦ old.lots ])
+
+-- what a lot shows beside the node's open lots: the shares that are lent to it, those of its tickets, and its seal
+abbrev pub shown : List Lot → LotState → Look
+shown open_lots lot = record { poured = lent_of open_lots lot.issue; asked = asked_sum lot.tickets; sealed = lot.sealed }

@@ -4,9 +4,10 @@ use Rattle.std.specs.Prelude.{◌≡◌, Bool, true, false, not, List, ◌∷◌
 use Rattle.cns_journal.specs.Keeper.{Foresight, Forecast, Unforeseen, Succeeds, Fails}
 use Rattle.cns_journal.specs.RecordLog.{LogState}
 use Rattle.cns_journal.specs.declared.keeper.NotPlanned.{NotPlanned}
+use Rattle.cns_records.specs.declared.refusal.Refusal.{Refusal}
 use Rattle.cns_records.specs.declared.refusal.Refusal.TheVariants as refusal
-use Rattle.cns_system.specs.Decisions.{MayTell, node_of}
-use Rattle.cns_system.specs.Happens.{Decision, Goes, NoMemory, DeviceFails, ClearReads, DepotReads, happens}
+use Rattle.cns_system.specs.Devices.{DevicesLeave, node_of}
+use Rattle.cns_system.specs.Happens.{Change, Commits, Restarts, Decision, Goes, NoMemory, DeviceFails, ClearReads, DepotReads, happens, judged}
 use Rattle.cns_system.specs.Shown.{Shown, shown_of}
 use Rattle.cns_system.specs.World.{World}
 use Rattle.cns_system.specs.declared.event.Event.{Event}
@@ -42,21 +43,22 @@ abbrev pub with_known : NodeName → Foresight → Scene → Scene
 with_known node.Clear f s = record s { clear = record s.clear { foresight = f } }
 with_known node.Depot f s = record s { depot = record s.depot { foresight = f } }
 
--- what comes between at an event: at a restart, an undecided record comes back of which that was not known; at a restart, there is no
--- memory, and this is known of the undecided record from then on; or the surroundings decide (`Goes` where nothing comes between): of a
--- commit of which something is known, only that there is no memory, and of the restart of an honest keeper, only that its device fails,
--- where nothing is known of it
+-- what comes between at an event:
+--   `ComesBack`: at a restart of an honest keeper of whose undecided record nothing is known, that record comes back
+--   `Forgets`: at a restart there is no memory, and of the undecided record this is known from then on
+--   `Decides`: the surroundings decide so, `Goes` where nothing comes between: at an event that is no restart and of whose commit something is known,
+--   only that there is no memory; at a restart of an honest keeper, only that its device fails, where nothing is known of it
 pub data Chance : Type 0 where
   ComesBack : Chance
   Forgets : Option Bool → Chance
   Decides : Decision → Chance
 
--- the decision at a commit, by what is known of it; where nothing is, whatever it is
-abbrev pub commit_decision : Forecast → Chance → Decision
-commit_decision next (Decides NoMemory) = NoMemory
-commit_decision (Fails stands) chance = DeviceFails
-commit_decision Unforeseen (Decides d) = d
-commit_decision _ chance = Goes
+-- the decision at an event that is no restart, by what is known of its commit; where nothing is, whatever it is
+abbrev pub event_decision : Forecast → Chance → Decision
+event_decision next (Decides NoMemory) = NoMemory
+event_decision (Fails stands) chance = DeviceFails
+event_decision Unforeseen (Decides d) = d
+event_decision _ chance = Goes
 
 -- whether something is known of a keeper's commits
 abbrev pub is_foreseen : Forecast → Bool
@@ -71,7 +73,7 @@ abbrev pub restart_fails : Forecast → Chance → Bool
 restart_fails next chance = elim chance [ Decides DeviceFails ↦ not (is_foreseen next) | _ ↦ false ]
 
 -- the decision at a restart: the device of an honest keeper fails, or it gives its records back, with the undecided one where that is
--- known to stand, or comes back; the journal of another keeper may give anything
+-- known to stand, or comes back; a keeper that is not honest may give anything
 abbrev pub restart_decision : {R : Type 0} → (List R → Decision) → Sight → Option R → List R → Chance → Decision
 restart_decision reads s tried records (Forgets known) = NoMemory
 restart_decision reads s tried records chance =
@@ -82,36 +84,38 @@ restart_decision reads s tried records chance =
 abbrev pub decision_at : Chance → Event → Scene → Decision
 decision_at chance (event.Restart node.Clear) s = restart_decision ClearReads s.clear s.shown.clear.tried s.shown.clear.records chance
 decision_at chance (event.Restart node.Depot) s = restart_decision DepotReads s.depot s.shown.depot.tried s.shown.depot.records chance
-decision_at chance e s = commit_decision (known_of (node_of e) s).next chance
+decision_at chance e s = event_decision (known_of (node_of e) s).next chance
 
 -- what is known after a commit: of one that failed as was planned, whether its record stands
-abbrev pub after_commit : Outcome → Foresight → Foresight
-after_commit (outcomes.Refused refusal.Device) f =
-    elim f.next [ Fails stands ↦ record { next = Succeeds; stands = Some stands } | next ↦ record { next = next; stands = None } ]
+abbrev pub after_commit : Decision → Foresight → Foresight
+after_commit DeviceFails f = elim f.next [ Fails stands ↦ record { next = Succeeds; stands = Some stands } | next ↦ record { next = next; stands = None } ]
 after_commit _ f = f
 
--- nothing is known of an undecided record once the journal was read
+-- nothing is known of an undecided record once the journal was read; where there was no memory for that, what `Forgets` says
 abbrev pub after_restart : Chance → Outcome → Foresight → Foresight
 after_restart chance (outcomes.Restarted records kept) f = record f { stands = None }
 after_restart chance (outcomes.Refused (refusal.BadJournal place)) f = record f { stands = None }
 after_restart (Forgets known) (outcomes.Refused refusal.OutOfMemory) f = record f { stands = known }
 after_restart chance _ f = f
 
--- what is known of the keeper of an event's node after it
-abbrev pub known_after : Chance → Event → Outcome → Foresight → Foresight
-known_after chance e outcome f = elim e [ event.Restart name ↦ after_restart chance outcome f | _ ↦ after_commit outcome f ]
+-- what is known of the keeper of an event's node after it, by what the event comes to by what there is
+abbrev pub known_after : Chance → Decision → Result Change Refusal → Outcome → Foresight → Foresight
+known_after chance d (Ok (Commits told left failed)) outcome f = after_commit d f
+known_after chance d (Ok (Restarts name)) outcome f = after_restart chance outcome f
+known_after chance d _ outcome f = f
 
 -- what an event comes to by what comes between, and leaves
 unfoldable pub comes_to : Chance → Event → Scene → Outcome × Scene
 comes_to chance e s =
-    let (outcome, shown) = happens (decision_at chance e s) e s.shown in
-    (outcome, with_known (node_of e) (known_after chance e outcome (known_of (node_of e) s)) (record s { shown = shown }))
+    let d = decision_at chance e s in
+    let (outcome, shown) = happens d e s.shown in
+    (outcome, with_known (node_of e) (known_after chance d (judged e s.shown) outcome (known_of (node_of e) s)) (record s { shown = shown }))
 
--- so it is by something that comes between, and a failure of the device is told only where there was one
+-- so it is by something that comes between, and so much is left of the devices
 abbrev pub Comes : Event → Outcome → World → World → Type 0
-Comes e outcome old new = (chance : Chance) × MayTell e outcome old new × (comes_to chance e (scene_of old) ≡ (outcome, scene_of new))
+Comes e outcome old new = (chance : Chance) × DevicesLeave (judged e (shown_of old)) (node_of e) outcome old new × (comes_to chance e (scene_of old) ≡ (outcome, scene_of new))
 
--- the next commit of a node is planned to fail
+-- the next commit of a node is planned to fail (by who tries the program; a lot's plan is another thing)
 abbrev pub planned : NodeName → Bool → Scene → Scene
 planned name stands s = with_known name (record (known_of name s) { next = Fails stands }) s
 

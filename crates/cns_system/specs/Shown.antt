@@ -1,15 +1,15 @@
 -- Both nodes and the link as events change them: all that contracts see of them but what they tell of the keepers' devices.
-use Rattle.std.specs.Prelude.{ℕ, Bool, true, List, [], ◌∷◌, ◌++◌, map, Option, Some, slice_set, ◌-◌}
+use Rattle.std.specs.Prelude.{Bool, true, List, [], ◌∷◌, ◌++◌, map, Option, Some}
 use Rattle.cns_journal.specs.RecordLog.{LogState}
 use Rattle.cns_trades.specs.declared.opening.Opening.{Opening}
 use Rattle.cns_movements.specs.declared.order.Order.{Order}
 use Rattle.cns_movements.specs.declared.order.Reply.{Reply}
 use Rattle.cns_records.specs.declared.clear_record.ClearRecord.{ClearRecord}
 use Rattle.cns_records.specs.declared.dep_record.DepRecord.{DepRecord}
-use Rattle.cns_clearing.specs.Lots.{lots_after, lots_poured}
+use Rattle.cns_clearing.specs.Lots.{lots_after}
 use Rattle.cns_clearing.specs.declared.lot.Lot.{Lot}
 use Rattle.cns_system.specs.Lot.{LotState}
-use Rattle.cns_system.specs.Lot.{new_lot as numbered_lot}
+use Rattle.cns_system.specs.Lot.{numbered_lot}
 use Rattle.cns_system.specs.World.{World, order_spelt, reply_spelt}
 
 -- a node's records, the newest first; the record whose commit failed; and whether the node is down
@@ -18,9 +18,9 @@ pub record LogShown (R : Type 0) : Type 0 where
   pub tried : Option R
   pub down : Bool
 
--- the clearing node's log, its open lots, and all lots in the order of their numbers; the depository's openings, and its log; and what
--- the packets spell that were put on the link of orders and on that of replies, the oldest first (none of one that spells no order, or
--- no reply; no event puts such a packet there)
+-- the clearing node's log, its open lots by issue, and all lots in the order of their numbers; the depository's openings, and its log; and the packets
+-- that were put on the link of orders and on that of replies, the oldest first, each as what it spells (`None` for a packet that is no frame: no event
+-- puts such a one there). A packet is never taken off the link: it may arrive never, once or often, and in any order
 pub record Shown : Type 0 where
   pub clear : LogShown ClearRecord
   pub open_lots : List Lot
@@ -58,13 +58,6 @@ depot_added e w = record w { depot = record w.depot { records = e ∷ w.depot.re
 abbrev pub depot_failed : DepRecord → Shown → Shown
 depot_failed e w = record w { depot = record w.depot { tried = Some e; down = true } }
 
--- a lot in the place of its number
-abbrev pub with_lot : ℕ → LotState → Shown → Shown
-with_lot number lot w = record w { lots = slice_set w.lots (number - 1) lot }
-
--- a lot is opened, or it gets all shares that are free of its issue
+-- a lot is opened
 abbrev pub with_new_lot : Lot → Shown → Shown
 with_new_lot lot w = record w { open_lots = w.open_lots ++ lot ∷ []; lots = w.lots ++ numbered_lot lot.issue lot.plan ∷ [] }
-
-abbrev pub with_pour : ℕ → Shown → Shown
-with_pour issue w = record w { open_lots = lots_poured w.clear.records issue w.open_lots }

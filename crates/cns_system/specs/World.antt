@@ -1,7 +1,8 @@
 -- Both nodes and the link between them, as contracts see them.
-use Rattle.std.specs.Prelude.{ℕ, List, Option, Some, None, option_and_then, Result, Ok, Err}
+use Rattle.std.specs.Prelude.{◌≡◌, ℕ, List, Option, Some, None, option_and_then, slice_get, Result, Ok, Err}
 use Rattle.cns_movements.specs.declared.order.Order.{Order}
 use Rattle.cns_movements.specs.declared.order.Reply.{Reply}
+use Rattle.cns_wire.specs.Frame.{order_frame, reply_frame}
 use Rattle.cns_wire.specs.ReadFrame.{read_frame_of}
 use Rattle.cns_wire.specs.declared.frame.Frame.{Frame}
 use Rattle.cns_wire.specs.declared.frame.Frame.TheVariants as frame
@@ -41,3 +42,19 @@ order_in_packet packet = option_and_then order_spelt packet
 
 abbrev pub reply_in_packet : Option (List ℕ) → Option Reply
 reply_in_packet packet = option_and_then reply_spelt packet
+
+-- a packet is the frame of an order, and reads as it; or that of a reply
+pub record IsOrderFrame (bytes : List ℕ) : Type 0 where
+  pub order : Order
+  pub frame : bytes ≡ order_frame order
+  pub reads : order_spelt bytes ≡ Some order
+
+pub record IsReplyFrame (bytes : List ℕ) : Type 0 where
+  pub reply : Reply
+  pub frame : bytes ≡ reply_frame reply
+  pub reads : reply_spelt bytes ≡ Some reply
+
+-- each packet on either link is one
+pub record AreFrames (orders replies : List (List ℕ)) : Type 0 where
+  pub orders_are : (k : ℕ) (bytes : List ℕ) → slice_get orders k ≡ Some bytes → IsOrderFrame bytes
+  pub replies_are : (k : ℕ) (bytes : List ℕ) → slice_get replies k ≡ Some bytes → IsReplyFrame bytes

@@ -1,7 +1,10 @@
 ghost use Rattle.std.specs.Prelude.{◌≡◌, ◌↔◌, ◌⊎◌, ◌^◌, ◌≤◌, true, false, [], IfOk, IsTrue};
+ghost use Rattle.cns_allocate.specs.Served.{turn_of};
+ghost use Rattle.cns_allocate.specs.declared.turns.Turn.TheVariants.{Next};
 ghost use Rattle.cns_pool.specs.Pool.{asked_sum};
-ghost use Rattle.cns_system.specs.Lot.{new_lot, planned_sum, ticket_in, with_end, with_seal, with_ticket};
-ghost use Rattle.cns_system.specs.Lots.{DrawLeaves, IsTurnFor, WouldDraw};
+ghost use Rattle.cns_system.specs.Lot.{numbered_lot, planned_sum, ticket_in, with_end, with_seal, with_ticket};
+ghost use Rattle.cns_records.specs.Call.{Changes};
+ghost use Rattle.cns_system.specs.Lots.{draw_call, turn_ticket};
 
 use cns_allocate::{Plan, Planned, Turn, Turns};
 use cns_ids::{Cusip, MemberNo};
@@ -38,9 +41,9 @@ impl Model for LotEntry {
 
     ghost Value = { LotState };
 
-    ghost use Rattle.cns_system.specs.Entry.{lot_of, IsEntry};
+    ghost use Rattle.cns_system.specs.Entry.{entry_state, IsEntry};
 
-    ghost view = { lot_of };
+    ghost view = { entry_state };
 
     ghost invariant = { λ e. IsEntry e.turns e.pool };
 }
@@ -49,7 +52,7 @@ impl LotEntry {
     // A lot of a plan with no tickets.
     pub(crate) fn open(alloc: Global, issue: Cusip, plan: &Plan) -> Result<LotEntry, AllocError>
         requires { planned_sum plan.now ≤ 10 ^ 18 }
-        ensures { IfOk result (λ entry. entry ≡ new_lot issue plan.now) }
+        ensures { IfOk result (λ entry. entry ≡ numbered_lot issue plan.now) }
     {
         let budget = shares(plan.as_slice());
         Ok(LotEntry {
@@ -62,7 +65,7 @@ impl LotEntry {
 
     // Draws a member's ticket, if it is its turn and the lot is not sealed.
     pub(crate) fn reserve(&mut self, member: MemberNo) -> Result<Ticket, Refusal>
-        ensures { DrawLeaves member result self.old self.new }
+        ensures { Changes (draw_call member self.old) result self.old self.new }
     {
         let ticket = self.next_ticket(member)?;
         Ok(self.draw(member, ticket.asked))
@@ -70,7 +73,7 @@ impl LotEntry {
 
     // The ticket that a member would draw, if it is its turn and the lot is not sealed.
     pub(crate) fn next_ticket(&self, member: MemberNo) -> Result<Ticket, Refusal>
-        ensures { WouldDraw member result self.now }
+        ensures { result ≡ turn_ticket self.now member }
     {
         match self.turns.turn(member) {
             Turn::NotLong => Err(Refusal::NotLong),
@@ -86,7 +89,7 @@ impl LotEntry {
 
     // Draws the ticket of a member whose turn it is.
     fn draw(&mut self, member: MemberNo, asked: u64) -> Ticket
-        requires turn { IsTurnFor member self.old asked }
+        requires turn { turn_of self.old.turns member ≡ Next asked }
         requires unsealed { self.old.sealed ≡ false }
         ensures ticket { result ≡ ticket_in self.old member asked }
         ensures after { self.new ≡ with_ticket result self.old }

@@ -6,7 +6,8 @@ ghost use Rattle.cns_system.specs.Floor.{AreInOrder, BySystem, FloorStep, IsLawf
 ghost use Rattle.cns_system.specs.Headline.{AreStrict};
 ghost use Rattle.cns_system.specs.Lot.{planned_sum};
 ghost use Rattle.cns_system.specs.Lots.{ArePlanned};
-ghost use Rattle.cns_system.specs.Numbered.{AreTied, OpenLeaves};
+ghost use Rattle.cns_records.specs.Call.{Grows};
+ghost use Rattle.cns_system.specs.Numbered.{AreTied, opening_call};
 ghost use Rattle.cns_system.specs.Readers.{PlanStep, counts_of, unconfirmed};
 ghost use Rattle.cns_system.specs.Run.{Occurs};
 ghost use Rattle.cns_system.specs.Scene.{Plans, scene_of};
@@ -506,7 +507,7 @@ fn not_opened<C: Keeper, D: Keeper>(system: &System<C, D>, issue: Cusip) -> Outc
 // Why a lot of an issue is not opened for which there is no cell: as the system refuses it, and else for
 // want of memory.
 fn refusal_without_cell<C: Keeper, D: Keeper>(system: &System<C, D>, issue: Cusip) -> Refusal
-    ensures { OpenLeaves issue (Err result) system.now.clear system.now.clear }
+    ensures { Grows Refusal.OutOfMemory (opening_call issue system.now.clear) (Err result) system.now.clear system.now.clear }
 {
     let node = system.clearing();
     if node.is_down() {

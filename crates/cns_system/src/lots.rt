@@ -1,7 +1,8 @@
-ghost use Rattle.std.specs.Prelude.{◌≡◌, ◌↔◌, ◌⊎◌, ◌-◌, ◌^◌, ◌<◌, ◌≤◌, true, [], ◌∷◌, ◌++◌, length, map, IfOk, OnErr, OnOk, IsTrue};
+ghost use Rattle.std.specs.Prelude.{◌≡◌, ◌↔◌, ◌⊎◌, ◌-◌, ◌^◌, ◌<◌, ◌≤◌, true, [], ◌∷◌, ◌++◌, length, map, IfOk, MatchResult, OnErr, OnOk, IsTrue};
 ghost use Rattle.cns_pool.specs.Pool.{asked_sum};
-ghost use Rattle.cns_system.specs.Lot.{new_lot, planned_sum, with_end, with_seal};
-ghost use Rattle.cns_system.specs.Lots.{LotGives, LotLeaves, ReserveLeaves, WouldReserve};
+ghost use Rattle.cns_system.specs.Lot.{numbered_lot, planned_sum, with_end, with_seal};
+ghost use Rattle.cns_records.specs.Call.{Changes};
+ghost use Rattle.cns_system.specs.Lots.{HasLot, HasNone, change_call, reserve_call, ticket_call};
 
 use crate::entry::LotEntry;
 use cns_allocate::{Plan, Planned};
@@ -61,7 +62,7 @@ impl LotBook {
     /// The plan may ask for at most 10^18 shares in all.
     pub fn open(&mut self, issue: Cusip, plan: &Plan) -> Result<u64, AllocError>
         requires { planned_sum plan.now ≤ 10 ^ 18 }
-        ensures ok { OnOk result (self.new.lots ≡ self.old.lots ++ new_lot issue plan.now ∷ []) }
+        ensures ok { OnOk result (self.new.lots ≡ self.old.lots ++ numbered_lot issue plan.now ∷ []) }
         ensures number { IfOk result (λ number. number ≡ length self.new.lots) }
         ensures err { OnErr result (self.new.lots ≡ self.old.lots) }
     {
@@ -72,7 +73,7 @@ impl LotBook {
     // Makes a lot as it is opened, and room for it.
     pub(crate) fn prepare(&mut self, issue: Cusip, plan: &Plan) -> Result<LotEntry, AllocError>
         requires { planned_sum plan.now ≤ 10 ^ 18 }
-        ensures lot { IfOk result (λ lot. lot ≡ new_lot issue plan.now) }
+        ensures lot { IfOk result (λ lot. lot ≡ numbered_lot issue plan.now) }
         ensures room { OnOk result (0 < self.new.room) }
         ensures same { self.new.lots ≡ self.old.lots }
     {
@@ -97,7 +98,7 @@ impl LotBook {
     /// its ticket, a planned member of an earlier group has no ticket yet, or the lot is sealed, and
     /// told the first of these that applies. A refusal changes nothing.
     pub fn reserve(&mut self, number: u64, member: MemberNo) -> Result<Ticket, Refusal>
-        ensures { ReserveLeaves number member result self.old.lots self.new.lots }
+        ensures { Changes (reserve_call number member self.old.lots) result self.old.lots self.new.lots }
     {
         let index = self.place(number)?;
         let lot = &mut self.lots[index];
@@ -106,14 +107,14 @@ impl LotBook {
 
     // What `reserve` of a member would answer.
     pub(crate) fn next_ticket(&self, number: u64, member: MemberNo) -> Result<Ticket, Refusal>
-        ensures { WouldReserve number member result self.now.lots }
+        ensures { result ≡ ticket_call number member self.now.lots }
     {
         self.find(number)?.next_ticket(member)
     }
 
     /// Seals a lot: no ticket is drawn from it from now on. A sealed lot stays as it is.
     pub fn seal(&mut self, number: u64) -> Result<(), Refusal>
-        ensures { LotLeaves with_seal number result self.old.lots self.new.lots }
+        ensures { Changes (change_call with_seal number self.old.lots) result self.old.lots self.new.lots }
     {
         let index = self.place(number)?;
         let lot = &mut self.lots[index];
@@ -123,7 +124,7 @@ impl LotBook {
 
     /// Ends a lot. What it held goes.
     pub fn end(&mut self, number: u64) -> Result<(), Refusal>
-        ensures { LotLeaves with_end number result self.old.lots self.new.lots }
+        ensures { Changes (change_call with_end number self.old.lots) result self.old.lots self.new.lots }
     {
         let index = self.place(number)?;
         let alloc = self.allocator();
@@ -142,50 +143,50 @@ impl LotBook {
 
     /// The issue of a lot.
     pub fn issue(&self, number: u64) -> Result<Cusip, Refusal>
-        ensures { LotGives (λ lot issue. issue ≡ lot.issue) number result self.now.lots }
+        ensures { MatchResult result (λ issue. HasLot self.now.lots number (λ lot. issue ≡ lot.issue)) (HasNone self.now.lots number) }
     {
         Ok(self.find(number)?.issue())
     }
 
     /// The members that wait for a ticket of a lot, in the order of its plan.
     pub fn waiting(&self, number: u64) -> Result<&[Planned], Refusal>
-        ensures { LotGives (λ lot members. members.now ≡ lot.turns) number result self.now.lots }
+        ensures { MatchResult result (λ members. HasLot self.now.lots number (λ lot. members.now ≡ lot.turns)) (HasNone self.now.lots number) }
     {
         Ok(self.find(number)?.waiting())
     }
 
     /// The tickets of a lot, in the order in which they were drawn.
     pub fn tickets(&self, number: u64) -> Result<&[Ticket], Refusal>
-        ensures { LotGives (λ lot tickets. tickets.now ≡ lot.tickets) number result self.now.lots }
+        ensures { MatchResult result (λ tickets. HasLot self.now.lots number (λ lot. tickets.now ≡ lot.tickets)) (HasNone self.now.lots number) }
     {
         Ok(self.find(number)?.tickets())
     }
 
     /// The shares of a lot's tickets.
     pub fn asked(&self, number: u64) -> Result<u64, Refusal>
-        ensures { LotGives (λ lot asked. asked ≡ asked_sum lot.tickets) number result self.now.lots }
+        ensures { MatchResult result (λ asked. HasLot self.now.lots number (λ lot. asked ≡ asked_sum lot.tickets)) (HasNone self.now.lots number) }
     {
         Ok(self.find(number)?.asked())
     }
 
     /// Whether a lot is sealed.
     pub fn is_sealed(&self, number: u64) -> Result<bool, Refusal>
-        ensures { LotGives (λ lot sealed. sealed ≡ lot.sealed) number result self.now.lots }
+        ensures { MatchResult result (λ sealed. HasLot self.now.lots number (λ lot. sealed ≡ lot.sealed)) (HasNone self.now.lots number) }
     {
         Ok(self.find(number)?.is_sealed())
     }
 
     /// Whether a lot is sealed, or nobody waits for a ticket of it.
     pub fn is_served(&self, number: u64) -> Result<bool, Refusal>
-        ensures { LotGives (λ lot served. IsTrue served
-            ↔ ((lot.sealed ≡ true) ⊎ (lot.turns ≡ []))) number result self.now.lots }
+        ensures { MatchResult result (λ served. HasLot self.now.lots number (λ lot. IsTrue served
+            ↔ ((lot.sealed ≡ true) ⊎ (lot.turns ≡ [])))) (HasNone self.now.lots number) }
     {
         Ok(self.find(number)?.is_served())
     }
 
     // The lot of a number.
     pub(crate) fn find(&self, number: u64) -> Result<&LotEntry, Refusal>
-        ensures { LotGives (λ lot entry. entry.now ≡ lot) number result self.now.lots }
+        ensures { MatchResult result (λ entry. HasLot self.now.lots number (λ lot. entry.now ≡ lot)) (HasNone self.now.lots number) }
     {
         let index = self.place(number)?;
         Ok(&self.lots[index])
@@ -198,7 +199,7 @@ impl LotBook {
 
     // The place of the lot of a number.
     fn place(&self, number: u64) -> Result<usize, Refusal>
-        ensures gives { LotGives (λ _ index. index ≡ number - 1) number result self.now.lots }
+        ensures gives { MatchResult result (λ index. HasLot self.now.lots number (λ lot. index ≡ number - 1)) (HasNone self.now.lots number) }
         ensures within { IfOk result (λ index. index < length self.now.lots) }
     {
         let lots = &self.lots;

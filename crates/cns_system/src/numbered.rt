@@ -1,15 +1,16 @@
-ghost use Rattle.std.specs.Prelude.{◌≡◌, ◌^◌, ◌≤◌, [], length, map, IfOk};
+ghost use Rattle.std.specs.Prelude.{◌≡◌, ◌^◌, ◌≤◌, [], length, map, MatchResult, IfOk};
+ghost use Rattle.cns_records.specs.Call.{CallLeaves, Changes, Grows};
+ghost use Rattle.cns_records.specs.Refusals.{commit_refusal};
 ghost use Rattle.cns_records.specs.declared.clear_record.ClearRecord.TheVariants.{Exempt, Priority};
-ghost use Rattle.cns_clearing.specs.Answers.{CycleLeaves, ReplyLeaves, SettingLeaves, TradeLeaves};
+ghost use Rattle.cns_clearing.specs.Answers.{Leaves, cycle_call, reply_call, setting_call, trade_call};
 ghost use Rattle.cns_allocate.specs.Plan.{IsPlan};
 ghost use Rattle.cns_clearing.specs.Lots.{plan_in};
 ghost use Rattle.cns_clearing.specs.Node.{NodePlanned, RestartLeaves};
 ghost use Rattle.cns_clearing.specs.Pools.{lent_of};
 ghost use Rattle.cns_system.specs.Lot.{planned_sum, with_end, with_seal};
-ghost use Rattle.cns_system.specs.Lots.{LotGives, LotLeaves, ReserveLeaves};
-ghost use Rattle.cns_system.specs.Numbered.{AreTied, CloseLeaves, OpenLeaves, PourLeaves};
+ghost use Rattle.cns_system.specs.Lots.{HasLot, HasNone, change_call, reserve_call};
+ghost use Rattle.cns_system.specs.Numbered.{AreTied, IsNumberedCommit, numbered_close, lots_ended, opening_call, numbered_pour, shown};
 ghost use Rattle.cns_system.specs.Readers.{unconfirmed};
-ghost use Rattle.cns_system.specs.Step.{shown};
 
 use crate::entry::Look;
 use crate::lots::LotBook;
@@ -119,7 +120,7 @@ impl<K: Keeper> NumberedClearing<K> {
     /// Refuses `Down`, then `LotAlready`, then `LotsSpent` where 1,000,000 lots were opened. It adds no
     /// record. (This project's own rule.)
     pub fn lot_open(&mut self, issue: Cusip) -> Result<Opened, Refusal>
-        ensures { OpenLeaves issue result self.old self.new }
+        ensures { Grows Refusal.OutOfMemory (opening_call issue self.old) result self.old self.new }
     {
         if self.node.is_down() {
             return Err(Refusal::Down);
@@ -149,7 +150,7 @@ impl<K: Keeper> NumberedClearing<K> {
     /// its ticket, a planned member of an earlier group has no ticket yet, or the lot is sealed, and
     /// told the first of these that applies. A refusal changes nothing. (This project's own rule.)
     pub fn reserve(&mut self, number: u64, member: MemberNo) -> Result<Ticket, Refusal>
-        ensures lots { ReserveLeaves number member result self.old.lots self.new.lots }
+        ensures lots { Changes (reserve_call number member self.old.lots) result self.old.lots self.new.lots }
         ensures clear { self.new.clear ≡ self.old.clear }
     {
         self.lots.reserve(number, member)
@@ -157,7 +158,7 @@ impl<K: Keeper> NumberedClearing<K> {
 
     /// What was poured into a lot, the shares of its tickets, and whether it is sealed.
     pub fn look(&self, number: u64) -> Result<Look, Refusal>
-        ensures { LotGives (λ lot look. look ≡ shown self.now.clear.lots lot) number result self.now.lots }
+        ensures { MatchResult result (λ look. HasLot self.now.lots number (λ lot. look ≡ shown self.now.clear.lots lot)) (HasNone self.now.lots number) }
     {
         let lot = self.lots.find(number)?;
         Ok(Look {
@@ -169,7 +170,7 @@ impl<K: Keeper> NumberedClearing<K> {
 
     /// Seals a lot: no ticket is drawn from it from now on. A sealed lot stays as it is.
     pub fn seal(&mut self, number: u64) -> Result<(), Refusal>
-        ensures lots { LotLeaves with_seal number result self.old.lots self.new.lots }
+        ensures lots { Changes (change_call with_seal number self.old.lots) result self.old.lots self.new.lots }
         ensures clear { self.new.clear ≡ self.old.clear }
     {
         self.lots.seal(number)
@@ -180,7 +181,10 @@ impl<K: Keeper> NumberedClearing<K> {
     /// Refuses `NoLot`, then `StaleLot`, then `Down`. It adds no record and takes no memory. (This
     /// project's own rule.)
     pub fn lot_pour(&mut self, number: u64) -> Result<u64, Refusal>
-        ensures { PourLeaves number result self.old self.new }
+        ensures pour { let node = self.old.clear in
+            Changes (numbered_pour number node.log.down node.log.records node.lots self.old.lots) result node.lots self.new.clear.lots }
+        ensures log { self.new.clear.log ≡ self.old.clear.log }
+        ensures lots { self.new.lots ≡ self.old.lots }
     {
         let issue = self.lots.issue(number)?;
         if self.node.is_down() {
@@ -201,7 +205,8 @@ impl<K: Keeper> NumberedClearing<K> {
     /// granted. After `Device` the lot is open and nothing is ordered, and the node is down until it is
     /// restarted. (This project's own rule.)
     pub fn lot_close(&mut self, number: u64) -> Result<Closed, Refusal>
-        ensures { CloseLeaves number result self.old self.new }
+        ensures { let node = self.old.clear in
+            CallLeaves commit_refusal (IsNumberedCommit (lots_ended number)) (numbered_close number node.log.down node.log.records node.lots self.old.lots) result self.old self.new }
     {
         let lot = self.lots.find(number)?;
         if self.node.is_down() {
@@ -212,7 +217,7 @@ impl<K: Keeper> NumberedClearing<K> {
         }
         let closed = self
             .node
-            .lot_close(lot.issue(), lot.tickets(), lot.is_sealed())?;
+            .lot_close_served(lot.issue(), lot.tickets(), lot.is_sealed())?;
         let _ended = self.lots.end(number);
         Ok(closed)
     }
@@ -228,7 +233,7 @@ impl<K: Keeper> NumberedClearing<K> {
 
     /// Accepts a trade, as the node does itself.
     pub fn take_trade(&mut self, trade: &Trade) -> Result<(), Refusal>
-        ensures clear { TradeLeaves trade.now result self.old.clear self.new.clear }
+        ensures clear { Leaves (trade_call trade.now self.old.clear.log.down self.old.clear.log.records) result self.old.clear self.new.clear }
         ensures lots { self.new.lots ≡ self.old.lots }
     {
         self.node.take_trade(trade)
@@ -236,7 +241,7 @@ impl<K: Keeper> NumberedClearing<K> {
 
     /// Exempts shares of a member in an issue from covers, as the node does itself.
     pub fn exempt(&mut self, member: MemberNo, issue: Cusip, shares: Shares) -> Result<(), Refusal>
-        ensures clear { SettingLeaves (Exempt member issue shares) result self.old.clear self.new.clear }
+        ensures clear { Leaves (setting_call (Exempt member issue shares) self.old.clear.log.down) result self.old.clear self.new.clear }
         ensures lots { self.new.lots ≡ self.old.lots }
     {
         self.node.exempt(member, issue, shares)
@@ -244,7 +249,7 @@ impl<K: Keeper> NumberedClearing<K> {
 
     /// Sets whether a member has priority in an issue, as the node does itself.
     pub fn priority(&mut self, member: MemberNo, issue: Cusip, on: bool) -> Result<(), Refusal>
-        ensures clear { SettingLeaves (Priority member issue on) result self.old.clear self.new.clear }
+        ensures clear { Leaves (setting_call (Priority member issue on) self.old.clear.log.down) result self.old.clear self.new.clear }
         ensures lots { self.new.lots ≡ self.old.lots }
     {
         self.node.priority(member, issue, on)
@@ -252,7 +257,7 @@ impl<K: Keeper> NumberedClearing<K> {
 
     /// Runs a cycle, as the node does itself.
     pub fn cycle(&mut self, id: CycleId) -> Result<Cycled, Refusal>
-        ensures clear { CycleLeaves id result self.old.clear self.new.clear }
+        ensures clear { Leaves (cycle_call id self.old.clear.log.down self.old.clear.log.records self.old.clear.lots) result self.old.clear self.new.clear }
         ensures lots { self.new.lots ≡ self.old.lots }
     {
         self.node.cycle(id)
@@ -260,7 +265,7 @@ impl<K: Keeper> NumberedClearing<K> {
 
     /// Takes the depository's reply to an order, as the node does itself.
     pub fn take_reply(&mut self, reply: &Reply) -> Result<Taken, Refusal>
-        ensures clear { ReplyLeaves reply.now result self.old.clear self.new.clear }
+        ensures clear { Leaves (reply_call reply.now self.old.clear.log.down self.old.clear.log.records) result self.old.clear self.new.clear }
         ensures lots { self.new.lots ≡ self.old.lots }
     {
         self.node.take_reply(reply)

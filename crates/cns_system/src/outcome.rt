@@ -1,5 +1,9 @@
-ghost use Rattle.std.specs.Prelude.{◌≡◌};
-ghost use Rattle.cns_system.specs.Outcomes.{asked_outcome, close_outcome, cycle_outcome, done_outcome, open_outcome, own_outcome, pour_outcome, poured_outcome, reply_outcome, reserve_outcome, restart_outcome, trade_outcome};
+ghost use Rattle.std.specs.Prelude.{◌≡◌, Ok, Err};
+ghost use Rattle.cns_records.specs.Refusals.{replay_refusal};
+ghost use Rattle.cns_depository.specs.Answers.{own_fault_refusal};
+ghost use Rattle.cns_system.specs.Happens.{outcome_of, own_told, taken_told};
+ghost use Rattle.cns_system.specs.declared.entry.Look.{Look};
+ghost use Rattle.cns_system.specs.declared.outcome.Outcome.TheVariants as outcomes;
 
 use crate::entry::Look;
 use crate::numbered::Opened;
@@ -45,7 +49,8 @@ pub enum Outcome {
     Instructed(Instruction),
     /// Just this instruction was carried out before.
     InstructedAgain(Instruction),
-    /// The node is up with so many records, and `kept` where the record whose commit failed is one.
+    /// The node is up with so many records, and `kept` where that is one more than before: over an honest keeper
+    /// the record whose commit failed.
     Restarted { records: u64, kept: bool },
     /// The event was refused.
     Refused(Refusal),
@@ -54,19 +59,19 @@ pub enum Outcome {
 // What the answers of the nodes' calls come to.
 impl Outcome {
     pub(crate) fn of_trade(answer: Result<(), Refusal>) -> Outcome
-        ensures { result ≡ trade_outcome answer }
+        ensures { result ≡ outcome_of (λ _. outcomes.Accepted) answer }
     {
         answer.map_or_else(Outcome::Refused, |()| Outcome::Accepted)
     }
 
     pub(crate) fn of_done(answer: Result<(), Refusal>) -> Outcome
-        ensures { result ≡ done_outcome answer }
+        ensures { result ≡ outcome_of (λ _. outcomes.Done) answer }
     {
         answer.map_or_else(Outcome::Refused, |()| Outcome::Done)
     }
 
     pub(crate) fn of_cycle(answer: Result<Cycled, Refusal>) -> Outcome
-        ensures { result ≡ cycle_outcome answer }
+        ensures { result ≡ outcome_of (λ done. outcomes.Cycled done) answer }
     {
         match answer {
             Ok(cycled) => Outcome::Cycled(cycled),
@@ -75,25 +80,25 @@ impl Outcome {
     }
 
     pub(crate) fn of_lot_open(answer: Result<Opened, Refusal>) -> Outcome
-        ensures { result ≡ open_outcome answer }
+        ensures { result ≡ outcome_of (λ lot. outcomes.LotOpened lot) answer }
     {
         answer.map_or_else(Outcome::Refused, Outcome::LotOpened)
     }
 
     pub(crate) fn of_lot_pour(answer: Result<u64, Refusal>) -> Outcome
-        ensures { result ≡ pour_outcome answer }
+        ensures { result ≡ outcome_of (λ shares. outcomes.Poured shares) answer }
     {
         answer.map_or_else(Outcome::Refused, |shares| Outcome::Poured { shares })
     }
 
     pub(crate) fn of_reserve(answer: Result<Ticket, Refusal>) -> Outcome
-        ensures { result ≡ reserve_outcome answer }
+        ensures { result ≡ outcome_of (λ ticket. outcomes.Drawn ticket) answer }
     {
         answer.map_or_else(Outcome::Refused, Outcome::Drawn)
     }
 
     pub(crate) fn of_lot_close(answer: Result<Closed, Refusal>) -> Outcome
-        ensures { result ≡ close_outcome answer }
+        ensures { result ≡ outcome_of (λ done. outcomes.Closed done) answer }
     {
         match answer {
             Ok(closed) => Outcome::Closed(closed),
@@ -102,7 +107,7 @@ impl Outcome {
     }
 
     pub(crate) fn of_look_poured(answer: Result<Look, Refusal>) -> Outcome
-        ensures { result ≡ poured_outcome answer }
+        ensures { result ≡ outcome_of (λ (look : Look). outcomes.LookedPoured look.poured) answer }
     {
         match answer {
             Ok(look) => Outcome::LookedPoured {
@@ -113,7 +118,7 @@ impl Outcome {
     }
 
     pub(crate) fn of_look_asked(answer: Result<Look, Refusal>) -> Outcome
-        ensures { result ≡ asked_outcome answer }
+        ensures { result ≡ outcome_of (λ (look : Look). outcomes.LookedAsked look.asked look.sealed) answer }
     {
         match answer {
             Ok(look) => Outcome::LookedAsked {
@@ -125,7 +130,7 @@ impl Outcome {
     }
 
     pub(crate) fn of_reply(reply: Reply, answer: Result<Taken, Refusal>) -> Outcome
-        ensures { result ≡ reply_outcome reply answer }
+        ensures { result ≡ outcome_of (taken_told reply) answer }
     {
         match answer {
             Ok(Taken::Done) => Outcome::Confirmed(reply),
@@ -135,7 +140,7 @@ impl Outcome {
     }
 
     pub(crate) fn of_own(instruction: Instruction, answer: Result<Own, OwnFault>) -> Outcome
-        ensures { result ≡ own_outcome instruction answer }
+        ensures { result ≡ elim answer [ Ok done ↦ own_told instruction done | Err fault ↦ outcomes.Refused (own_fault_refusal fault) ] }
     {
         match answer {
             Ok(Own::Done) => Outcome::Instructed(instruction),
@@ -145,7 +150,7 @@ impl Outcome {
     }
 
     pub(crate) fn of_restart(answer: Result<Restarted, ReplayFault>) -> Outcome
-        ensures { result ≡ restart_outcome answer }
+        ensures { result ≡ elim answer [ Ok done ↦ outcomes.Restarted done.records done.kept | Err fault ↦ outcomes.Refused (replay_refusal fault) ] }
     {
         match answer {
             Ok(Restarted { records, kept }) => Outcome::Restarted { records, kept },

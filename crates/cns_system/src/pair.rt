@@ -1,19 +1,26 @@
-ghost use Rattle.std.specs.Prelude.{◌≡◌, ◌<◌, ◌+◌, ◌++◌, ◌∷◌, [], length, map, vec_items, Some, IfOk, IfErr};
-ghost use Rattle.cns_clearing.specs.Answers.{CycleLeaves, ReplyLeaves, SettingLeaves, TradeLeaves};
-ghost use Rattle.cns_records.specs.Clear.{spelling};
+ghost use Rattle.std.specs.Prelude.{◌≡◌, ◌<◌, ◌+◌, ◌++◌, ◌∷◌, ℕ, [], length, map, vec_items, Some, IfOk, IfErr};
+ghost use Rattle.cns_movements.specs.Order.{order_of};
+ghost use Rattle.cns_records.specs.Clear.{spelling, AreWritable};
 ghost use Rattle.cns_records.specs.Dep.{dep_spelling};
+ghost use Rattle.cns_records.specs.declared.refusal.Refusal.TheVariants as refusal;
+ghost use Rattle.cns_clearing.specs.Books.{orders_of};
+ghost use Rattle.cns_clearing.specs.Lots.{AreLots};
 ghost use Rattle.cns_wire.specs.Frame.{reply_frame};
 ghost use Rattle.cns_wire.specs.Packet.{at_number};
+ghost use Rattle.cns_depository.specs.Answers.{order_call};
 ghost use Rattle.cns_system.specs.Accord.{AreLawful};
+ghost use Rattle.cns_system.specs.Happens.{NoMemory, by_order, decided};
 ghost use Rattle.cns_system.specs.Headline.{IsBalanced};
 ghost use Rattle.cns_system.specs.Lots.{ArePlanned};
 ghost use Rattle.cns_system.specs.Numbered.{AreTied};
 ghost use Rattle.cns_system.specs.Readers.{PlanStep, counts_of, unconfirmed};
+ghost use Rattle.cns_system.specs.Scene.{Comes};
 ghost use Rattle.cns_system.specs.Shown.{shown_of};
-ghost use Rattle.cns_system.specs.Step.{order_at, AtClear, ByLots, ByNode, ClearRestarts, DepotRestartStep, Looks, OrderInStep, OrderRefused, OrderTaken, ReplyInStep, SendStep, Step};
 ghost use Rattle.cns_journal.specs.RecordLog.{IsGivenUp};
 ghost use Rattle.cns_system.specs.Start.{IsNotOpened, IsStarted};
-ghost use Rattle.cns_system.specs.World.{order_in_packet, reply_in_packet};
+ghost use Rattle.cns_system.specs.World.{AreFrames, order_in_packet, reply_in_packet, reply_spelt};
+ghost use Rattle.cns_system.specs.declared.event.Event.TheVariants.{OrderIn, ReplyIn, Restart, Send};
+ghost use Rattle.cns_system.specs.declared.outcome.Outcome.TheVariants.{Refused};
 
 use crate::agreement::agree;
 use crate::event::{Event, NodeName};
@@ -41,7 +48,7 @@ pub(crate) struct Pair<C: Keeper, D: Keeper> {
 }
 
 impl<C: Keeper, D: Keeper> Model for Pair<C, D> {
-    ghost use Rattle.cns_system.specs.World.{World};
+    ghost use Rattle.cns_system.specs.World.{AreFrames, World};
 
     ghost Value = { World };
 
@@ -51,6 +58,8 @@ impl<C: Keeper, D: Keeper> Model for Pair<C, D> {
       orders = p.orders.packets;
       replies = p.replies.packets;
     } };
+
+    ghost invariant = { λ p. AreFrames p.orders.packets p.replies.packets };
 }
 
 impl<C: Keeper + Drop, D: Keeper + Drop> Pair<C, D> {
@@ -187,10 +196,14 @@ impl<C: Keeper, D: Keeper> Pair<C, D> {
     }
 
     /// Does nothing, and tells what each node knows of its own records: each of them may stand after those
-    /// before it; in each issue the clearing node's longs, shorts and pool balance; and each lot that has not
-    /// ended is of the plan of the node's open lot of its issue, which is that of its opening.
+    /// before it, and has a payload; in each issue the clearing node's longs, shorts and pool balance; each lot
+    /// that has not ended is of the plan of the node's open lot of its issue, which is that of its opening; and
+    /// each packet is a frame.
     pub(crate) fn lawful(&self)
         ensures lawful { AreLawful self.now }
+        ensures fits { AreWritable self.now.clear.clear.log.records }
+        ensures lots { AreLots self.now.clear.clear.log.records self.now.clear.clear.lots }
+        ensures frames { AreFrames self.now.orders self.now.replies }
         ensures balanced { IsBalanced self.now }
         ensures tied { AreTied self.now.clear.clear.lots self.now.clear.lots }
         ensures planned { ArePlanned self.now.clear.clear.log.records self.now.clear.lots }
@@ -203,7 +216,7 @@ impl<C: Keeper, D: Keeper> Pair<C, D> {
 
     /// Lets an event happen, as `System::step` does.
     pub(crate) fn step(&mut self, event: &Event) -> Outcome
-        ensures { Step event.now result self.old self.new }
+        ensures { Comes event.now result self.old self.new }
     {
         match event {
             Event::Trade(trade) => Outcome::of_trade(self.clear.take_trade(trade)),
@@ -231,23 +244,32 @@ impl<C: Keeper, D: Keeper> Pair<C, D> {
             Event::Own(instruction) => {
                 Outcome::of_own(*instruction, self.depot.instruct(instruction))
             }
-            Event::Restart(NodeName::Clear) => Outcome::of_restart(self.clear.restart()),
-            Event::Restart(NodeName::Depot) => Outcome::of_restart(self.depot.restart()),
+            Event::Restart(name) => self.restart(*name),
         }
     }
 
     // The order of a number.
     fn order_at(&self, number: u64) -> Option<Order>
-        ensures { result ≡ order_at self.now number }
+        ensures { result ≡ order_of (orders_of self.now.clear.clear.log.records).orders number }
     {
         let orders = self.clear.node().orders().orders();
         let place = number.checked_sub(1)?;
         orders.get(place as usize).copied()
     }
 
+    // Restarts a node.
+    fn restart(&mut self, name: NodeName) -> Outcome
+        ensures { Comes (Restart name) result self.old self.new }
+    {
+        match name {
+            NodeName::Clear => Outcome::of_restart(self.clear.restart()),
+            NodeName::Depot => Outcome::of_restart(self.depot.restart()),
+        }
+    }
+
     // Puts an order on the link.
     fn send(&mut self, number: u64) -> Outcome
-        ensures { SendStep number result self.old self.new }
+        ensures { Comes (Send number) result self.old self.new }
     {
         if self.clear.node().is_down() {
             return Outcome::Refused(Refusal::Down);
@@ -283,7 +305,7 @@ impl<C: Keeper, D: Keeper> Pair<C, D> {
 
     // Lets a packet arrive at the depository.
     fn order_in(&mut self, packet: u64) -> Outcome
-        ensures { OrderInStep (order_in_packet (at_number self.old.orders packet)) result self.old self.new }
+        ensures { Comes (OrderIn packet) result self.old self.new }
     {
         let Some(order) = self.order_in_packet(packet) else {
             return Outcome::Refused(Refusal::NoPacket);
@@ -294,7 +316,7 @@ impl<C: Keeper, D: Keeper> Pair<C, D> {
     // Hands an order to the depository, and puts its reply on the link. The room for the reply's packet
     // is taken first, so that no order is executed without one.
     fn take_order(&mut self, order: &Order) -> Outcome
-        ensures { OrderInStep (Some order.now) result self.old self.new }
+        ensures { (packet : ℕ) → order_in_packet (at_number self.old.orders packet) ≡ Some order.now → Comes (OrderIn packet) result self.old self.new }
     {
         if self.replies.put_room().is_err() {
             return Outcome::Refused(self.refusal_without_room(order));
@@ -315,7 +337,8 @@ impl<C: Keeper, D: Keeper> Pair<C, D> {
     // Why an order is refused for whose reply there is no room: as the depository refuses it, and else for
     // want of memory.
     fn refusal_without_room(&self, order: &Order) -> Refusal
-        ensures { OrderRefused order.now self.now.depot result }
+        ensures { let shown = shown_of self.now in
+            decided NoMemory shown (by_order shown (order_call order.now shown.depot.down shown.openings shown.depot.records)) ≡ (Refused result, shown) }
     {
         if self.depot.is_down() {
             return Refusal::Down;
@@ -328,7 +351,7 @@ impl<C: Keeper, D: Keeper> Pair<C, D> {
 
     // Lets a packet arrive at the clearing node.
     fn reply_in(&mut self, packet: u64) -> Outcome
-        ensures { ReplyInStep (reply_in_packet (at_number self.old.replies packet)) result self.old self.new }
+        ensures { Comes (ReplyIn packet) result self.old self.new }
     {
         let Some(reply) = self.reply_in_packet(packet) else {
             return Outcome::Refused(Refusal::NoPacket);

@@ -1,17 +1,18 @@
 ghost use Rattle.std.specs.Prelude.{◌≡◌, map, vec_items, IfOk, IfErr, OnErr};
-ghost use Rattle.cns_records.specs.Clear.{spelling};
+ghost use Rattle.cns_records.specs.Clear.{spelling, AreWritable};
 ghost use Rattle.cns_records.specs.Dep.{dep_spelling};
-ghost use Rattle.cns_system.specs.Accord.{IsInAccord, StaysSound};
+ghost use Rattle.cns_clearing.specs.Lots.{AreLots};
+ghost use Rattle.cns_system.specs.Accord.{AreLawful, IsInAccord, StaysSound};
 ghost use Rattle.cns_system.specs.Headline.{AreStrict, IsAgreed};
 ghost use Rattle.cns_system.specs.Lots.{ArePlanned};
 ghost use Rattle.cns_system.specs.Numbered.{AreTied};
-ghost use Rattle.cns_system.specs.Run.{IsDecided, Run};
+ghost use Rattle.cns_system.specs.Run.{Run};
 ghost use Rattle.cns_system.specs.Readers.{PlanStep, counts_of, unconfirmed};
 ghost use Rattle.cns_system.specs.Scene.{Comes, Plans, scene_of};
 ghost use Rattle.cns_journal.specs.RecordLog.{IsGivenUp};
 ghost use Rattle.cns_system.specs.Shown.{shown_of};
 ghost use Rattle.cns_system.specs.Start.{IsNotOpened, IsStarted};
-ghost use Rattle.cns_system.specs.Step.{Step};
+ghost use Rattle.cns_system.specs.World.{AreFrames};
 
 use crate::event::{Event, NodeName};
 use crate::fault::Unopened;
@@ -87,6 +88,9 @@ impl<C: Keeper + Drop, D: Keeper + Drop> System<C, D> {
         ensures err { IfErr result (λ refused. IsNotOpened openings refused.fault (map vec_items refused.rejected.items) (C.state clear) (D.state depot) (C.state refused.clear) (D.state refused.depot)) }
         ensures accord { IfOk result IsInAccord }
 
+        // Each packet on the link is a frame.
+        ensures frames { IfOk result (λ system. AreFrames system.orders system.replies) }
+
         // The headline.
         ensures headline { IfOk result IsAgreed }
     {
@@ -148,6 +152,7 @@ impl<C: Keeper, D: Keeper> System<C, D> {
         ensures plan { PlanStep node stands result self.old self.new }
         ensures scene { Plans node stands result (scene_of self.old) (scene_of self.new) }
         ensures accord { IsInAccord self.new }
+        ensures frames { AreFrames self.new.orders self.new.replies }
         ensures headline { IsAgreed self.new }
         ensures strict { AreStrict self.old → AreStrict self.new }
     {
@@ -159,13 +164,11 @@ impl<C: Keeper, D: Keeper> System<C, D> {
     /// Lets an event happen, and answers what it came to.
     #[inline(always)]
     pub fn step(&mut self, event: Event) -> Outcome
-        // The outcome and what is left are those of one function of what the surroundings decide.
-        ensures decided { IsDecided event result self.old self.new }
-
-        // So it is with what is known beforehand of the keepers.
+        // The outcome and what is left are those of one function of what the surroundings decide, by what is
+        // known beforehand of the keepers.
         ensures comes { Comes event result self.old self.new }
-        ensures step { Step event result self.old self.new }
         ensures accord { IsInAccord self.new }
+        ensures frames { AreFrames self.new.orders self.new.replies }
 
         // No packet is refused as one that the other node never sent, and no journal as bad.
         ensures sound { StaysSound self.old event result }
@@ -206,6 +209,10 @@ impl<C: Keeper, D: Keeper> System<C, D> {
     pub(crate) fn agreed(&self)
         ensures accord { IsInAccord self.now }
         ensures headline { IsAgreed self.now }
+        ensures frames { AreFrames self.now.orders self.now.replies }
+        ensures lawful { AreLawful self.now }
+        ensures fits { AreWritable self.now.clear.clear.log.records }
+        ensures lots { AreLots self.now.clear.clear.log.records self.now.clear.clear.lots }
         ensures tied { AreTied self.now.clear.clear.lots self.now.clear.lots }
         ensures planned { ArePlanned self.now.clear.clear.log.records self.now.clear.lots }
     {

@@ -3,4 +3,4 @@ use Rattle.cns_system.proofs.floor.open_lot.Goals as goal
 
 pub returns-in_default-clause-err : goal.returns-in_default-clause-err
 returns-in_default-clause-err g c =
-    (c.happen.ensures, open_refused c.args.issue c.happen.result c.args.system.now c.happen.new.system c.happen.ensures.step c.in_default.not-LotOpened)
+    (c.happen.ensures, open_refused c.args.issue c.happen.result c.args.system.now c.happen.new.system c.happen.ensures.comes c.in_default.not-LotOpened)

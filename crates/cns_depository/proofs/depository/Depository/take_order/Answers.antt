@@ -1,7 +1,36 @@
-use Rattle.std.proofs.Common.{◌∙◌, sym}
-use Rattle.cns_depository.proofs.NodeLemmas.{known_leaves}
+use Rattle.std.proofs.Common.{◌≡◌, true, false, None, Some, Ok, Err, refl, sym, rules}
+use Rattle.cns_records.specs.Call.{answered}
+use Rattle.cns_records.proofs.CallLemmas.{committed, refused}
+use Rattle.cns_depository.specs.Answers.{OrderLeaves, dep_fault, order_call, reply_to}
+use Rattle.cns_depository.specs.Node.{IsCommitted}
+use Rattle.cns_depository.specs.Stock.{executed_of, execution, movement, movement_of}
+use Rattle.cns_depository.specs.declared.fault.Answer.TheVariants.{Done}
+use Rattle.cns_depository.specs.declared.fault.DepFault.TheVariants.{Down}
+use Rattle.cns_depository.proofs.NodeLemmas.{order_down, order_known, order_new}
 use Rattle.cns_depository.proofs.depository.Depository.take_order.Goals as goal
+
+pub returns-then-is_down : goal.returns-then-is_down
+returns-then-is_down g c =
+    let down : c.args.self.now.log.down ≡ true = search rules in
+    refused dep_fault IsCommitted (order_call c.args.order.now c.args.self.now.log.down c.args.self.now.openings c.args.self.now.log.records) Down _ c.args.self.now c.args.self.now (order_down c.args.order.now c.args.self.now.log.down c.args.self.now.openings c.args.self.now.log.records down) refl refl
 
 pub returns-in-Some : goal.returns-in-Some
 returns-in-Some g c =
-    known_leaves c.args.order.now c.in-Some.known c.again.result c.args.self.now c.again.ensures (sym c.is_down.ensures ∙ c.if-is_down.false) (sym c.in-Some.ensures)
+    let up : c.args.self.now.log.down ≡ false = search rules in
+    rw (order_known c.args.order.now c.args.self.now.log.down c.args.self.now.openings c.args.self.now.log.records c.in-Some.known up (sym c.in-Some.ensures)) (c.again.ensures c.args.self.now)
+
+pub returns-in_err-execute : goal.returns-in_err-execute
+returns-in_err-execute g c =
+    let up : c.args.self.now.log.down ≡ false = search rules in
+    let none : movement_of (executed_of c.args.self.now.log.records) c.args.order.now.number ≡ None = search rules in
+    let is : c.movement-movement.result ≡ movement c.args.self.now.openings c.args.self.now.log.records c.args.order.now = search rules in
+    let answer : c.from_residual.result ≡ answered dep_fault (Done (reply_to (movement c.args.self.now.openings c.args.self.now.log.records c.args.order.now))) c.execute.result = search rules in
+    committed dep_fault IsCommitted (order_call c.args.order.now c.args.self.now.log.down c.args.self.now.openings c.args.self.now.log.records) _ _ c.execute.result _ c.args.self.now c.execute.new.self (order_new c.args.order.now c.args.self.now.log.down c.args.self.now.openings c.args.self.now.log.records up none) answer (rw is at c.execute.ensures)
+
+pub returns : goal.returns
+returns g c =
+    let up : c.args.self.now.log.down ≡ false = search rules in
+    let none : movement_of (executed_of c.args.self.now.log.records) c.args.order.now.number ≡ None = search rules in
+    let is : c.movement-movement.result ≡ movement c.args.self.now.openings c.args.self.now.log.records c.args.order.now = search rules in
+    let answer : Ok (Done c.reply.result) ≡ answered dep_fault (Done (reply_to (movement c.args.self.now.openings c.args.self.now.log.records c.args.order.now))) c.execute.result = search rules in
+    committed dep_fault IsCommitted (order_call c.args.order.now c.args.self.now.log.down c.args.self.now.openings c.args.self.now.log.records) _ _ c.execute.result _ c.args.self.now c.execute.new.self (order_new c.args.order.now c.args.self.now.log.down c.args.self.now.openings c.args.self.now.log.records up none) answer (rw is at c.execute.ensures)

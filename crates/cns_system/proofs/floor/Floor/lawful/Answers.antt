@@ -7,6 +7,7 @@ returns g c =
     let f : FloorState = record { system = c.self.inside.system; busy = c.self.inside.busy.items } in
     let lawful : IsLawfulFloor f = record {
       accord = c.agreed.ensures.accord;
+      frames = c.agreed.ensures.frames;
       headline = c.agreed.ensures.headline;
       busy = c.self.invariant;
     } in

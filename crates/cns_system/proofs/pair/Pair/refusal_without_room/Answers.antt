@@ -1,15 +1,29 @@
-use Rattle.std.proofs.Common.{◌∙◌, refl, rules, subst, sym}
+use Rattle.std.proofs.Common.{◌≡◌, true, false, rules, subst, sym}
 use Rattle.cns_movements.specs.Order.{AgreesWith}
-use Rattle.cns_records.specs.declared.refusal.Refusal.TheVariants as refusal
-use Rattle.cns_depository.specs.Answers.{known_at}
-use Rattle.cns_system.specs.Step.{OrderRefused}
-use Rattle.cns_system.specs.World.{World}
-use Rattle.cns_system.proofs.LinkLemmas.{movement_found}
+use Rattle.cns_depository.specs.Stock.{executed_of, movement_of}
+use Rattle.cns_system.proofs.LinkComes.{movement_found, none_found, short_down, short_known, short_new, short_other}
 use Rattle.cns_system.proofs.pair.Pair.refusal_without_room.Goals as goal
+
+pub returns-then-is_down : goal.returns-then-is_down
+returns-then-is_down g c =
+    let down : c.args.self.now.depot.log.down ≡ true = search rules in
+    short_down c.args.order.now c.args.self.now down
 
 pub returns-in-Some : goal.returns-in-Some
 returns-in-Some g c =
-    let known = movement_found (known_at c.self.inside.depot c.args.order.now.number) c.in-Some.executed c.in-Some.field-0-1 c.in-Some.ensures in
+    let up : c.args.self.now.depot.log.down ≡ false = search rules in
+    let known = movement_found (movement_of (executed_of c.args.self.now.depot.log.records) c.args.order.now.number) c.in-Some.executed c.in-Some.field-0-1 (search rules) in
     let other : AgreesWith c.in-Some.executed c.args.order.now → ⊥ = search rules in
-    subst (λ (w : World). OrderRefused c.args.order.now w.depot refusal.Conflict) c.self.view_is
-    (sym c.is_down.ensures ∙ c.if-is_down.false, (known.0, known.1, λ agrees. other (subst (λ o. AgreesWith o c.args.order.now) known.2 agrees)), refl)
+    short_other c.args.order.now c.args.self.now known.0 up known.1 (λ agrees. other (subst (λ o. AgreesWith o c.args.order.now) known.2 agrees))
+
+pub returns-in_default : goal.returns-in_default
+returns-in_default g c =
+    let up : c.args.self.now.depot.log.down ≡ false = search rules in
+    let known = movement_found (movement_of (executed_of c.args.self.now.depot.log.records) c.args.order.now.number) c.in-Some.executed c.in-Some.field-0-1 (search rules) in
+    let agrees : AgreesWith c.in-Some.executed c.args.order.now = search rules in
+    short_known c.args.order.now c.args.self.now known.0 up known.1 (subst (λ o. AgreesWith o c.args.order.now) (sym known.2) agrees)
+
+pub returns-in_default-2 : goal.returns-in_default-2
+returns-in_default-2 g c =
+    let up : c.args.self.now.depot.log.down ≡ false = search rules in
+    short_new c.args.order.now c.args.self.now up (none_found (movement_of (executed_of c.args.self.now.depot.log.records) c.args.order.now.number) (search rules))

@@ -4,4 +4,4 @@ use Rattle.cns_system.proofs.HeadlineLemmas.{agreed}
 use Rattle.cns_system.proofs.system.System.agreed.Goals as goal
 
 pub returns-clause-headline : goal.returns-clause-headline
-returns-clause-headline g c = subst IsAgreed c.self.view_is (agreed c.self.inside.pair c.lawful.ensures.lawful c.lawful.ensures.balanced c.self.invariant)
+returns-clause-headline g c = subst IsAgreed c.self.view_is (agreed c.self.inside.pair c.lawful.ensures.lawful c.lawful.ensures.balanced c.lawful.ensures.frames c.self.invariant)

@@ -10,4 +10,4 @@ returns-clause-accord g c = started c.args.openings _ _ c.in_ok-pair.pair c.in_o
 
 pub returns-clause-headline : goal.returns-clause-headline
 returns-clause-headline g c =
-    agreed c.in_ok-pair.pair c.lawful.ensures.lawful c.lawful.ensures.balanced (started c.args.openings _ _ c.in_ok-pair.pair c.in_ok-pair.ensures.ok)
+    agreed c.in_ok-pair.pair c.lawful.ensures.lawful c.lawful.ensures.balanced c.lawful.ensures.frames (started c.args.openings _ _ c.in_ok-pair.pair c.in_ok-pair.ensures.ok)

@@ -14,7 +14,7 @@ loop-event-preserved g c =
       run =
           rw (more, c.push_reserved.ensures.items)
           (one_more (take i events) c.loop-event.outcomes.items c.event-item.result c.step-outcome.result c.args.self.now c.loop-event.self c.step-outcome.new.self c.loop-event.invariant.run
-          (record { step = occurs.step; decided = occurs.decided; comes = occurs.comes; sound = occurs.sound; accord = occurs.accord; agreed = occurs.headline; strict = occurs.strict }));
+          (record { comes = occurs.comes; sound = occurs.sound; accord = occurs.accord; frames = occurs.frames; agreed = occurs.headline; strict = occurs.strict }));
       accord = occurs.accord;
       agreed = occurs.headline;
       strict = λ before. occurs.strict (c.loop-event.invariant.strict before);
