@@ -128,6 +128,7 @@ part 'self-test of all.sh' tests/check_all.sh
 part 'self-test of run_cases.sh' tests/check_run_cases.sh
 part 'texts of the wrong bodies' tests/check_wrong_bodies.py
 part 'names of the book' tests/check_book.py
+part 'names of two crates' tests/check_names.py
 part 'evidence of the README' tests/check_evidence.py
 RT_JOBS=${RT_JOBS:-$(checks_at_once)}
 export RT_JOBS

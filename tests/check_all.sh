@@ -18,7 +18,7 @@ wrong=0
 
 # The parts that are one file each, as FILE|NAME, and the names of all.
 stubs=('tests/check_all.sh|self-test of all.sh' 'tests/check_run_cases.sh|self-test of run_cases.sh'
-    'tests/check_wrong_bodies.py|texts of the wrong bodies' 'tests/check_book.py|names of the book' 'tests/check_evidence.py|evidence of the README' 'bin/rt|rt ci'
+    'tests/check_wrong_bodies.py|texts of the wrong bodies' 'tests/check_book.py|names of the book' 'tests/check_names.py|names of two crates' 'tests/check_evidence.py|evidence of the README' 'bin/rt|rt ci'
     'tests/check_journals.py|journals that are read' 'oracle/audit.py|what journals tell'
     'tests/refuse_memory.sh|refused memory' 'tests/refuse_again.sh|refused lines once more'
     'oracle/fuzz.py|random inputs' 'tests/check_strict.py|strict runs and inputs by name' 'oracle/check.py|what check tells' 'tests/check_table.py|reports as tables' 'tests/check_follow.py|runs that are followed' 'oracle/headline.py|the headline in reports'
@@ -44,7 +44,7 @@ stub_rt() {
     stub bin/rt '[[ $* == ci ]] || exit 9' "$@"
 }
 
-# fresh: the folder with all.sh and run_cases.sh, five cases, and stubs; 32 things pass in it.
+# fresh: the folder with all.sh and run_cases.sh, five cases, and stubs; 33 things pass in it.
 fresh() {
     rm -rf "$tree"
     mkdir -p "$tree/tests/cases" "$tree/tests/version-1" "$tree/tests/faults" "$tree/tests/audit" "$tree/oracle" "$tree/bin" "$tree/examples"
@@ -53,6 +53,7 @@ fresh() {
     stub tests/check_run_cases.sh "echo '2 passed, 0 failed'"
     stub tests/check_wrong_bodies.py "echo '1 passed, 0 failed'"
     stub tests/check_book.py "echo '1 passed, 0 failed'"
+    stub tests/check_names.py "echo '1 passed, 0 failed'"
     stub tests/check_evidence.py "echo '1 passed, 0 failed'"
     stub tests/refuse_memory.sh "[[ \$* == $program ]] && echo well | \$1 && echo '2 passed, 0 failed'"
     stub tests/refuse_again.sh "[[ \$* == $program ]] && echo well | \$1 && echo '2 passed, 0 failed'"
@@ -109,7 +110,7 @@ expect() {
 }
 
 fresh
-expect 'all is well' '32 passed, 0 failed'
+expect 'all is well' '33 passed, 0 failed'
 for name in "${stubs[@]#*|}" "${of_program[@]}"; do
     if grep -q -x -F "== $name" "$work/said" &&
         sed '1,/^== seconds$/d' "$work/said" | grep -q -E "^ +[0-9]+  $name\$"; then
@@ -123,14 +124,14 @@ done
 # The folders of cases.
 fresh
 rm "$tree"/examples/*
-expect 'examples are emptied' '31 passed, 1 failed' '-- examples: nothing passed, exit status 1'
+expect 'examples are emptied' '32 passed, 1 failed' '-- examples: nothing passed, exit status 1'
 fresh
 rm -r "$tree/tests/cases"
-expect 'a folder of cases is gone' '31 passed, 1 failed' '-- tests/cases: 1 failed, exit status 1' \
+expect 'a folder of cases is gone' '32 passed, 1 failed' '-- tests/cases: 1 failed, exit status 1' \
     '    FAIL tests/cases: no such folder'
 fresh
 echo three >"$tree/examples/one.out"
-expect 'a case fails' '31 passed, 1 failed' '-- examples: 1 failed, exit status 1' \
+expect 'a case fails' '32 passed, 1 failed' '-- examples: 1 failed, exit status 1' \
     '    FAIL examples/one: standard output'
 
 # The program: only what this run has made is run.
@@ -140,25 +141,25 @@ for name in "${of_program[@]}"; do
 done
 fresh
 stub_rt "echo '3 passed, 0 failed'"
-expect 'no program' '10 passed, 19 failed' "${no_program[@]}"
+expect 'no program' '11 passed, 19 failed' "${no_program[@]}"
 old_program
-expect 'an old program' '10 passed, 19 failed' "${no_program[@]}"
+expect 'an old program' '11 passed, 19 failed' "${no_program[@]}"
 stub_rt "echo 'rt: cns_pool NOT PROVED'" "echo 'rt: FAILED: cns_pool'" "echo '2 passed, 1 failed'" 'exit 1'
-expect 'an old program, and rt ci fails' '9 passed, 20 failed' '-- rt ci: 1 failed, exit status 1' \
+expect 'an old program, and rt ci fails' '10 passed, 20 failed' '-- rt ci: 1 failed, exit status 1' \
     '    rt: FAILED: cns_pool' '    rt: cns_pool NOT PROVED' "${no_program[@]}"
 stub_rt 'kill -9 $$'
-expect 'an old program, and rt ci is killed' '7 passed, 20 failed' "${no_program[@]}" \
+expect 'an old program, and rt ci is killed' '8 passed, 20 failed' "${no_program[@]}" \
     '-- rt ci: no last line N passed, M failed, exit status 137'
 fresh
 stub_rt "$make_program" "echo 'rt: FAILED: cns_pool/a.edit'" "echo '2 passed, 1 failed'" 'exit 1'
-expect 'rt ci fails, but makes the program' '31 passed, 1 failed' '-- rt ci: 1 failed, exit status 1' \
+expect 'rt ci fails, but makes the program' '32 passed, 1 failed' '-- rt ci: 1 failed, exit status 1' \
     '    rt: FAILED: cns_pool/a.edit'
 
 # Each part by itself: its counts are good, its exit status is not.
 for one in "${stubs[@]}"; do
     fresh
     echo 'exit 1' >>"$tree/${one%%|*}"
-    expect "${one#*|} has status 1" '32 passed, 1 failed' "-- ${one#*|}: exit status 1"
+    expect "${one#*|} has status 1" '33 passed, 1 failed' "-- ${one#*|}: exit status 1"
 done
 
 # all_parts WHAT LAST WHY LINE..: each part that is a file of its own ends by these lines, and must be
@@ -174,21 +175,21 @@ all_parts() {
     stub_rt "$make_program" "$@"
     expect "$what" "$last" "${lines[@]}"
 }
-all_parts 'ended early' '5 passed, 20 failed' 'no last line N passed, M failed' 'echo begun'
-all_parts 'killed' '5 passed, 20 failed' 'no last line N passed, M failed, exit status 137' 'echo begun' 'kill -9 $$'
-all_parts 'silent' '5 passed, 20 failed' 'no last line N passed, M failed' ':'
-all_parts 'nothing passed' '5 passed, 20 failed' 'nothing passed' "echo '0 passed, 0 failed'"
-all_parts 'two failures each' '25 passed, 40 failed' '2 failed' "echo '1 passed, 2 failed'"
+all_parts 'ended early' '5 passed, 21 failed' 'no last line N passed, M failed' 'echo begun'
+all_parts 'killed' '5 passed, 21 failed' 'no last line N passed, M failed, exit status 137' 'echo begun' 'kill -9 $$'
+all_parts 'silent' '5 passed, 21 failed' 'no last line N passed, M failed' ':'
+all_parts 'nothing passed' '5 passed, 21 failed' 'nothing passed' "echo '0 passed, 0 failed'"
+all_parts 'two failures each' '26 passed, 42 failed' '2 failed' "echo '1 passed, 2 failed'"
 fresh
 rm "$tree/tests/refuse_memory.sh"
-expect 'a part is gone' '30 passed, 1 failed' \
+expect 'a part is gone' '31 passed, 1 failed' \
     '-- refused memory: no last line N passed, M failed, exit status 127'
 fresh
 stub oracle/fuzz.py "echo '2 passed, 0 failed'" "echo 'and then'"
-expect 'counts that are not the last line' '30 passed, 1 failed' '-- random inputs: no last line N passed, M failed'
+expect 'counts that are not the last line' '31 passed, 1 failed' '-- random inputs: no last line N passed, M failed'
 fresh
 stub oracle/fuzz.py "printf 'FAIL %d\n' {1..50}" "printf 'a\\0b\\n'" "echo '2 passed, 50 failed'" 'exit 1'
-expect 'many failures' '32 passed, 50 failed' '    FAIL 40' '    (10 more)'
+expect 'many failures' '33 passed, 50 failed' '    FAIL 40' '    (10 more)'
 
 printf '%d passed, %d failed\n' "$passed" "$wrong"
 ((wrong == 0 && passed > 0))
