@@ -10,7 +10,7 @@ use Rattle.cns_netting.specs.declared.entry.NetEntry.TheVariants.{Accepted, Nett
 use Rattle.cns_netting.specs.Positions.{bought_by, sold_by}
 use Rattle.cns_netting.specs.Undue.{waiting_of}
 unfoldable pub use Rattle.cns_netting.specs.Totals.{total}
-use Rattle.cns_netting.proofs.TradeLemmas.{either-sum}
+use Rattle.cns_netting.proofs.TradeLemmas.{either-sum, either_none}
 
 -- ---- sums over the members 1 to n
 
@@ -60,10 +60,6 @@ upto_less n f g each upto = record {
 abbrev pub part_of : {X : Type 0} → (X → ℕ) → (X → ℕ) → List X → ℕ → ℕ
 part_of who f xs m = sum_by (λ x. if who x == m then f x else 0) xs
 
-either : (b : Bool) (q : ℕ) → q ≡ 0 → (if b then q else 0) ≡ 0
-either true q none = none
-either false q none = refl
-
 -- a sum over things, of which only the members 1 to n have parts, is the sum of their parts
 pub parts_total : {X : Type 0} (n : ℕ) (who f : X → ℕ) (xs : List X) → IsUpTo n (part_of who f xs) → total n (part_of who f xs) ≡ sum_by f xs
 parts_total n who f [] upto = total-nothing n (part_of who f []) (λ k. refl)
@@ -84,7 +80,7 @@ parts_total n who f (x ∷ xs) upto =
         omega (arith, sum_by-cons (λ y. if who y == m then f y else 0) x xs, its, none)
 
     nobody : f x ≡ 0 → total n (λ k. if who x == k then f x else 0) ≡ f x
-    nobody none = omega (arith, none, total-nothing n (λ k. if who x == k then f x else 0) (λ k. either (who x == k) (f x) none))
+    nobody none = omega (arith, none, total-nothing n (λ k. if who x == k then f x else 0) (λ k. either_none (who x == k) (f x) none))
 
     here : total n (λ k. if who x == k then f x else 0) ≡ f x
     here =
@@ -124,7 +120,7 @@ due_none n f none reached (Accepted t ∷ h) members =
     omega (
       arith,
       either-sum f (is_reached reached t.settle) t (due_since reached h),
-      either (is_reached reached t.settle) (f t) (none t (members.0, members.1, members.2, members.3)),
+      either_none (is_reached reached t.settle) (f t) (none t (members.0, members.1, members.2, members.3)),
       due_none n f none reached h members.4,
     )
 due_none n f none reached (Netted d ∷ h) members = due_none n f none (latest reached d) h members

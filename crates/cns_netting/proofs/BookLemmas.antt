@@ -2,7 +2,7 @@
 use Rattle.std.proofs.Common.{◌≡◌, ◌≤◌, ◌<◌, ◌+◌, ◌*◌, ◌^◌, ℕ, List, [], ◌∷◌, length, length-append, Option, None, Bool, true, false, refl, arith}
 use Rattle.std.specs.Prelude.{◌&&◌, ◌==◌, ℤ, pos, negsuc, ◌-ℤ◌, ◌+ℤ◌, sum_by, if◌then◌else◌}
 use Rattle.std.proofs.lemmas.Int.{ints}
-use Rattle.std.proofs.lemmas.Bool.{eqb-true}
+use Rattle.std.proofs.lemmas.Bool.{and_parts, eqb-true}
 use Rattle.cns_trades.specs.declared.trade.Trade.{Trade}
 use Rattle.cns_netting.specs.History.{accepted, bought, credit, credit_part, debit, debit_part, due_since, position_of, settled_in, settled_out, sold}
 use Rattle.cns_netting.specs.Positions.{bought_by, sold_by}
@@ -75,11 +75,7 @@ parts_fit c d (pos n) a b = (omega (arith, a.below, b.above), omega arith)
 parts_fit c d (negsuc n) a b = (omega arith, omega (arith, a.above, b.below))
 
 same_place : (k m j i : ℕ) → ((k == m) && (j == i)) ≡ true → (k ≡ m) × (j ≡ i)
-same_place k m j i h = by (k == m) refl h
-  where
-    by : (b : Bool) → (k == m) ≡ b → (b && (j == i)) ≡ true → (k ≡ m) × (j ≡ i)
-    by true e g = (eqb-true k m e, eqb-true j i g)
-    by false e g = cc g
+same_place k m j i h = let both = and_parts _ _ h in (eqb-true k m both.0, eqb-true j i both.1)
 
 -- a settlement that leaves the position within 10^18 of 0
 pub book_settled : (h : List NetEntry) (m i : ℕ) (z : ℤ) → IsBook h → IsWithin (position_of h m i) → IsWithin (position_of h m i +ℤ z) → IsBook (Settled m i z ∷ h)

@@ -1,11 +1,11 @@
 -- The rows of an issue among rows that stand by issue, and its holdings among holdings that do.
-use Rattle.std.proofs.Common.{◌≡◌, ◌≤◌, ◌<◌, ◌+◌, ℕ, zero, suc, List, [], ◌∷◌, length, take, drop, get_or, Bool, true, false, cond, refl, sym, ap, ◌∙◌, arith, Less, leb, ltb, leb-true}
-use Rattle.std.specs.Prelude.{◌==◌, All, filter}
+use Rattle.std.proofs.Common.{◌≡◌, ◌≤◌, ◌<◌, ◌+◌, ◌-◌, ℕ, zero, suc, List, [], ◌∷◌, length, take, drop, get_or, Bool, true, false, cond, refl, sym, ap, ◌∙◌, arith, Less, leb, ltb, leb-true, inl, inr}
+use Rattle.std.specs.Prelude.{◌==◌, filter}
 use Rattle.std.specs.List.Sorted.{IsNonDecreasingBy, IsPartitionPoint}
-use Rattle.std.proofs.lemmas.Bool.{eq-eqb, eqb-true, false_from_ne_true, ltb-false, ltb-true}
+use Rattle.std.proofs.lemmas.Bool.{cases_eq, eq-eqb, eqb-true, false_from_ne_true, ltb-false, ltb-true}
 use Rattle.std.proofs.lemmas.Bool.Decides.{nat_tests}
-use Rattle.std.proofs.lemmas.List.{get_or-drop, length-drop}
-use Rattle.std.proofs.lemmas.List.Elements.{All-head, All-tail, All-weaker}
+use Rattle.std.proofs.lemmas.List.{get_or-drop, length-drop, take_rest}
+use Rattle.std.proofs.lemmas.List.Sorted.{IsNonDecreasingBy-drop, IsNonDecreasingBy-take}
 use Rattle.cns_ids.specs.Holding.{holding_cmp}
 use Rattle.cns_netting.specs.Rows.{rows_of}
 use Rattle.cns_netting.specs.Positions.{holding_of}
@@ -19,23 +19,24 @@ use Rattle.cns_netting.proofs.RowLemmas.{rising}
 not_before : (a b : PositionRow) → holding_cmp (holding_of a) (holding_of b) ≡ Less → a.issue ≤ b.issue
 not_before a b less = grind (arith, nat_tests)
 
-issue_at : (n : ℕ) (rows : List PositionRow) (j : ℕ) (d : PositionRow) → All (λ (r : PositionRow). n ≤ r.issue) rows → j < length rows → n ≤ (get_or rows j d).issue
-issue_at n [] j d all below = absurd (omega (arith, below))
-issue_at n (r ∷ rows) zero d all below = All-head (λ (r : PositionRow). n ≤ r.issue) r rows all
-issue_at n (r ∷ rows) (suc j) d all below = issue_at n rows j d (All-tail (λ (r : PositionRow). n ≤ r.issue) r rows all) (omega (arith, below))
-
 by_issue : (rows : List PositionRow) → AreRising rows → IsNonDecreasingBy (λ (r : PositionRow). r.issue) rows
-by_issue [] order i j d le below = absurd (omega (arith, below))
-by_issue (r ∷ rows) order zero zero d le below = omega arith
-by_issue (r ∷ rows) order zero (suc j) d le below =
-    issue_at r.issue rows j d (All-weaker _ (λ (s : PositionRow). r.issue ≤ s.issue) (λ s less. not_before r s less) rows order.0) (omega (arith, below))
-by_issue (r ∷ rows) order (suc i) zero d le below = absurd (omega (arith, le))
-by_issue (r ∷ rows) order (suc i) (suc j) d le below = by_issue rows order.1 i j d (omega (arith, le)) (omega (arith, below))
+by_issue rows rising i j d le below =
+    elim (cases_eq i j) [
+      | inl same ↦ omega (arith, ap (λ (k : ℕ). (get_or rows k d).issue) same)
+      | inr other ↦ not_before (get_or rows i d) (get_or rows j d) (rising i j d (omega (arith, le)) below)
+    ]
 
 pub rows_stand_by_issue : (h : List NetEntry) → IsNonDecreasingBy (λ (r : PositionRow). r.issue) (rows_of h)
 rows_stand_by_issue h = by_issue (rows_of h) (rising h)
 
 -- ---- the part of an issue
+
+-- the items from a place on, as a slice has them
+abbrev pub behind : {A : Type 0} → List A → ℕ → List A
+behind xs first = take (length xs - first) (drop first xs)
+
+pub behind_by_issue : {A : Type 0} (issue_of : A → ℕ) (xs : List A) (first : ℕ) → IsNonDecreasingBy issue_of xs → IsNonDecreasingBy issue_of (behind xs first)
+behind_by_issue issue_of xs first by_issue = IsNonDecreasingBy-take issue_of (length xs - first) (drop first xs) (IsNonDecreasingBy-drop issue_of first xs by_issue)
 
 module _ {A : Type 0} (issue_of : A → ℕ) (issue : ℕ) where
   -- whether an item is of the issue
@@ -74,16 +75,20 @@ module _ {A : Type 0} (issue_of : A → ℕ) (issue : ℕ) where
       ap (λ ys. x ∷ ys) rest
       ∙ sym (ap (λ (b : Bool). cond b (x ∷ filter is_in xs) (filter is_in xs)) one)
 
+  -- two searches by halves find it among items that stand by issue, the second one behind what the first one found
   pub part_of_issue : (xs : List A) (first count : ℕ)
       → IsPartitionPoint (λ (y : A). ltb (issue_of y) issue ≡ true) (λ (y : A). ltb (issue_of y) issue ≡ false) xs first
-      → IsPartitionPoint (λ (y : A). leb (issue_of y) issue ≡ true) (λ (y : A). leb (issue_of y) issue ≡ false) (drop first xs) count
-      → take count (drop first xs) ≡ filter (λ (x : A). issue_of x == issue) xs
-  part_of_issue xs first count start end =
-      first_ones (drop first xs) count
+      → IsPartitionPoint (λ (y : A). leb (issue_of y) issue ≡ true) (λ (y : A). leb (issue_of y) issue ≡ false) (behind xs first) count
+      → take count (behind xs first) ≡ filter (λ (x : A). issue_of x == issue) xs
+  part_of_issue xs first count start found = rw take_rest
+      (first_ones (drop first xs) count
       (λ k d less below. same k d less below)
       (λ k d le below. leb-false_less (issue_of (get_or (drop first xs) k d)) (end.1 k d le below))
-      ∙ after_first xs first (λ k d less below. ltb-true _ _ (start.0 k d (omega arith) less))
+      ∙ after_first xs first (λ k d less below. ltb-true _ _ (start.0 k d (omega arith) less)))
     where
+      end : IsPartitionPoint (λ (y : A). leb (issue_of y) issue ≡ true) (λ (y : A). leb (issue_of y) issue ≡ false) (drop first xs) count
+      end = rw take_rest at found
+
       leb-false_less : (a : ℕ) → leb a issue ≡ false → issue < a
       leb-false_less a e = grind (arith, nat_tests)
 

@@ -2,6 +2,7 @@ pub mod PutLemmas
 pub mod TradeLemmas
 pub mod PositionLemmas
 pub mod QueueLemmas
+pub mod AddLemmas
 pub mod BookLemmas
 pub mod HoldingLemmas
 pub mod OrderLemmas

@@ -1,32 +1,28 @@
 -- The rows of an issue, by a look-up of each member.
 use Rattle.std.proofs.Common.{◌≡◌, ◌≤◌, ◌<◌, ◌+◌, ℕ, zero, suc, List, Option, Some, None, Bool, true, false, refl, sym, ap, ◌∙◌, arith, subst}
-use Rattle.std.specs.Prelude.{◌||◌, ◌==◌, filter, if◌then◌else◌, sum_by}
-use Rattle.std.specs.HashMap.{HashMap, get}
+use Rattle.std.specs.Prelude.{◌||◌, ◌==◌, filter, if◌then◌else◌, IsSome, sum_by}
+use Rattle.std.specs.Map.{lookup}
 use Rattle.std.specs.List.{AllByRecursion, IsDistinct, list_any}
 use Rattle.std.proofs.lemmas.Bool.Decides.{nat_tests}
 use Rattle.std.proofs.lemmas.Bool.{eqb-true}
 use Rattle.std.proofs.lemmas.List.Sums.{sum_by-cons}
 use Rattle.cns_ids.specs.Holding.{holding_at, holding_eq}
+use Rattle.cns_ids.specs.Member.{IsMember}
 use Rattle.cns_ids.specs.declared.holding.Holding.{Holding}
-use Rattle.cns_netting.specs.History.{credit_part, debit_part}
 use Rattle.cns_netting.specs.Rows.{is_row_in, rows_of}
-use Rattle.cns_netting.specs.Positions.{AreInOrder, AreOfMembers, ArePositionsOf, credit_at, debit_at, holdings_up_to, row_by, row_if, row_part}
+use Rattle.cns_netting.specs.Positions.{ArePositionsOf, holdings_up_to, in_issue, position_found, row_by, row_if, row_part}
 use Rattle.cns_netting.specs.declared.entry.NetEntry.{NetEntry}
 use Rattle.cns_netting.specs.declared.position.PositionRow.{PositionRow}
 use Rattle.cns_netting.specs.declared.positions.Position.{Position}
-use Rattle.cns_netting.proofs.RowLemmas.{rows_by_holdings}
-use Rattle.cns_netting.proofs.PositionLemmas.{same_parts}
+use Rattle.cns_netting.proofs.RowLemmas.{sum_by_holdings}
 
--- the row by a look-up that found nothing is that of no shares
-row_of_none : (s : Position) (k : Holding) → credit_part s.shares ≡ 0 → debit_part s.shares ≡ 0 → row_by k (Some s) ≡ None
-row_of_none s k credit debit = rw (credit, debit) refl
-
-row_looked_up : (o : Option Position) (s : Position) (k : Holding) → credit_part s.shares ≡ credit_at o → debit_part s.shares ≡ debit_at o → row_by k (Some s) ≡ row_by k o
-row_looked_up None s k credit debit = row_of_none s k credit debit
-row_looked_up (Some t) s k credit debit = rw (same_parts s.shares t.shares credit debit) refl
-
-pub looked_up : (issue : ℕ) (o : Option Position) (s : Position) (k : Holding) → credit_part s.shares ≡ credit_at o → debit_part s.shares ≡ debit_at o → row_if (Some issue) k (Some s) ≡ row_if (Some issue) k o
-looked_up issue o s k credit debit = ap (λ (r : Option PositionRow). if k.issue == issue then r else None) (row_looked_up o s k credit debit)
+-- the row by the position that a look-up found; that of no shares is none
+pub looked_up : (issue : ℕ) (o : Option Position) (s : Position) (k : Holding) → s ≡ position_found o → row_if (Some issue) k (Some s) ≡ row_if (Some issue) k o
+looked_up issue o s k is = ap (in_issue (Some issue) k) (ap (λ (p : Position). row_by k (Some p)) is ∙ by o)
+  where
+    by : (o : Option Position) → row_by k (Some (position_found o)) ≡ row_by k o
+    by None = refl
+    by (Some t) = refl
 
 -- a sum over the members 1 to n, with one member more
 pub member_more : (weight : Holding → ℕ) (n issue m part old new : ℕ) → m ≡ n + 1 → part ≡ weight (holding_at issue m) → new ≡ old + part
@@ -52,9 +48,6 @@ unfolding holdings_up_to IsDistinct
 distinct zero issue = tt
 distinct (suc n) issue = (later_apart n issue (suc n) (omega arith), distinct n issue)
 
-same_member : (issue m : ℕ) → holding_eq (holding_at issue m) (holding_at issue m) ≡ true
-same_member issue m = grind (arith, nat_tests)
-
 there : (n issue m : ℕ) → 1 ≤ m → m ≤ n → list_any (holding_eq (holding_at issue m)) (holdings_up_to n issue) ≡ true
 unfolding holdings_up_to
 there zero issue m some most = absurd (omega (arith, some, most))
@@ -70,15 +63,15 @@ there (suc n) issue m some most = by (holding_eq (holding_at issue m) (holding_a
 
 -- ---- the rows
 
-pub rows_by_members : {S : Type 0} (issue : ℕ) (positions : HashMap Holding Position S) (h : List NetEntry) (xs : List PositionRow) → AreOfMembers positions → ArePositionsOf positions h
-    → ((f : PositionRow → ℕ) → sum_by f xs ≡ sum_by (λ (k : Holding). row_part f (row_if (Some issue) k (get holding_eq positions k))) (holdings_up_to 9999 issue))
-    → AreInOrder xs → xs ≡ filter (is_row_in issue) (rows_of h)
-rows_by_members issue positions h xs members are sums order = rows_by_holdings (Some issue) positions h xs (holdings_up_to 9999 issue) (distinct 9999 issue) are others sums order
+pub sum_by_members : (issue : ℕ) (positions : List (Holding × Position)) (h : List NetEntry) (f : PositionRow → ℕ) → ((k : Holding) → IsSome (lookup (holding_eq k) positions) → IsMember k.member)
+    → ArePositionsOf positions h
+    → sum_by (λ (k : Holding). row_part f (row_if (Some issue) k (lookup (holding_eq k) positions))) (holdings_up_to 9999 issue) ≡ sum_by f (filter (is_row_in issue) (rows_of h))
+sum_by_members issue positions h f members are = sum_by_holdings (Some issue) positions h f (holdings_up_to 9999 issue) (distinct 9999 issue) are others
   where
-    others : (q : Holding) → list_any (holding_eq q) (holdings_up_to 9999 issue) ≡ false → row_if (Some issue) q (get holding_eq positions q) ≡ None
+    others : (q : Holding) → list_any (holding_eq q) (holdings_up_to 9999 issue) ≡ false → row_if (Some issue) q (lookup (holding_eq q) positions) ≡ None
     others q none = by (q.issue == issue) refl
       where
-        nobody : q.issue ≡ issue → (o : Option Position) → get holding_eq positions q ≡ o → row_by q o ≡ None
+        nobody : q.issue ≡ issue → (o : Option Position) → lookup (holding_eq q) positions ≡ o → row_by q o ≡ None
         nobody is None e = refl
         nobody is (Some s) e =
             let one = members q (rw e refl) in
@@ -86,6 +79,6 @@ rows_by_members issue positions h xs members are sums order = rows_by_holdings (
             subst (λ (i : ℕ). list_any (holding_eq (holding_at i q.member)) (holdings_up_to 9999 issue) ≡ true) (sym is) (there 9999 issue q.member one.from one.to) in
             let no : true ≡ false = sym here ∙ none in cc
 
-        by : (b : Bool) → (q.issue == issue) ≡ b → ◌≡◌ {A = Option PositionRow} (if b then row_by q (get holding_eq positions q) else None) None
-        by true e = nobody (eqb-true q.issue issue e) (get holding_eq positions q) refl
+        by : (b : Bool) → (q.issue == issue) ≡ b → ◌≡◌ {A = Option PositionRow} (if b then row_by q (lookup (holding_eq q) positions) else None) None
+        by true e = nobody (eqb-true q.issue issue e) (lookup (holding_eq q) positions) refl
         by false e = refl

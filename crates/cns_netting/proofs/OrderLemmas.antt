@@ -1,29 +1,33 @@
 -- Rows in the order of their holdings are known by the sums over them.
 use Rattle.std.proofs.Common.{◌≡◌, ◌≤◌, ◌<◌, ℕ, suc, List, [], ◌∷◌, length, get_or, Option, None, Some, Bool, true, false, refl, sym, ap, ◌∙◌, arith, subst, inl, inr, Less, ◌⊎◌}
-use Rattle.std.specs.Prelude.{◌&&◌, ◌==◌, All, sum_by, if◌then◌else◌}
+use Rattle.std.specs.Prelude.{◌&&◌, ◌==◌, All, AllPairs, sum_by, if◌then◌else◌}
 use Rattle.std.specs.List.{AllByRecursion, cons_option, filter_map}
-use Rattle.std.specs.Option.{option_cmp}
 use Rattle.std.specs.Ordering.{int_eq, is_lt}
 use Rattle.std.proofs.lemmas.Bool.{and_parts, eqb-true, true≢false}
 use Rattle.std.proofs.lemmas.Bool.Decides.{Decides-int_eq, nat_tests}
 use Rattle.std.proofs.lemmas.List.Elements.{All-cons, All-head, All-nil, All-tail, All-weaker, recursion_from_All}
+use Rattle.std.proofs.lemmas.List.Kept.{AllPairs-cons}
 use Rattle.std.proofs.lemmas.List.Sums.{sum_by-cons}
 use Rattle.cns_ids.specs.Holding.{holding_cmp}
 use Rattle.cns_ids.specs.declared.holding.Holding.{Holding}
-use Rattle.cns_netting.specs.Positions.{AreInOrder, holding_of}
+use Rattle.cns_netting.specs.Positions.{AreInOrder, holding_of, in_issue, IsNotBefore}
 use Rattle.cns_netting.specs.declared.position.PositionRow.{PositionRow}
 
--- each row's holding stands after all those before it
-abbrev pub AreRising : List PositionRow → Type 0
-AreRising [] = Unit {0}
-AreRising (y ∷ ys) = All (λ (r : PositionRow). holding_cmp (holding_of y) (holding_of r) ≡ Less) ys × AreRising ys
+-- a row's holding stands before that of another; rows that rise, of which each one's stands before those of all later ones
+abbrev pub IsBefore : PositionRow → PositionRow → Type 0
+IsBefore row later = holding_cmp (holding_of row) (holding_of later) ≡ Less
 
--- a sort leaves rows in order
-pub in_order : (xs : List PositionRow)
-    → ((i j : ℕ) (d : PositionRow) → i ≤ j → j < length xs → is_lt (holding_cmp (holding_of (get_or xs j d)) (holding_of (get_or xs i d))) ≡ false)
-    → AreInOrder xs
-in_order [] far = tt
-in_order (x ∷ xs) far = ((λ k d less e. true≢false (sym (ap is_lt e) ∙ far 0 (suc k) d (omega arith) (omega arith))), in_order xs (λ i j d le less. far (suc i) (suc j) d (omega arith) (omega arith)))
+abbrev pub AreRising : List PositionRow → Type 0
+AreRising = AllPairs IsBefore
+
+-- ---- pairs of items
+
+module _ {X : Type 0} (R : X → X → Type 0) (x : X) (xs : List X) (all : AllPairs R (x ∷ xs)) where
+  pub pairs_head : All (R x) xs
+  pairs_head k d below = all 0 (suc k) d (omega arith) (omega (arith, below))
+
+  pub pairs_tail : AllPairs R xs
+  pairs_tail i j d less below = all (suc i) (suc j) d (omega (arith, less)) (omega (arith, below))
 
 module _ {X Y : Type 0} (P : Y → Type 0) (Q : X → Type 0) (made : X → Option Y) (each : (x : X) (y : Y) → made x ≡ Some y → Q x → P y) where
   -- what holds of each item holds of all that is made of them
@@ -35,27 +39,40 @@ module _ {X Y : Type 0} (P : Y → Type 0) (Q : X → Type 0) (made : X → Opti
       by None e rest = rest
       by (Some y) e rest = All-cons P y (filter_map made xs) (each x y e (All-head Q x xs all)) rest
 
-module _ {X : Type 0} (key : X → Option Holding) (row_at : X → Option PositionRow) (own : (x : X) (row : PositionRow) → row_at x ≡ Some row → key x ≡ Some (holding_of row)) where
-  not_after : (x y : X) (row r : PositionRow) → row_at x ≡ Some row → row_at y ≡ Some r → is_lt (option_cmp holding_cmp (key y) (key x)) ≡ false
-      → holding_cmp (holding_of r) (holding_of row) ≡ Less → ⊥
-  not_after x y row r first later not_less less =
-      let one = own x row first in
-      let other = own y r later in
-      true≢false (sym (ap is_lt less) ∙ sym (λ t. is_lt (option_cmp holding_cmp (other t) (one t))) ∙ not_less)
+-- and what holds of each pair of items
+pub AllPairs-filter_map : {X Y : Type 0} (Q : X → X → Type 0) (R : Y → Y → Type 0) (made : X → Option Y)
+    → ((x z : X) (y w : Y) → made x ≡ Some y → made z ≡ Some w → Q x z → R y w) → (xs : List X) → AllPairs Q xs → AllPairs R (filter_map made xs)
+AllPairs-filter_map Q R made each [] all = λ i j d less below. absurd (omega (arith, below))
+AllPairs-filter_map {X} {Y} Q R made each (x ∷ xs) all = by (made x) refl (AllPairs-filter_map Q R made each xs (pairs_tail Q x xs all))
+  where
+    by : (o : Option Y) → made x ≡ o → AllPairs R (filter_map made xs) → AllPairs R (cons_option o (filter_map made xs))
+    by None e rest = rest
+    by (Some y) e rest = AllPairs-cons R y (filter_map made xs) (All-filter_map (R y) (Q x) made (λ z w later q. each x z y w e later q) xs (pairs_head Q x xs all)) rest
 
-  -- so are the rows of items that stand by their holdings
-  pub in_order_by : (xs : List X)
-      → ((i j : ℕ) (d : X) → i ≤ j → j < length xs → is_lt (option_cmp holding_cmp (key (get_or xs j d)) (key (get_or xs i d))) ≡ false) → AreInOrder (filter_map row_at xs)
-  in_order_by [] far = tt
-  in_order_by (x ∷ xs) far = by (row_at x) refl (in_order_by xs (λ i j d le less. far (suc i) (suc j) d (omega arith) (omega arith)))
-    where
-      by : (o : Option PositionRow) → row_at x ≡ o → AreInOrder (filter_map row_at xs) → AreInOrder (cons_option o (filter_map row_at xs))
-      by None e rest = rest
-      by (Some row) e rest = (
-        All-filter_map (λ (r : PositionRow). holding_cmp (holding_of r) (holding_of row) ≡ Less → ⊥) (λ (y : X). is_lt (option_cmp holding_cmp (key y) (key x)) ≡ false) row_at
-            (λ y r later not_less. not_after x y row r e later not_less) xs (λ k d less. far 0 (suc k) d (omega arith) (omega arith)),
-        rest,
-      )
+-- a sort leaves rows in order
+pub in_order : (xs : List PositionRow)
+    → ((i j : ℕ) (d : PositionRow) → i ≤ j → j < length xs → is_lt (holding_cmp (holding_of (get_or xs j d)) (holding_of (get_or xs i d))) ≡ false)
+    → AreInOrder xs
+in_order xs far i j d less below e = true≢false (sym (ap is_lt e) ∙ far i j d (omega (arith, less)) below)
+
+-- ---- rows of an issue alone
+
+pub in_issue-none : (issue : Option ℕ) (k : Holding) → in_issue issue k None ≡ None
+in_issue-none None k = refl
+in_issue-none (Some i) k = by (k.issue == i)
+  where
+    by : (b : Bool) → ◌≡◌ {A = Option PositionRow} (if b then None else None) None
+    by true = refl
+    by false = refl
+
+-- a row stays its holding's own
+pub in_issue-holding : (issue : Option ℕ) (k : Holding) (o : Option PositionRow) (row : PositionRow) → (o ≡ Some row → holding_of row ≡ k) → in_issue issue k o ≡ Some row → holding_of row ≡ k
+in_issue-holding None k o row own e = own e
+in_issue-holding (Some i) k o row own e = by (k.issue == i) e
+  where
+    by : (b : Bool) → (if b then o else None) ≡ Some row → holding_of row ≡ k
+    by true g = own g
+    by false g = cc g
 
 -- ---- one row's count
 
@@ -105,13 +122,13 @@ first_same x y xs ys order rising sums =
     x_there : (x ≡ y) ⊎ (holding_cmp (holding_of y) (holding_of x) ≡ Less)
     x_there =
         from_count (λ r. (r ≡ y) ⊎ (holding_cmp (holding_of y) (holding_of r) ≡ Less)) x (y ∷ ys)
-        (inl refl, recursion_from_All _ ys (All-weaker (λ (r : PositionRow). holding_cmp (holding_of y) (holding_of r) ≡ Less) (λ (r : PositionRow). (r ≡ y) ⊎ (holding_cmp (holding_of y) (holding_of r) ≡ Less)) (λ r less. inr less) ys rising.0))
+        (inl refl, recursion_from_All _ ys (All-weaker (λ (r : PositionRow). holding_cmp (holding_of y) (holding_of r) ≡ Less) (λ (r : PositionRow). (r ≡ y) ⊎ (holding_cmp (holding_of y) (holding_of r) ≡ Less)) (λ r less. inr less) ys (pairs_head IsBefore y ys rising)))
         (omega (arith, sums (if_row x), sum_by-cons (if_row x) x xs, counts_itself x))
 
     y_there : holding_cmp (holding_of y) (holding_of x) ≡ Less → ⊥
     y_there =
         from_count (λ r. holding_cmp (holding_of r) (holding_of x) ≡ Less → ⊥) y (x ∷ xs)
-        (itself, recursion_from_All _ xs order.0)
+        (itself, recursion_from_All _ xs (pairs_head IsNotBefore x xs order))
         (omega (arith, sums (if_row y), sum_by-cons (if_row y) y ys, counts_itself y))
       where
         itself : holding_cmp (holding_of x) (holding_of x) ≡ Less → ⊥
@@ -124,5 +141,5 @@ same_rows [] (y ∷ ys) order rising sums = absurd (omega (arith, sums (λ (r : 
 same_rows (x ∷ xs) [] order rising sums = absurd (omega (arith, sums (λ (r : PositionRow). 1), sum_by-cons (λ (r : PositionRow). 1) x xs))
 same_rows (x ∷ xs) (y ∷ ys) order rising sums =
     let first = first_same x y xs ys order rising sums in
-    let rest = same_rows xs ys order.1 rising.1 (λ f. omega (arith, sums f, sum_by-cons f x xs, sum_by-cons f y ys, ap f first)) in
+    let rest = same_rows xs ys (pairs_tail IsNotBefore x xs order) (pairs_tail IsBefore y ys rising) (λ f. omega (arith, sums f, sum_by-cons f x xs, sum_by-cons f y ys, ap f first)) in
     ap (λ r. r ∷ xs) first ∙ ap (λ l. y ∷ l) rest

@@ -1,6 +1,6 @@
 -- Sums over holdings that differ: where two lists have all that counts, their sums are the same.
-use Rattle.std.proofs.Common.{◌≡◌, ◌+◌, ℕ, List, [], ◌∷◌, Option, Some, None, Bool, true, false, refl, sym, ap, arith, subst}
-use Rattle.std.specs.Prelude.{◌||◌, sum_by, if◌then◌else◌}
+use Rattle.std.proofs.Common.{◌≡◌, ◌+◌, ℕ, List, [], ◌∷◌, Option, Some, None, Bool, true, false, cond, refl, sym, ap, arith, subst}
+use Rattle.std.specs.Prelude.{◌||◌, filter, sum_by, if◌then◌else◌}
 use Rattle.std.specs.List.{AllByRecursion, cons_option, Contains, filter_map, IsDistinct, list_any}
 use Rattle.std.specs.Map.{keys_of, lookup}
 use Rattle.std.proofs.lemmas.Bool.Decides.{nat_tests}
@@ -70,10 +70,6 @@ same_sums g (a ∷ xs) ys da db na nb =
     in_rest true q e none = Prim.rw e refl
     in_rest false q e none = Prim.rw e (none e)
 
-pub agree : (f g : Holding → ℕ) → ((q : Holding) → f q ≡ g q) → (ks : List Holding) → sum_by f ks ≡ sum_by g ks
-agree f g each [] = refl
-agree f g each (k ∷ ks) = omega (arith, sum_by-cons f k ks, sum_by-cons g k ks, each k, agree f g each ks)
-
 -- ---- the rows of holdings
 
 pub filter_map-sum : {X : Type 0} (f : PositionRow → ℕ) (rows : X → Option PositionRow) (ks : List X) → sum_by f (filter_map rows ks) ≡ sum_by (λ k. row_part f (rows k)) ks
@@ -96,3 +92,15 @@ pub entries-sum : (g : Holding → Option Position → ℕ) (es : List (Holding 
 entries-sum g es distinct =
     keyed-sum g (λ q. lookup (holding_eq q) es) es
     (recursion_from_All _ es (All-weaker (Contains es) (λ e. lookup (holding_eq e.0) es ≡ Some e.1) (λ e there. lookup-from_Contains holding_eq_laws e.0 e.1 es distinct there) es (All-contains_itself es)))
+
+-- ---- sums over what passes a test
+
+pub sum_by-filter : {A : Type 0} (number weight : A → ℕ) (test : A → Bool) → ((x : A) → test x ≡ true → number x ≡ weight x) → ((x : A) → test x ≡ false → weight x ≡ 0)
+    → (xs : List A) → sum_by number (filter test xs) ≡ sum_by weight xs
+sum_by-filter number weight test same others [] = refl
+sum_by-filter number weight test same others (x ∷ xs) = by (test x) refl (sum_by-filter number weight test same others xs)
+  where
+    by : (b : Bool) → test x ≡ b → sum_by number (filter test xs) ≡ sum_by weight xs
+        → sum_by number (cond b (x ∷ filter test xs) (filter test xs)) ≡ sum_by weight (x ∷ xs)
+    by true e rest = omega (arith, rest, sum_by-cons weight x xs, sum_by-cons number x (filter test xs), same x e)
+    by false e rest = omega (arith, rest, sum_by-cons weight x xs, others x e)

@@ -1,16 +1,17 @@
 -- The totals of an issue, as positions in it change.
 use Rattle.std.proofs.Common.{◌≡◌, ◌≤◌, ◌+◌, ◌-◌, ◌*◌, ◌^◌, ℕ, nat_eq, zero, suc, Option, Some, Bool, true, false, refl, sym, ap, ◌∙◌, arith, inl, inr}
-use Rattle.std.specs.Prelude.{◌&&◌, ◌==◌, List, if◌then◌else◌}
+use Rattle.std.specs.Prelude.{◌&&◌, ◌==◌, IsSome, List, if◌then◌else◌}
 use Rattle.std.specs.HashMap.{HashMap, get}
 use Rattle.std.proofs.lemmas.Bool.{cases_eq, eq-eqb, eqb-true}
 use Rattle.cns_ids.specs.Member.{IsMember}
 use Rattle.cns_ids.specs.declared.holding.Holding.{Holding}
-use Rattle.cns_netting.specs.History.{credit_part, debit_part, long_up_to, longs_of, short_up_to, shorts_of}
-use Rattle.cns_netting.specs.Positions.{ArePositionsOf, credit_in, debit_in}
-use Rattle.cns_netting.specs.Totals.{AreTotalsOf, longs_at, longs_in, shorts_at, shorts_in, total}
+use Rattle.cns_netting.specs.History.{credit_part, debit_part, long_up_to, short_up_to}
+use Rattle.cns_netting.specs.Positions.{Adds, ArePositionsOf, credit_among, debit_among, no_shares, position_among, shares_only_at, StayNear}
+use Rattle.cns_netting.specs.Totals.{AreTotalsOf, CanCount, longs_at, longs_in, Recounts, shorts_at, shorts_in, total}
 use Rattle.cns_netting.specs.declared.entry.NetEntry.{NetEntry}
 use Rattle.cns_netting.specs.declared.positions.Position.{Position}
 use Rattle.cns_netting.specs.declared.totals.Totals.{Totals}
+use Rattle.cns_netting.proofs.AddLemmas.{near_there}
 use Rattle.cns_netting.proofs.PutLemmas.{PutsAt, put_holds}
 use Rattle.cns_netting.proofs.BalanceLemmas.{total-one, total-plus, total-same}
 use Rattle.cns_netting.proofs.PositionLemmas.{one_part, other_part}
@@ -57,16 +58,13 @@ elsewhere false b q e = refl
 there : (a b : Bool) (q : ℕ) → a ≡ true → b ≡ true → (if a && b then q else 0) ≡ q
 there a b q e f = Prim.rw (e, f) refl
 
-pub whole : (member issue q : ℕ) → (if (member == member) && (issue == issue) then q else 0) ≡ q
-whole member issue q = there (member == member) (issue == issue) q (eq-eqb member member refl) (eq-eqb issue issue refl)
-
 -- what one side of a member has above the other
 abbrev above : (ℕ → ℕ) → (ℕ → ℕ) → ℕ → ℕ
 above more less m = more m - less m
 
 -- the sum of what one side has above the other in an issue i, after a member's position in an issue changed by `up` and by `down`
 counted : (member issue i up down was is old new : ℕ) (more less more_then less_then : ℕ → ℕ) → IsMember member
-    → ((m : ℕ) → more_then m + (less m + (if (member == m) && (issue == i) then down else 0)) ≡ less_then m + (more m + (if (member == m) && (issue == i) then up else 0)))
+    → ((m : ℕ) → more_then m + (less m + shares_only_at member issue down m i) ≡ less_then m + (more m + shares_only_at member issue up m i))
     → (issue ≡ i → was ≡ more member - less member)
     → (issue ≡ i → is ≡ (more member + up) - (less member + down))
     → new + (if issue == i then was else 0) ≡ old + (if issue == i then is else 0)
@@ -104,104 +102,75 @@ put_part : (part : Option Totals → ℕ) (issue : ℕ) (w : Totals) (less more 
 put_part part issue w less more old new puts moved =
     put_holds (λ b was now. part now + (if b then less else 0) ≡ part was + (if b then more else 0)) issue w old new puts moved (λ o. refl)
 
-module _ {S T : Type 0} where
-  -- the totals after a member's position in an issue changed, and was counted anew
-  pub totals_added : (positions after : HashMap Holding Position S) (totals next : HashMap ℕ Totals T) (member issue credit debit : ℕ) (was is : Position) → IsMember member
-      → credit_part was.shares ≡ credit_in positions member issue → debit_part was.shares ≡ debit_in positions member issue
-      → credit_part is.shares + (debit_part was.shares + debit) ≡ debit_part is.shares + (credit_part was.shares + credit)
-      → ((m i : ℕ) → credit_in after m i + (debit_in positions m i + (if (member == m) && (issue == i) then debit else 0)) ≡ debit_in after m i + (credit_in positions m i + (if (member == m) && (issue == i) then credit else 0)))
-      → ((i : ℕ) → longs_in next i + (if issue == i then credit_part was.shares else 0) ≡ longs_in totals i + (if issue == i then credit_part is.shares else 0))
-      → ((i : ℕ) → shorts_in next i + (if issue == i then debit_part was.shares else 0) ≡ shorts_in totals i + (if issue == i then debit_part is.shares else 0))
-      → AreTotalsOf totals positions → AreTotalsOf next after
-  totals_added positions after totals next member issue credit debit was is range had owed moves balance longs shorts are = record {
-    longs = λ i. counted member issue i credit debit (credit_part was.shares) (credit_part is.shares) (longs_in totals i) (longs_in next i)
-        (λ m. credit_in positions m i) (λ m. debit_in positions m i) (λ m. credit_in after m i) (λ m. debit_in after m i) range (λ m. balance m i)
-        (λ e. omega (arith, had, owed, one_part was.shares, ap (credit_in positions member) e, ap (debit_in positions member) e))
-        (λ e. omega (arith, had, owed, moves, one_part is.shares, ap (credit_in positions member) e, ap (debit_in positions member) e))
-        (longs i) (are.longs i);
-    shorts = λ i. counted member issue i debit credit (debit_part was.shares) (debit_part is.shares) (shorts_in totals i) (shorts_in next i)
-        (λ m. debit_in positions m i) (λ m. credit_in positions m i) (λ m. debit_in after m i) (λ m. credit_in after m i) range (λ m. sym (balance m i))
-        (λ e. omega (arith, had, owed, other_part was.shares, ap (credit_in positions member) e, ap (debit_in positions member) e))
-        (λ e. omega (arith, had, owed, moves, other_part is.shares, ap (credit_in positions member) e, ap (debit_in positions member) e))
-        (shorts i) (are.shorts i);
-  }
-
-  -- so they are where the totals of that issue alone are put anew
-  pub totals_put : (positions after : HashMap Holding Position S) (totals next : HashMap ℕ Totals T) (member issue credit debit : ℕ) (was is : Position) (w : Totals) → IsMember member
-      → credit_part was.shares ≡ credit_in positions member issue → debit_part was.shares ≡ debit_in positions member issue
-      → credit_part is.shares + (debit_part was.shares + debit) ≡ debit_part is.shares + (credit_part was.shares + credit)
-      → ((m i : ℕ) → credit_in after m i + (debit_in positions m i + (if (member == m) && (issue == i) then debit else 0)) ≡ debit_in after m i + (credit_in positions m i + (if (member == m) && (issue == i) then credit else 0)))
-      → PutsAt issue w (get nat_eq totals) (get nat_eq next)
+module _ {T : Type 0} where
+  -- so a position is counted anew
+  pub recounts_put : (issue : ℕ) (was is : Position) (w : Totals) (totals next : HashMap ℕ Totals T) → PutsAt issue w (get nat_eq totals) (get nat_eq next)
       → w.longs + credit_part was.shares ≡ longs_in totals issue + credit_part is.shares
-      → w.shorts + debit_part was.shares ≡ shorts_in totals issue + debit_part is.shares
-      → AreTotalsOf totals positions → AreTotalsOf next after
-  totals_put positions after totals next member issue credit debit was is w range had owed moves balance puts longs shorts are =
-      totals_added positions after totals next member issue credit debit was is range had owed moves balance
-      (put_part longs_at issue w (credit_part was.shares) (credit_part is.shares) (get nat_eq totals) (get nat_eq next) puts longs)
-      (put_part shorts_at issue w (debit_part was.shares) (debit_part is.shares) (get nat_eq totals) (get nat_eq next) puts shorts)
-      are
-
-  -- where nothing changes that counts
-  pub totals_kept : (positions after : HashMap Holding Position S) (totals next : HashMap ℕ Totals T)
-      → ((m i : ℕ) → credit_in after m i + debit_in positions m i ≡ debit_in after m i + credit_in positions m i)
-      → ((i : ℕ) → longs_in next i ≡ longs_in totals i) → ((i : ℕ) → shorts_in next i ≡ shorts_in totals i)
-      → AreTotalsOf totals positions → AreTotalsOf next after
-  totals_kept positions after totals next same longs shorts are = record {
-    longs = λ i. omega (
-      arith,
-      longs i,
-      are.longs i,
-      total-same 9999 (λ m. credit_in after m i - debit_in after m i) (λ m. credit_in positions m i - debit_in positions m i) (λ m. omega (arith, same m i)),
-    );
-    shorts = λ i. omega (
-      arith,
-      shorts i,
-      are.shorts i,
-      total-same 9999 (λ m. debit_in after m i - credit_in after m i) (λ m. debit_in positions m i - credit_in positions m i) (λ m. omega (arith, same m i)),
-    );
+      → w.shorts + debit_part was.shares ≡ shorts_in totals issue + debit_part is.shares → Recounts issue was is totals next
+  recounts_put issue was is w totals next puts longs shorts = record {
+    longs = put_part longs_at issue w (credit_part was.shares) (credit_part is.shares) (get nat_eq totals) (get nat_eq next) puts longs;
+    shorts = put_part shorts_at issue w (debit_part was.shares) (debit_part is.shares) (get nat_eq totals) (get nat_eq next) puts shorts;
+    issues = put_holds (λ b was is. IsSome was → IsSome is) issue w (get nat_eq totals) (get nat_eq next) puts (λ some. refl) (λ o some. some);
   }
 
-  -- ---- what they are
-
-  -- an issue's totals are at least the position of each member in it, and at most 9999 such as are allowed
-  pub record AreWithin (totals : HashMap ℕ Totals T) (positions : HashMap Holding Position S) (member issue : ℕ) : Type 0 where
-    pub longs_least : credit_in positions member issue - debit_in positions member issue ≤ longs_in totals issue
-    pub shorts_least : debit_in positions member issue - credit_in positions member issue ≤ shorts_in totals issue
-    pub longs_most : longs_in totals issue ≤ 3 * 10 ^ 22
-    pub shorts_most : shorts_in totals issue ≤ 3 * 10 ^ 22
-
-  pub totals_within : (totals : HashMap ℕ Totals T) (positions : HashMap Holding Position S) (member issue : ℕ) → IsMember member
-      → ((m i : ℕ) → credit_in positions m i ≤ debit_in positions m i + 3 * 10 ^ 18) → ((m i : ℕ) → debit_in positions m i ≤ credit_in positions m i + 3 * 10 ^ 18)
-      → AreTotalsOf totals positions → AreWithin totals positions member issue
-  totals_within totals positions member issue range long short are =
-      let above : ℕ → ℕ = λ m. credit_in positions m issue - debit_in positions m issue in
-      let below : ℕ → ℕ = λ m. debit_in positions m issue - credit_in positions m issue in
+module _ {T : Type 0} {positions : List (Holding × Position)} {totals : HashMap ℕ Totals T} (member issue credit debit : ℕ) (was is : Position) (range : IsMember member)
+    (found : was ≡ position_among positions member issue) (moves : credit_part is.shares + (debit_part was.shares + debit) ≡ debit_part is.shares + (credit_part was.shares + credit))
+    (are : AreTotalsOf totals positions) where
+  -- a position that stays near 0 may be counted anew: an issue's totals are at least the position, and at most 9999 such as are allowed
+  pub can_count : StayNear (shares_only_at member issue credit) (shares_only_at member issue debit) positions → CanCount (longs_in totals issue) (shorts_in totals issue) was is
+  can_count near =
+      let had = ap (λ (p : Position). credit_part p.shares) found in
+      let owed = ap (λ (p : Position). debit_part p.shares) found in
+      let above : ℕ → ℕ = λ m. credit_among positions m issue - debit_among positions m issue in
+      let below : ℕ → ℕ = λ m. debit_among positions m issue - credit_among positions m issue in
+      let fits = near_there member issue credit debit near found in
       record {
-        longs_least = omega (arith, are.longs issue, total-part 9999 member above range.from range.to);
-        shorts_least = omega (arith, are.shorts issue, total-part 9999 member below range.from range.to);
-        longs_most = omega (arith, are.longs issue, total-most 9999 above (λ m. omega (arith, long m issue)));
-        shorts_most = omega (arith, are.shorts issue, total-most 9999 below (λ m. omega (arith, short m issue)));
+        longs = omega (arith, had, owed, one_part was.shares, are.longs issue, total-part 9999 member above range.from range.to);
+        shorts = omega (arith, had, owed, other_part was.shares, are.shorts issue, total-part 9999 member below range.from range.to);
+        more_longs = omega (arith, fits.0, moves, one_part is.shares, are.longs issue, total-most 9999 above (λ m. omega (arith, near.long m issue)));
+        more_shorts = omega (arith, fits.1, moves, other_part is.shares, are.shorts issue, total-most 9999 below (λ m. omega (arith, near.short m issue)));
       }
 
-module _ {S : Type 0} where
-  long_total : (n : ℕ) (positions : HashMap Holding Position S) (h : List NetEntry) (issue : ℕ) → ArePositionsOf positions h
-      → total n (λ m. credit_in positions m issue - debit_in positions m issue) ≡ long_up_to n h issue
-  unfolding total long_up_to
-  long_total zero positions h issue are = refl
-  long_total (suc n) positions h issue are = omega (arith, are.balance (suc n) issue, long_total n positions h issue are)
+  -- the totals after a position changed, and was counted anew
+  pub totals_added : {after : List (Holding × Position)} {next : HashMap ℕ Totals T} → Adds (shares_only_at member issue credit) (shares_only_at member issue debit) positions after
+      → Recounts issue was is totals next → AreTotalsOf next after
+  totals_added {after} {next} adds counts =
+      let had = ap (λ (p : Position). credit_part p.shares) found in
+      let owed = ap (λ (p : Position). debit_part p.shares) found in
+      record {
+        longs = λ i. counted member issue i credit debit (credit_part was.shares) (credit_part is.shares) (longs_in totals i) (longs_in next i)
+            (λ m. credit_among positions m i) (λ m. debit_among positions m i) (λ m. credit_among after m i) (λ m. debit_among after m i) range (λ m. adds.balance m i)
+            (λ e. omega (arith, had, owed, one_part was.shares, ap (credit_among positions member) e, ap (debit_among positions member) e))
+            (λ e. omega (arith, had, owed, moves, one_part is.shares, ap (credit_among positions member) e, ap (debit_among positions member) e))
+            (counts.longs i) (are.longs i);
+        shorts = λ i. counted member issue i debit credit (debit_part was.shares) (debit_part is.shares) (shorts_in totals i) (shorts_in next i)
+            (λ m. debit_among positions m i) (λ m. credit_among positions m i) (λ m. debit_among after m i) (λ m. credit_among after m i) range (λ m. sym (adds.balance m i))
+            (λ e. omega (arith, had, owed, other_part was.shares, ap (credit_among positions member) e, ap (debit_among positions member) e))
+            (λ e. omega (arith, had, owed, moves, other_part is.shares, ap (credit_among positions member) e, ap (debit_among positions member) e))
+            (counts.shorts i) (are.shorts i);
+      }
 
-  short_total : (n : ℕ) (positions : HashMap Holding Position S) (h : List NetEntry) (issue : ℕ) → ArePositionsOf positions h
-      → total n (λ m. debit_in positions m issue - credit_in positions m issue) ≡ short_up_to n h issue
-  unfolding total short_up_to
-  short_total zero positions h issue are = refl
-  short_total (suc n) positions h issue are = omega (arith, are.balance (suc n) issue, short_total n positions h issue are)
+module _ {T : Type 0} where
+  -- where nothing changes that counts
+  pub totals_kept : {positions after : List (Holding × Position)} {totals next : HashMap ℕ Totals T} → Adds no_shares no_shares positions after
+      → ((i : ℕ) → longs_in next i ≡ longs_in totals i) → ((i : ℕ) → shorts_in next i ≡ shorts_in totals i)
+      → AreTotalsOf totals positions → AreTotalsOf next after
+  totals_kept {positions} {after} adds longs shorts are = record {
+    longs = λ i. longs i ∙ are.longs i
+        ∙ total-same 9999 (λ m. credit_among positions m i - debit_among positions m i) (λ m. credit_among after m i - debit_among after m i) (λ m. omega (arith, adds.balance m i));
+    shorts = λ i. shorts i ∙ are.shorts i
+        ∙ total-same 9999 (λ m. debit_among positions m i - credit_among positions m i) (λ m. debit_among after m i - credit_among after m i) (λ m. omega (arith, adds.balance m i));
+  }
 
-module _ {S T : Type 0} where
-  -- by the positions of a history they are its longs and shorts
-  pub longs_by_history : (totals : HashMap ℕ Totals T) (positions : HashMap Holding Position S) (h : List NetEntry) (issue : ℕ) → AreTotalsOf totals positions → ArePositionsOf positions h
-      → longs_in totals issue ≡ longs_of h issue
-  longs_by_history totals positions h issue are by = are.longs issue ∙ long_total 9999 positions h issue by
+-- by the positions of a history they are its longs and shorts
+pub long_total : (n : ℕ) (positions : List (Holding × Position)) (h : List NetEntry) (issue : ℕ) → ArePositionsOf positions h
+    → total n (λ m. credit_among positions m issue - debit_among positions m issue) ≡ long_up_to n h issue
+unfolding total long_up_to
+long_total zero positions h issue are = refl
+long_total (suc n) positions h issue are = omega (arith, are.balance (suc n) issue, long_total n positions h issue are)
 
-  pub shorts_by_history : (totals : HashMap ℕ Totals T) (positions : HashMap Holding Position S) (h : List NetEntry) (issue : ℕ) → AreTotalsOf totals positions → ArePositionsOf positions h
-      → shorts_in totals issue ≡ shorts_of h issue
-  shorts_by_history totals positions h issue are by = are.shorts issue ∙ short_total 9999 positions h issue by
+pub short_total : (n : ℕ) (positions : List (Holding × Position)) (h : List NetEntry) (issue : ℕ) → ArePositionsOf positions h
+    → total n (λ m. debit_among positions m issue - credit_among positions m issue) ≡ short_up_to n h issue
+unfolding total short_up_to
+short_total zero positions h issue are = refl
+short_total (suc n) positions h issue are = omega (arith, are.balance (suc n) issue, short_total n positions h issue are)

@@ -12,18 +12,25 @@ use Rattle.cns_netting.specs.Undue.{if_left, if_settled, waiting_of, undue_since
 use Rattle.cns_netting.specs.declared.undue.Undue.{Undue}
 use Rattle.cns_netting.specs.Book.{QuantitiesFit}
 
--- a trade's share, where it is due
+-- a part of nothing
+pub either_none : (b : Bool) (q : ℕ) → q ≡ 0 → (if b then q else 0) ≡ 0
+either_none true q none = none
+either_none false q none = refl
+
+-- a number of a trade, where it is due
+pub either-sum : (f : Trade → ℕ) (b : Bool) (t : Trade) (ts : List Trade) → sum_by f (if b then t ∷ ts else ts) ≡ (if b then f t else 0) + sum_by f ts
+either-sum f true t ts = sum_by-cons f t ts
+either-sum f false t ts = omega arith
+
 pub bought-due : (b : Bool) (t : Trade) (ts : List Trade) (m i : ℕ)
     → bought (if b then t ∷ ts else ts) m i ≡ (if b then (if (t.buyer == m) && (t.issue == i) then t.quantity else 0) else 0) + bought ts m i
 unfolding bought
-bought-due true t ts m i = sum_by-cons _ t ts
-bought-due false t ts m i = omega arith
+bought-due b t ts m i = either-sum (λ s. if (s.buyer == m) && (s.issue == i) then s.quantity else 0) b t ts
 
 pub sold-due : (b : Bool) (t : Trade) (ts : List Trade) (m i : ℕ)
     → sold (if b then t ∷ ts else ts) m i ≡ (if b then (if (t.seller == m) && (t.issue == i) then t.quantity else 0) else 0) + sold ts m i
 unfolding sold
-sold-due true t ts m i = sum_by-cons _ t ts
-sold-due false t ts m i = omega arith
+sold-due b t ts m i = either-sum (λ s. if (s.seller == m) && (s.issue == i) then s.quantity else 0) b t ts
 
 -- the newest entry and those before it
 pub reverse-last : (before : List NetEntry) (e : NetEntry) → reverse (before ++ e ∷ []) ≡ e ∷ reverse before
@@ -59,10 +66,6 @@ latest-swap (Some c) a b = grind (arith, nat_tests)
 either-other : (b : Bool) (q : ℕ) → (if b then q else 0) + (if b then 0 else q) ≡ q
 either-other true q = omega arith
 either-other false q = omega arith
-
-pub either-sum : (f : Trade → ℕ) (b : Bool) (t : Trade) (ts : List Trade) → sum_by f (if b then t ∷ ts else ts) ≡ (if b then f t else 0) + sum_by f ts
-either-sum f true t ts = sum_by-cons f t ts
-either-sum f false t ts = omega arith
 
 other-sum : (f : Trade → ℕ) (b : Bool) (t : Trade) (ts : List Trade) → sum_by f (if b then ts else t ∷ ts) ≡ (if b then 0 else f t) + sum_by f ts
 other-sum f true t ts = omega arith

@@ -3,7 +3,7 @@ use Rattle.std.specs.Prelude.{◌≡◌, ℕ, ◌+◌, ◌≤◌, ◌&&◌, nat_
 use Rattle.std.specs.BinaryHeap.{IsHeap}
 use Rattle.std.specs.HashMap.{HashMap}
 use Rattle.cns_netting.specs.History.{accepted, credit_part, debit_part, settled_in, settled_out}
-use Rattle.cns_netting.specs.Positions.{AreOfMembers, ArePlacesInOrder, ArePositionsOf, IsNamed}
+use Rattle.cns_netting.specs.Positions.{ArePositionsOf, IsNamed}
 use Rattle.cns_netting.specs.Totals.{AreTotalsOf, HasIssue}
 use Rattle.cns_netting.specs.Undue.{earlier, waiting_of, undue}
 use Rattle.cns_netting.specs.declared.entry.NetEntry.{NetEntry}
@@ -50,18 +50,14 @@ pub record IsBook (h : List NetEntry) : Type 0 where
   pub settled : (member issue : ℕ) → IsSettled h member issue
 
 -- what a book keeps beside its history: the position of each holding, the totals of each issue, and of the trades that are not due
--- what netting needs, in a heap; the holdings and the issue of each such trade are named, each holding that is named is one of a member,
--- and `order` has the places of the first ones in order
-pub record IsKept {S T : Type 0} (h : List NetEntry) (holdings : HashMap Holding Position S) (order : List ℕ) (issues : HashMap ℕ Totals T)
-    (waiting : List Undue) : Type 0 where
+-- what netting needs, in a heap; the holdings and the issue of each such trade are named
+pub record IsKept {T : Type 0} (h : List NetEntry) (holdings : List (Holding × Position)) (issues : HashMap ℕ Totals T) (waiting : List Undue) : Type 0 where
   pub book : IsBook h
   pub positions : ArePositionsOf holdings h
   pub totals : AreTotalsOf issues holdings
   pub undue : (f : Undue → ℕ) → sum_by f waiting ≡ sum_by (λ t. f (waiting_of t)) (undue h)
   pub named : All (IsNamed holdings) waiting
   pub named_issues : All (HasIssue issues) waiting
-  pub members : AreOfMembers holdings
-  pub places : ArePlacesInOrder order holdings
   pub heap : IsHeap earlier waiting
 
 -- for how many more entries there is room: for none where two more holdings, one more issue, or one more trade that is not due,

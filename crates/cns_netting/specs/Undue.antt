@@ -6,6 +6,8 @@ use Rattle.cns_trades.specs.declared.trade.Trade.{Trade}
 use Rattle.cns_netting.specs.History.{is_reached, latest}
 use Rattle.cns_netting.specs.declared.entry.NetEntry.{NetEntry}
 use Rattle.cns_netting.specs.declared.entry.NetEntry.TheVariants.{Accepted, Netted, Settled}
+use Rattle.cns_netting.specs.declared.undue.Change.{Change}
+use Rattle.cns_netting.specs.declared.undue.Change.TheVariants.{Add, TakeBack}
 use Rattle.cns_netting.specs.declared.undue.Undue.{Undue}
 
 -- the trades of a history that no netting recorded after them has made due; `reached` is the latest date of the nettings
@@ -34,3 +36,12 @@ if_left day f t = if nat_le t.settle day then 0 else f t
 -- the order of trades by settlement, the later one first
 abbrev pub earlier : Undue → Undue → Ordering
 earlier a b = nat_cmp b.settle a.settle
+
+-- the member that a trade brings shares, as it is added or taken back, and the one that it takes them from
+abbrev pub receiving : Change → Undue → ℕ
+receiving Add t = t.buyer
+receiving TakeBack t = t.seller
+
+abbrev pub delivering : Change → Undue → ℕ
+delivering Add t = t.seller
+delivering TakeBack t = t.buyer

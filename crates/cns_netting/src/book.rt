@@ -6,22 +6,18 @@ ghost use Rattle.cns_trades.specs.Verdicts.{known};
 ghost use Rattle.cns_netting.specs.Book.{IsBook, IsWithin, room_of};
 ghost use Rattle.cns_netting.specs.History.{accepted, becoming_due, credit_part, debit_part, position_of, longs_of, shorts_of};
 ghost use Rattle.cns_netting.specs.Rows.{is_row_in, rows_of};
-ghost use Rattle.cns_ids.specs.Holding.{holding_eq};
 ghost use Rattle.cns_netting.specs.Undue.{earlier};
 ghost use Rattle.cns_netting.specs.declared.entry.NetEntry.TheVariants.{Accepted, Netted, Settled};
-ghost use Rattle.cns_ids.specs.declared.holding.Holding.{Holding};
 
-use crate::count::{RowTest, count_rows};
-use crate::due::{add_due, has_due, make_due, positions_after, take_due, waiting_of};
+use crate::count::RowTest;
+use crate::due::{has_due, make_due, waiting_of};
 use crate::entry::NetEntry;
 use crate::position::PositionRow;
-use crate::positions::{Position, name_trade, position_at, put_in_order};
-use crate::rows::{position_rows, position_rows_in};
+use crate::positions::Positions;
 use crate::totals::{Totals, enter_counted, name_issue, totals_of};
-use crate::undue::Undue;
-use cns_ids::{Cusip, Day, Holding, MemberNo};
+use crate::undue::{Change, Undue};
+use cns_ids::{Cusip, Day, MemberNo};
 use cns_trades::Trade;
-use indexmap::IndexMap;
 use std::alloc::{AllocError, Global};
 use std::collections::{BinaryHeap, HashMap};
 use std::marker::Model;
@@ -30,13 +26,11 @@ use std::marker::Model;
 ///
 /// Contracts see the history of entries, the newest first, and for how many more there is room. Beside
 /// the history the book keeps the position of each holding, the totals of each issue's positions, and
-/// what netting needs of the trades that are not due, the earliest settlement first. `order` has the
-/// places of the first holdings, by issue, then member; those named since stand behind them.
+/// what netting needs of the trades that are not due, the earliest settlement first.
 #[derive(Drop)]
 pub struct NetBook {
     entries: Vec<NetEntry>,
-    positions: IndexMap<Holding, Position>,
-    order: Vec<u32>,
+    positions: Positions,
     totals: HashMap<Cusip, Totals>,
     undue: BinaryHeap<Undue>,
 }
@@ -51,16 +45,16 @@ impl Model for NetBook {
 
     ghost view = { λ b. record {
       history = reverse b.entries.items;
-      room = room_of (vec_capacity b.entries - length b.entries.items) (spare b.positions) (spare b.totals) (heap_capacity b.undue - heap_len b.undue);
+      room = room_of (vec_capacity b.entries - length b.entries.items) b.positions.room (spare b.totals) (heap_capacity b.undue - heap_len b.undue);
     } };
 
-    ghost invariant = { λ b. IsKept (reverse b.entries.items) b.positions b.order.items b.totals (heap_items b.undue) };
+    ghost invariant = { λ b. IsKept (reverse b.entries.items) b.positions.entries b.totals (heap_items b.undue) };
 }
 
 // Takes the memory that any entry needs.
 fn reserve(
     entries: &mut Vec<NetEntry>,
-    positions: &mut IndexMap<Holding, Position>,
+    positions: &mut Positions,
     totals: &mut HashMap<Cusip, Totals>,
     undue: &mut BinaryHeap<Undue>,
 ) -> Result<(), AllocError>
@@ -69,14 +63,14 @@ fn reserve(
     ensures totals { (i : ℕ) → get nat_eq totals.new i ≡ get nat_eq totals.old i }
     ensures undue { heap_items undue.new ≡ heap_items undue.old }
     ensures entry_room { OnOk result (length entries.new.items < vec_capacity entries.new) }
-    ensures holding_room { OnOk result (2 ≤ spare positions.new) }
+    ensures holding_room { OnOk result (2 ≤ positions.new.room) }
     ensures issue_room { OnOk result (1 ≤ spare totals.new) }
     ensures undue_room { OnOk result (heap_len undue.new < heap_capacity undue.new) }
-    ensures none { OnErr result (room_of (vec_capacity entries.old - length entries.old.items) (spare positions.old) (spare totals.old) (heap_capacity undue.old - heap_len undue.old) ≡ 0) }
-    ensures left { room_of (vec_capacity entries.old - length entries.old.items) (spare positions.old) (spare totals.old) (heap_capacity undue.old - heap_len undue.old) ≤ room_of (vec_capacity entries.new - length entries.new.items) (spare positions.new) (spare totals.new) (heap_capacity undue.new - heap_len undue.new) }
+    ensures none { OnErr result (room_of (vec_capacity entries.old - length entries.old.items) positions.old.room (spare totals.old) (heap_capacity undue.old - heap_len undue.old) ≡ 0) }
+    ensures left { room_of (vec_capacity entries.old - length entries.old.items) positions.old.room (spare totals.old) (heap_capacity undue.old - heap_len undue.old) ≤ room_of (vec_capacity entries.new - length entries.new.items) positions.new.room (spare totals.new) (heap_capacity undue.new - heap_len undue.new) }
 {
     entries.reserve(1)?;
-    positions.reserve(2)?;
+    positions.reserve()?;
     totals.reserve(1)?;
     undue.reserve(1)
 }
@@ -140,8 +134,7 @@ impl NetBook {
     {
         NetBook {
             entries: Vec::new(alloc),
-            positions: IndexMap::new(alloc),
-            order: Vec::new(alloc),
+            positions: Positions::new(alloc),
             totals: HashMap::new(alloc),
             undue: BinaryHeap::new(alloc),
         }
@@ -196,7 +189,7 @@ impl NetBook {
     {
         let _quantity = trade.quantity.shares();
         let waiting = waiting_of(trade);
-        name_trade(&mut self.positions, &waiting);
+        self.positions.name_trade(&waiting);
         name_issue(&mut self.totals, trade.issue);
         enter(&mut self.undue, waiting);
         write(&mut self.entries, NetEntry::Accepted(*trade));
@@ -289,7 +282,7 @@ impl NetBook {
         ensures same { self.new.history ≡ self.old.history }
         ensures left { self.old.room ≤ self.new.room }
     {
-        put_in_order(&self.positions, &mut self.order);
+        self.positions.put_in_order();
     }
 
     /// The position of a member in an issue: bought less sold over the due trades, and settlements.
@@ -297,7 +290,7 @@ impl NetBook {
         ensures value { result ≡ position_of self.now.history member issue }
         ensures lawful { IsBook self.now.history }
     {
-        i128::from(position_at(&self.positions, member, issue).shares)
+        i128::from(self.positions.position(member, issue).shares)
     }
 
     /// The positions other than 0, by issue, then member.
@@ -306,7 +299,7 @@ impl NetBook {
     pub fn rows(&self) -> Result<Vec<PositionRow>, AllocError>
         ensures { IfOk result (λ rows. rows.items ≡ rows_of self.now.history) }
     {
-        position_rows(*self.entries.allocator(), &self.positions, &self.order)
+        self.positions.rows(*self.entries.allocator())
     }
 
     /// The positions other than 0 in an issue, by member.
@@ -316,12 +309,7 @@ impl NetBook {
     pub fn rows_in(&self, issue: Cusip) -> Result<Vec<PositionRow>, AllocError>
         ensures { IfOk result (λ rows. rows.items ≡ filter (is_row_in issue) (rows_of self.now.history)) }
     {
-        position_rows_in(
-            *self.entries.allocator(),
-            &self.positions,
-            &self.order,
-            issue,
-        )
+        self.positions.rows_in(*self.entries.allocator(), issue)
     }
 
     /// The positions other than 0 that `net` of a date would leave, by issue, then member.
@@ -331,8 +319,9 @@ impl NetBook {
         if !has_due(&self.undue, day) {
             return self.rows();
         }
-        let after = positions_after(&self.positions, self.undue.as_slice(), day)?;
-        position_rows(*self.entries.allocator(), &after, &self.order)
+        let mut after = self.positions.copy()?;
+        after.add_due(self.undue.as_slice(), day, Change::Add);
+        after.rows_by(*self.entries.allocator(), &self.positions)
     }
 
     /// The positions other than 0 that `net` of a date would leave, by issue, then member, as `rows_at`
@@ -347,9 +336,10 @@ impl NetBook {
         if !has_due(&self.undue, day) {
             return self.rows();
         }
-        add_due(&mut self.positions, self.undue.as_slice(), day);
-        let rows = position_rows(*self.entries.allocator(), &self.positions, &self.order);
-        take_due(&mut self.positions, self.undue.as_slice(), day);
+        let undue = self.undue.as_slice();
+        self.positions.add_due(undue, day, Change::Add);
+        let rows = self.positions.rows(*self.entries.allocator());
+        self.positions.add_due(undue, day, Change::TakeBack);
         rows
     }
 
@@ -362,9 +352,10 @@ impl NetBook {
         ensures count { result ≡ count_by (T.passing test.now) (rows_of (Netted day ∷ self.old.history)) }
         ensures same { self.new ≡ self.old }
     {
-        add_due(&mut self.positions, self.undue.as_slice(), day);
-        let count = count_rows(&self.positions, test);
-        take_due(&mut self.positions, self.undue.as_slice(), day);
+        let undue = self.undue.as_slice();
+        self.positions.add_due(undue, day, Change::Add);
+        let count = self.positions.count_rows(test);
+        self.positions.add_due(undue, day, Change::TakeBack);
         count
     }
 

@@ -5,10 +5,9 @@ ghost use Rattle.cns_netting.specs.declared.entry.NetEntry.{NetEntry};
 ghost use Rattle.cns_netting.specs.declared.position.PositionRow.{PositionRow};
 
 use crate::position::PositionRow;
-use crate::positions::Position;
+use crate::positions::{Position, Positions};
 use crate::rows::row_of;
 use cns_ids::Holding;
-use indexmap::IndexMap;
 
 /// A test of positions, each by itself.
 pub trait RowTest {
@@ -30,17 +29,19 @@ fn counts<T: RowTest>(test: &T, holding: &Holding, position: &Position) -> bool
     }
 }
 
-/// How many of the positions other than 0 pass a test. It takes no memory.
-pub(crate) fn count_rows<T: RowTest>(all: &IndexMap<Holding, Position>, test: &T) -> usize
-    ensures { (h : List NetEntry) → ArePositionsOf all.now h → result ≡ count_by (T.passing test.now) (rows_of h) }
-{
-    // No more of them pass than there are.
-    let _most = all.len();
-    let mut count = 0;
-    for (holding, position) in all {
-        if counts(test, holding, position) {
-            count += 1;
+impl Positions {
+    /// How many of the positions other than 0 pass a test. It takes no memory.
+    pub(crate) fn count_rows<T: RowTest>(&self, test: &T) -> usize
+        ensures { (h : List NetEntry) → ArePositionsOf self.now.entries h → result ≡ count_by (T.passing test.now) (rows_of h) }
+    {
+        // No more of them pass than there are.
+        let _most = self.all.len();
+        let mut count = 0;
+        for (holding, position) in &self.all {
+            if counts(test, holding, position) {
+                count += 1;
+            }
         }
+        count
     }
-    count
 }

@@ -1,19 +1,17 @@
-ghost use Rattle.std.specs.Prelude.{◌≡◌, ℕ, ◌+◌, ◌*◌, ◌^◌, ◌<◌, ◌≤◌, All, false, filter, IfOk, nat_lt, sum_by};
-ghost use Rattle.std.specs.HashMap.{keys, spare};
+ghost use Rattle.std.specs.Prelude.{◌≡◌, ℕ, ◌<◌, All, false, filter, nat_lt, sum_by};
 ghost use Rattle.std.specs.BinaryHeap.{heap_items, IsHeap};
 ghost use Rattle.std.specs.List.Sorted.{IsPermutation};
-ghost use Rattle.cns_netting.specs.Positions.{bought_by, credit_in, debit_in, IsNamed, sold_by};
-ghost use Rattle.cns_netting.specs.Totals.{AreTotalsOf, HasIssue};
+ghost use Rattle.cns_netting.specs.Positions.{Adds, bought_in, brought_due, IsNamed, sold_in, StayNear, taken_due};
+ghost use Rattle.cns_netting.specs.Totals.{AreTotalsOf, HasIssue, KeepIssues};
 ghost use Rattle.cns_netting.specs.Undue.{earlier, if_left, if_settled, waiting_of};
+ghost use Rattle.cns_netting.specs.declared.undue.Change.TheVariants.{Add};
 ghost use Rattle.cns_netting.specs.declared.undue.Undue.{Undue};
 
-use crate::positions::{Position, add_trade, take_trade};
+use crate::positions::Positions;
 use crate::totals::{Totals, add_trade_counted};
-use crate::undue::Undue;
-use cns_ids::{Cusip, Day, Holding};
+use crate::undue::{Change, Undue};
+use cns_ids::{Cusip, Day};
 use cns_trades::Trade;
-use indexmap::IndexMap;
-use std::alloc::AllocError;
 use std::collections::{BinaryHeap, HashMap};
 
 /// What netting needs of a trade.
@@ -43,22 +41,19 @@ pub(crate) fn has_due(undue: &BinaryHeap<Undue>, day: Day) -> bool
 // Counts the trades that settle by a day, and answers how many. Whichever of them are counted, no
 // position is further than 3 * 10^18 shares from 0.
 fn add_due_counted(
-    positions: &mut IndexMap<Holding, Position>,
+    positions: &mut Positions,
     totals: &mut HashMap<Cusip, Totals>,
     undue: &[Undue],
     day: Day,
 ) -> usize
-    requires named { All (IsNamed positions.old) undue.now }
+    requires named { All (IsNamed positions.old.entries) undue.now }
     requires issues { All (HasIssue totals.old) undue.now }
-    requires long { (m i : ℕ) → credit_in positions.old m i + sum_by (if_settled day (bought_by m i)) undue.now ≤ debit_in positions.old m i + 3 * 10 ^ 18 }
-    requires short { (m i : ℕ) → debit_in positions.old m i + sum_by (if_settled day (sold_by m i)) undue.now ≤ credit_in positions.old m i + 3 * 10 ^ 18 }
-    requires totals { AreTotalsOf totals.old positions.old }
+    requires near { StayNear (brought_due Add day undue.now) (taken_due Add day undue.now) positions.old.entries }
+    requires totals { AreTotalsOf totals.old positions.old.entries }
     ensures count { result ≡ sum_by (if_settled day (λ _. 1)) undue.now }
-    ensures balance { (m i : ℕ) → credit_in positions.new m i + (debit_in positions.old m i + sum_by (if_settled day (sold_by m i)) undue.now) ≡ debit_in positions.new m i + (credit_in positions.old m i + sum_by (if_settled day (bought_by m i)) undue.now) }
-    ensures named { All (IsNamed positions.new) undue.now }
-    ensures issues { All (HasIssue totals.new) undue.now }
-    ensures totals { AreTotalsOf totals.new positions.new }
-    ensures keys { keys positions.new ≡ keys positions.old }
+    ensures adds { Adds (brought_due Add day undue.now) (taken_due Add day undue.now) positions.old.entries positions.new.entries }
+    ensures issues { KeepIssues totals.old totals.new }
+    ensures totals { AreTotalsOf totals.new positions.new.entries }
 {
     let mut count = 0;
     for trade in undue {
@@ -82,25 +77,22 @@ fn retain_later(undue: &mut BinaryHeap<Undue>, day: Day)
 /// position is further than 3 * 10^18 shares from 0.
 pub(crate) fn make_due(
     undue: &mut BinaryHeap<Undue>,
-    positions: &mut IndexMap<Holding, Position>,
+    positions: &mut Positions,
     totals: &mut HashMap<Cusip, Totals>,
     day: Day,
 ) -> usize
     requires heap { IsHeap earlier (heap_items undue.old) }
-    requires named { All (IsNamed positions.old) (heap_items undue.old) }
+    requires named { All (IsNamed positions.old.entries) (heap_items undue.old) }
     requires issues { All (HasIssue totals.old) (heap_items undue.old) }
-    requires long { (m i : ℕ) → credit_in positions.old m i + sum_by (bought_by m i) (heap_items undue.old) ≤ debit_in positions.old m i + 3 * 10 ^ 18 }
-    requires short { (m i : ℕ) → debit_in positions.old m i + sum_by (sold_by m i) (heap_items undue.old) ≤ credit_in positions.old m i + 3 * 10 ^ 18 }
-    requires totals { AreTotalsOf totals.old positions.old }
+    requires near { StayNear (bought_in (heap_items undue.old)) (sold_in (heap_items undue.old)) positions.old.entries }
+    requires totals { AreTotalsOf totals.old positions.old.entries }
     ensures heap { IsHeap earlier (heap_items undue.new) }
     ensures left { (f : Undue → ℕ) → sum_by f (heap_items undue.new) ≡ sum_by (if_left day f) (heap_items undue.old) }
-    ensures count { result + sum_by (λ _. 1) (heap_items undue.new) ≡ sum_by (λ _. 1) (heap_items undue.old) }
-    ensures balance { (m i : ℕ) → credit_in positions.new m i + sum_by (bought_by m i) (heap_items undue.new) + (debit_in positions.old m i + sum_by (sold_by m i) (heap_items undue.old))
-        ≡ debit_in positions.new m i + sum_by (sold_by m i) (heap_items undue.new) + (credit_in positions.old m i + sum_by (bought_by m i) (heap_items undue.old)) }
-    ensures named { All (IsNamed positions.new) (heap_items undue.new) }
+    ensures count { result ≡ sum_by (if_settled day (λ _. 1)) (heap_items undue.old) }
+    ensures adds { Adds (brought_due Add day (heap_items undue.old)) (taken_due Add day (heap_items undue.old)) positions.old.entries positions.new.entries }
+    ensures named { All (IsNamed positions.new.entries) (heap_items undue.new) }
     ensures issues { All (HasIssue totals.new) (heap_items undue.new) }
-    ensures totals { AreTotalsOf totals.new positions.new }
-    ensures keys { keys positions.new ≡ keys positions.old }
+    ensures totals { AreTotalsOf totals.new positions.new.entries }
 {
     if !has_due(undue, day) {
         return 0;
@@ -110,66 +102,21 @@ pub(crate) fn make_due(
     count
 }
 
-// A copy of the positions.
-fn copy_of(
-    positions: &IndexMap<Holding, Position>,
-) -> Result<IndexMap<Holding, Position>, AllocError>
-    ensures { IfOk result (λ copy. copy.entries ≡ positions.now.entries) }
-{
-    positions.clone()
-}
-
-/// Adds to the positions what those of the trades bring and take that settle by a day. It takes no
-/// memory. Whichever of them are added, no position is further than 3 * 10^18 shares from 0.
-pub(crate) fn add_due(positions: &mut IndexMap<Holding, Position>, undue: &[Undue], day: Day)
-    requires named { All (IsNamed positions.old) undue.now }
-    requires long { (m i : ℕ) → credit_in positions.old m i + sum_by (if_settled day (bought_by m i)) undue.now ≤ debit_in positions.old m i + 3 * 10 ^ 18 }
-    requires short { (m i : ℕ) → debit_in positions.old m i + sum_by (if_settled day (sold_by m i)) undue.now ≤ credit_in positions.old m i + 3 * 10 ^ 18 }
-    ensures balance { (m i : ℕ) → credit_in positions.new m i + (debit_in positions.old m i + sum_by (if_settled day (sold_by m i)) undue.now) ≡ debit_in positions.new m i + (credit_in positions.old m i + sum_by (if_settled day (bought_by m i)) undue.now) }
-    ensures keys { keys positions.new ≡ keys positions.old }
-    ensures spare { spare positions.new ≡ spare positions.old }
-{
-    let mut left = undue;
-    while let Some((first, rest)) = left.split_first() {
-        if first.settle <= day {
-            add_trade(positions, first);
+impl Positions {
+    /// Adds to the positions what those of the trades bring and take that settle by a day, or takes it
+    /// back. It takes no memory. Whichever of them are added, no position is further than 3 * 10^18
+    /// shares from 0.
+    #[inline(always)]
+    pub(crate) fn add_due(&mut self, undue: &[Undue], day: Day, change: Change)
+        requires named { All (IsNamed self.old.entries) undue.now }
+        requires near { StayNear (brought_due change day undue.now) (taken_due change day undue.now) self.old.entries }
+        ensures adds { Adds (brought_due change day undue.now) (taken_due change day undue.now) self.old.entries self.new.entries }
+        ensures room { self.new.room ≡ self.old.room }
+    {
+        for one in undue {
+            if one.settle <= day {
+                self.add_trade(one, change);
+            }
         }
-        left = rest;
     }
-}
-
-/// Takes back what `add_due` of the same trades and day adds.
-pub(crate) fn take_due(positions: &mut IndexMap<Holding, Position>, undue: &[Undue], day: Day)
-    requires named { All (IsNamed positions.old) undue.now }
-    requires long { (m i : ℕ) → credit_in positions.old m i + sum_by (if_settled day (sold_by m i)) undue.now ≤ debit_in positions.old m i + 3 * 10 ^ 18 }
-    requires short { (m i : ℕ) → debit_in positions.old m i + sum_by (if_settled day (bought_by m i)) undue.now ≤ credit_in positions.old m i + 3 * 10 ^ 18 }
-    ensures balance { (m i : ℕ) → credit_in positions.new m i + (debit_in positions.old m i + sum_by (if_settled day (bought_by m i)) undue.now) ≡ debit_in positions.new m i + (credit_in positions.old m i + sum_by (if_settled day (sold_by m i)) undue.now) }
-    ensures keys { keys positions.new ≡ keys positions.old }
-    ensures spare { spare positions.new ≡ spare positions.old }
-{
-    let mut left = undue;
-    while let Some((one, rest)) = left.split_first() {
-        if one.settle <= day {
-            take_trade(positions, one);
-        }
-        left = rest;
-    }
-}
-
-/// The positions as after a netting of a day. Whichever trades are due by then, none is further than
-/// 3 * 10^18 shares from 0.
-pub(crate) fn positions_after(
-    positions: &IndexMap<Holding, Position>,
-    undue: &[Undue],
-    day: Day,
-) -> Result<IndexMap<Holding, Position>, AllocError>
-    requires named { All (IsNamed positions.now) undue.now }
-    requires long { (m i : ℕ) → credit_in positions.now m i + sum_by (if_settled day (bought_by m i)) undue.now ≤ debit_in positions.now m i + 3 * 10 ^ 18 }
-    requires short { (m i : ℕ) → debit_in positions.now m i + sum_by (if_settled day (sold_by m i)) undue.now ≤ credit_in positions.now m i + 3 * 10 ^ 18 }
-    ensures balance { IfOk result (λ after. (m i : ℕ) → credit_in after m i + (debit_in positions.now m i + sum_by (if_settled day (sold_by m i)) undue.now) ≡ debit_in after m i + (credit_in positions.now m i + sum_by (if_settled day (bought_by m i)) undue.now)) }
-    ensures keys { IfOk result (λ after. keys after ≡ keys positions.now) }
-{
-    let mut after = copy_of(positions)?;
-    add_due(&mut after, undue, day);
-    Ok(after)
 }

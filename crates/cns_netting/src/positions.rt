@@ -1,14 +1,15 @@
-ghost use Rattle.std.specs.Prelude.{◌≡◌, ℕ, ◌+◌, ◌*◌, ◌^◌, ◌≤◌, ◌<◌, ◌&&◌, ◌==◌, IsSome, List, OnErr, OnOk, length, slice_get, take, if◌then◌else◌};
-ghost use Rattle.std.specs.HashMap.{get, keys, spare};
+ghost use Rattle.std.specs.Prelude.{◌≡◌, ◌+◌, ◌*◌, ◌^◌, ◌%◌, ◌++◌, ◌≤◌, ◌<◌, [], IfOk, IsOk, IsSome, OnErr, OnOk, length, map, List, ℕ, slice_get, take};
+ghost use Rattle.std.specs.Map.{keys_of, lookup};
 ghost use Rattle.std.specs.List.Sorted.{IsPermutation};
 ghost use Rattle.cns_ids.specs.Holding.{holding_at, holding_eq};
 ghost use Rattle.cns_netting.specs.History.{credit_part, debit_part};
-ghost use Rattle.cns_netting.specs.Positions.{bought_by, credit_in, debit_in, AreOfMembers, ArePlacesInOrder, IsNamed, places_below, sold_by};
+ghost use Rattle.cns_netting.specs.Positions.{Adds, ArePlacesInOrder, brought_by, IsNamed, no_shares, placed_at, places_below, position_among, shares_only_at, StayNear, taken_by};
 
-use crate::undue::Undue;
+use crate::undue::{Change, Undue};
 use cns_ids::{Cusip, Holding, MemberNo};
 use indexmap::IndexMap;
-use std::alloc::AllocError;
+use std::alloc::{AllocError, Global};
+use std::marker::Model;
 
 // How many places are told apart by 32 bits.
 const MOST_PLACES: usize = 0x1_0000_0000;
@@ -55,190 +56,262 @@ impl Position {
     }
 }
 
-/// The position of a member in an issue.
-pub(crate) fn position_at(
-    positions: &IndexMap<Holding, Position>,
-    member: MemberNo,
-    issue: Cusip,
-) -> Position
-    ensures credit { credit_part result.shares ≡ credit_in positions.now member issue }
-    ensures debit { debit_part result.shares ≡ debit_in positions.now member issue }
-{
-    match positions.get(&Holding { issue, member }) {
-        Some(position) => *position,
-        None => Position { shares: 0 },
-    }
+/// The position of each holding that is named, and the places of the first holdings in order.
+///
+/// Contracts see the holdings with their positions, in the order in which they were named, and for how
+/// many more there is room. `order` has the places of the first ones, by issue, then member; those named
+/// since stand behind them.
+#[derive(Drop)]
+pub(crate) struct Positions {
+    pub(crate) all: IndexMap<Holding, Position>,
+    pub(crate) order: Vec<u32>,
 }
 
-// Names a holding, for which there is room: as one of no shares where it was not named.
-fn name(positions: &mut IndexMap<Holding, Position>, member: MemberNo, issue: Cusip)
-    requires { 0 < spare positions.old }
-    ensures credit { (m i : ℕ) → credit_in positions.new m i ≡ credit_in positions.old m i }
-    ensures debit { (m i : ℕ) → debit_in positions.new m i ≡ debit_in positions.old m i }
-    ensures named { IsSome (get holding_eq positions.new (holding_at issue member)) }
-    ensures still { (k : Holding) → IsSome (get holding_eq positions.old k) → IsSome (get holding_eq positions.new k) }
-    ensures members { AreOfMembers positions.old → AreOfMembers positions.new }
-    ensures order { (order : List ℕ) → ArePlacesInOrder order positions.old → ArePlacesInOrder order positions.new }
-    ensures left { spare positions.old ≤ spare positions.new + 1 }
-{
-    let Ok(entry) = positions.entry(Holding { issue, member }) else {
-        unreachable!()
-    };
-    entry.or_insert(Position { shares: 0 });
-}
+impl Model for Positions {
+    ghost use Rattle.std.specs.HashMap.{spare};
+    ghost use Rattle.cns_netting.specs.Positions.{AreListed, Holdings};
 
-/// Adds shares for a holding, and against it. Where it was not named it is named first, as one of no
-/// shares: for that there is room. Answers its position as it was.
-pub(crate) fn enter(
-    positions: &mut IndexMap<Holding, Position>,
-    member: MemberNo,
-    issue: Cusip,
-    credit: u64,
-    debit: u64,
-) -> Position
-    requires room { 0 < spare positions.old }
-    requires long { credit_in positions.old member issue + credit ≤ debit_in positions.old member issue + 3 * 10 ^ 18 }
-    requires short { debit_in positions.old member issue + debit ≤ credit_in positions.old member issue + 3 * 10 ^ 18 }
-    ensures balance { (m i : ℕ) → credit_in positions.new m i + (debit_in positions.old m i + (if (member == m) && (issue == i) then debit else 0))
-        ≡ debit_in positions.new m i + (credit_in positions.old m i + (if (member == m) && (issue == i) then credit else 0)) }
-    ensures still { (k : Holding) → IsSome (get holding_eq positions.old k) → IsSome (get holding_eq positions.new k) }
-    ensures members { AreOfMembers positions.old → AreOfMembers positions.new }
-    ensures order { (order : List ℕ) → ArePlacesInOrder order positions.old → ArePlacesInOrder order positions.new }
-    ensures credit_was { credit_part result.shares ≡ credit_in positions.old member issue }
-    ensures debit_was { debit_part result.shares ≡ debit_in positions.old member issue }
-{
-    let Ok(entry) = positions.entry(Holding { issue, member }) else {
-        unreachable!()
-    };
-    let entered = entry.or_insert(Position { shares: 0 });
-    let was = *entered;
-    *entered = was.with(credit, debit);
-    was
+    ghost Value = { Holdings };
+
+    ghost view = { λ p. record { entries = p.all.entries; room = spare p.all } };
+
+    ghost invariant = { λ p. AreListed p.all.entries p.order.items };
 }
 
 /// The holding in a place, where one is named there.
-pub(crate) fn holding_in(positions: &IndexMap<Holding, Position>, place: u32) -> Option<Holding>
-    ensures { result ≡ slice_get (keys positions.now) place }
+pub(crate) fn holding_in(all: &IndexMap<Holding, Position>, place: u32) -> Option<Holding>
+    ensures { result ≡ slice_get (keys_of all.now.entries) place }
 {
-    let (holding, _) = positions.get_index(place as usize)?;
+    let (holding, _) = all.get_index(place as usize)?;
     Some(*holding)
 }
 
-// Adds the places behind those in order, up to an end.
-fn add_places(order: &mut Vec<u32>, end: usize) -> Result<(), AllocError>
-    requires len { length order.old.items ≤ end }
-    requires most { end ≤ 2 ^ 32 }
-    requires each { IsPermutation (places_below (length order.old.items)) order.old.items }
-    ensures each { OnOk result (IsPermutation (places_below end) order.new.items) }
-    ensures len { OnOk result (length order.new.items ≡ end) }
+// A place by the holding in it, as one number: its issue, then its member, then the place.
+fn placed(holding: &Holding, place: usize) -> u128
+    requires { place < 2 ^ 32 }
+    ensures { result % 2 ^ 32 ≡ place }
+{
+    let holding = u128::from(holding.issue.word()) * 16384 + u128::from(holding.member.number());
+    holding * 4294967296 + place as u128
+}
+
+// The place in such a number.
+fn place_of(placed: u128) -> u32
+    ensures { result ≡ placed % 2 ^ 32 }
+{
+    (placed % 4294967296) as u32
+}
+
+// The places of the holdings from one on, each by its holding.
+fn placed_from(
+    alloc: Global,
+    all: &IndexMap<Holding, Position>,
+    first: usize,
+) -> Result<Vec<u128>, AllocError>
+    requires first { first ≤ length all.now.entries }
+    requires most { length all.now.entries ≤ 2 ^ 32 }
+    ensures each { IfOk result (λ placed. (order : List ℕ) → IsPermutation (places_below first) order
+        → IsPermutation (places_below (length all.now.entries)) (order ++ map placed_at placed.items)) }
+{
+    let count = all.len();
+    let mut list = Vec::with_capacity(alloc, count - first)?;
+    for place in first..count {
+        let Some((holding, _)) = all.get_index(place) else {
+            unreachable!()
+        };
+        list.push_reserved(placed(holding, place));
+    }
+    Ok(list)
+}
+
+// Adds the places in some numbers, in their order.
+fn push_places(order: &mut Vec<u32>, placed: &[u128]) -> Result<(), AllocError>
+    ensures pushed { OnOk result (order.new.items ≡ order.old.items ++ map placed_at placed.now) }
     ensures kept { take (length order.old.items) order.new.items ≡ order.old.items }
 {
-    let first = order.len();
-    order.reserve(end - first)?;
-    for place in first..end {
-        order.push_reserved(place as u32);
+    order.reserve(placed.len())?;
+    for one in placed {
+        order.push_reserved(place_of(*one));
     }
     Ok(())
 }
 
-// Puts the places of all holdings into order. Without memory for it, those that were in order may have
-// others behind them.
-fn sort_places(
-    positions: &IndexMap<Holding, Position>,
-    order: &mut Vec<u32>,
-) -> Result<(), AllocError>
-    requires before { ArePlacesInOrder order.old.items positions.now }
-    requires most { length positions.now.entries ≤ 2 ^ 32 }
-    ensures ok { OnOk result (ArePlacesInOrder order.new.items positions.now) }
-    ensures err { OnErr result (take (length order.old.items) order.new.items ≡ order.old.items) }
+// Adds the places behind those in order, by the holdings in them: a sort of numbers costs less than one that looks
+// each holding up.
+fn add_places(all: &IndexMap<Holding, Position>, order: &mut Vec<u32>) -> Result<(), AllocError>
+    requires len { length order.old.items ≤ length all.now.entries }
+    requires most { length all.now.entries ≤ 2 ^ 32 }
+    requires each { IsPermutation (places_below (length order.old.items)) order.old.items }
+    ensures each { OnOk result (IsPermutation (places_below (length all.now.entries)) order.new.items) }
+    ensures kept { take (length order.old.items) order.new.items ≡ order.old.items }
 {
-    add_places(order, positions.len())?;
-    order.sort_by_key(|place| holding_in(positions, *place))
+    let mut behind = placed_from(*order.allocator(), all, order.len())?;
+    behind.sort_unstable();
+    push_places(order, behind.as_slice())
 }
 
-/// Puts the places of all holdings into order. Where there is no memory for it the order stays as it was.
-pub(crate) fn put_in_order(positions: &IndexMap<Holding, Position>, order: &mut Vec<u32>)
-    requires { ArePlacesInOrder order.old.items positions.now }
-    ensures { ArePlacesInOrder order.new.items positions.now }
+// Puts the places of all holdings into order. Without memory for it, those that were in order may have
+// others behind them.
+fn sort_places(all: &IndexMap<Holding, Position>, order: &mut Vec<u32>) -> Result<(), AllocError>
+    requires before { ArePlacesInOrder order.old.items all.now.entries }
+    requires most { length all.now.entries ≤ 2 ^ 32 }
+    ensures ok { OnOk result (ArePlacesInOrder order.new.items all.now.entries) }
+    ensures err { OnErr result (take (length order.old.items) order.new.items ≡ order.old.items) }
+{
+    add_places(all, order)?;
+    order.sort_by_key(|place| holding_in(all, *place))
+}
+
+// Puts the places of all holdings into order. Where there is no memory for it the order stays as it was.
+fn order_places(all: &IndexMap<Holding, Position>, order: &mut Vec<u32>)
+    requires { ArePlacesInOrder order.old.items all.now.entries }
+    ensures { ArePlacesInOrder order.new.items all.now.entries }
 {
     let known = order.len();
-    let all = positions.len();
-    if known == all || all > MOST_PLACES {
+    let count = all.len();
+    if known == count || count > MOST_PLACES {
         return;
     }
-    if sort_places(positions, order).is_err() {
+    if sort_places(all, order).is_err() {
         order.truncate(known);
     }
 }
 
-/// Names the holdings of a trade, for which there is room.
-pub(crate) fn name_trade(positions: &mut IndexMap<Holding, Position>, trade: &Undue)
-    requires { 2 ≤ spare positions.old }
-    ensures credit { (m i : ℕ) → credit_in positions.new m i ≡ credit_in positions.old m i }
-    ensures debit { (m i : ℕ) → debit_in positions.new m i ≡ debit_in positions.old m i }
-    ensures named { IsNamed positions.new trade.now }
-    ensures still { (k : Holding) → IsSome (get holding_eq positions.old k) → IsSome (get holding_eq positions.new k) }
-    ensures members { AreOfMembers positions.old → AreOfMembers positions.new }
-    ensures order { (order : List ℕ) → ArePlacesInOrder order positions.old → ArePlacesInOrder order positions.new }
+// A copy of the positions.
+fn copy_of(all: &IndexMap<Holding, Position>) -> Result<IndexMap<Holding, Position>, AllocError>
+    ensures { IfOk result (λ copy. copy.entries ≡ all.now.entries) }
 {
-    name(positions, trade.buyer, trade.issue);
-    name(positions, trade.seller, trade.issue);
+    all.clone()
 }
 
-/// Adds shares for a named holding, and against it. Answers its position as it was.
-pub(crate) fn add(
-    positions: &mut IndexMap<Holding, Position>,
-    member: MemberNo,
-    issue: Cusip,
-    credit: u64,
-    debit: u64,
-) -> Position
-    requires named { IsSome (get holding_eq positions.old (holding_at issue member)) }
-    requires long { credit_in positions.old member issue + credit ≤ debit_in positions.old member issue + 3 * 10 ^ 18 }
-    requires short { debit_in positions.old member issue + debit ≤ credit_in positions.old member issue + 3 * 10 ^ 18 }
-    ensures balance { (m i : ℕ) → credit_in positions.new m i + (debit_in positions.old m i + (if (member == m) && (issue == i) then debit else 0))
-        ≡ debit_in positions.new m i + (credit_in positions.old m i + (if (member == m) && (issue == i) then credit else 0)) }
-    ensures named { (k : Holding) → IsSome (get holding_eq positions.old k) → IsSome (get holding_eq positions.new k) }
-    ensures keys { keys positions.new ≡ keys positions.old }
-    ensures spare { spare positions.new ≡ spare positions.old }
-    ensures credit_was { credit_part result.shares ≡ credit_in positions.old member issue }
-    ensures debit_was { debit_part result.shares ≡ debit_in positions.old member issue }
-{
-    let Some(position) = positions.get_mut(&Holding { issue, member }) else {
-        unreachable!()
-    };
-    let was = *position;
-    *position = was.with(credit, debit);
-    was
-}
+impl Positions {
+    /// No holdings, with room for none.
+    pub(crate) fn new(alloc: Global) -> Positions
+        ensures { result.entries ≡ [] }
+    {
+        Positions {
+            all: IndexMap::new(alloc),
+            order: Vec::new(alloc),
+        }
+    }
 
-/// Adds what a trade brings its buyer and takes from its seller. Neither leads further than 3 * 10^18
-/// shares from 0.
-pub(crate) fn add_trade(positions: &mut IndexMap<Holding, Position>, trade: &Undue)
-    requires named { IsNamed positions.old trade.now }
-    requires long { (m i : ℕ) → credit_in positions.old m i + bought_by m i trade.now ≤ debit_in positions.old m i + 3 * 10 ^ 18 }
-    requires short { (m i : ℕ) → debit_in positions.old m i + sold_by m i trade.now ≤ credit_in positions.old m i + 3 * 10 ^ 18 }
-    ensures balance { (m i : ℕ) → credit_in positions.new m i + (debit_in positions.old m i + sold_by m i trade.now) ≡ debit_in positions.new m i + (credit_in positions.old m i + bought_by m i trade.now) }
-    ensures named { (k : Holding) → IsSome (get holding_eq positions.old k) → IsSome (get holding_eq positions.new k) }
-    ensures keys { keys positions.new ≡ keys positions.old }
-    ensures spare { spare positions.new ≡ spare positions.old }
-{
-    let shares = trade.quantity.shares();
-    add(positions, trade.buyer, trade.issue, shares, 0);
-    add(positions, trade.seller, trade.issue, 0, shares);
-}
+    /// Takes the memory that two more holdings need.
+    #[inline(always)]
+    pub(crate) fn reserve(&mut self) -> Result<(), AllocError>
+        ensures entries { self.new.entries ≡ self.old.entries }
+        ensures room { OnOk result (2 ≤ self.new.room) }
+        ensures succeeds { 2 ≤ self.old.room → IsOk result }
+        ensures left { self.old.room ≤ self.new.room }
+    {
+        self.all.reserve(2)
+    }
 
-/// Takes back what `add_trade` of a trade adds.
-pub(crate) fn take_trade(positions: &mut IndexMap<Holding, Position>, trade: &Undue)
-    requires named { IsNamed positions.old trade.now }
-    requires long { (m i : ℕ) → credit_in positions.old m i + sold_by m i trade.now ≤ debit_in positions.old m i + 3 * 10 ^ 18 }
-    requires short { (m i : ℕ) → debit_in positions.old m i + bought_by m i trade.now ≤ credit_in positions.old m i + 3 * 10 ^ 18 }
-    ensures balance { (m i : ℕ) → credit_in positions.new m i + (debit_in positions.old m i + bought_by m i trade.now) ≡ debit_in positions.new m i + (credit_in positions.old m i + sold_by m i trade.now) }
-    ensures named { (k : Holding) → IsSome (get holding_eq positions.old k) → IsSome (get holding_eq positions.new k) }
-    ensures keys { keys positions.new ≡ keys positions.old }
-    ensures spare { spare positions.new ≡ spare positions.old }
-{
-    let shares = trade.quantity.shares();
-    add(positions, trade.buyer, trade.issue, 0, shares);
-    add(positions, trade.seller, trade.issue, shares, 0);
+    /// A copy, of which no holdings stand in order.
+    pub(crate) fn copy(&self) -> Result<Positions, AllocError>
+        ensures { IfOk result (λ copy. copy.entries ≡ self.now.entries) }
+    {
+        let all = copy_of(&self.all)?;
+        Ok(Positions {
+            all,
+            order: Vec::new(*self.order.allocator()),
+        })
+    }
+
+    /// The position of a member in an issue.
+    pub(crate) fn position(&self, member: MemberNo, issue: Cusip) -> Position
+        ensures { result ≡ position_among self.now.entries member issue }
+    {
+        match self.all.get(&Holding { issue, member }) {
+            Some(position) => *position,
+            None => Position { shares: 0 },
+        }
+    }
+
+    // Names a holding, for which there is room: as one of no shares where it was not named.
+    fn name(&mut self, member: MemberNo, issue: Cusip)
+        requires { 0 < self.old.room }
+        ensures adds { Adds no_shares no_shares self.old.entries self.new.entries }
+        ensures named { IsSome (lookup (holding_eq (holding_at issue member)) self.new.entries) }
+        ensures left { self.old.room ≤ self.new.room + 1 }
+    {
+        let Ok(entry) = self.all.entry(Holding { issue, member }) else {
+            unreachable!()
+        };
+        entry.or_insert(Position { shares: 0 });
+    }
+
+    /// Names the holdings of a trade, for which there is room.
+    pub(crate) fn name_trade(&mut self, trade: &Undue)
+        requires { 2 ≤ self.old.room }
+        ensures adds { Adds no_shares no_shares self.old.entries self.new.entries }
+        ensures named { IsNamed self.new.entries trade.now }
+    {
+        self.name(trade.buyer, trade.issue);
+        self.name(trade.seller, trade.issue);
+    }
+
+    /// Adds shares for a holding, and against it. Where it was not named it is named first, as one of no
+    /// shares: for that there is room. Answers its position as it was.
+    pub(crate) fn enter(
+        &mut self,
+        member: MemberNo,
+        issue: Cusip,
+        credit: u64,
+        debit: u64,
+    ) -> Position
+        requires room { 0 < self.old.room }
+        requires near { StayNear (shares_only_at member issue credit) (shares_only_at member issue debit) self.old.entries }
+        ensures adds { Adds (shares_only_at member issue credit) (shares_only_at member issue debit) self.old.entries self.new.entries }
+        ensures was { result ≡ position_among self.old.entries member issue }
+    {
+        let Ok(entry) = self.all.entry(Holding { issue, member }) else {
+            unreachable!()
+        };
+        let entered = entry.or_insert(Position { shares: 0 });
+        let was = *entered;
+        *entered = was.with(credit, debit);
+        was
+    }
+
+    /// Adds shares for a named holding, and against it. Answers its position as it was.
+    pub(crate) fn add(
+        &mut self,
+        member: MemberNo,
+        issue: Cusip,
+        credit: u64,
+        debit: u64,
+    ) -> Position
+        requires named { IsSome (lookup (holding_eq (holding_at issue member)) self.old.entries) }
+        requires near { StayNear (shares_only_at member issue credit) (shares_only_at member issue debit) self.old.entries }
+        ensures adds { Adds (shares_only_at member issue credit) (shares_only_at member issue debit) self.old.entries self.new.entries }
+        ensures room { self.new.room ≡ self.old.room }
+        ensures was { result ≡ position_among self.old.entries member issue }
+    {
+        let Some(position) = self.all.get_mut(&Holding { issue, member }) else {
+            unreachable!()
+        };
+        let was = *position;
+        *position = was.with(credit, debit);
+        was
+    }
+
+    /// Adds what a trade brings one member and takes from the other, or takes it back.
+    #[inline(always)]
+    pub(crate) fn add_trade(&mut self, trade: &Undue, change: Change)
+        requires named { IsNamed self.old.entries trade.now }
+        requires near { StayNear (λ m i. brought_by change m i trade.now) (λ m i. taken_by change m i trade.now) self.old.entries }
+        ensures adds { Adds (λ m i. brought_by change m i trade.now) (λ m i. taken_by change m i trade.now) self.old.entries self.new.entries }
+        ensures room { self.new.room ≡ self.old.room }
+    {
+        let shares = trade.quantity.shares();
+        self.add(trade.receiver(change), trade.issue, shares, 0);
+        self.add(trade.deliverer(change), trade.issue, 0, shares);
+    }
+
+    /// Puts the holdings into order. Where there is no memory for it they stay as they were.
+    pub(crate) fn put_in_order(&mut self)
+        ensures { self.new ≡ self.old }
+    {
+        order_places(&self.all, &mut self.order);
+    }
 }

@@ -1,18 +1,14 @@
-ghost use Rattle.std.specs.Prelude.{◌≡◌, ℕ, ◌+◌, ◌++◌, ◌<◌, ◌==◌, filter, IfOk, List, nat_le, nat_lt, None, OnOk, Some, sum_by};
-ghost use Rattle.std.specs.HashMap.{get, IsUnique};
+ghost use Rattle.std.specs.Prelude.{◌≡◌, ℕ, ◌+◌, ◌++◌, ◌<◌, ◌==◌, filter, IfOk, nat_le, nat_lt, None, OnOk, Some, sum_by};
 ghost use Rattle.std.specs.List.{filter_map};
+ghost use Rattle.std.specs.Map.{keys_of};
 ghost use Rattle.std.specs.List.Sorted.{IsNonDecreasingBy};
 ghost use Rattle.std.specs.Option.{option_to_list};
-ghost use Rattle.cns_ids.specs.Holding.{holding_eq};
-ghost use Rattle.cns_ids.specs.declared.holding.Holding.{Holding};
-ghost use Rattle.cns_netting.specs.Rows.{is_row_in, rows_of};
-ghost use Rattle.cns_netting.specs.Positions.{AreInOrder, AreOfMembers, ArePlacesInOrder, ArePositionsOf, holdings_up_to, issue_in, row_if, row_in_place, row_part};
-ghost use Rattle.cns_netting.specs.declared.entry.NetEntry.{NetEntry};
+ghost use Rattle.cns_netting.specs.Rows.{is_row_in};
+ghost use Rattle.cns_netting.specs.Positions.{AreInOrder, ArePlacesInOrder, AreRowsOf, HaveRowsOf, IsFrontOf, issue_in, row_if, row_in_place, row_part};
 ghost use Rattle.cns_netting.specs.declared.position.PositionRow.{PositionRow};
-ghost use Rattle.cns_netting.specs.declared.positions.Position.{Position};
 
 use crate::position::PositionRow;
-use crate::positions::{Position, holding_in, position_at};
+use crate::positions::{Position, Positions, holding_in};
 use cns_ids::{Cusip, Holding, MemberNo};
 use indexmap::IndexMap;
 use indexmap::map::Slice;
@@ -107,7 +103,7 @@ fn put_places(
 
 // Whether the holding in a place is of an earlier issue.
 fn is_before(all: &IndexMap<Holding, Position>, place: u32, issue: Cusip) -> bool
-    ensures { result ≡ nat_lt (issue_in all.now issue place) issue }
+    ensures { result ≡ nat_lt (issue_in all.now.entries issue place) issue }
 {
     match holding_in(all, place) {
         Some(holding) => holding.issue < issue,
@@ -117,7 +113,7 @@ fn is_before(all: &IndexMap<Holding, Position>, place: u32, issue: Cusip) -> boo
 
 // Whether the holding in a place is of an earlier issue, or of this one.
 fn is_up_to(all: &IndexMap<Holding, Position>, place: u32, issue: Cusip) -> bool
-    ensures { result ≡ nat_le (issue_in all.now issue place) issue }
+    ensures { result ≡ nat_le (issue_in all.now.entries issue place) issue }
 {
     match holding_in(all, place) {
         Some(holding) => holding.issue <= issue,
@@ -127,32 +123,13 @@ fn is_up_to(all: &IndexMap<Holding, Position>, place: u32, issue: Cusip) -> bool
 
 // The places of the holdings of an issue.
 fn places_in<'a>(all: &IndexMap<Holding, Position>, order: &'a [u32], issue: Cusip) -> &'a [u32]
-    requires { ArePlacesInOrder order.now all.now }
-    ensures { result.now ≡ filter (λ place. issue_in all.now issue place == issue) order.now }
+    requires { ArePlacesInOrder order.now all.now.entries }
+    ensures { result.now ≡ filter (λ place. issue_in all.now.entries issue place == issue) order.now }
 {
     let first = order.partition_point(|place| is_before(all, *place, issue));
     let rest = &order[first..];
     let count = rest.partition_point(|place| is_up_to(all, *place, issue));
     &rest[..count]
-}
-
-// The rows of an issue, in any order: those of the holdings that stand in order, and of those named since.
-fn rows_by_place(
-    alloc: Global,
-    all: &IndexMap<Holding, Position>,
-    order: &[u32],
-    issue: Cusip,
-) -> Result<Vec<PositionRow>, AllocError>
-    requires { ArePlacesInOrder order.now all.now }
-    ensures unique { OnOk result (IsUnique holding_eq all.now) }
-    ensures sums { IfOk result (λ rows. (f : PositionRow → ℕ) → sum_by f rows.items
-        ≡ sum_by (λ e. row_part f (row_if (Some issue) e.0 (Some e.1))) all.now.entries) }
-{
-    let mut rows = Vec::new(alloc);
-    put_places(&mut rows, all, places_in(all, order, issue), &Some(issue))?;
-    let (_, behind) = all.as_slice().split_at(order.len());
-    put_rows(&mut rows, &behind, &Some(issue))?;
-    Ok(rows)
 }
 
 // The member after some number of members.
@@ -164,26 +141,6 @@ fn member_after(number: u16) -> MemberNo
         Some(member) => member,
         None => unreachable!(),
     }
-}
-
-// The rows of an issue, in any order, by a look-up of each member.
-#[tactic(auto, unfolding(crate::specs::Positions::holdings_up_to))]
-fn rows_of_members(
-    alloc: Global,
-    all: &IndexMap<Holding, Position>,
-    issue: Cusip,
-) -> Result<Vec<PositionRow>, AllocError>
-    ensures { IfOk result (λ rows. (f : PositionRow → ℕ) → sum_by f rows.items
-        ≡ sum_by (λ k. row_part f (row_if (Some issue) k (get holding_eq all.now k))) (holdings_up_to 9999 issue)) }
-{
-    let mut rows = Vec::new(alloc);
-    for number in 0..MEMBERS {
-        let member = member_after(number);
-        let holding = Holding { issue, member };
-        let position = position_at(all, member, issue);
-        put_row(&mut rows, &holding, &position, Some(issue))?;
-    }
-    Ok(rows)
 }
 
 /// The rows of an issue among rows that stand by issue, as those of a book do.
@@ -210,72 +167,93 @@ fn sort_rows(rows: &mut Vec<PositionRow>)
     });
 }
 
-/// The positions other than 0, by issue, then member. They need no sort where all holdings stand in
-/// order.
-pub(crate) fn position_rows(
-    alloc: Global,
-    positions: &IndexMap<Holding, Position>,
-    order: &[u32],
-) -> Result<Vec<PositionRow>, AllocError>
-    requires { ArePlacesInOrder order.now positions.now }
-    ensures { IfOk result (λ rows. (h : List NetEntry) → ArePositionsOf positions.now h → rows.items ≡ rows_of h) }
-{
-    // Room for all at once, so that no row is moved as they grow.
-    let mut rows = Vec::with_capacity(alloc, positions.len())?;
-    put_places(&mut rows, positions, order, &None)?;
-    if order.len() == positions.len() {
-        return Ok(rows);
+impl Positions {
+    // The rows of an issue, in any order: those of the holdings that stand in order, and of those named
+    // since.
+    fn rows_by_place(&self, alloc: Global, issue: Cusip) -> Result<Vec<PositionRow>, AllocError>
+        ensures { IfOk result (λ rows. HaveRowsOf (Some issue) self.now.entries rows.items) }
+    {
+        let mut rows = Vec::new(alloc);
+        let places = places_in(&self.all, &self.order, issue);
+        put_places(&mut rows, &self.all, places, &Some(issue))?;
+        let (_, behind) = self.all.as_slice().split_at(self.order.len());
+        put_rows(&mut rows, &behind, &Some(issue))?;
+        Ok(rows)
     }
-    let (_, behind) = positions.as_slice().split_at(order.len());
-    put_rows(&mut rows, &behind, &None)?;
-    sort_rows(&mut rows);
-    Ok(rows)
-}
 
-// The positions other than 0 in an issue, by member, by a look-up of each member.
-fn rows_by_member(
-    alloc: Global,
-    positions: &IndexMap<Holding, Position>,
-    issue: Cusip,
-) -> Result<Vec<PositionRow>, AllocError>
-    requires { AreOfMembers positions.now }
-    ensures { IfOk result (λ rows. (h : List NetEntry) → ArePositionsOf positions.now h → rows.items ≡ filter (is_row_in issue) (rows_of h)) }
-{
-    let mut found = rows_of_members(alloc, positions, issue)?;
-    sort_rows(&mut found);
-    Ok(found)
-}
+    // The rows of an issue, in any order, by a look-up of each member.
+    #[tactic(auto, unfolding(crate::specs::Positions::holdings_up_to))]
+    fn rows_of_members(&self, alloc: Global, issue: Cusip) -> Result<Vec<PositionRow>, AllocError>
+        ensures { IfOk result (λ rows. HaveRowsOf (Some issue) self.now.entries rows.items) }
+    {
+        // Each holding is a member's.
+        let _all = &self.all;
+        let mut rows = Vec::new(alloc);
+        for number in 0..MEMBERS {
+            let member = member_after(number);
+            let holding = Holding { issue, member };
+            let position = self.position(member, issue);
+            put_row(&mut rows, &holding, &position, Some(issue))?;
+        }
+        Ok(rows)
+    }
 
-// The positions other than 0 in an issue, by member, by the places of its holdings.
-fn rows_by_order(
-    alloc: Global,
-    positions: &IndexMap<Holding, Position>,
-    order: &[u32],
-    issue: Cusip,
-) -> Result<Vec<PositionRow>, AllocError>
-    requires { ArePlacesInOrder order.now positions.now }
-    ensures { IfOk result (λ rows. (h : List NetEntry) → ArePositionsOf positions.now h → rows.items ≡ filter (is_row_in issue) (rows_of h)) }
-{
-    let mut found = rows_by_place(alloc, positions, order, issue)?;
-    sort_rows(&mut found);
-    Ok(found)
-}
+    /// The positions other than 0, by issue, then member. The holdings of `placed` are the first ones here
+    /// too, so that its order serves: the rows need no sort where all holdings stand in it.
+    pub(crate) fn rows_by(
+        &self,
+        alloc: Global,
+        placed: &Positions,
+    ) -> Result<Vec<PositionRow>, AllocError>
+        requires { IsFrontOf (keys_of placed.now.entries) (keys_of self.now.entries) }
+        ensures { IfOk result (λ rows. AreRowsOf None self.now.entries rows.items) }
+    {
+        let count = self.all.len();
+        if count == 0 {
+            return Ok(Vec::new(alloc));
+        }
+        let order = &placed.order;
+        // Room for all at once, so that no row is moved as they grow.
+        let mut rows = Vec::with_capacity(alloc, count)?;
+        put_places(&mut rows, &self.all, order, &None)?;
+        if order.len() == count {
+            return Ok(rows);
+        }
+        let (_, behind) = self.all.as_slice().split_at(order.len());
+        put_rows(&mut rows, &behind, &None)?;
+        sort_rows(&mut rows);
+        Ok(rows)
+    }
 
-/// The positions other than 0 in an issue, by member. Where more holdings stand in no order than there
-/// are members it looks up each member, so that it costs no more than that.
-pub(crate) fn position_rows_in(
-    alloc: Global,
-    positions: &IndexMap<Holding, Position>,
-    order: &[u32],
-    issue: Cusip,
-) -> Result<Vec<PositionRow>, AllocError>
-    requires members { AreOfMembers positions.now }
-    requires order { ArePlacesInOrder order.now positions.now }
-    ensures { IfOk result (λ rows. (h : List NetEntry) → ArePositionsOf positions.now h → rows.items ≡ filter (is_row_in issue) (rows_of h)) }
-{
-    if positions.len() - order.len() > usize::from(MEMBERS) {
-        rows_by_member(alloc, positions, issue)
-    } else {
-        rows_by_order(alloc, positions, order, issue)
+    /// The positions other than 0, by issue, then member.
+    pub(crate) fn rows(&self, alloc: Global) -> Result<Vec<PositionRow>, AllocError>
+        ensures { IfOk result (λ rows. AreRowsOf None self.now.entries rows.items) }
+    {
+        self.rows_by(alloc, self)
+    }
+
+    // The rows of an issue, in any order. Where more holdings stand in no order than there are members it
+    // looks up each member, so that it costs no more than that.
+    fn rows_found(&self, alloc: Global, issue: Cusip) -> Result<Vec<PositionRow>, AllocError>
+        ensures { IfOk result (λ rows. HaveRowsOf (Some issue) self.now.entries rows.items) }
+    {
+        if self.all.len() - self.order.len() > usize::from(MEMBERS) {
+            self.rows_of_members(alloc, issue)
+        } else {
+            self.rows_by_place(alloc, issue)
+        }
+    }
+
+    /// The positions other than 0 in an issue, by member.
+    pub(crate) fn rows_in(
+        &self,
+        alloc: Global,
+        issue: Cusip,
+    ) -> Result<Vec<PositionRow>, AllocError>
+        ensures { IfOk result (λ rows. AreRowsOf (Some issue) self.now.entries rows.items) }
+    {
+        let mut found = self.rows_found(alloc, issue)?;
+        sort_rows(&mut found);
+        Ok(found)
     }
 }

@@ -1,14 +1,12 @@
-ghost use Rattle.std.specs.Prelude.{◌≡◌, ℕ, ◌+◌, ◌-◌, ◌*◌, ◌^◌, ◌<◌, ◌≤◌, ◌&&◌, ◌==◌, nat_eq, IsSome, List, if◌then◌else◌};
-ghost use Rattle.std.specs.HashMap.{get, keys, spare};
-ghost use Rattle.cns_ids.specs.Holding.{holding_at, holding_eq};
+ghost use Rattle.std.specs.Prelude.{◌≡◌, ℕ, ◌+◌, ◌<◌, nat_eq, IsSome};
+ghost use Rattle.std.specs.HashMap.{get, spare};
 ghost use Rattle.cns_netting.specs.History.{credit_part, debit_part};
-ghost use Rattle.cns_netting.specs.Positions.{AreOfMembers, ArePlacesInOrder, bought_by, credit_in, debit_in, IsNamed, sold_by};
-ghost use Rattle.cns_netting.specs.Totals.{AreTotalsOf, HasIssue, longs_in, shorts_in};
+ghost use Rattle.cns_netting.specs.Positions.{Adds, bought_by, IsNamed, shares_only_at, sold_by, StayNear};
+ghost use Rattle.cns_netting.specs.Totals.{AreTotalsOf, CanCount, HasIssue, KeepIssues, longs_in, Recounts, shorts_in};
 
-use crate::positions::{Position, add, enter};
+use crate::positions::{Position, Positions};
 use crate::undue::Undue;
-use cns_ids::{Cusip, Holding, MemberNo};
-use indexmap::IndexMap;
+use cns_ids::{Cusip, MemberNo};
 use std::collections::HashMap;
 
 /// The shares of all positions above 0 in an issue, and of all below 0, as sizes.
@@ -21,10 +19,7 @@ pub(crate) struct Totals {
 impl Totals {
     // The totals after a position among them changed.
     fn after(self, was: Position, is: Position) -> Totals
-        requires longs { credit_part was.shares ≤ self.longs }
-        requires shorts { debit_part was.shares ≤ self.shorts }
-        requires more_longs { self.longs + credit_part is.shares < 2 ^ 128 }
-        requires more_shorts { self.shorts + debit_part is.shares < 2 ^ 128 }
+        requires { CanCount self.longs self.shorts was is }
         ensures longs { result.longs + credit_part was.shares ≡ self.longs + credit_part is.shares }
         ensures shorts { result.shorts + debit_part was.shares ≡ self.shorts + debit_part is.shares }
     {
@@ -56,7 +51,7 @@ pub(crate) fn name_issue(totals: &mut HashMap<Cusip, Totals>, issue: Cusip)
     ensures longs { (i : ℕ) → longs_in totals.new i ≡ longs_in totals.old i }
     ensures shorts { (i : ℕ) → shorts_in totals.new i ≡ shorts_in totals.old i }
     ensures named { IsSome (get nat_eq totals.new issue) }
-    ensures still { (i : ℕ) → IsSome (get nat_eq totals.old i) → IsSome (get nat_eq totals.new i) }
+    ensures still { KeepIssues totals.old totals.new }
 {
     let Ok(entry) = totals.entry(issue) else {
         unreachable!()
@@ -71,13 +66,8 @@ pub(crate) fn name_issue(totals: &mut HashMap<Cusip, Totals>, issue: Cusip)
 // positions: for that there is room.
 fn recount(totals: &mut HashMap<Cusip, Totals>, issue: Cusip, was: Position, is: Position)
     requires room { 0 < spare totals.old }
-    requires longs { credit_part was.shares ≤ longs_in totals.old issue }
-    requires shorts { debit_part was.shares ≤ shorts_in totals.old issue }
-    requires more_longs { longs_in totals.old issue + credit_part is.shares < 2 ^ 128 }
-    requires more_shorts { shorts_in totals.old issue + debit_part is.shares < 2 ^ 128 }
-    ensures longs { (i : ℕ) → longs_in totals.new i + (if issue == i then credit_part was.shares else 0) ≡ longs_in totals.old i + (if issue == i then credit_part is.shares else 0) }
-    ensures shorts { (i : ℕ) → shorts_in totals.new i + (if issue == i then debit_part was.shares else 0) ≡ shorts_in totals.old i + (if issue == i then debit_part is.shares else 0) }
-    ensures still { (i : ℕ) → IsSome (get nat_eq totals.old i) → IsSome (get nat_eq totals.new i) }
+    requires count { CanCount (longs_in totals.old issue) (shorts_in totals.old issue) was is }
+    ensures { Recounts issue was is totals.old totals.new }
 {
     let Ok(entry) = totals.entry(issue) else {
         unreachable!()
@@ -93,29 +83,24 @@ fn recount(totals: &mut HashMap<Cusip, Totals>, issue: Cusip, was: Position, is:
 /// holding and the issue were not named they are named first: for that there is room. No position goes
 /// further than 3 * 10^18 shares from 0, so that the totals fit.
 pub(crate) fn enter_counted(
-    positions: &mut IndexMap<Holding, Position>,
+    positions: &mut Positions,
     totals: &mut HashMap<Cusip, Totals>,
     member: MemberNo,
     issue: Cusip,
     credit: u64,
     debit: u64,
 )
-    requires room { 0 < spare positions.old }
+    requires room { 0 < positions.old.room }
     requires issue_room { 0 < spare totals.old }
-    requires long { (m i : ℕ) → credit_in positions.old m i + (if (member == m) && (issue == i) then credit else 0) ≤ debit_in positions.old m i + 3 * 10 ^ 18 }
-    requires short { (m i : ℕ) → debit_in positions.old m i + (if (member == m) && (issue == i) then debit else 0) ≤ credit_in positions.old m i + 3 * 10 ^ 18 }
-    requires totals { AreTotalsOf totals.old positions.old }
-    ensures balance { (m i : ℕ) → credit_in positions.new m i + (debit_in positions.old m i + (if (member == m) && (issue == i) then debit else 0))
-        ≡ debit_in positions.new m i + (credit_in positions.old m i + (if (member == m) && (issue == i) then credit else 0)) }
-    ensures still { (k : Holding) → IsSome (get holding_eq positions.old k) → IsSome (get holding_eq positions.new k) }
-    ensures members { AreOfMembers positions.old → AreOfMembers positions.new }
-    ensures order { (order : List ℕ) → ArePlacesInOrder order positions.old → ArePlacesInOrder order positions.new }
-    ensures issues { (i : ℕ) → IsSome (get nat_eq totals.old i) → IsSome (get nat_eq totals.new i) }
-    ensures totals { AreTotalsOf totals.new positions.new }
+    requires near { StayNear (shares_only_at member issue credit) (shares_only_at member issue debit) positions.old.entries }
+    requires totals { AreTotalsOf totals.old positions.old.entries }
+    ensures adds { Adds (shares_only_at member issue credit) (shares_only_at member issue debit) positions.old.entries positions.new.entries }
+    ensures issues { KeepIssues totals.old totals.new }
+    ensures totals { AreTotalsOf totals.new positions.new.entries }
 {
     // The totals count the members 1 to 9999.
     let _number = member.number();
-    let was = enter(positions, member, issue, credit, debit);
+    let was = positions.enter(member, issue, credit, debit);
     let is = was.with(credit, debit);
     recount(totals, issue, was, is);
 }
@@ -123,27 +108,24 @@ pub(crate) fn enter_counted(
 /// Adds what a trade brings its buyer and takes from its seller, and counts both positions anew. No
 /// position goes further than 3 * 10^18 shares from 0, so that the totals fit.
 pub(crate) fn add_trade_counted(
-    positions: &mut IndexMap<Holding, Position>,
+    positions: &mut Positions,
     totals: &mut HashMap<Cusip, Totals>,
     trade: &Undue,
 )
-    requires named { IsNamed positions.old trade.now }
+    requires named { IsNamed positions.old.entries trade.now }
     requires issue { HasIssue totals.old trade.now }
-    requires long { (m i : ℕ) → credit_in positions.old m i + bought_by m i trade.now ≤ debit_in positions.old m i + 3 * 10 ^ 18 }
-    requires short { (m i : ℕ) → debit_in positions.old m i + sold_by m i trade.now ≤ credit_in positions.old m i + 3 * 10 ^ 18 }
-    requires totals { AreTotalsOf totals.old positions.old }
-    ensures balance { (m i : ℕ) → credit_in positions.new m i + (debit_in positions.old m i + sold_by m i trade.now) ≡ debit_in positions.new m i + (credit_in positions.old m i + bought_by m i trade.now) }
-    ensures named { (k : Holding) → IsSome (get holding_eq positions.old k) → IsSome (get holding_eq positions.new k) }
-    ensures keys { keys positions.new ≡ keys positions.old }
-    ensures issues { (i : ℕ) → IsSome (get nat_eq totals.old i) → IsSome (get nat_eq totals.new i) }
-    ensures totals { AreTotalsOf totals.new positions.new }
+    requires near { StayNear (λ m i. bought_by m i trade.now) (λ m i. sold_by m i trade.now) positions.old.entries }
+    requires totals { AreTotalsOf totals.old positions.old.entries }
+    ensures adds { Adds (λ m i. bought_by m i trade.now) (λ m i. sold_by m i trade.now) positions.old.entries positions.new.entries }
+    ensures issues { KeepIssues totals.old totals.new }
+    ensures totals { AreTotalsOf totals.new positions.new.entries }
 {
     // The totals count the members 1 to 9999.
     let _buyer = trade.buyer.number();
     let _seller = trade.seller.number();
     let shares = trade.quantity.shares();
-    let buyer_was = add(positions, trade.buyer, trade.issue, shares, 0);
-    let seller_was = add(positions, trade.seller, trade.issue, 0, shares);
+    let buyer_was = positions.add(trade.buyer, trade.issue, shares, 0);
+    let seller_was = positions.add(trade.seller, trade.issue, 0, shares);
     let Some(totals) = totals.get_mut(&trade.issue) else {
         unreachable!()
     };

@@ -1,21 +1,16 @@
-use Rattle.std.proofs.Common.{◌≡◌, ◌≤◌, arith, length}
-use Rattle.std.proofs.lemmas.List.{take-append-le}
-use Rattle.cns_netting.proofs.PlaceLemmas.{place_more}
+use Rattle.std.proofs.Common.{◌≡◌, arith, length, rules, subst, sym}
+use Rattle.std.specs.List.Sorted.{IsPermutation}
+use Rattle.std.proofs.lemmas.List.Sorted.{IsPermutation-append_right, IsPermutation-map, IsPermutation-trans}
+use Rattle.std.proofs.lemmas.Result.{on_ok_weaker}
+use Rattle.cns_netting.specs.Positions.{placed_at, places_below}
 use Rattle.cns_netting.proofs.positions.add_places.Goals as goal
-
-pub loop-place-preserved : goal.loop-place-preserved
-loop-place-preserved c =
-    let before = c.loop-place.invariant in
-    let pushed = c.push_reserved.ensures.items in
-    let within : length c.args.order.now.items ≤ length c.loop-place.order.items = omega arith in
-    record {
-      each = place_more c.loop-place.place c.loop-place.order.items c.push_reserved.new.self.items pushed before.each;
-      len = omega (arith, c.push_reserved.ensures.len, before.len);
-      kept = rw (pushed, take-append-le) before.kept;
-      room = omega (arith, c.push_reserved.ensures.capacity, before.room);
-    }
 
 pub returns-clause-each : goal.returns-clause-each
 returns-clause-each c =
-    let end : c.loop-place.place ≡ c.args.end = omega arith in
-    rw end at c.loop-place.invariant.each
+    let order = c.args.order.now.items in
+    let known : length order ≡ c.len.result = omega arith in
+    let before = subst (λ n. IsPermutation (places_below n) order) known c.requires.each in
+    let listed : c.as_slice.result.now ≡ c.sort_unstable.new.self.items = search rules in
+    let sorted = IsPermutation-append_right order _ _ (IsPermutation-map placed_at _ _ (subst (IsPermutation _) (sym listed) c.sort_unstable.ensures.permutation)) in
+    on_ok_weaker c.push_places.result (λ pushed. subst (IsPermutation (places_below _)) (sym pushed) (IsPermutation-trans _ _ _ (c.in_ok-behind.ensures.each order before) sorted))
+    c.push_places.ensures.pushed

@@ -1,7 +1,7 @@
 use Rattle.std.proofs.Common.{◌≡◌, ◌≤◌, ◌∷◌, ap, reverse, arith, subst}
+use Rattle.std.specs.BinaryHeap.{heap_items}
 use Rattle.std.specs.List.Sorted.{IsPermutation}
 use Rattle.cns_netting.specs.Positions.{IsNamed}
-use Rattle.std.specs.BinaryHeap.{heap_items}
 use Rattle.cns_netting.proofs.BookLemmas.{book_accepted}
 use Rattle.cns_netting.proofs.KeptLemmas.{kept_accepted}
 use Rattle.cns_netting.proofs.TradeLemmas.{reverse-last}
@@ -17,8 +17,6 @@ invariant_of-self c =
     let names = c.name_trade.ensures in
     let issues = c.name_issue.ensures in
     rw (c.write.ensures, reverse-last)
-    (kept_accepted h c.args.trade.now c.self.inside.positions c.name_trade.new.positions c.self.inside.totals c.name_issue.new.totals (heap_items c.self.inside.undue) (heap_items c.enter.new.undue) c.self.invariant
-    (book_accepted h c.args.trade.now c.self.invariant.book few quantity) names.credit names.debit issues.longs issues.shorts
-    (record { still = names.still; issues = issues.still; members = names.members; order = names.order })
-    (subst (IsNamed c.name_trade.new.positions) waits names.named) issues.named
+    (kept_accepted c.self.invariant c.args.trade.now (book_accepted h c.args.trade.now c.self.invariant.book few quantity) names.adds issues.longs issues.shorts issues.still
+    (subst (IsNamed c.name_trade.new.self.entries) waits names.named) issues.named
     (subst (λ t. IsPermutation (t ∷ heap_items c.self.inside.undue) (heap_items c.enter.new.undue)) waits c.enter.ensures.entered) c.enter.ensures.heap)

@@ -1,10 +1,7 @@
-use Rattle.std.proofs.Common.{◌∙◌, ap, reverse}
-use Rattle.std.specs.BinaryHeap.{heap_items}
+use Rattle.std.proofs.Common.{◌∙◌, ap}
 use Rattle.cns_netting.specs.History.{longs_of}
 use Rattle.cns_netting.proofs.KeptLemmas.{kept_longs}
 use Rattle.cns_netting.proofs.book.NetBook.longs.Goals as goal
 
 pub returns : goal.returns
-returns c =
-    c.totals_of.ensures.longs ∙ kept_longs (reverse c.self.inside.entries.items) c.self.inside.positions c.self.inside.totals (heap_items c.self.inside.undue) c.args.issue c.self.invariant
-    ∙ ap (λ b. longs_of b.history c.args.issue) c.self.view_is
+returns c = c.totals_of.ensures.longs ∙ kept_longs c.self.invariant c.args.issue ∙ ap (λ b. longs_of b.history c.args.issue) c.self.view_is
