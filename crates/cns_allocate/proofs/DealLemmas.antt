@@ -5,19 +5,29 @@ use Rattle.std.proofs.Math.Nat.{le_refl}
 use Rattle.std.proofs.lemmas.List.{append-nil}
 use Rattle.std.proofs.lemmas.List.Sums.{sum_by-append, sum_by-cons}
 use Rattle.std.proofs.lemmas.List.Sorted.{IsPermutation-append_comm, IsPermutation-cons, IsPermutation-refl, IsPermutation-trans, length_permutation, sum_by-IsPermutation}
-use Rattle.cns_allocate.specs.Serving.{every, shares_of}
+use Rattle.cns_allocate.specs.Serving.{every, places_of, shares_of}
 use Rattle.cns_allocate.specs.declared.planned.Planned.{Planned}
 
-places-step : (gap k n : ℕ) (ps : List Planned) (d : Planned) → k < length ps → n ≡ gap + 1 → every gap k ps ≡ get_or ps k d ∷ every gap (k + n) ps
-places-step gap k n [] d below is = absurd (omega arith)
-places-step gap zero n (p ∷ ps) d below is = let next : suc gap ≡ zero + n = omega arith in ap (λ (j : ℕ). p ∷ every gap j (p ∷ ps)) next
-places-step gap (suc k) n (p ∷ ps) d below is =
+-- the first of the places of which each comes after `gap` others, and the later ones
+every-step : (gap k n : ℕ) (ps : List Planned) (d : Planned) → k < length ps → n ≡ gap + 1 → every gap k ps ≡ get_or ps k d ∷ every gap (k + n) ps
+every-step gap k n [] d below is = absurd (omega arith)
+every-step gap zero n (p ∷ ps) d below is = let next : suc gap ≡ zero + n = omega arith in ap (λ (j : ℕ). p ∷ every gap j (p ∷ ps)) next
+every-step gap (suc k) n (p ∷ ps) d below is =
     let next : suc (k + n) ≡ suc k + n = omega arith in
-    places-step gap k n ps d (omega arith) is ∙ ap (λ (j : ℕ). get_or ps k d ∷ every gap j (p ∷ ps)) next
+    every-step gap k n ps d (omega arith) is ∙ ap (λ (j : ℕ). get_or ps k d ∷ every gap j (p ∷ ps)) next
 
--- the first of a worker's places, and the later ones
-pub every-step : (gap k n : ℕ) (ps : List Planned) (p : Planned) → k < length ps → n ≡ gap + 1 → p ≡ get_or ps k p → every gap k ps ≡ p ∷ every gap (k + n) ps
-every-step gap k n ps p below is at = places-step gap k n ps p below is ∙ ap (λ q. q ∷ every gap (k + n) ps) (sym at)
+-- a worker's places of a group are the one at which p stands and the later ones
+pub record IsPlaceStep (workers place : ℕ) (group : List Planned) (p : Planned) : Type 0 where
+  pub places : places_of workers place group ≡ p ∷ places_of workers (place + workers) group
+  pub shares : shares_of (places_of workers place group) ≡ p.asked + shares_of (places_of workers (place + workers) group)
+  pub calls : length (places_of workers place group) ≡ suc (length (places_of workers (place + workers) group))
+
+pub place-step : (workers place : ℕ) (group : List Planned) (p : Planned) → 0 < workers → place < length group → p ≡ get_or group place p → IsPlaceStep workers place group p
+place-step workers place group p some below is =
+    let later : List Planned = places_of workers (place + workers) group in
+    let places : places_of workers place group ≡ p ∷ later =
+    every-step (workers - 1) place workers group p below (omega arith) ∙ ap (λ (q : Planned). q ∷ later) (sym is) in
+    record { places = places; shares = ap shares_of places ∙ sum_by-cons (λ (q : Planned). q.asked) p later; calls = ap length places }
 
 -- past the group there are none
 pub every-past : (gap k : ℕ) (ps : List Planned) → length ps ≤ k → every gap k ps ≡ []
@@ -30,16 +40,6 @@ pub every-most : (gap k : ℕ) (ps : List Planned) → length (every gap k ps) �
 every-most gap k [] = omega arith
 every-most gap zero (p ∷ ps) = let rest = every-most gap gap ps in omega (arith, rest)
 every-most gap (suc k) (p ∷ ps) = let rest = every-most gap k ps in omega (arith, rest)
-
--- what the first place asks for, and the later ones
-pub shares-step : (gap k n : ℕ) (ps : List Planned) (p : Planned) → k < length ps → n ≡ gap + 1 → p ≡ get_or ps k p
-    → shares_of (every gap k ps) ≡ p.asked + shares_of (every gap (k + n) ps)
-shares-step gap k n ps p below is at =
-    ap shares_of (every-step gap k n ps p below is at) ∙ sum_by-cons (λ (q : Planned). q.asked) p (every gap (k + n) ps)
-
-pub length-step : (gap k n : ℕ) (ps : List Planned) (p : Planned) → k < length ps → n ≡ gap + 1 → p ≡ get_or ps k p
-    → length (every gap k ps) ≡ suc (length (every gap (k + n) ps))
-length-step gap k n ps p below is at = ap (λ (l : List Planned). length l) (every-step gap k n ps p below is at)
 
 -- what the first k workers have, one after another
 abbrev pub lists_of : (ℕ → List Planned) → ℕ → List Planned

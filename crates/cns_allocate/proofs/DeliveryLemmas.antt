@@ -55,26 +55,20 @@ deliveries_sum issue poured tickets chained = deliveries-tiles issue poured tick
 abbrev pub IsDeliveryWithin : ℕ → (ℕ → ℕ) → Ask → Type 0
 IsDeliveryWithin issue limit a = (a.kind ≡ Delivery) × (a.issue ≡ issue) × (a.asked ≤ limit a.member)
 
-delivery_ask-within : (issue poured : ℕ) (limit : ℕ → ℕ) (t : Ticket) → t.asked ≤ limit t.member → IfSome (delivery_ask issue poured t) (IsDeliveryWithin issue limit)
-delivery_ask-within issue poured limit t most = by (grant_of poured t == 0)
+-- what holds of the delivery of a ticket's grant
+delivery_ask-holds : (P : Ask → Type 0) (issue poured : ℕ) (t : Ticket) → P (granted_ask issue poured t) → IfSome (delivery_ask issue poured t) P
+delivery_ask-holds P issue poured t holds = by (grant_of poured t == 0)
   where
-    by : (b : Bool) → IfSome (if b then None else Some (granted_ask issue poured t)) (IsDeliveryWithin issue limit)
+    by : (b : Bool) → IfSome (if b then None else Some (granted_ask issue poured t)) P
     by true = tt
-    by false = (refl, refl, omega (arith, most))
+    by false = holds
 
 -- each is of the issue, and within what limits the member's tickets
 pub deliveries_within : (issue poured : ℕ) (tickets : List Ticket) (limit : ℕ → ℕ) → All (λ (t : Ticket). t.asked ≤ limit t.member) tickets
     → All (λ (a : Ask). (a.kind ≡ Delivery) × (a.issue ≡ issue) × (a.asked ≤ limit a.member)) (deliveries_of issue poured tickets)
 deliveries_within issue poured tickets limit most =
     All-filter_map (delivery_ask issue poured) (λ (t : Ticket). t.asked ≤ limit t.member) (IsDeliveryWithin issue limit)
-    (delivery_ask-within issue poured limit) tickets most
-
-delivery_ask-member : (issue poured member : ℕ) (t : Ticket) → IfSome (delivery_ask issue poured t) (λ (a : Ask). (a.member == member) ≡ true → (t.member == member) ≡ true)
-delivery_ask-member issue poured member t = by (grant_of poured t == 0)
-  where
-    by : (b : Bool) → IfSome (if b then None else Some (granted_ask issue poured t)) (λ (a : Ask). (a.member == member) ≡ true → (t.member == member) ≡ true)
-    by true = tt
-    by false = λ e. e
+    (λ t le. delivery_ask-holds (IsDeliveryWithin issue limit) issue poured t (refl, refl, omega (arith, le))) tickets most
 
 -- where each member has at most one ticket, it has at most one delivery
 pub deliveries_once : (issue poured : ℕ) (tickets : List Ticket) → ((member : ℕ) → count_by (λ (t : Ticket). t.member == member) tickets ≤ 1)
@@ -83,19 +77,9 @@ deliveries_once issue poured tickets once member =
     omega (
       arith,
       count_by-filter_map (delivery_ask issue poured) (λ (t : Ticket). t.member == member) (λ (a : Ask). a.member == member)
-          (delivery_ask-member issue poured member) tickets,
+          (λ t. delivery_ask-holds (λ (a : Ask). (a.member == member) ≡ true → (t.member == member) ≡ true) issue poured t (λ e. e)) tickets,
       once member,
     )
-
--- there are no more deliveries than tickets
-pub deliveries_few : (issue poured : ℕ) (tickets : List Ticket) → length (deliveries_of issue poured tickets) ≤ length tickets
-deliveries_few issue poured [] = omega arith
-deliveries_few issue poured (t ∷ ts) = by (grant_of poured t == 0) (deliveries_few issue poured ts)
-  where
-    by : (b : Bool) → length (deliveries_of issue poured ts) ≤ length ts
-        → length (cons_option (if b then None else Some (granted_ask issue poured t)) (deliveries_of issue poured ts)) ≤ length (t ∷ ts)
-    by true few = omega arith
-    by false few = omega arith
 
 -- there is one for each ticket that is granted a share
 pub deliveries_counted : (issue poured : ℕ) (tickets : List Ticket)

@@ -1,231 +1,189 @@
 -- Tickets that follow a plan by start.
-use Rattle.std.proofs.Common.{◌≡◌, ℕ, zero, suc, ◌<◌, ◌≤◌, ◌⊎◌, inl, inr, Bool, true, false, List, [], ◌∷◌, ◌++◌, length, refl, ap, arith, length-append}
-use Rattle.std.specs.Prelude.{All, AllPairs, IsPermutation}
+use Rattle.std.proofs.Common.{◌≡◌, ℕ, ◌<◌, ◌≤◌, ◌⊎◌, inl, inr, Bool, true, false, List, [], ◌∷◌, ◌++◌, length, get_or, refl, subst, ap, ◌∙◌, arith, append_assoc}
+use Rattle.std.specs.Prelude.{nat_lt, All, AllPairs, IsPermutation, insert}
+use Rattle.std.specs.List.{AllZip, prefix_len}
 use Rattle.std.specs.List.Sorted.{IsNonDecreasingBy}
-use Rattle.std.proofs.lemmas.Bool.{cases_lt}
-use Rattle.std.proofs.lemmas.List.{append-nil}
-use Rattle.std.proofs.lemmas.List.Elements.{All-append, All-cons, All-head, All-nil, All-tail, All-weaker}
-use Rattle.std.proofs.lemmas.List.Kept.{AllPairs-cons}
-use Rattle.std.proofs.lemmas.List.Sorted.{All-permutation, IsPermutation-append, IsPermutation-cons, IsPermutation-middle, IsPermutation-refl, IsPermutation-sym, IsPermutation-trans, length_permutation}
+use Rattle.std.proofs.lemmas.Bool.{cases_lt, ltb-false, ltb-true}
+use Rattle.std.proofs.lemmas.List.{append-nil, nil_from_length}
+use Rattle.std.proofs.lemmas.List.Elements.{All-weaker}
+use Rattle.std.proofs.lemmas.List.Sorted.{All-permutation, IsNonDecreasingBy-insert, IsPermutation-append, IsPermutation-append_left, IsPermutation-cons, IsPermutation-insert, IsPermutation-refl, IsPermutation-sym, IsPermutation-trans, length_permutation}
+use Rattle.std.proofs.lemmas.List.Sums.{prefix_len-le-length, prefix_len_passes, prefix_len_stops}
 use Rattle.cns_pool.specs.declared.ticket.Ticket.{Ticket}
 use Rattle.cns_allocate.specs.Group.{rank}
-use Rattle.cns_allocate.specs.Served.{AreDrawnBy, FollowPlan}
-use Rattle.cns_allocate.specs.Serving.{AreDrawnOf, FollowPlanByStart}
+use Rattle.cns_allocate.specs.Served.{AreDrawnOf, IsDrawnBy}
+use Rattle.cns_allocate.specs.Serving.{FollowPlanByStart}
 use Rattle.cns_allocate.specs.declared.planned.Planned.{Planned}
-use Rattle.cns_allocate.proofs.DrawnLemmas.{AreDrawnBy-append}
-use Rattle.cns_allocate.proofs.PlanLemmas.{IsNoLater, one_group}
-use Rattle.cns_allocate.proofs.StartLemmas.{first_start, rest_sorted}
+use Rattle.cns_allocate.proofs.DrawnLemmas.{drawn-count, drawn-none, drawn-permutation, zip-append, zip-insert}
+use Rattle.cns_allocate.proofs.PlanLemmas.{IsNoLater, one_group, pairs-append}
 
--- ---- lists by start
+-- ---- tickets by start
 
--- a ticket and later ones
-by_start-cons : (t : Ticket) (ts : List Ticket) → All (λ (u : Ticket). t.start ≤ u.start) ts → IsNonDecreasingBy (λ (u : Ticket). u.start) ts
-    → IsNonDecreasingBy (λ (u : Ticket). u.start) (t ∷ ts)
-by_start-cons t ts later sorted zero zero d le below = omega arith
-by_start-cons t ts later sorted zero (suc j) d le below = later j d (omega arith)
-by_start-cons t ts later sorted (suc i) zero d le below = absurd (omega arith)
-by_start-cons t ts later sorted (suc i) (suc j) d le below = sorted i j d (omega arith) (omega arith)
+-- a ticket starts no later than another
+abbrev StartsNoLater : Ticket → Ticket → Type 0
+StartsNoLater t u = t.start ≤ u.start
 
 -- tickets that start up to n, and then tickets from n on
 by_start-append : (n : ℕ) (ts us : List Ticket) → IsNonDecreasingBy (λ (t : Ticket). t.start) ts → All (λ (t : Ticket). t.start ≤ n) ts
     → IsNonDecreasingBy (λ (t : Ticket). t.start) us → All (λ (t : Ticket). n ≤ t.start) us → IsNonDecreasingBy (λ (t : Ticket). t.start) (ts ++ us)
-by_start-append n [] us first upto then from = then
-by_start-append n (t ∷ ts) us first upto then from =
-    let here = All-head (λ (u : Ticket). u.start ≤ n) t ts upto in
-    by_start-cons t (ts ++ us)
-    (All-append (λ (u : Ticket). t.start ≤ u.start) ts us (first_start t ts first)
-    (All-weaker (λ (u : Ticket). n ≤ u.start) (λ (u : Ticket). t.start ≤ u.start) (λ u le. omega arith) us from))
-    (by_start-append n ts us (rest_sorted t ts first) (All-tail (λ (u : Ticket). u.start ≤ n) t ts upto) then from)
-
--- the tickets by start, and those who drew them in the same order
-record AreByStart (tickets : List Ticket) (drawers : List Planned) : Type 0 where
-  sorted : List Ticket
-  order : List Planned
-  permutation : IsPermutation tickets sorted
-  same : IsPermutation drawers order
-  drawn : AreDrawnBy sorted order
-  each : length sorted ≡ length order
-  by_start : IsNonDecreasingBy (λ (t : Ticket). t.start) sorted
-
--- one element may be put behind the first
-behind_first : {X : Type 0} (x y : X) (xs ys : List X) → IsPermutation (x ∷ xs) ys → IsPermutation (x ∷ y ∷ xs) (y ∷ ys)
-behind_first x y xs ys same =
-    IsPermutation-trans (x ∷ y ∷ xs) (y ∷ x ∷ xs) (y ∷ ys) (IsPermutation-middle (x ∷ []) y xs) (IsPermutation-cons y (x ∷ xs) ys same)
-
--- a ticket finds its place among those by start
-put : (t : Ticket) (p : Planned) (ts : List Ticket) (ps : List Planned) → t.member ≡ p.member → t.asked ≡ p.asked → AreDrawnBy ts ps → length ts ≡ length ps
-    → IsNonDecreasingBy (λ (u : Ticket). u.start) ts → AreByStart (t ∷ ts) (p ∷ ps)
-put t p [] ps members asks drawn each sorted = record {
-  sorted = t ∷ [];
-  order = p ∷ ps;
-  permutation = IsPermutation-refl (t ∷ []);
-  same = IsPermutation-refl (p ∷ ps);
-  drawn = (members, asks, drawn);
-  each = ap suc each;
-  by_start = by_start-cons t [] (All-nil (λ (u : Ticket). t.start ≤ u.start)) sorted;
-}
-put t p (u ∷ us) [] members asks drawn each sorted = absurd drawn
-put t p (u ∷ us) (q ∷ qs) members asks drawn each sorted =
-    by (cases_lt u.start t.start) (put t p us qs members asks drawn.2 (omega (arith, each)) (rest_sorted u us sorted))
+by_start-append n ts us first upto then from i j d le below = by (cases_lt i j)
   where
-    by : (u.start < t.start) ⊎ (t.start ≤ u.start) → AreByStart (t ∷ us) (p ∷ qs) → AreByStart (t ∷ u ∷ us) (p ∷ q ∷ qs)
-    by (inl after) r = record {
-      sorted = u ∷ r.sorted;
-      order = q ∷ r.order;
-      permutation = behind_first t u us r.sorted r.permutation;
-      same = behind_first p q qs r.order r.same;
-      drawn = (drawn.0, drawn.1, r.drawn);
-      each = ap suc r.each;
-      by_start =
-          by_start-cons u r.sorted
-          (All-permutation (λ (v : Ticket). u.start ≤ v.start) (t ∷ us) r.sorted r.permutation
-          (All-cons (λ (v : Ticket). u.start ≤ v.start) t us (omega arith) (first_start u us sorted)))
-          r.by_start;
-    }
-    by (inr upto) r = record {
-      sorted = t ∷ u ∷ us;
-      order = p ∷ q ∷ qs;
-      permutation = IsPermutation-refl (t ∷ u ∷ us);
-      same = IsPermutation-refl (p ∷ q ∷ qs);
-      drawn = (members, asks, drawn);
-      each = ap suc each;
-      by_start =
-          by_start-cons t (u ∷ us)
-          (All-cons (λ (v : Ticket). t.start ≤ v.start) u us upto
-          (All-weaker (λ (v : Ticket). u.start ≤ v.start) (λ (v : Ticket). t.start ≤ v.start) (λ v le. omega arith) us (first_start u us sorted)))
-          sorted;
-    }
+    pairs : AllPairs StartsNoLater (ts ++ us)
+    pairs =
+        pairs-append (λ (t : Ticket). t.start) n ts us (λ k l e less within. first k l e (omega arith) within) upto (λ k l e less within. then k l e (omega arith) within) from
+
+    by : (i < j) ⊎ (j ≤ i) → (get_or (ts ++ us) i d).start ≤ (get_or (ts ++ us) j d).start
+    by (inl less) = pairs i j d less below
+    by (inr upto_i) = let same : i ≡ j = omega arith in omega (arith, ap (λ (k : ℕ). (get_or (ts ++ us) k d).start) same)
+
+-- tickets that some of the planned drew, by start
+record AreByStart (planned : List Planned) (tickets : List Ticket) : Type 0 where
+  sorted : List Ticket
+  permutation : IsPermutation tickets sorted
+  by_start : IsNonDecreasingBy (λ (t : Ticket). t.start) sorted
+  by : AreDrawnOf planned sorted
+
+-- one ticket more finds its place among them
+put : (planned : List Planned) (ts : List Ticket) (p : Planned) (t : Ticket) → IsDrawnBy t p → AreByStart planned ts → AreByStart (p ∷ planned) (t ∷ ts)
+put planned ts p t is before = record {
+  sorted = insert sorted place t;
+  permutation =
+      IsPermutation-trans (t ∷ ts) (t ∷ sorted) (insert sorted place t) (IsPermutation-cons t ts sorted before.permutation) (IsPermutation-insert sorted place t);
+  by_start =
+      IsNonDecreasingBy-insert (λ (u : Ticket). u.start) sorted place t before.by_start within
+      (λ k d below. omega (arith, ltb-true (get_or sorted k d).start t.start (prefix_len_passes is_earlier sorted k d below)))
+      (λ k d from below. omega (
+        arith,
+        before.by_start place k d from below,
+        ltb-false (get_or sorted place d).start t.start (prefix_len_stops is_earlier sorted d (omega arith)),
+      ));
+  by = record {
+    drawers = insert drawers place p;
+    others = others;
+    permutation =
+        IsPermutation-trans (insert drawers place p ++ others) (p ∷ (drawers ++ others)) (p ∷ planned)
+        (IsPermutation-append_left others (insert drawers place p) (p ∷ drawers) (IsPermutation-sym (p ∷ drawers) (insert drawers place p) (IsPermutation-insert drawers place p)))
+        (IsPermutation-cons p (drawers ++ others) planned before.by.permutation);
+    drawn = zip-insert IsDrawnBy place t p sorted drawers within is before.by.drawn;
+  };
+}
+  where
+    sorted : List Ticket
+    sorted = before.sorted
+
+    drawers : List Planned
+    drawers = before.by.drawers
+
+    others : List Planned
+    others = before.by.others
+
+    is_earlier : Ticket → Bool
+    is_earlier u = nat_lt u.start t.start
+
+    place : ℕ
+    place = prefix_len is_earlier sorted
+
+    within : place ≤ length sorted
+    within = prefix_len-le-length is_earlier sorted
 
 -- all tickets do
-sort : (ts : List Ticket) (ps : List Planned) → AreDrawnBy ts ps → length ts ≡ length ps → AreByStart ts ps
-sort [] [] drawn each = record {
+sort : (ts : List Ticket) (ps others : List Planned) → AllZip IsDrawnBy ts ps → AreByStart (ps ++ others) ts
+sort [] [] others drawn = record {
   sorted = [];
-  order = [];
   permutation = IsPermutation-refl [];
-  same = IsPermutation-refl [];
-  drawn = tt;
-  each = refl;
   by_start = λ i j d le below. absurd (omega arith);
+  by = drawn-none others;
 }
-sort [] (p ∷ ps) drawn each = absurd (omega (arith, each))
-sort (t ∷ ts) [] drawn each = absurd drawn
-sort (t ∷ ts) (p ∷ ps) drawn each =
-    let r = sort ts ps drawn.2 (omega (arith, each)) in
-    let s = put t p r.sorted r.order drawn.0 drawn.1 r.drawn r.each r.by_start in
-    record {
-      sorted = s.sorted;
-      order = s.order;
-      permutation = IsPermutation-trans (t ∷ ts) (t ∷ r.sorted) s.sorted (IsPermutation-cons t ts r.sorted r.permutation) s.permutation;
-      same = IsPermutation-trans (p ∷ ps) (p ∷ r.order) s.order (IsPermutation-cons p ps r.order r.same) s.same;
-      drawn = s.drawn;
-      each = s.each;
-      by_start = s.by_start;
-    }
-
--- others may stand behind those who drew the tickets
-drawn-more : (ts : List Ticket) (ps qs : List Planned) → AreDrawnBy ts ps → AreDrawnBy ts (ps ++ qs)
-drawn-more [] ps qs drawn = tt
-drawn-more (t ∷ ts) [] qs drawn = absurd drawn
-drawn-more (t ∷ ts) (p ∷ ps) qs drawn = (drawn.0, drawn.1, drawn-more ts ps qs drawn.2)
+sort [] (p ∷ ps) others drawn = absurd drawn
+sort (t ∷ ts) [] others drawn = absurd drawn
+sort (t ∷ ts) (p ∷ ps) others drawn = put (ps ++ others) ts p t drawn.0 (sort ts ps others drawn.1)
 
 -- ---- groups
 
--- those of groups up to the r-th, and then those of groups from it on
-pub no_later-append : (r : ℕ) (ps qs : List Planned) → AllPairs IsNoLater ps → All (λ (p : Planned). rank p.group ≤ r) ps → AllPairs IsNoLater qs
-    → All (λ (q : Planned). r ≤ rank q.group) qs → AllPairs IsNoLater (ps ++ qs)
-no_later-append r [] qs first upto then from = then
-no_later-append r (p ∷ ps) qs first upto then from =
-    let here = All-head (λ (q : Planned). rank q.group ≤ r) p ps upto in
-    let later : All (IsNoLater p) ps = λ k d below. first 0 (suc k) d (omega arith) (omega arith) in
-    let rest : AllPairs IsNoLater ps = λ i j d less below. first (suc i) (suc j) d (omega arith) (omega arith) in
-    AllPairs-cons IsNoLater p (ps ++ qs)
-    (All-append (IsNoLater p) ps qs later (All-weaker (λ (q : Planned). r ≤ rank q.group) (IsNoLater p) (λ q le. omega arith) qs from))
-    (no_later-append r ps qs rest (All-tail (λ (q : Planned). rank q.group ≤ r) p ps upto) then from)
-
--- the tickets of nobody
-pub follow-none : FollowPlanByStart [] [] false
-follow-none = record {
+-- no ticket follows a plan that is sealed, and one of nobody
+pub follow-none : (plan : List Planned) (sealed : Bool) → AllPairs IsNoLater plan → (sealed ≡ false → plan ≡ []) → FollowPlanByStart plan [] sealed
+follow-none plan sealed groups whole = record {
   sorted = [];
   permutation = IsPermutation-refl [];
   by_start = λ i j d le below. absurd (omega arith);
-  follows = record {
-    order = [];
-    permutation = IsPermutation-refl [];
-    groups = λ i j d less below. absurd (omega arith);
-    drawn = tt;
-    whole = λ e. refl;
-  };
+  follows = record { drawers = []; others = plan; permutation = IsPermutation-refl plan; groups = groups; drawn = tt; whole = whole };
 }
 
 -- after the tickets of all those of earlier groups come those of the next group
 pub follow-group : (n r : ℕ) (done group : List Planned) (ts us : List Ticket) (sealed : Bool) → All (λ (p : Planned). rank p.group ≤ r) done
-    → All (λ (p : Planned). rank p.group ≡ r) group → FollowPlanByStart done ts false → All (λ (t : Ticket). t.start ≤ n) ts → AreDrawnOf n group us
-    → (sealed ≡ false → length us ≡ length group) → FollowPlanByStart (done ++ group) (ts ++ us) sealed
-follow-group n r done group ts us sealed upto same first before then whole = record {
+    → All (λ (p : Planned). rank p.group ≡ r) group → FollowPlanByStart done ts false → All (λ (t : Ticket). t.start ≤ n) ts → AreDrawnOf group us
+    → All (λ (t : Ticket). n ≤ t.start) us → (sealed ≡ false → length us ≡ length group) → FollowPlanByStart (done ++ group) (ts ++ us) sealed
+follow-group n r done group ts us sealed upto same first before then after whole = record {
   sorted = first.sorted ++ now.sorted;
   permutation = IsPermutation-append ts first.sorted us now.sorted first.permutation now.permutation;
   by_start =
       by_start-append n first.sorted now.sorted first.by_start (All-permutation (λ (t : Ticket). t.start ≤ n) ts first.sorted first.permutation before) now.by_start
-      (All-permutation (λ (t : Ticket). n ≤ t.start) us now.sorted now.permutation then.after);
+      (All-permutation (λ (t : Ticket). n ≤ t.start) us now.sorted now.permutation after);
   follows = record {
-    order = f.order ++ (now.order ++ then.others);
-    permutation = IsPermutation-append f.order done (now.order ++ then.others) group f.permutation regrouped;
+    drawers = drawers ++ now.by.drawers;
+    others = now.by.others;
+    permutation = rw regrouped (IsPermutation-append drawers done rest group all_done rest_is);
+    drawn = zip-append IsDrawnBy first.sorted now.sorted drawers now.by.drawers first.follows.drawn now.by.drawn;
     groups =
-        no_later-append r f.order (now.order ++ then.others) f.groups
-        (All-permutation (λ (p : Planned). rank p.group ≤ r) done f.order (IsPermutation-sym f.order done f.permutation) upto)
-        (one_group r (now.order ++ then.others) all_same)
-        (All-weaker (λ (p : Planned). rank p.group ≡ r) (λ (p : Planned). r ≤ rank p.group) (λ p e. omega arith) (now.order ++ then.others) all_same);
-    drawn =
-        AreDrawnBy-append first.sorted now.sorted f.order (now.order ++ then.others) (f.whole refl) f.drawn
-        (rw (← append-nil now.sorted) (AreDrawnBy-append now.sorted [] now.order then.others now.each now.drawn tt));
-    whole = λ e. lengths (whole e);
+        rw regrouped
+        (pairs-append (λ (p : Planned). rank p.group) r drawers rest (rw (← alone) first.follows.groups)
+        (All-permutation (λ (p : Planned). rank p.group ≤ r) done drawers (IsPermutation-sym drawers done all_done) upto) (one_group r rest all_same)
+        (All-weaker (λ (p : Planned). rank p.group ≡ r) (λ (p : Planned). r ≤ rank p.group) (λ p e. omega arith) rest all_same));
+    whole = λ e. nil_from_length now.by.others (omega (arith, whole e, drawn-count group now.sorted now.by, length_permutation us now.sorted now.permutation));
   };
 }
   where
-    f : FollowPlan done first.sorted false
-    f = first.follows
+    drawers : List Planned
+    drawers = first.follows.drawers
 
-    now : AreByStart us then.drawers
-    now = sort us then.drawers then.drawn then.each
+    -- all of them drew a ticket
+    alone : drawers ++ first.follows.others ≡ drawers
+    alone = ap (λ (l : List Planned). drawers ++ l) (first.follows.whole refl) ∙ append-nil drawers
 
-    regrouped : IsPermutation (now.order ++ then.others) group
-    regrouped =
-        IsPermutation-trans (now.order ++ then.others) (then.drawers ++ then.others) group
-        (IsPermutation-append now.order then.drawers then.others then.others (IsPermutation-sym then.drawers now.order now.same) (IsPermutation-refl then.others))
-        then.permutation
+    all_done : IsPermutation drawers done
+    all_done = subst (λ (l : List Planned). IsPermutation l done) alone first.follows.permutation
 
-    all_same : All (λ (p : Planned). rank p.group ≡ r) (now.order ++ then.others)
-    all_same =
-        All-permutation (λ (p : Planned). rank p.group ≡ r) group (now.order ++ then.others) (IsPermutation-sym (now.order ++ then.others) group regrouped) same
+    now : AreByStart group us
+    now =
+        let s = sort us then.drawers then.others then.drawn in
+        record {
+          sorted = s.sorted;
+          permutation = s.permutation;
+          by_start = s.by_start;
+          by = drawn-permutation (then.drawers ++ then.others) group s.sorted then.permutation s.by;
+        }
 
-    lengths : length us ≡ length group → length (first.sorted ++ now.sorted) ≡ length (f.order ++ (now.order ++ then.others))
-    lengths e =
-        omega (
-          arith,
-          e,
-          f.whole refl,
-          length_permutation us now.sorted now.permutation,
-          length_permutation (now.order ++ then.others) group regrouped,
-          length-append first.sorted now.sorted,
-          length-append f.order (now.order ++ then.others),
-        )
+    rest : List Planned
+    rest = now.by.drawers ++ now.by.others
+
+    rest_is : IsPermutation rest group
+    rest_is = now.by.permutation
+
+    regrouped : (drawers ++ now.by.drawers) ++ now.by.others ≡ drawers ++ rest
+    regrouped = append_assoc drawers now.by.drawers now.by.others
+
+    all_same : All (λ (p : Planned). rank p.group ≡ r) rest
+    all_same = All-permutation (λ (p : Planned). rank p.group ≡ r) group rest (IsPermutation-sym rest group rest_is) same
 
 -- where later groups drew no ticket, the tickets follow the whole plan as those of a sealed lot
 pub follow-rest : (r : ℕ) (done rest : List Planned) (ts : List Ticket) (sealed : Bool) → All (λ (p : Planned). rank p.group ≤ r) done
     → All (λ (p : Planned). r ≤ rank p.group) rest → AllPairs IsNoLater rest → FollowPlanByStart done ts sealed → FollowPlanByStart (done ++ rest) ts true
 follow-rest r done rest ts sealed upto from pairs first =
-    let f = first.follows in
+    let by = first.follows in
+    let order : List Planned = by.drawers ++ by.others in
+    let regrouped = append_assoc by.drawers by.others rest in
     record {
       sorted = first.sorted;
       permutation = first.permutation;
       by_start = first.by_start;
       follows = record {
-        order = f.order ++ rest;
-        permutation = IsPermutation-append f.order done rest rest f.permutation (IsPermutation-refl rest);
+        drawers = by.drawers;
+        others = by.others ++ rest;
+        permutation = rw (← regrouped) (IsPermutation-append_left rest order done by.permutation);
+        drawn = by.drawn;
         groups =
-            no_later-append r f.order rest f.groups
-            (All-permutation (λ (p : Planned). rank p.group ≤ r) done f.order (IsPermutation-sym f.order done f.permutation) upto) pairs from;
-        drawn = drawn-more first.sorted f.order rest f.drawn;
+            rw (← regrouped)
+            (pairs-append (λ (p : Planned). rank p.group) r order rest by.groups
+            (All-permutation (λ (p : Planned). rank p.group ≤ r) done order (IsPermutation-sym order done by.permutation) upto) pairs from);
         whole = λ e. cc;
       };
     }

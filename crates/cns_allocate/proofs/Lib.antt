@@ -11,6 +11,5 @@ pub mod ServedLemmas
 pub mod DealLemmas
 pub mod DrawnLemmas
 pub mod FollowLemmas
-pub mod OrderLemmas
 pub mod SeatLemmas
 pub mod ServingLemmas

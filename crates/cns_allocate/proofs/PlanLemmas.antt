@@ -1,5 +1,5 @@
 -- What holds of each plan.
-use Rattle.std.proofs.Common.{◌≡◌, ◌≤◌, ◌+◌, ◌-◌, ℕ, List, [], ◌∷◌, ◌++◌, Option, Some, None, Bool, true, false, cond, refl, ap, ◌∙◌, arith, append_assoc, Less}
+use Rattle.std.proofs.Common.{◌≡◌, ◌≤◌, ◌+◌, ◌-◌, ℕ, suc, List, [], ◌∷◌, ◌++◌, Option, Some, None, Bool, true, false, cond, refl, ap, ◌∙◌, arith, append_assoc, Less}
 use Rattle.std.specs.Prelude.{◌&&◌, ◌==◌, nat_lt, All, AllPairs, IfSome, count_by, sum_by, filter, ℤ, pos, negsuc, ◌-ℤ◌, if◌then◌else◌}
 use Rattle.std.specs.List.{filter_map, flat_map, cons_option}
 use Rattle.std.proofs.Math.Bool.{and_comm}
@@ -115,6 +115,13 @@ planned_of-asked issue book settings were_long row fit =
 
 -- ---- each member at most once
 
+-- how many pass, by the first
+pub count-yes : {X : Type 0} (test : X → Bool) (x : X) (xs : List X) → test x ≡ true → count_by test (x ∷ xs) ≡ suc (count_by test xs)
+count-yes test x xs e = let one : ◌≡◌ {A = ℕ} (cond (test x) 1 0) 1 = cond-true _ 1 0 e in omega (arith, one, sum_by-cons (λ y. cond (test y) 1 0) x xs)
+
+count-no : {X : Type 0} (test : X → Bool) (x : X) (xs : List X) → test x ≡ false → count_by test (x ∷ xs) ≡ count_by test xs
+count-no test x xs e = let none : ◌≡◌ {A = ℕ} (cond (test x) 1 0) 0 = cond-false _ 1 0 e in omega (arith, none, sum_by-cons (λ y. cond (test y) 1 0) x xs)
+
 -- where f gives an element that passes only for one that passes, no more of what it gives pass
 pub count_by-filter_map : {X Y : Type 0} (f : X → Option Y) (q : X → Bool) (p : Y → Bool) → ((x : X) → IfSome (f x) (λ y. p y ≡ true → q x ≡ true))
     → (xs : List X) → count_by p (filter_map f xs) ≤ count_by q xs
@@ -143,10 +150,8 @@ other_holding k x less = and_comm (x.issue == k.issue) (x.member == k.member) �
 no_other : (k : Holding) (ks : List Holding) → All (λ (q : Holding). holding_cmp k q ≡ Less) ks → count_by (is_holding_of k.issue k.member) ks ≡ 0
 no_other k [] apart = refl
 no_other k (x ∷ xs) apart =
-    let not_here = other_holding k x (All-head (λ (q : Holding). holding_cmp k q ≡ Less) x xs apart) in
-    let rest = no_other k xs (All-tail (λ (q : Holding). holding_cmp k q ≡ Less) x xs apart) in
-    let none : ◌≡◌ {A = ℕ} (cond (is_holding_of k.issue k.member x) 1 0) 0 = cond-false _ 1 0 not_here in
-    omega (arith, sum_by-cons (λ (q : Holding). cond (is_holding_of k.issue k.member q) 1 0) x xs, none, rest)
+    count-no (is_holding_of k.issue k.member) x xs (other_holding k x (All-head (λ (q : Holding). holding_cmp k q ≡ Less) x xs apart))
+    ∙ no_other k xs (All-tail (λ (q : Holding). holding_cmp k q ≡ Less) x xs apart)
 
 holdings_once : (issue member : ℕ) (ks : List Holding) → AreAscending ks → count_by (is_holding_of issue member) ks ≤ 1
 holdings_once issue member [] up = omega arith
@@ -158,11 +163,8 @@ holdings_once issue member (k ∷ ks) up = by (is_holding_of issue member k) ref
         let issues = eqb-true k.issue issue same.0 in
         let members = eqb-true k.member member same.1 in
         let none : count_by (is_holding_of issue member) ks ≡ 0 = rw (← issues, ← members) (no_other k ks up.0) in
-        let one : ◌≡◌ {A = ℕ} (cond (is_holding_of issue member k) 1 0) 1 = cond-true _ 1 0 e in
-        omega (arith, sum_by-cons (λ (q : Holding). cond (is_holding_of issue member q) 1 0) k ks, one, none)
-    by false e rest =
-        let none : ◌≡◌ {A = ℕ} (cond (is_holding_of issue member k) 1 0) 0 = cond-false _ 1 0 e in
-        omega (arith, sum_by-cons (λ (q : Holding). cond (is_holding_of issue member q) 1 0) k ks, none, rest)
+        omega (arith, count-yes (is_holding_of issue member) k ks e, none)
+    by false e rest = omega (arith, count-no (is_holding_of issue member) k ks e, rest)
 
 -- the position of a holding is of its issue and member
 open_row-place : (h : List NetEntry) (issue member : ℕ) (k : Holding)
@@ -227,28 +229,35 @@ All-by_group P ps all = in_groups (Priority ∷ WasLong ∷ Other ∷ [])
 abbrev pub IsNoLater : Planned → Planned → Type 0
 IsNoLater p q = rank p.group ≤ rank q.group
 
+-- ---- lists in order
+
+-- the first is in order with the later ones, and those are in order
+pub pairs-first : {X : Type 0} (R : X → X → Type 0) (x : X) (xs : List X) → AllPairs R (x ∷ xs) → All (R x) xs
+pairs-first R x xs pairs k d below = pairs 0 (suc k) d (omega arith) (omega arith)
+
+pub pairs-rest : {X : Type 0} (R : X → X → Type 0) (x : X) (xs : List X) → AllPairs R (x ∷ xs) → AllPairs R xs
+pairs-rest R x xs pairs i j d less below = pairs (suc i) (suc j) d (omega arith) (omega arith)
+
+-- those of which a number is up to r, and then those of which it is from r on
+pub pairs-append : {X : Type 0} (n : X → ℕ) (r : ℕ) (xs ys : List X) → AllPairs (λ x y. n x ≤ n y) xs → All (λ x. n x ≤ r) xs → AllPairs (λ x y. n x ≤ n y) ys
+    → All (λ y. r ≤ n y) ys → AllPairs (λ x y. n x ≤ n y) (xs ++ ys)
+pairs-append n r [] ys first upto later from = later
+pairs-append n r (x ∷ xs) ys first upto later from =
+    let here = All-head (λ y. n y ≤ r) x xs upto in
+    AllPairs-cons (λ y z. n y ≤ n z) x (xs ++ ys)
+    (All-append (λ y. n x ≤ n y) xs ys (pairs-first (λ y z. n y ≤ n z) x xs first) (All-weaker (λ y. r ≤ n y) (λ y. n x ≤ n y) (λ y le. omega arith) ys from))
+    (pairs-append n r xs ys (pairs-rest (λ y z. n y ≤ n z) x xs first) (All-tail (λ y. n y ≤ r) x xs upto) later from)
+
+-- those of one group
+pub one_group : (r : ℕ) (ps : List Planned) → All (λ (p : Planned). rank p.group ≡ r) ps → AllPairs IsNoLater ps
+one_group r ps same i j d less below = omega (arith, same i d (omega arith), same j d below)
+
 -- those of a group before others of that group or later ones
 groups-append : (r : ℕ) (ps qs : List Planned) → All (λ (p : Planned). rank p.group ≡ r) ps → All (λ (q : Planned). r ≤ rank q.group) qs → AllPairs IsNoLater qs
     → AllPairs IsNoLater (ps ++ qs)
-groups-append r [] qs same later pairs = pairs
-groups-append r (p ∷ ps) qs same later pairs =
-    let here : rank p.group ≡ r = All-head (λ (q : Planned). rank q.group ≡ r) p ps same in
-    let rest = All-tail (λ (q : Planned). rank q.group ≡ r) p ps same in
-    AllPairs-cons IsNoLater p (ps ++ qs)
-    (All-append (IsNoLater p) ps qs
-    (All-weaker (λ (q : Planned). rank q.group ≡ r) (IsNoLater p) (λ q e. omega arith) ps rest)
-    (All-weaker (λ (q : Planned). r ≤ rank q.group) (IsNoLater p) (λ q le. omega arith) qs later))
-    (groups-append r ps qs rest later pairs)
-
-no_pairs : AllPairs IsNoLater []
-no_pairs = λ i j d less below. absurd (omega arith)
-
-pub one_group : (r : ℕ) (ps : List Planned) → All (λ (p : Planned). rank p.group ≡ r) ps → AllPairs IsNoLater ps
-one_group r [] same = no_pairs
-one_group r (p ∷ ps) same =
-    let here : rank p.group ≡ r = All-head (λ (q : Planned). rank q.group ≡ r) p ps same in
-    let rest = All-tail (λ (q : Planned). rank q.group ≡ r) p ps same in
-    AllPairs-cons IsNoLater p ps (All-weaker (λ (q : Planned). rank q.group ≡ r) (IsNoLater p) (λ q e. omega arith) ps rest) (one_group r ps rest)
+groups-append r ps qs same later pairs =
+    pairs-append (λ (p : Planned). rank p.group) r ps qs (one_group r ps same)
+    (All-weaker (λ (p : Planned). rank p.group ≡ r) (λ (p : Planned). rank p.group ≤ r) (λ p e. omega arith) ps same) pairs later
 
 in_group : (g : Group) (ps : List Planned) → All (λ (p : Planned). rank p.group ≡ rank g) (filter (is_in g) ps)
 in_group g ps =
@@ -265,13 +274,16 @@ groups-by_group ps =
     let others = in_group Other ps in
     let last = λ (r : ℕ) (le : r ≤ 2). All-append (λ (p : Planned). r ≤ rank p.group) _ [] (from_group r 2 _ le others) (none r) in
     groups-append 0 _ _ (in_group Priority ps) (All-append (λ (p : Planned). 0 ≤ rank p.group) _ _ (from_group 0 1 _ (omega arith) seconds) (last 0 (omega arith)))
-    (groups-append 1 _ _ seconds (last 1 (omega arith)) (groups-append 2 _ [] others (none 2) no_pairs))
+    (groups-append 1 _ _ seconds (last 1 (omega arith)) (groups-append 2 _ [] others (none 2) (λ i j d less below. absurd (omega arith))))
 
--- the groups added to a list one after another
-pub groups_added : (of : Group → List Planned) (none firsts more all : List Planned) → none ≡ [] → firsts ≡ none ++ of Priority → more ≡ firsts ++ of WasLong
-    → all ≡ more ++ of Other → all ≡ flat_map of (Priority ∷ WasLong ∷ Other ∷ [])
-groups_added of none firsts more all is_none is_firsts is_more is_all =
-    rw (is_all, is_more, is_firsts, is_none, append-nil (of Other)) (append_assoc (of Priority) (of WasLong) (of Other))
+-- the groups of those planned in an issue, added to a list one after another, are its plan
+pub groups_added : (issue : ℕ) (h : List NetEntry) (book : Orders) (settings : List Prioritized) (were_long : List ℕ) (planned none firsts more all : List Planned)
+    → planned ≡ wanting issue h book settings were_long → none ≡ [] → firsts ≡ none ++ filter (is_in Priority) planned → more ≡ firsts ++ filter (is_in WasLong) planned
+    → all ≡ more ++ filter (is_in Other) planned → all ≡ plan_of issue h book settings were_long
+groups_added issue h book settings were_long planned none firsts more all is_planned is_none is_firsts is_more is_all =
+    let of = λ (group : Group). filter (is_in group) planned in
+    let added : all ≡ by_group planned = rw (is_all, is_more, is_firsts, is_none, append-nil (of Other)) (append_assoc (of Priority) (of WasLong) (of Other)) in
+    added ∙ ap by_group is_planned
 
 -- each plan is one
 pub IsPlan-plan_of : (issue : ℕ) (h : List NetEntry) (book : Orders) (settings : List Prioritized) (were_long : List ℕ) → LongsFit h

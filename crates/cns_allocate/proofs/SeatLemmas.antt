@@ -1,19 +1,21 @@
 -- What seats have drawn, and what they have once they are joined.
-use Rattle.std.proofs.Common.{◌≡◌, ℕ, zero, suc, ◌+◌, ◌-◌, ◌<◌, ◌≤◌, ◌⊎◌, inl, inr, Bool, true, false, List, [], ◌∷◌, ◌++◌, length, take, get_or, map, refl, sym, ap, ◌∙◌, arith, append_assoc, length-append, subst}
+use Rattle.std.proofs.Common.{◌≡◌, ℕ, zero, suc, ◌+◌, ◌-◌, ◌<◌, ◌≤◌, ◌⊎◌, inl, inr, Bool, true, List, [], ◌∷◌, ◌++◌, length, take, get_or, map, refl, sym, ap, ◌∙◌, arith, append_assoc, length-append, subst}
 use Rattle.std.specs.Prelude.{◌||◌, All, IsPermutation, sum_by}
+use Rattle.std.proofs.Math.Bool.{or-false, or-true, or_assoc, or_self}
 use Rattle.std.proofs.lemmas.Bool.{cases_lt}
 use Rattle.std.proofs.lemmas.List.{append-nil, get_or_append_left, get_or_push, map-id, take_all, take_more}
 use Rattle.std.proofs.lemmas.List.Concat.{flat_map-append}
-use Rattle.std.proofs.lemmas.List.Elements.{All-nil, All-push}
+use Rattle.std.proofs.lemmas.List.Elements.{All-append, All-cons, All-nil, All-push, All-weaker}
 use Rattle.std.proofs.lemmas.List.Folds.{list_any-append}
 use Rattle.std.proofs.lemmas.List.Sorted.{length_permutation, sum_by-IsPermutation}
-use Rattle.std.proofs.lemmas.List.Sums.{sum_by-append, sum_by-cons, sum_by_more_le}
+use Rattle.std.proofs.lemmas.List.Sums.{sum_by-append, sum_by-cons, sum_by_more_le, sum_by_push}
 use Rattle.cns_pool.specs.declared.ticket.Ticket.{Ticket}
 use Rattle.cns_pool.specs.WorkerSeat.{WorkerState, DrawsTicket, Joins, MeetsSeal, after_split, room_taken, split_off}
-use Rattle.cns_allocate.specs.Serving.{AreDrawnOf, HasDrawn, HasJoined, HasSplit, budgets_of, calls_of, every, have_seen_seal, made_by, places_of, rooms_of, shares_of, tickets_of}
+use Rattle.cns_allocate.specs.Served.{AreDrawnOf}
+use Rattle.cns_allocate.specs.Serving.{HasDrawn, HasJoined, HasSplit, budgets_of, calls_of, every, have_seen_seal, made_by, places_of, rooms_of, shares_of, tickets_of}
 use Rattle.cns_allocate.specs.declared.planned.Planned.{Planned}
-use Rattle.cns_allocate.proofs.DealLemmas.{dealt, dealt-all, length-next, lists_of, shares-next}
-use Rattle.cns_allocate.proofs.DrawnLemmas.{drawn-append, drawn-cons, drawn-earlier, drawn-most, drawn-none, drawn-permutation}
+use Rattle.cns_allocate.proofs.DealLemmas.{dealt, length-next, lists_of, shares-next}
+use Rattle.cns_allocate.proofs.DrawnLemmas.{drawn-append, drawn-cons, drawn-most, drawn-none, drawn-permutation}
 
 -- ---- one seat
 
@@ -24,7 +26,8 @@ seat-none seat = record {
   given = refl;
   tickets = [];
   added = sym (append-nil seat.tickets);
-  drawn = drawn-none seat.seen.asked [];
+  drawn = drawn-none [];
+  after = All-nil (λ (t : Ticket). seat.seen.asked ≤ t.start);
   made = refl;
   used = omega arith;
   calls = omega arith;
@@ -40,7 +43,8 @@ seat-sealed old p ps new some meets = record {
   given = ap (λ (s : WorkerState). s.given) meets.after;
   tickets = [];
   added = ap (λ (s : WorkerState). s.tickets) meets.after ∙ sym (append-nil old.tickets);
-  drawn = drawn-none old.seen.asked (p ∷ ps);
+  drawn = drawn-none (p ∷ ps);
+  after = All-nil (λ (t : Ticket). old.seen.asked ≤ t.start);
   made = omega (arith, some, ap (λ (s : WorkerState). s.made) meets.after, ap (λ (s : WorkerState). s.calls) meets.after);
   used = omega (arith, ap (λ (s : WorkerState). s.calls) meets.after);
   calls = omega (arith, ap (λ (s : WorkerState). s.calls) meets.after);
@@ -58,9 +62,11 @@ seat-cons old p ps ticket then new some draws rest = record {
   tickets = ticket ∷ rest.tickets;
   added =
       rest.added ∙ ap (λ (s : WorkerState). s.tickets ++ rest.tickets) draws.after ∙ append_assoc old.tickets (ticket ∷ []) rest.tickets;
-  drawn =
-      drawn-cons old.seen.asked p ps ticket rest.tickets draws.holder draws.size draws.start
-      (drawn-earlier then.seen.asked old.seen.asked ps rest.tickets (omega (arith, draws.start, ap (λ (s : WorkerState). s.seen.asked) draws.after)) rest.drawn);
+  drawn = drawn-cons p ps ticket rest.tickets (draws.holder, draws.size) rest.drawn;
+  after =
+      All-cons (λ (t : Ticket). old.seen.asked ≤ t.start) ticket rest.tickets draws.start
+      (All-weaker (λ (t : Ticket). then.seen.asked ≤ t.start) (λ (t : Ticket). old.seen.asked ≤ t.start)
+      (λ t le. omega (arith, le, draws.start, ap (λ (s : WorkerState). s.seen.asked) draws.after)) rest.tickets rest.after);
   made = omega (arith, some, rest.made, calls_after, ap (λ (s : WorkerState). s.made) draws.after);
   used = omega (arith, some, rest.used, calls_after);
   calls = omega (arith, some, rest.calls, calls_after);
@@ -77,7 +83,8 @@ seat-cons old p ps ticket then new some draws rest = record {
 
 -- what they have drawn together
 pub record HaveDrawn (seat : WorkerState) (planned : List Planned) (parts others : List WorkerState) : Type 0 where
-  pub drawn : AreDrawnOf seat.seen.asked planned (tickets_of others)
+  pub drawn : AreDrawnOf planned (tickets_of others)
+  pub after : All (λ (t : Ticket). seat.seen.asked ≤ t.start) (tickets_of others)
   pub made : made_by others + calls_of others ≡ calls_of parts
   pub used : length (tickets_of others) + calls_of others ≤ calls_of parts
   pub calls : calls_of parts ≤ calls_of others + length planned
@@ -85,41 +92,22 @@ pub record HaveDrawn (seat : WorkerState) (planned : List Planned) (parts others
   pub all : length (tickets_of others) ≡ length planned → (seat.seen.sealed || have_seen_seal others) ≡ seat.seen.sealed
   pub met : length (tickets_of others) < length planned → (seat.seen.sealed || have_seen_seal others) ≡ true
 
-or-same : (b : Bool) → (b || false) ≡ b
-or-same true = refl
-or-same false = refl
-
 have-none : (seat : WorkerState) → HaveDrawn seat [] [] []
 have-none seat = record {
-  drawn = drawn-none seat.seen.asked [];
+  drawn = drawn-none [];
+  after = All-nil (λ (t : Ticket). seat.seen.asked ≤ t.start);
   made = refl;
   used = omega arith;
   calls = omega arith;
   budget = omega arith;
-  all = λ e. or-same seat.seen.sealed;
+  all = λ e. or-false seat.seen.sealed;
   met = λ less. absurd (omega (arith, less));
 }
 
--- what is seen by one of more seats
-or-kept : (b a c : Bool) → (b || a) ≡ b → c ≡ b → (b || (a || (c || false))) ≡ b
-or-kept true a c e same = refl
-or-kept false false false e same = refl
-or-kept false false true e same = same
-or-kept false true c e same = e
-
-or-first : (b a c : Bool) → (b || a) ≡ true → (b || (a || (c || false))) ≡ true
-or-first true a c e = refl
-or-first false true c e = refl
-or-first false false c e = cc
-
-or-last : (b a c : Bool) → c ≡ true → (b || (a || (c || false))) ≡ true
-or-last true a c e = refl
-or-last false true c e = refl
-or-last false false true e = refl
-or-last false false false e = e
-
-pub sum_by-push : {X : Type 0} (f : X → ℕ) (xs : List X) (x : X) → sum_by f (xs ++ x ∷ []) ≡ sum_by f xs + f x
-sum_by-push f xs x = omega (arith, sum_by-append f xs (x ∷ []), sum_by-cons f x [])
+-- whether one of them has seen the seal, with one seat more
+seal-push : (others : List WorkerState) (other : WorkerState) → have_seen_seal (others ++ other ∷ []) ≡ (have_seen_seal others || other.seen.sealed)
+seal-push others other =
+    list_any-append (λ (s : WorkerState). s.seen.sealed) others (other ∷ []) ∙ ap (λ (b : Bool). have_seen_seal others || b) (or-false other.seen.sealed)
 
 tickets-push : (others : List WorkerState) (other : WorkerState) → tickets_of (others ++ other ∷ []) ≡ tickets_of others ++ other.tickets
 tickets-push others other =
@@ -129,7 +117,11 @@ tickets-push others other =
 have-more : (seat : WorkerState) (ps qs : List Planned) (parts others : List WorkerState) (part other : WorkerState) → part ≡ split_off seat part.budget part.calls
     → HaveDrawn seat ps parts others → HasDrawn part qs other → HaveDrawn seat (ps ++ qs) (parts ++ part ∷ []) (others ++ other ∷ [])
 have-more seat ps qs parts others part other split before last = record {
-  drawn = subst (AreDrawnOf seat.seen.asked (ps ++ qs)) (sym all_tickets) (drawn-append seat.seen.asked ps qs (tickets_of others) last.tickets before.drawn drawn_then);
+  drawn = subst (AreDrawnOf (ps ++ qs)) (sym all_tickets) (drawn-append ps qs (tickets_of others) last.tickets before.drawn last.drawn);
+  after =
+      subst (All (λ (t : Ticket). seat.seen.asked ≤ t.start)) (sym all_tickets)
+      (All-append (λ (t : Ticket). seat.seen.asked ≤ t.start) (tickets_of others) last.tickets before.after
+      (subst (λ (n : ℕ). All (λ (t : Ticket). n ≤ t.start) last.tickets) (ap (λ (s : WorkerState). s.seen.asked) split) last.after));
   made = omega (arith, before.made, last.made, made_none, pushed-made, pushed-calls, parts-calls);
   used = omega (arith, before.used, last.used, lengths, pushed-calls, parts-calls);
   calls = omega (arith, before.calls, last.calls, pushed-calls, parts-calls, length-append ps qs);
@@ -138,12 +130,14 @@ have-more seat ps qs parts others part other split before last = record {
         arith,
         before.budget,
         last.budget,
-        sum_by-push (λ (s : WorkerState). s.budget) others other,
-        sum_by-push (λ (s : WorkerState). s.budget) parts part,
+        sum_by_push (λ (s : WorkerState). s.budget) others other,
+        sum_by_push (λ (s : WorkerState). s.budget) parts part,
         sum_by-append (λ (p : Planned). p.asked) ps qs,
       );
-  all = λ e. rw any (or-kept seat.seen.sealed (have_seen_seal others) other.seen.sealed (before.all (omega (arith, e, lengths, most, last_most, planned)))
-      (last.all (omega (arith, e, lengths, most, last_most, planned)) ∙ seen));
+  all =
+      λ e.
+      rw (any, before.all (omega (arith, e, lengths, most, last_most, planned)), last.all (omega (arith, e, lengths, most, last_most, planned)), seen)
+      (or_self seat.seen.sealed);
   met = λ less. rw any (by (cases_lt (length (tickets_of others)) (length ps)) less);
 }
   where
@@ -162,9 +156,6 @@ have-more seat ps qs parts others part other split before last = record {
     all_tickets : tickets_of (others ++ other ∷ []) ≡ tickets_of others ++ last.tickets
     all_tickets = tickets-push others other ∙ ap (λ (l : List Ticket). tickets_of others ++ l) its_tickets
 
-    drawn_then : AreDrawnOf seat.seen.asked qs last.tickets
-    drawn_then = subst (λ (n : ℕ). AreDrawnOf n qs last.tickets) (ap (λ (s : WorkerState). s.seen.asked) split) last.drawn
-
     lengths : length (tickets_of (others ++ other ∷ [])) ≡ length (tickets_of others) + length last.tickets
     lengths = ap length all_tickets ∙ length-append (tickets_of others) last.tickets
 
@@ -172,28 +163,30 @@ have-more seat ps qs parts others part other split before last = record {
     planned = length-append ps qs
 
     most : length (tickets_of others) ≤ length ps
-    most = drawn-most seat.seen.asked ps (tickets_of others) before.drawn
+    most = drawn-most ps (tickets_of others) before.drawn
 
     last_most : length last.tickets ≤ length qs
-    last_most = drawn-most part.seen.asked qs last.tickets last.drawn
+    last_most = drawn-most qs last.tickets last.drawn
 
     pushed-made : made_by (others ++ other ∷ []) ≡ made_by others + other.made
-    pushed-made = sum_by-push (λ (s : WorkerState). s.made) others other
+    pushed-made = sum_by_push (λ (s : WorkerState). s.made) others other
 
     pushed-calls : calls_of (others ++ other ∷ []) ≡ calls_of others + other.calls
-    pushed-calls = sum_by-push (λ (s : WorkerState). s.calls) others other
+    pushed-calls = sum_by_push (λ (s : WorkerState). s.calls) others other
 
     parts-calls : calls_of (parts ++ part ∷ []) ≡ calls_of parts + part.calls
-    parts-calls = sum_by-push (λ (s : WorkerState). s.calls) parts part
+    parts-calls = sum_by_push (λ (s : WorkerState). s.calls) parts part
 
-    any : have_seen_seal (others ++ other ∷ []) ≡ (have_seen_seal others || (other.seen.sealed || false))
-    any = list_any-append (λ (s : WorkerState). s.seen.sealed) others (other ∷ [])
+    any : (seat.seen.sealed || have_seen_seal (others ++ other ∷ [])) ≡ ((seat.seen.sealed || have_seen_seal others) || other.seen.sealed)
+    any =
+        ap (λ (b : Bool). seat.seen.sealed || b) (seal-push others other) ∙ sym (or_assoc seat.seen.sealed (have_seen_seal others) other.seen.sealed)
 
     by : (length (tickets_of others) < length ps) ⊎ (length ps ≤ length (tickets_of others)) → length (tickets_of (others ++ other ∷ [])) < length (ps ++ qs)
-        → (seat.seen.sealed || (have_seen_seal others || (other.seen.sealed || false))) ≡ true
-    by (inl fewer) less = or-first seat.seen.sealed (have_seen_seal others) other.seen.sealed (before.met fewer)
+        → ((seat.seen.sealed || have_seen_seal others) || other.seen.sealed) ≡ true
+    by (inl fewer) less = ap (λ (b : Bool). b || other.seen.sealed) (before.met fewer)
     by (inr whole) less =
-        or-last seat.seen.sealed (have_seen_seal others) other.seen.sealed (last.met (omega (arith, less, whole, lengths, last_most, planned)))
+        ap (λ (b : Bool). (seat.seen.sealed || have_seen_seal others) || b) (last.met (omega (arith, less, whole, lengths, last_most, planned)))
+        ∙ or-true (seat.seen.sealed || have_seen_seal others)
 
 -- as many seats as have drawn for these lists
 have-each : (seat : WorkerState) (places : ℕ → List Planned) (parts others : List WorkerState) (k : ℕ) → k ≤ length parts → k ≤ length others
@@ -210,18 +203,6 @@ have-each seat places parts others (suc k) within within_others split draws =
     rw (next, take_more parts k seat (omega arith), take_more others k seat (omega arith)) more
 
 -- ---- seats that are split off
-
-pub split-none : (old : WorkerState) → HasSplit old [] old
-split-none old = record {
-  each = All-nil (λ (part : WorkerState). part ≡ split_off old part.budget part.calls);
-  budget = omega arith;
-  calls = omega arith;
-  rest =
-      let budgets : old.budget ≡ old.budget - 0 = omega arith in
-      let calls : old.calls ≡ old.calls - 0 = omega arith in
-      let rooms : old.room ≡ old.room + 0 = omega arith in
-      λ i. record old { budget = budgets i; calls = calls i; room = rooms i };
-}
 
 pub split-more : (old mid new part : WorkerState) (parts : List WorkerState) (budget calls : ℕ) → HasSplit old parts mid → budget ≤ mid.budget → calls ≤ mid.calls
     → new ≡ after_split mid budget calls → part ≡ split_off mid budget calls → HasSplit old (parts ++ part ∷ []) new
@@ -249,10 +230,10 @@ split-more old mid new part parts budget calls before fits lasts after is = reco
     its_calls = ap (λ (s : WorkerState). s.calls) is
 
     budgets : budgets_of (parts ++ part ∷ []) ≡ budgets_of parts + budget
-    budgets = sum_by-push (λ (s : WorkerState). s.budget) parts part ∙ ap (λ (n : ℕ). budgets_of parts + n) its_budget
+    budgets = sum_by_push (λ (s : WorkerState). s.budget) parts part ∙ ap (λ (n : ℕ). budgets_of parts + n) its_budget
 
     counts : calls_of (parts ++ part ∷ []) ≡ calls_of parts + calls
-    counts = sum_by-push (λ (s : WorkerState). s.calls) parts part ∙ ap (λ (n : ℕ). calls_of parts + n) its_calls
+    counts = sum_by_push (λ (s : WorkerState). s.calls) parts part ∙ ap (λ (n : ℕ). calls_of parts + n) its_calls
 
     whole : part ≡ split_off old part.budget part.calls
     whole =
@@ -271,7 +252,7 @@ pub parts-sum : (f : List Planned → ℕ) → ((ps qs : List Planned) → f (ps
     → sum_by has parts ≡ f (dealt gap k group) → has part ≡ f (every gap k group) → sum_by has (parts ++ part ∷ []) ≡ f (dealt gap (k + 1) group)
 parts-sum f append has gap k group parts part are is =
     let next : k + 1 ≡ suc k = omega arith in
-    rw next (omega (arith, are, is, sum_by-push has parts part, append (dealt gap k group) (every gap k group)))
+    rw next (omega (arith, are, is, sum_by_push has parts part, append (dealt gap k group) (every gap k group)))
 
 -- what holds of each seat and its number holds of one seat more
 pub parts-more : (need : ℕ → ℕ) (has : WorkerState → ℕ) (parts : List WorkerState) (part : WorkerState) (n : ℕ) → length parts ≡ n
@@ -290,22 +271,6 @@ parts-more need has parts part n count each last i d less = by (cases_lt i n)
 
 -- ---- seats that are joined
 
-pub joined-none : (old : WorkerState) → HasJoined old [] old
-joined-none old = record {
-  cell = refl;
-  given = refl;
-  tickets = sym (append-nil old.tickets);
-  budget = omega arith;
-  calls = omega arith;
-  made = omega arith;
-  sealed = sym (or-same old.seen.sealed);
-}
-
-or-more : (a b c : Bool) → ((a || b) || c) ≡ (a || (b || (c || false)))
-or-more true b c = refl
-or-more false true c = refl
-or-more false false c = sym (or-same c)
-
 pub joined-more : (old mid new other : WorkerState) (others : List WorkerState) → HasJoined old others mid → Joins mid other new → HasJoined old (others ++ other ∷ []) new
 joined-more old mid new other others before joins = record {
   cell = ap (λ (s : WorkerState). s.cell) joins.after ∙ before.cell;
@@ -313,13 +278,12 @@ joined-more old mid new other others before joins = record {
   tickets =
       ap (λ (s : WorkerState). s.tickets) joins.after ∙ ap (λ (l : List Ticket). l ++ other.tickets) before.tickets
       ∙ append_assoc old.tickets (tickets_of others) other.tickets ∙ ap (λ (l : List Ticket). old.tickets ++ l) (sym (tickets-push others other));
-  budget = omega (arith, ap (λ (s : WorkerState). s.budget) joins.after, before.budget, sum_by-push (λ (s : WorkerState). s.budget) others other);
-  calls = omega (arith, ap (λ (s : WorkerState). s.calls) joins.after, before.calls, sum_by-push (λ (s : WorkerState). s.calls) others other);
-  made = omega (arith, ap (λ (s : WorkerState). s.made) joins.after, before.made, sum_by-push (λ (s : WorkerState). s.made) others other);
+  budget = omega (arith, ap (λ (s : WorkerState). s.budget) joins.after, before.budget, sum_by_push (λ (s : WorkerState). s.budget) others other);
+  calls = omega (arith, ap (λ (s : WorkerState). s.calls) joins.after, before.calls, sum_by_push (λ (s : WorkerState). s.calls) others other);
+  made = omega (arith, ap (λ (s : WorkerState). s.made) joins.after, before.made, sum_by_push (λ (s : WorkerState). s.made) others other);
   sealed =
       ap (λ (s : WorkerState). s.seen.sealed) joins.after ∙ ap (λ (b : Bool). b || other.seen.sealed) before.sealed
-      ∙ or-more old.seen.sealed (have_seen_seal others) other.seen.sealed
-      ∙ ap (λ (b : Bool). old.seen.sealed || b) (sym (list_any-append (λ (s : WorkerState). s.seen.sealed) others (other ∷ [])));
+      ∙ or_assoc old.seen.sealed (have_seen_seal others) other.seen.sealed ∙ ap (λ (b : Bool). old.seen.sealed || b) (sym (seal-push others other));
 }
 
 -- there is room for one seat more while there is room for all
@@ -335,44 +299,40 @@ room-left seats joined other start now far more is fits left =
       ap room_taken is,
     )
 
--- seats that have drawn are joined into the one that they were split off
-have-joined : (seat rest new : WorkerState) (planned : List Planned) (parts others : List WorkerState) → HasSplit seat parts rest → HaveDrawn seat planned parts others
-    → HasJoined rest others new → HasDrawn seat planned new
-have-joined seat rest new planned parts others split have joined = record {
+-- seats that have drawn are joined into the one that they were split off: it has drawn for these planned, in whatever order
+pub have-joined : (seat rest new : WorkerState) (planned group : List Planned) (parts others : List WorkerState) → IsPermutation planned group → HasSplit seat parts rest
+    → HaveDrawn seat planned parts others → HasJoined rest others new → HasDrawn seat group new
+have-joined seat rest new planned group parts others same split have joined = record {
   cell = joined.cell ∙ ap (λ (s : WorkerState). s.cell) split.rest;
   given = joined.given ∙ ap (λ (s : WorkerState). s.given) split.rest;
   tickets = tickets_of others;
   added = joined.tickets ∙ ap (λ (s : WorkerState). s.tickets ++ tickets_of others) split.rest;
-  drawn = have.drawn;
+  drawn = drawn-permutation planned group (tickets_of others) same have.drawn;
+  after = have.after;
   made = omega (arith, joined.made, joined.calls, have.made, split.calls, rest_calls, ap (λ (s : WorkerState). s.made) split.rest);
   used = omega (arith, joined.calls, have.used, split.calls, rest_calls);
-  calls = omega (arith, joined.calls, have.calls, split.calls, rest_calls);
-  budget = omega (arith, joined.budget, have.budget, split.budget, ap (λ (s : WorkerState). s.budget) split.rest);
-  all = λ e. sealed ∙ have.all e;
-  met = λ less. sealed ∙ have.met less;
+  calls = omega (arith, joined.calls, have.calls, split.calls, rest_calls, long);
+  budget =
+      omega (
+        arith,
+        joined.budget,
+        have.budget,
+        split.budget,
+        ap (λ (s : WorkerState). s.budget) split.rest,
+        sum_by-IsPermutation (λ (p : Planned). p.asked) planned group same,
+      );
+  all = λ e. sealed ∙ have.all (e ∙ long);
+  met = λ less. sealed ∙ have.met (omega (arith, less, long));
 }
   where
+    long : length group ≡ length planned
+    long = length_permutation planned group same
+
     rest_calls : rest.calls ≡ seat.calls - calls_of parts
     rest_calls = ap (λ (s : WorkerState). s.calls) split.rest
 
     sealed : new.seen.sealed ≡ (seat.seen.sealed || have_seen_seal others)
     sealed = joined.sealed ∙ ap (λ (s : WorkerState). s.seen.sealed || have_seen_seal others) split.rest
-
--- the same for those planned in another order
-seat-permutation : (old new : WorkerState) (ps qs : List Planned) → IsPermutation ps qs → HasDrawn old ps new → HasDrawn old qs new
-seat-permutation old new ps qs same draws = record {
-  cell = draws.cell;
-  given = draws.given;
-  tickets = draws.tickets;
-  added = draws.added;
-  drawn = drawn-permutation old.seen.asked ps qs draws.tickets same draws.drawn;
-  made = draws.made;
-  used = draws.used;
-  calls = omega (arith, draws.calls, length_permutation ps qs same);
-  budget = omega (arith, draws.budget, sum_by-IsPermutation (λ (p : Planned). p.asked) ps qs same);
-  all = λ e. draws.all (e ∙ length_permutation ps qs same);
-  met = λ less. draws.met (omega (arith, less, length_permutation ps qs same));
-}
 
 -- ---- a group
 
@@ -383,64 +343,36 @@ have-all seat rest places parts others n count others_count split draws =
     rw (← take_all n parts (omega arith), ← take_all n others (omega arith))
     (have-each seat places parts others n (omega arith) (omega arith) split.each draws)
 
-have-group : (seat rest : WorkerState) (group : List Planned) (parts others : List WorkerState) → 0 < length parts → length others ≡ length parts → HasSplit seat parts rest
+-- seats that have each drawn for a worker's places of a group
+pub have-group : (seat rest : WorkerState) (group : List Planned) (parts others : List WorkerState) → 0 < length parts → length others ≡ length parts → HasSplit seat parts rest
     → ((i : ℕ) (d : WorkerState) → i < length parts → HasDrawn (get_or parts i d) (places_of (length parts) i group) (get_or others i d))
     → HaveDrawn seat (dealt (length parts - 1) (suc (length parts - 1)) group) parts others
 have-group seat rest group parts others some count split draws =
     let is : length parts ≡ suc (length parts - 1) = omega arith in
     have-all seat rest (λ i. places_of (length parts) i group) parts others (suc (length parts - 1)) is (count ∙ is) split (λ i d less. draws i d (omega (arith, less, is)))
 
-nothing : (k : ℕ) → lists_of (λ i. []) k ≡ []
-nothing zero = refl
-nothing (suc k) = append-nil (lists_of (λ i. []) k) ∙ nothing k
-
-have-nothing : (seat rest : WorkerState) (parts : List WorkerState) → HasSplit seat parts rest → HaveDrawn seat [] parts parts
+-- seats that have not drawn
+pub have-nothing : (seat rest : WorkerState) (parts : List WorkerState) → HasSplit seat parts rest → HaveDrawn seat [] parts parts
 have-nothing seat rest parts split =
     subst (λ (l : List Planned). HaveDrawn seat l parts parts) (nothing (length parts))
     (have-all seat rest (λ i. []) parts parts (length parts) refl refl split (λ i d less. seat-none (get_or parts i d)))
+  where
+    nothing : (k : ℕ) → lists_of (λ i. []) k ≡ []
+    nothing zero = refl
+    nothing (suc k) = append-nil (lists_of (λ i. []) k) ∙ nothing k
 
-rooms : (seats : List WorkerState) → rooms_of seats ≡ calls_of seats + length (tickets_of seats)
-rooms [] = refl
-rooms (s ∷ seats) =
-    omega (
-      arith,
-      rooms seats,
-      sum_by-cons room_taken s seats,
-      sum_by-cons (λ (t : WorkerState). t.calls) s seats,
-      length-append s.tickets (tickets_of seats),
-    )
-
-room_for : (seat rest : WorkerState) (planned : List Planned) (parts others : List WorkerState) → HasSplit seat parts rest → HaveDrawn seat planned parts others
+-- there is room for the seats that have drawn
+pub room_for : (seat rest : WorkerState) (planned : List Planned) (parts others : List WorkerState) → HasSplit seat parts rest → HaveDrawn seat planned parts others
     → rooms_of others ≤ rest.room
 room_for seat rest planned parts others split have = omega (arith, rooms others, have.used, ap (λ (s : WorkerState). s.room) split.rest)
-
--- there is room for the seats of a group that have drawn
-pub group-room : (seat rest : WorkerState) (group : List Planned) (parts others : List WorkerState) → 0 < length parts → length others ≡ length parts → HasSplit seat parts rest
-    → ((i : ℕ) (d : WorkerState) → i < length parts → HasDrawn (get_or parts i d) (places_of (length parts) i group) (get_or others i d)) → rooms_of others ≤ rest.room
-group-room seat rest group parts others some count split draws =
-    room_for seat rest (dealt (length parts - 1) (suc (length parts - 1)) group) parts others split (have-group seat rest group parts others some count split draws)
-
--- they are of the same cell
-pub group-cells : (seat rest : WorkerState) (places : ℕ → List Planned) (parts others : List WorkerState) → length others ≡ length parts → HasSplit seat parts rest
-    → ((i : ℕ) (d : WorkerState) → i < length parts → HasDrawn (get_or parts i d) (places i) (get_or others i d)) → All (λ (s : WorkerState). s.cell ≡ seat.cell) others
-group-cells seat rest places parts others count split draws =
-    λ i d less. (draws i d (omega (arith, less, count))).cell ∙ ap (λ (s : WorkerState). s.cell) (split.each i d (omega (arith, less, count)))
-
--- once they are joined, the seat has drawn for the group
-pub group-drawn : (seat rest new : WorkerState) (group : List Planned) (parts others : List WorkerState) → 0 < length parts → length others ≡ length parts
-    → HasSplit seat parts rest → ((i : ℕ) (d : WorkerState) → i < length parts → HasDrawn (get_or parts i d) (places_of (length parts) i group) (get_or others i d))
-    → HasJoined rest others new → HasDrawn seat group new
-group-drawn seat rest new group parts others some count split draws joined =
-    let gap : ℕ = length parts - 1 in
-    seat-permutation seat new (dealt gap (suc gap) group) group (dealt-all gap group)
-    (have-joined seat rest new (dealt gap (suc gap) group) parts others split (have-group seat rest group parts others some count split draws) joined)
-
--- seats that are joined again before they have drawn
-pub undone-room : (seat rest : WorkerState) (parts : List WorkerState) → HasSplit seat parts rest → rooms_of parts ≤ rest.room
-undone-room seat rest parts split = room_for seat rest [] parts parts split (have-nothing seat rest parts split)
-
-pub undone-cells : (seat rest : WorkerState) (parts : List WorkerState) → HasSplit seat parts rest → All (λ (s : WorkerState). s.cell ≡ seat.cell) parts
-undone-cells seat rest parts split = λ i d less. ap (λ (s : WorkerState). s.cell) (split.each i d less)
-
-pub undone-drawn : (seat rest new : WorkerState) (parts : List WorkerState) → HasSplit seat parts rest → HasJoined rest parts new → HasDrawn seat [] new
-undone-drawn seat rest new parts split joined = have-joined seat rest new [] parts parts split (have-nothing seat rest parts split) joined
+  where
+    rooms : (seats : List WorkerState) → rooms_of seats ≡ calls_of seats + length (tickets_of seats)
+    rooms [] = refl
+    rooms (s ∷ seats) =
+        omega (
+          arith,
+          rooms seats,
+          sum_by-cons room_taken s seats,
+          sum_by-cons (λ (t : WorkerState). t.calls) s seats,
+          length-append s.tickets (tickets_of seats),
+        )

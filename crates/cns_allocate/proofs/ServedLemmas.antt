@@ -1,25 +1,26 @@
 -- Tickets that are drawn in turn are those of a lot that may close, and the other way round.
-use Rattle.std.proofs.Common.{◌≡◌, ◌≤◌, ◌<◌, ◌+◌, ℕ, suc, drop, get_or, drop-cons, List, [], ◌∷◌, ◌++◌, length, Bool, true, false, not, cond, Some, ap, refl, sym, arith, ◌∙◌}
+use Rattle.std.proofs.Common.{◌≡◌, ◌≤◌, ◌<◌, ◌+◌, ℕ, suc, drop, get_or, List, [], ◌∷◌, ◌++◌, length, Bool, true, false, not, cond, Option, None, Some, ap, refl, sym, arith, ◌∙◌}
 use Rattle.std.specs.Prelude.{◌==◌, ◌||◌, ◌&&◌, ◌↔◌, All, AllPairs, IsPermutation, count_by, sum_by, filter, find}
+use Rattle.std.specs.List.{AllZip}
 use Rattle.std.proofs.Math.Bool.{or-false}
-use Rattle.std.proofs.Math.Nat.{le_refl}
-use Rattle.std.proofs.lemmas.List.{drop_all}
-use Rattle.std.proofs.lemmas.List.Elements.{All-cons, All-filter, All-head, All-nil, All-tail}
+use Rattle.std.proofs.lemmas.Bool.{eq-eqb, true≢false}
+use Rattle.std.proofs.lemmas.List.{drop_more}
+use Rattle.std.proofs.lemmas.List.Elements.{All-cons, All-filter, All-head, All-nil, All-tail, All-weaker, filter_passes}
 use Rattle.std.proofs.lemmas.List.Folds.{list_any-append}
 use Rattle.std.proofs.lemmas.List.Kept.{AllPairs-cons}
-use Rattle.std.proofs.lemmas.List.Sorted.{All-permutation, IsPermutation-cons, IsPermutation-refl, IsPermutation-sym, IsPermutation-trans, length_permutation, sum_by-IsPermutation}
-use Rattle.std.proofs.lemmas.List.Sums.{sum_by-cons}
+use Rattle.std.proofs.lemmas.List.Sorted.{All-permutation, IsPermutation-cons, IsPermutation-refl, IsPermutation-sym, IsPermutation-trans, sum_by-IsPermutation, sum_by_pushed}
+use Rattle.std.proofs.lemmas.List.Sums.{sum_by-append, sum_by-cons}
 use Rattle.cns_pool.specs.declared.ticket.Ticket.{Ticket}
 use Rattle.cns_pool.specs.Tiles.{AreChained}
 use Rattle.cns_pool.specs.Pool.{asked_sum, intervals_of}
 use Rattle.cns_movements.specs.Asked.{IsAsked}
 use Rattle.cns_allocate.specs.Group.{rank}
 use Rattle.cns_allocate.specs.Plan.{IsPlan}
-use Rattle.cns_allocate.specs.Served.{AreDrawnBy, IsServed, has_ticket, turn_of, waiting, without}
+use Rattle.cns_allocate.specs.Served.{FollowPlan, IsDrawnBy, IsServed, has_ticket, turn_of, waiting, without}
 use Rattle.cns_allocate.specs.declared.planned.Planned.{Planned}
 use Rattle.cns_allocate.specs.declared.turns.Turn.TheVariants.{Next}
-use Rattle.cns_allocate.proofs.PlanLemmas.{IsNoLater, is_planned_as}
-use Rattle.cns_allocate.proofs.TurnLemmas.{IsPlan-without, filter_twice, find-first, find-without, nat_eq-sym, same_rest, turn-next, turn-parts}
+use Rattle.cns_allocate.proofs.PlanLemmas.{IsNoLater, count-yes, is_planned_as, pairs-first, pairs-rest}
+use Rattle.cns_allocate.proofs.TurnLemmas.{IsPlan-without, count_none, filter_twice, find-All, find-none, find-passes, find-without, nat_eq-sym, turn-next, turn-parts}
 
 -- ---- those who wait
 
@@ -31,12 +32,6 @@ waiting-none (p ∷ plan) = ap (λ ps. p ∷ ps) (waiting-none plan)
 not_or : (a b : Bool) → not (a || b) ≡ (not a && not b)
 not_or true b = refl
 not_or false b = refl
-
-not_or_back : (a b : Bool) → not (a || b) ≡ (not b && not a)
-not_or_back true true = refl
-not_or_back true false = refl
-not_or_back false true = refl
-not_or_back false false = refl
 
 -- after the first ticket, all wait but the one that drew it
 pub waiting-first : (plan : List Planned) (t : Ticket) (ts : List Ticket) → waiting (without t.member plan) ts ≡ waiting plan (t ∷ ts)
@@ -64,99 +59,132 @@ abbrev pub AreInTurn : List Planned → ℕ → List Ticket → Type 0
 AreInTurn plan n [] = Unit {0}
 AreInTurn plan n (t ∷ ts) = (t.start ≡ n) × (turn_of plan t.member ≡ Next t.asked) × AreInTurn (without t.member plan) (n + t.asked) ts
 
--- they are drawn in an order of the whole plan, and where nobody waits, by everybody
-record AreOrdered (plan : List Planned) (n : ℕ) (tickets : List Ticket) : Type 0 where
-  order : List Planned
-  permutation : IsPermutation order plan
-  groups : AllPairs IsNoLater order
-  drawn : AreDrawnBy tickets order
-  chained : AreChained n (intervals_of tickets)
-  whole : waiting plan tickets ≡ [] → length tickets ≡ length order
-
-in_turn-ordered : (plan : List Planned) (n : ℕ) (tickets : List Ticket) → IsPlan plan → AreInTurn plan n tickets → AreOrdered plan n tickets
-in_turn-ordered plan n [] is turns = record {
-  order = plan;
-  permutation = IsPermutation-refl plan;
-  groups = is.groups;
-  drawn = tt;
-  chained = tt;
-  whole = λ nobody. let none : plan ≡ [] = sym (waiting-none plan) ∙ nobody in sym (ap length none);
-}
-in_turn-ordered plan n (t ∷ ts) is turns =
+-- they follow the plan, and stand end to end
+in_turn-follow : (plan : List Planned) (n : ℕ) (tickets : List Ticket) (sealed : Bool) → IsPlan plan → AreInTurn plan n tickets → (sealed ≡ false → waiting plan tickets ≡ [])
+    → FollowPlan plan tickets sealed × AreChained n (intervals_of tickets)
+in_turn-follow plan n [] sealed is turns nobody = (
+  record {
+    drawers = [];
+    others = plan;
+    permutation = IsPermutation-refl plan;
+    groups = is.groups;
+    drawn = tt;
+    whole = λ open_lot. sym (waiting-none plan) ∙ nobody open_lot;
+  },
+  tt,
+)
+in_turn-follow plan n (t ∷ ts) sealed is turns nobody =
     let left : List Planned = without t.member plan in
     let turn = turn-parts plan t.member t.asked turns.1 in
-    let rest = in_turn-ordered left (n + t.asked) ts (IsPlan-without t.member plan is) turns.2 in
-    let later = All-filter (λ (q : Planned). not (q.member == t.member)) (IsNoLater turn.planned) plan turn.first in
-    record {
-      order = turn.planned ∷ rest.order;
-      permutation =
-          IsPermutation-trans (turn.planned ∷ rest.order) (turn.planned ∷ left) plan (IsPermutation-cons turn.planned rest.order left rest.permutation)
-          (find-without t.member plan turn.planned (is.once t.member) turn.found);
-      groups =
-          AllPairs-cons IsNoLater turn.planned rest.order
-          (All-permutation (IsNoLater turn.planned) left rest.order (IsPermutation-sym rest.order left rest.permutation) later) rest.groups;
-      drawn = (sym turn.named, sym turn.shares, rest.drawn);
-      chained = (turns.0, rest.chained);
-      whole = λ nobody. ap suc (rest.whole (waiting-first plan t ts ∙ nobody));
-    }
+    let rest = in_turn-follow left (n + t.asked) ts sealed (IsPlan-without t.member plan is) turns.2 (λ open_lot. waiting-first plan t ts ∙ nobody open_lot) in
+    let by = rest.0 in
+    let later = All-filter (λ (q : Planned). not (q.member == t.member)) (IsNoLater turn.planned) plan turn.first in (
+      record {
+        drawers = turn.planned ∷ by.drawers;
+        others = by.others;
+        permutation =
+            IsPermutation-trans (turn.planned ∷ (by.drawers ++ by.others)) (turn.planned ∷ left) plan
+            (IsPermutation-cons turn.planned (by.drawers ++ by.others) left by.permutation) (find-without t.member plan turn.planned (is.once t.member) turn.found);
+        groups =
+            AllPairs-cons IsNoLater turn.planned (by.drawers ++ by.others)
+            (All-permutation (IsNoLater turn.planned) left (by.drawers ++ by.others) (IsPermutation-sym (by.drawers ++ by.others) left by.permutation) later) by.groups;
+        drawn = ((sym turn.named, sym turn.shares), by.drawn);
+        whole = by.whole;
+      },
+      (turns.0, rest.1),
+    )
 
--- the same, the other way round
-record AreTurns (plan : List Planned) (n : ℕ) (tickets : List Ticket) (order : List Planned) : Type 0 where
-  turns : AreInTurn plan n tickets
-  whole : length tickets ≡ length order → waiting plan tickets ≡ []
+-- what holds of each of some planned holds of each of the others, and sums over them are the same
+record HaveSame (ps qs : List Planned) : Type 1 where
+  each : (P : Planned → Type 0) → All P ps → All P qs
+  sums : (f : Planned → ℕ) → sum_by f qs ≡ sum_by f ps
 
-no_order : (order plan : List Planned) → IsPermutation order plan → 0 ≡ length order → plan ≡ []
-no_order order [] same none = refl
-no_order order (p ∷ plan) same none = absurd (omega (arith, length_permutation order (p ∷ plan) same, none))
+permutation-same : (ps qs : List Planned) → IsPermutation ps qs → HaveSame ps qs
+permutation-same ps qs same = record { each = λ P. All-permutation P ps qs same; sums = λ f. sum_by-IsPermutation f ps qs same }
 
-first_no_later : (p : Planned) (ps : List Planned) → AllPairs IsNoLater (p ∷ ps) → All (IsNoLater p) ps
-first_no_later p ps pairs = λ k d below. pairs 0 (suc k) d (omega arith) (omega arith)
+-- the first of an order of a plan is found by its member, and the others are those of the plan that are not this member
+module _ (p : Planned) (ps plan : List Planned) (same : HaveSame (p ∷ ps) plan) (once : count_by (is_planned_as p.member) plan ≤ 1) where
+  counted : count_by (is_planned_as p.member) plan ≡ suc (count_by (is_planned_as p.member) ps)
+  counted = same.sums (λ (q : Planned). cond (is_planned_as p.member q) 1 0) ∙ count-yes (is_planned_as p.member) p ps (eq-eqb p.member p.member refl)
 
-rest_no_later : (p : Planned) (ps : List Planned) → AllPairs IsNoLater (p ∷ ps) → AllPairs IsNoLater ps
-rest_no_later p ps pairs = λ i j d less below. pairs (suc i) (suc j) d (omega arith) (omega arith)
+  find-first : find (is_planned_as p.member) plan ≡ Some p
+  find-first = by (find (is_planned_as p.member) plan) refl
+    where
+      apart : (q : Planned) → is_planned_as p.member q ≡ false → is_planned_as p.member q ≡ true → q ≡ p
+      apart q other as_member = cc
 
-ordered-in_turn : (plan : List Planned) (n : ℕ) (tickets : List Ticket) (order : List Planned) → IsPlan plan → IsPermutation order plan → AllPairs IsNoLater order
-    → AreDrawnBy tickets order → AreChained n (intervals_of tickets) → AreTurns plan n tickets order
-ordered-in_turn plan n [] order is same groups drawn chained = record { turns = tt; whole = λ none. waiting-none plan ∙ no_order order plan same none }
-ordered-in_turn plan n (t ∷ ts) [] is same groups drawn chained = absurd drawn
-ordered-in_turn plan n (t ∷ ts) (p ∷ ps) is same groups drawn chained =
+      alone : All (λ (q : Planned). is_planned_as p.member q ≡ true → q ≡ p) plan
+      alone =
+          same.each (λ (q : Planned). is_planned_as p.member q ≡ true → q ≡ p)
+          (All-cons (λ (q : Planned). is_planned_as p.member q ≡ true → q ≡ p) p ps (λ e. refl)
+          (All-weaker (λ (q : Planned). is_planned_as p.member q ≡ false) (λ (q : Planned). is_planned_as p.member q ≡ true → q ≡ p) apart ps
+          (count_none (is_planned_as p.member) ps (omega (arith, counted, once)))))
+
+      by : (o : Option Planned) → find (is_planned_as p.member) plan ≡ o → o ≡ Some p
+      by None e = absurd (omega (arith, counted, find-none (is_planned_as p.member) plan e))
+      by (Some q) e =
+          ap Some (find-All (λ (r : Planned). is_planned_as p.member r ≡ true → r ≡ p) (is_planned_as p.member) plan q alone e (find-passes (is_planned_as p.member) plan q e))
+
+  same_rest : HaveSame ps (without p.member plan)
+  same_rest = record { each = kept; sums = λ f. omega (arith, same.sums f, sum_by-cons f p ps, sum_by_pushed f p (without p.member plan) plan (find-without p.member plan p once find-first)) }
+    where
+      other : Planned → Bool
+      other q = not (q.member == p.member)
+
+      kept : (P : Planned → Type 0) → All P ps → All P (without p.member plan)
+      kept P all k d below =
+          All-filter other (λ (q : Planned). other q ≡ true → P q) plan
+          (same.each (λ (q : Planned). other q ≡ true → P q)
+          (All-cons (λ (q : Planned). other q ≡ true → P q) p ps (λ e. absurd (true≢false (sym e ∙ ap not (eq-eqb p.member p.member refl))))
+          (All-weaker P (λ (q : Planned). other q ≡ true → P q) (λ q holds e. holds) ps all)))
+          k d below (filter_passes other plan k d below)
+
+nobody_left : (plan : List Planned) → All (λ (p : Planned). ⊥) plan → plan ≡ []
+nobody_left [] all = refl
+nobody_left (p ∷ plan) all = absurd (all 0 p (omega arith))
+
+-- tickets that are drawn in an order of the plan, and stand end to end, are drawn in turn; and where there are no others, nobody waits
+follow-in_turn : (plan : List Planned) (n : ℕ) (tickets : List Ticket) (drawers others : List Planned) → IsPlan plan → HaveSame (drawers ++ others) plan
+    → AllPairs IsNoLater (drawers ++ others) → AllZip IsDrawnBy tickets drawers → AreChained n (intervals_of tickets)
+    → AreInTurn plan n tickets × (others ≡ [] → waiting plan tickets ≡ [])
+follow-in_turn plan n [] [] others is same groups drawn chained =
+    (tt, λ none. waiting-none plan ∙ nobody_left plan (same.each (λ (p : Planned). ⊥) (rw none (All-nil (λ (p : Planned). ⊥)))))
+follow-in_turn plan n [] (p ∷ ps) others is same groups drawn chained = absurd drawn
+follow-in_turn plan n (t ∷ ts) [] others is same groups drawn chained = absurd drawn
+follow-in_turn plan n (t ∷ ts) (p ∷ ps) others is same groups drawn chained =
     let left : List Planned = without t.member plan in
-    let found : find (is_planned_as t.member) plan ≡ Some p = rw drawn.0 (find-first p ps plan same is.once) in
+    let found : find (is_planned_as t.member) plan ≡ Some p = rw drawn.0.0 (find-first p (ps ++ others) plan same (is.once p.member)) in
+    let rest_same : HaveSame (ps ++ others) left = rw drawn.0.0 (same_rest p (ps ++ others) plan same (is.once p.member)) in
     let first =
-    All-permutation (IsNoLater p) (p ∷ ps) plan same
-    (All-cons (IsNoLater p) p ps (let itself : rank p.group ≤ rank p.group = omega arith in itself) (first_no_later p ps groups)) in
-    let others : IsPermutation ps left = same_rest p ps left plan same (find-without t.member plan p (is.once t.member) found) in
+    same.each (IsNoLater p)
+    (All-cons (IsNoLater p) p (ps ++ others) (let itself : rank p.group ≤ rank p.group = omega arith in itself) (pairs-first IsNoLater p (ps ++ others) groups)) in
     let rest =
-    ordered-in_turn left (n + t.asked) ts ps (IsPlan-without t.member plan is) others (rest_no_later p ps groups) drawn.2 chained.1 in
-    record {
-      turns = (chained.0, turn-next plan t.member p found first ∙ ap Next (sym drawn.1), rest.turns);
-      whole = λ lengths. sym (waiting-first plan t ts) ∙ rest.whole (omega (arith, lengths));
-    }
+    follow-in_turn left (n + t.asked) ts ps others (IsPlan-without t.member plan is) rest_same (pairs-rest IsNoLater p (ps ++ others) groups) drawn.1 chained.1 in
+    ((chained.0, turn-next plan t.member p found first ∙ ap Next (sym drawn.0.1), rest.0), λ none. sym (waiting-first plan t ts) ∙ rest.1 none)
 
--- tickets drawn in turn are those of a lot that may close once it is sealed, or nobody waits
-pub in_turn-served : (plan : List Planned) (tickets : List Ticket) (sealed : Bool) → IsPlan plan → AreInTurn plan 0 tickets → (sealed ≡ false → waiting plan tickets ≡ [])
-    → IsServed plan tickets sealed
-in_turn-served plan tickets sealed is turns nobody =
-    let ordered = in_turn-ordered plan 0 tickets is turns in
-    record {
-      follows = record {
-        order = ordered.order;
-        permutation = ordered.permutation;
-        groups = ordered.groups;
-        drawn = ordered.drawn;
-        whole = λ open_lot. ordered.whole (nobody open_lot);
-      };
-      chained = ordered.chained;
-    }
+-- tickets from a start on after which a lot may close, while these wait: each is drawn in turn, and where nothing is sealed, nobody waits
+-- after them
+abbrev pub MayClose : List Planned → ℕ → List Ticket → Bool → Type 0
+MayClose left start tickets sealed = AreInTurn left start tickets × (sealed ≡ false → waiting left tickets ≡ [])
 
-served-turns : (plan : List Planned) (tickets : List Ticket) (sealed : Bool) → IsPlan plan → (s : IsServed plan tickets sealed) → AreTurns plan 0 tickets s.follows.order
-served-turns plan tickets sealed is s =
-    let f = s.follows in
-    ordered-in_turn plan 0 tickets f.order is f.permutation f.groups f.drawn s.chained
+-- the tickets of a lot that may close are such tickets, and the other way round
+pub served-turns : (plan : List Planned) (tickets : List Ticket) (sealed : Bool) → IsPlan plan → IsServed plan tickets sealed ↔ MayClose plan 0 tickets sealed
+served-turns plan tickets sealed is = (
+  λ s.
+      let by = s.follows in
+      let turns =
+      follow-in_turn plan 0 tickets by.drawers by.others is (permutation-same (by.drawers ++ by.others) plan by.permutation) by.groups by.drawn s.chained in
+      (turns.0, λ open_lot. turns.1 (by.whole open_lot)),
+  λ turns. let follow = in_turn-follow plan 0 tickets sealed is turns.0 turns.1 in record { follows = follow.0; chained = follow.1 },
+)
 
--- tickets of a lot that may close are drawn in turn
-pub served-in_turn : (plan : List Planned) (tickets : List Ticket) (sealed : Bool) → IsPlan plan → IsServed plan tickets sealed → AreInTurn plan 0 tickets
-served-in_turn plan tickets sealed is s = (served-turns plan tickets sealed is s).turns
+-- the first of them is drawn in turn, and the others follow it
+pub close-first : (left : List Planned) (start : ℕ) (t : Ticket) (ts : List Ticket) (sealed : Bool)
+    → MayClose left start (t ∷ ts) sealed ↔ ((t.start ≡ start) × (turn_of left t.member ≡ Next t.asked) × MayClose (without t.member left) (start + t.asked) ts sealed)
+close-first left start t ts sealed = (
+  λ all. (all.0.0, all.0.1, (all.0.2, λ open_lot. waiting-first left t ts ∙ all.1 open_lot)),
+  λ first. ((first.0, first.1, first.2.0), λ open_lot. sym (waiting-first left t ts) ∙ first.2.1 open_lot),
+)
 
 -- one more ticket is drawn in turn too
 in_turn_more : (plan : List Planned) (n : ℕ) (tickets : List Ticket) (t : Ticket) → AreInTurn plan n tickets → t.start ≡ n + asked_sum tickets
@@ -173,54 +201,50 @@ in_turn_more plan n (u ∷ us) t turns starts turn = (
 
 -- a sealed lot may close with no ticket
 pub served_none : (plan : List Planned) → IsPlan plan → IsServed plan [] true
-served_none plan is = in_turn-served plan [] true is tt (λ e. cc)
+served_none plan is = (served-turns plan [] true is).1 (tt, λ e. cc)
 
 -- and with one more ticket, where it is drawn in turn
 pub served_more : (plan : List Planned) (tickets : List Ticket) (member asked : ℕ) → IsPlan plan → IsServed plan tickets true
     → turn_of (waiting plan tickets) member ≡ Next asked → IsServed plan (tickets ++ record { member = member; start = asked_sum tickets; asked = asked } ∷ []) true
 served_more plan tickets member asked is s turn =
     let next : Ticket = record { member = member; start = asked_sum tickets; asked = asked } in
-    in_turn-served plan (tickets ++ next ∷ []) true is
-    (in_turn_more plan 0 tickets next (served-in_turn plan tickets true is s) (let starts : asked_sum tickets ≡ 0 + asked_sum tickets = omega arith in starts) turn)
-    (λ e. cc)
+    let starts : asked_sum tickets ≡ 0 + asked_sum tickets = omega arith in
+    (served-turns plan (tickets ++ next ∷ []) true is).1 (in_turn_more plan 0 tickets next ((served-turns plan tickets true is).0 s).0 starts turn, λ e. cc)
 
 -- a lot in which nobody waits may close unsealed
 pub served_whole : (plan : List Planned) (tickets : List Ticket) → IsPlan plan → IsServed plan tickets true → waiting plan tickets ≡ [] → IsServed plan tickets false
-served_whole plan tickets is s nobody = in_turn-served plan tickets false is (served-in_turn plan tickets true is s) (λ e. nobody)
+served_whole plan tickets is s nobody = (served-turns plan tickets false is).1 (((served-turns plan tickets true is).0 s).0, λ e. nobody)
 
--- a lot that may close may close sealed
-pub served_sealed : (plan : List Planned) (tickets : List Ticket) (sealed : Bool) → IsServed plan tickets sealed → IsServed plan tickets true
-served_sealed plan tickets sealed s =
-    let f = s.follows in
-    record {
-      follows = record { order = f.order; permutation = f.permutation; groups = f.groups; drawn = f.drawn; whole = λ e. cc };
-      chained = s.chained;
-    }
+-- a sum over tickets is at most that over those planned
+served_most : (f : Ticket → ℕ) (g : Planned → ℕ) → ((t : Ticket) (p : Planned) → IsDrawnBy t p → f t ≡ g p) → (plan : List Planned) (tickets : List Ticket) (sealed : Bool)
+    → IsServed plan tickets sealed → sum_by f tickets ≤ sum_by g plan
+served_most f g each plan tickets sealed s =
+    omega (arith, drawn_sum tickets by.drawers by.drawn, sum_by-append g by.drawers by.others, sum_by-IsPermutation g (by.drawers ++ by.others) plan by.permutation)
+  where
+    by : FollowPlan plan tickets sealed
+    by = s.follows
 
--- where it may close unsealed, nobody waits
-pub served_all : (plan : List Planned) (tickets : List Ticket) → IsPlan plan → IsServed plan tickets false → waiting plan tickets ≡ []
-served_all plan tickets is s = (served-turns plan tickets false is s).whole (s.follows.whole refl)
-
--- a sum over tickets is at most that over those who drew them
-drawn_sum : (f : Ticket → ℕ) (g : Planned → ℕ) → ((t : Ticket) (p : Planned) → t.member ≡ p.member → t.asked ≡ p.asked → f t ≤ g p)
-    → (tickets : List Ticket) (order : List Planned) → AreDrawnBy tickets order → sum_by f tickets ≤ sum_by g order
-drawn_sum f g each [] order drawn = omega arith
-drawn_sum f g each (t ∷ ts) [] drawn = absurd drawn
-drawn_sum f g each (t ∷ ts) (p ∷ ps) drawn =
-    omega (arith, sum_by-cons f t ts, sum_by-cons g p ps, each t p drawn.0 drawn.1, drawn_sum f g each ts ps drawn.2)
+    drawn_sum : (ts : List Ticket) (ps : List Planned) → AllZip IsDrawnBy ts ps → sum_by f ts ≡ sum_by g ps
+    drawn_sum [] [] drawn = refl
+    drawn_sum [] (p ∷ ps) drawn = absurd drawn
+    drawn_sum (t ∷ ts) [] drawn = absurd drawn
+    drawn_sum (t ∷ ts) (p ∷ ps) drawn = omega (arith, sum_by-cons f t ts, sum_by-cons g p ps, each t p drawn.0, drawn_sum ts ps drawn.1)
 
 -- what holds of each planned holds of its ticket
-drawn_all : (P : Planned → Type 0) (Q : Ticket → Type 0) → ((t : Ticket) (p : Planned) → t.member ≡ p.member → t.asked ≡ p.asked → P p → Q t)
-    → (tickets : List Ticket) (order : List Planned) → AreDrawnBy tickets order → All P order → All Q tickets
-drawn_all P Q each [] order drawn all = All-nil Q
-drawn_all P Q each (t ∷ ts) [] drawn all = absurd drawn
-drawn_all P Q each (t ∷ ts) (p ∷ ps) drawn all =
-    All-cons Q t ts (each t p drawn.0 drawn.1 (All-head P p ps all)) (drawn_all P Q each ts ps drawn.2 (All-tail P p ps all))
-
 served_each : (plan : List Planned) (tickets : List Ticket) (sealed : Bool) (P : Planned → Type 0) (Q : Ticket → Type 0)
-    → ((t : Ticket) (p : Planned) → t.member ≡ p.member → t.asked ≡ p.asked → P p → Q t) → IsServed plan tickets sealed → All P plan → All Q tickets
+    → ((t : Ticket) (p : Planned) → IsDrawnBy t p → P p → Q t) → IsServed plan tickets sealed → All P plan → All Q tickets
 served_each plan tickets sealed P Q each s all =
-    drawn_all P Q each tickets s.follows.order s.follows.drawn (All-permutation P plan s.follows.order (IsPermutation-sym s.follows.order plan s.follows.permutation) all)
+    drawn_all tickets by.drawers by.others by.drawn (All-permutation P plan (by.drawers ++ by.others) (IsPermutation-sym (by.drawers ++ by.others) plan by.permutation) all)
+  where
+    by : FollowPlan plan tickets sealed
+    by = s.follows
+
+    drawn_all : (ts : List Ticket) (ps others : List Planned) → AllZip IsDrawnBy ts ps → All P (ps ++ others) → All Q ts
+    drawn_all [] [] others drawn holds = All-nil Q
+    drawn_all [] (p ∷ ps) others drawn holds = absurd drawn
+    drawn_all (t ∷ ts) [] others drawn holds = absurd drawn
+    drawn_all (t ∷ ts) (p ∷ ps) others drawn holds =
+        All-cons Q t ts (each t p drawn.0 (All-head P p (ps ++ others) holds)) (drawn_all ts ps others drawn.1 (All-tail P p (ps ++ others) holds))
 
 -- no member has two tickets
 pub served_once : (plan : List Planned) (tickets : List Ticket) (sealed : Bool) → IsPlan plan → IsServed plan tickets sealed → (member : ℕ)
@@ -228,9 +252,8 @@ pub served_once : (plan : List Planned) (tickets : List Ticket) (sealed : Bool) 
 served_once plan tickets sealed is s member =
     omega (
       arith,
-      drawn_sum (λ (t : Ticket). cond (t.member == member) 1 0) (λ (p : Planned). cond (p.member == member) 1 0)
-          (λ t p members asks. rw members (le_refl (cond (p.member == member) 1 0))) tickets s.follows.order s.follows.drawn,
-      sum_by-IsPermutation (λ (p : Planned). cond (p.member == member) 1 0) s.follows.order plan s.follows.permutation,
+      served_most (λ (t : Ticket). cond (t.member == member) 1 0) (λ (p : Planned). cond (p.member == member) 1 0)
+          (λ t p drawn. ap (λ (m : ℕ). cond (m == member) 1 0) drawn.0) plan tickets sealed s,
       is.once member,
     )
 
@@ -239,70 +262,19 @@ pub served_within : (plan : List Planned) (tickets : List Ticket) (sealed : Bool
     → All (λ (p : Planned). p.asked ≤ limit p.member) plan → All (λ (t : Ticket). t.asked ≤ limit t.member) tickets
 served_within plan tickets sealed s limit all =
     served_each plan tickets sealed (λ (p : Planned). p.asked ≤ limit p.member) (λ (t : Ticket). t.asked ≤ limit t.member)
-    (λ t p members asks le. rw (members, asks) le) s all
+    (λ t p drawn le. rw (drawn.0, drawn.1) le) s all
 
 -- the tickets ask for no more than is planned
 pub served_sum : (plan : List Planned) (tickets : List Ticket) (sealed : Bool) → IsServed plan tickets sealed → asked_sum tickets ≤ sum_by (λ (p : Planned). p.asked) plan
-served_sum plan tickets sealed s =
-    omega (
-      arith,
-      drawn_sum (λ (t : Ticket). t.asked) (λ (p : Planned). p.asked) (λ t p members asks. omega (arith, asks)) tickets s.follows.order s.follows.drawn,
-      sum_by-IsPermutation (λ (p : Planned). p.asked) s.follows.order plan s.follows.permutation,
-    )
+served_sum = served_most (λ (t : Ticket). t.asked) (λ (p : Planned). p.asked) (λ t p drawn. drawn.1)
 
 -- each is of 1 to 10^18 shares
 pub served_shares : (plan : List Planned) (tickets : List Ticket) (sealed : Bool) → IsPlan plan → IsServed plan tickets sealed
     → All (λ (t : Ticket). (1 ≤ t.asked) × (t.asked ≤ 1000000000000000000)) tickets
 served_shares plan tickets sealed is s =
     served_each plan tickets sealed (λ (p : Planned). IsAsked p.asked) (λ (t : Ticket). (1 ≤ t.asked) × (t.asked ≤ 1000000000000000000))
-    (λ t p members asks asked. rw asks (asked.from, asked.to)) s is.asked
-
--- ---- how far a walk over the tickets has come
-
--- the tickets that are left, from a start on, are drawn in turn by those who wait where all the tickets are by the plan
-pub record IsUnderway (plan : List Planned) (tickets : List Ticket) (left : List Planned) (start : ℕ) (rest : List Ticket) : Type 0 where
-  pub turns : AreInTurn left start rest ↔ AreInTurn plan 0 tickets
-  pub wait : waiting left rest ≡ waiting plan tickets
-
-pub underway-first : (plan : List Planned) (tickets : List Ticket) → IsUnderway plan tickets plan 0 tickets
-underway-first plan tickets = record { turns = (λ h. h, λ h. h); wait = refl }
-
--- one more ticket that is drawn in turn
-pub underway-more : (plan : List Planned) (tickets : List Ticket) (left : List Planned) (start : ℕ) (t : Ticket) (rest : List Ticket)
-    → IsUnderway plan tickets left start (t ∷ rest) → t.start ≡ start → turn_of left t.member ≡ Next t.asked
-    → IsUnderway plan tickets (without t.member left) (start + t.asked) rest
-underway-more plan tickets left start t rest before starts turn = record {
-  turns = (λ h. before.turns.0 (starts, turn, h), λ h. (before.turns.1 h).2);
-  wait = waiting-first left t rest ∙ before.wait;
-}
-
--- one that is not
-pub underway-refused : (plan : List Planned) (tickets : List Ticket) (sealed : Bool) (left : List Planned) (start : ℕ) (t : Ticket) (rest : List Ticket) → IsPlan plan
-    → IsUnderway plan tickets left start (t ∷ rest) → ((t.start ≡ start) × (turn_of left t.member ≡ Next t.asked) → ⊥) → IsServed plan tickets sealed → ⊥
-underway-refused plan tickets sealed left start t rest is before refused s =
-    let h = before.turns.1 (served-in_turn plan tickets sealed is s) in
-    refused (h.0, h.1)
-
--- where no ticket is left, all steps are taken
-underway-ended : (plan : List Planned) (tickets : List Ticket) (left : List Planned) (start i : ℕ) → length tickets ≤ i
-    → IsUnderway plan tickets left start (drop i tickets) → IsUnderway plan tickets left start []
-underway-ended plan tickets left start i past underway = rw (drop_all i tickets past) at underway
-
--- the end of the tickets
-pub underway-last : (plan : List Planned) (tickets : List Ticket) (sealed : Bool) (left : List Planned) (start i : ℕ) → IsPlan plan
-    → length tickets ≤ i → IsUnderway plan tickets left start (drop i tickets) → (sealed ≡ false → left ≡ []) → IsServed plan tickets sealed
-underway-last plan tickets sealed left start i is past underway nobody =
-    let before = underway-ended plan tickets left start i past underway in
-    in_turn-served plan tickets sealed is (before.turns.0 tt) (λ e. sym before.wait ∙ waiting-none left ∙ nobody e)
-
--- where somebody waits at the end, the lot may not close unsealed
-pub underway-waits : (plan : List Planned) (tickets : List Ticket) (left : List Planned) (start i : ℕ) → IsPlan plan
-    → length tickets ≤ i → IsUnderway plan tickets left start (drop i tickets) → IsServed plan tickets false → left ≡ []
-underway-waits plan tickets left start i is past underway s =
-    let before = underway-ended plan tickets left start i past underway in sym (waiting-none left) ∙ before.wait ∙ served_all plan tickets is s
+    (λ t p drawn asked. rw drawn.1 (asked.from, asked.to)) s is.asked
 
 -- the first of the tickets that are left, and those after it
 pub rest-cons : (ts : List Ticket) (i : ℕ) (t : Ticket) → i < length ts → t ≡ get_or ts i t → drop i ts ≡ t ∷ drop (i + 1) ts
-rest-cons ts i t below is =
-    let next : suc i ≡ i + 1 = omega arith in
-    drop-cons ts i t below ∙ ap (λ u. u ∷ drop (suc i) ts) (sym is) ∙ ap (λ n. t ∷ drop n ts) next
+rest-cons ts i t below is = drop_more ts i t below ∙ ap (λ u. u ∷ drop (i + 1) ts) (sym is)

@@ -2,8 +2,8 @@
 use Rattle.std.proofs.Common.{◌≡◌, ℕ, ◌+◌, ◌-◌, ◌<◌, ◌≤◌, ◌⊎◌, inl, inr, Bool, true, false, List, [], ◌∷◌, ◌++◌, length, take, drop, get_or, refl, sym, ap, ◌∙◌, arith, subst, length-append}
 use Rattle.std.specs.Prelude.{All, AllPairs}
 use Rattle.std.proofs.lemmas.Bool.{cases_lt}
-use Rattle.std.proofs.lemmas.List.{append-nil, drop-drop, drop-take, get_or-drop, get_or-take, length-drop, length-take, take-append-drop, take-take}
-use Rattle.std.proofs.lemmas.List.Elements.{All-append, All-cons, All-drop, All-nil, All-take, All-weaker}
+use Rattle.std.proofs.lemmas.List.{append-nil, drop-drop, drop-take, get_or-drop, get_or-take, length-drop, length-take, nil_from_length, take-append-drop, take-take, take_rest}
+use Rattle.std.proofs.lemmas.List.Elements.{All-append, All-cons, All-nil, All-weaker}
 use Rattle.std.proofs.lemmas.List.Sorted.{length_permutation}
 use Rattle.cns_pool.specs.declared.ticket.Ticket.{Ticket}
 use Rattle.cns_pool.specs.WorkerSeat.{EndWithin, WorkerState}
@@ -12,7 +12,7 @@ use Rattle.cns_allocate.specs.Plan.{IsServable}
 use Rattle.cns_allocate.specs.Serving.{FollowPlanByStart, HasDrawn, shares_of}
 use Rattle.cns_allocate.specs.declared.planned.Planned.{Planned}
 use Rattle.cns_allocate.proofs.DealLemmas.{shares_of-append}
-use Rattle.cns_allocate.proofs.DrawnLemmas.{drawn-most}
+use Rattle.cns_allocate.proofs.DrawnLemmas.{drawn-count, drawn-most, follow-drawn}
 use Rattle.cns_allocate.proofs.FollowLemmas.{follow-group, follow-rest}
 use Rattle.cns_allocate.proofs.PlanLemmas.{IsNoLater}
 
@@ -25,7 +25,7 @@ ends-start n (t ∷ ts) ends = All-cons (λ (u : Ticket). u.start ≤ n) t ts (o
 followed-count : (plan : List Planned) (ts : List Ticket) → FollowPlanByStart plan ts false → length ts ≡ length plan
 followed-count plan ts follow =
     let f = follow.follows in
-    omega (arith, length_permutation ts follow.sorted follow.permutation, f.whole refl, length_permutation f.order plan f.permutation)
+    omega (arith, length_permutation ts follow.sorted follow.permutation, ap length (f.whole refl), drawn-count plan follow.sorted (follow-drawn plan follow.sorted false f))
 
 -- where the next group is not served, somebody has no ticket, and the seal was not met
 pub fault-part : (plan : List Planned) (m : ℕ) (old new : WorkerState) → m < length plan → FollowPlanByStart (take m plan) old.tickets false → HasDrawn old [] new → length new.tickets < length plan
@@ -35,54 +35,53 @@ fault-part plan m old new below follow draws =
       below,
       ap length draws.added,
       length-append old.tickets draws.tickets,
-      drawn-most old.seen.asked [] draws.tickets draws.drawn,
+      drawn-most [] draws.tickets draws.drawn,
       followed-count (take m plan) old.tickets follow,
       length-take m plan,
     )
 
 pub fault-unmet : (old new : WorkerState) → HasDrawn old [] new → new.seen.sealed ≡ old.seen.sealed
-fault-unmet old new draws = draws.all (omega (arith, drawn-most old.seen.asked [] draws.tickets draws.drawn))
+fault-unmet old new draws = draws.all (omega (arith, drawn-most [] draws.tickets draws.drawn))
 
 -- ---- where a group stands in the plan
 
 -- the places of a plan up to the end of a group
-pub take-group : (m n : ℕ) (plan : List Planned) → take (m + n) plan ≡ take m plan ++ take n (drop m plan)
+take-group : (m n : ℕ) (plan : List Planned) → take (m + n) plan ≡ take m plan ++ take n (drop m plan)
 take-group m n plan =
     sym (take-append-drop m (take (m + n) plan)) ∙ ap (λ (l : List Planned). l ++ drop m (take (m + n) plan)) (take-take m (m + n) plan (omega arith))
     ∙ ap (λ (l : List Planned). take m plan ++ l) (drop-take m n plan)
 
 -- those from a group on
-pub drop-group : (m n : ℕ) (plan : List Planned) → drop m plan ≡ take n (drop m plan) ++ drop (m + n) plan
+drop-group : (m n : ℕ) (plan : List Planned) → drop m plan ≡ take n (drop m plan) ++ drop (m + n) plan
 drop-group m n plan = sym (take-append-drop n (drop m plan)) ∙ ap (λ (l : List Planned). take n (drop m plan) ++ l) (drop-drop n m plan)
 
--- what a group asks for, and those after it
-pub shares-group : (m n : ℕ) (plan : List Planned) → shares_of (drop m plan) ≡ shares_of (take n (drop m plan)) + shares_of (drop (m + n) plan)
-shares-group m n plan = ap shares_of (drop-group m n plan) ∙ shares_of-append (take n (drop m plan)) (drop (m + n) plan)
+-- the next group of a plan: the n members from the place m on, as they are read of those that are left
+module _ (plan : List Planned) (m n : ℕ) (is : IsServable plan) (below : m < length plan) (some : 0 < n) (fits : n ≤ length (take (length plan - m) (drop m plan)))
+    (one : (r : ℕ) × All (λ (p : Planned). rank p.group ≡ r) (take n (take (length plan - m) (drop m plan)))) where
+  abbrev r : ℕ
+  r = one.0
 
--- a group is within the plan, and has as many places as were counted
-pub record IsSized (m n : ℕ) (plan : List Planned) : Type 0 where
-  pub within : n ≤ length plan - m
-  pub count : length (take n (take (length plan - m) (drop m plan))) ≡ n
+  read : take n (take (length plan - m) (drop m plan)) ≡ take n (drop m plan)
+  read = ap (take n) (take_rest plan m)
 
-pub group_size : (plan : List Planned) (m n : ℕ) → n ≤ length (take (length plan - m) (drop m plan)) → IsSized m n plan
-group_size plan m n fits = record {
-  within = omega (arith, fits, length-take (length plan - m) (drop m plan));
-  count = omega (arith, fits, length-take n (take (length plan - m) (drop m plan)));
-}
+  same : All (λ (p : Planned). rank p.group ≡ r) (take n (drop m plan))
+  same = subst (All (λ (p : Planned). rank p.group ≡ r)) read one.1
 
--- each of a group asks for a share
-pub asks-group : (m n : ℕ) (plan : List Planned) → IsServable plan → All (λ (p : Planned). 1 ≤ p.asked) (take n (drop m plan))
-asks-group m n plan is = All-take (λ (p : Planned). 1 ≤ p.asked) n (drop m plan) (All-drop (λ (p : Planned). 1 ≤ p.asked) m plan is.asks)
+  pub group_count : length (take n (take (length plan - m) (drop m plan))) ≡ n
+  group_count = omega (arith, fits, length-take n (take (length plan - m) (drop m plan)))
 
-module _ (plan : List Planned) (m n r : ℕ) (is : IsServable plan) (below : m < length plan) (some : 0 < n)
-    (same : All (λ (p : Planned). rank p.group ≡ r) (take n (drop m plan))) where
+  count : length (take n (drop m plan)) ≡ n
+  count = ap length (sym read) ∙ group_count
+
+  pub group_within : m + n ≤ length plan
+  group_within = omega (arith, fits, below, length-take (length plan - m) (drop m plan))
+
   -- the group of its first place
   rank_at : (d : Planned) → rank (get_or plan m d).group ≡ r
   rank_at d =
       let first : get_or (take n (drop m plan)) 0 d ≡ get_or plan m d =
       get_or-take n (drop m plan) 0 d some ∙ get_or-drop m plan 0 d ∙ ap (λ (k : ℕ). get_or plan k d) (omega arith) in
-      let there : 0 < length (take n (drop m plan)) = omega (arith, length-take n (drop m plan), length-drop m plan) in
-      subst (λ (p : Planned). rank p.group ≡ r) first (same 0 d there)
+      subst (λ (p : Planned). rank p.group ≡ r) first (same 0 d (omega (arith, some, count)))
 
   -- no group before it is later
   upto_group : All (λ (p : Planned). rank p.group ≤ r) (take m plan)
@@ -111,56 +110,54 @@ module _ (plan : List Planned) (m n r : ℕ) (is : IsServable plan) (below : m <
     -- where the group is not served, the tickets follow the plan as those of a sealed lot
     pub fault-follow : HasDrawn old [] new → FollowPlanByStart plan new.tickets true
     fault-follow draws =
-        let none : draws.tickets ≡ [] = no_tickets draws.tickets (drawn-most old.seen.asked [] draws.tickets draws.drawn) in
+        let none : draws.tickets ≡ [] = nil_from_length draws.tickets (omega (arith, drawn-most [] draws.tickets draws.drawn)) in
         let kept : new.tickets ≡ old.tickets = draws.added ∙ ap (λ (l : List Ticket). old.tickets ++ l) none ∙ append-nil old.tickets in
         let whole = follow-rest r (take m plan) (drop m plan) old.tickets false upto_group (from_group m (omega arith)) (rest_pairs m) follow in
         rw kept (subst (λ (l : List Planned). FollowPlanByStart l old.tickets true) (take-append-drop m plan) whole)
-      where
-        no_tickets : (ts : List Ticket) → length ts ≤ 0 → ts ≡ []
-        no_tickets [] none = refl
-        no_tickets (t ∷ ts) none = absurd (omega (arith, none))
 
-    module _ (draws : HasDrawn old (take n (drop m plan)) new) (ends : EndWithin old.seen.asked old.tickets) where
+    module _ (drawn : HasDrawn old (take n (take (length plan - m) (drop m plan))) new) (ends : EndWithin old.seen.asked old.tickets) where
+      draws : HasDrawn old (take n (drop m plan)) new
+      draws = subst (λ (l : List Planned). HasDrawn old l new) read drawn
+
       after : (sealed : Bool) → (sealed ≡ false → length draws.tickets ≡ length (take n (drop m plan))) → FollowPlanByStart (take (m + n) plan) new.tickets sealed
       after sealed whole =
           rw (take-group m n plan, draws.added)
           (follow-group old.seen.asked r (take m plan) (take n (drop m plan)) old.tickets draws.tickets sealed upto_group same follow
-          (ends-start old.seen.asked old.tickets ends) draws.drawn whole)
+          (ends-start old.seen.asked old.tickets ends) draws.drawn draws.after whole)
 
       -- how many tickets there are then
-      tickets_then : n ≤ length plan - m → length new.tickets ≡ m + length draws.tickets
-      tickets_then within =
+      tickets_then : length new.tickets ≡ m + length draws.tickets
+      tickets_then =
           omega (
             arith,
+            below,
             ap length draws.added,
             length-append old.tickets draws.tickets,
             followed-count (take m plan) old.tickets follow,
             length-take m plan,
           )
 
-      most : length draws.tickets ≤ length (take n (drop m plan))
-      most = drawn-most old.seen.asked (take n (drop m plan)) draws.tickets draws.drawn
-
-      group_count : n ≤ length plan - m → length (take n (drop m plan)) ≡ n
-      group_count within = omega (arith, length-take n (drop m plan), length-drop m plan)
-
       -- where all of the group have a ticket, the tickets follow the plan up to its end, and the seal was not met
-      pub whole-follow : n ≤ length plan - m → m + n ≤ length new.tickets → FollowPlanByStart (take (m + n) plan) new.tickets false
-      whole-follow within all = after false (λ e. omega (arith, all, tickets_then within, most, group_count within))
-
-      pub whole-sealed : n ≤ length plan - m → m + n ≤ length new.tickets → new.seen.sealed ≡ old.seen.sealed
-      whole-sealed within all = draws.all (omega (arith, all, tickets_then within, most, group_count within))
+      pub group-served : m + n ≤ length new.tickets → FollowPlanByStart (take (m + n) plan) new.tickets false × (new.seen.sealed ≡ old.seen.sealed)
+      group-served all =
+          let each : length draws.tickets ≡ length (take n (drop m plan)) =
+          omega (arith, all, tickets_then, count, drawn-most (take n (drop m plan)) draws.tickets draws.drawn) in
+          (after false (λ e. each), draws.all each)
 
       -- where one has none, the tickets follow the plan as those of a sealed lot, and the seal was met
-      pub sealed-follow : FollowPlanByStart plan new.tickets true
-      sealed-follow =
+      pub group-cut : length new.tickets < m + n → FollowPlanByStart plan new.tickets true × (new.seen.sealed ≡ true)
+      group-cut fewer =
           let whole =
           follow-rest r (take (m + n) plan) (drop (m + n) plan) new.tickets true
           (rw (take-group m n plan)
           (All-append (λ (p : Planned). rank p.group ≤ r) (take m plan) (take n (drop m plan)) upto_group
           (All-weaker (λ (p : Planned). rank p.group ≡ r) (λ (p : Planned). rank p.group ≤ r) (λ p e. omega arith) (take n (drop m plan)) same)))
           (from_group (m + n) (omega arith)) (rest_pairs (m + n)) (after true (λ e. cc)) in
-          subst (λ (l : List Planned). FollowPlanByStart l new.tickets true) (take-append-drop (m + n) plan) whole
+          (subst (λ (l : List Planned). FollowPlanByStart l new.tickets true) (take-append-drop (m + n) plan) whole, draws.met (omega (arith, fewer, tickets_then, count)))
 
-      pub sealed-met : n ≤ length plan - m → length new.tickets < m + n → new.seen.sealed ≡ true
-      sealed-met within fewer = draws.met (omega (arith, fewer, tickets_then within, group_count within))
+      -- what is left of the seat is enough for the others
+      pub budget-after : shares_of (drop m plan) ≤ old.budget → shares_of (drop (m + n) plan) ≤ new.budget
+      budget-after enough = omega (arith, enough, draws.budget, ap shares_of (drop-group m n plan), shares_of-append (take n (drop m plan)) (drop (m + n) plan))
+
+      pub calls-after : length plan ≤ old.calls + m → length plan ≤ new.calls + (m + n)
+      calls-after enough = omega (arith, enough, draws.calls, count)

@@ -3,7 +3,7 @@ use Rattle.std.proofs.Common.{◌≡◌, ◌≤◌, ◌+◌, ◌*◌, ℕ, List,
 use Rattle.std.specs.Prelude.{◌&&◌, ◌==◌, All, count_by, sum_by, if◌then◌else◌}
 use Rattle.std.proofs.lemmas.Bool.{and_parts, eq-eqb, eqb-true}
 use Rattle.std.proofs.lemmas.List.Elements.{All-head, All-tail, All-weaker}
-use Rattle.std.proofs.lemmas.List.Sums.{sum_by-cons}
+use Rattle.std.proofs.lemmas.List.Sums.{sum_by-cons, sum_by-le}
 use Rattle.cns_trades.specs.declared.trade.Trade.{Trade}
 use Rattle.cns_netting.specs.History.{bought, due, settled_in, sold}
 use Rattle.cns_netting.specs.Book.{IsBook}
@@ -65,11 +65,8 @@ parts_most t issue (p ∷ ps) =
 bought_by_all : (trades : List Trade) (issue : ℕ) (ps : List Planned) → ((member : ℕ) → count_by (is_planned_as member) ps ≤ 1)
     → sum_by (λ (p : Planned). bought trades p.member issue) ps ≤ shares_of trades
 unfolding bought
-bought_by_all [] issue ps once = nothing ps
-  where
-    nothing : (qs : List Planned) → sum_by (λ (p : Planned). 0) qs ≤ 0
-    nothing [] = omega arith
-    nothing (q ∷ qs) = omega (arith, sum_by-cons (λ (p : Planned). 0) q qs, nothing qs)
+bought_by_all [] issue ps once =
+    let none : sum_by (λ (p : Planned). 0) ps ≤ 0 = omega (arith, sum_by-le (λ (p : Planned). 0) 0 ps (λ i d below. omega arith)) in none
 bought_by_all (t ∷ trades) issue ps once =
     let parts =
     sum_by-plus (λ (p : Planned). part_of t p.member issue) (λ (p : Planned). bought trades p.member issue) (λ (p : Planned). bought (t ∷ trades) p.member issue)

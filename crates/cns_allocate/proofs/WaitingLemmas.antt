@@ -1,19 +1,20 @@
 -- Those of a plan who wait, by a table of their places.
-use Rattle.std.proofs.Common.{◌≡◌, ◌≤◌, ◌<◌, ◌+◌, ◌-◌, ℕ, zero, suc, take, drop, get_or, slice_set, replicate, List, [], ◌∷◌, ◌++◌, length, Bool, true, false, not, Some, None, cond, ap, refl, sym, subst, arith, inl, inr, ◌⊎◌, ◌∙◌}
-use Rattle.std.specs.Prelude.{◌==◌, ◌&&◌, nat_lt, slice_get, All, count_by, filter, find}
+use Rattle.std.proofs.Common.{◌≡◌, ◌≤◌, ◌<◌, ◌+◌, ◌-◌, ℕ, zero, suc, take, drop, get_or, slice_set, replicate, List, [], ◌∷◌, length, Bool, true, false, not, Option, Some, None, Bor, cond, ap, refl, sym, subst, arith, inl, inr, ◌⊎◌, ◌∙◌}
+use Rattle.std.specs.Prelude.{◌==◌, ◌&&◌, slice_get, All, find}
+use Rattle.std.specs.Option.{option_copied}
+use Rattle.std.specs.Slice.{IsItemAt}
 use Rattle.std.proofs.lemmas.Bool.{cases_lt, cond-false, cond-true, eq-eqb, eqb-true, ne_eqb}
-use Rattle.std.proofs.lemmas.List.{drop_all, drop_more, get_or_default, get_or-set_other, get_or-set_same, length-take-le, take_all, take_more}
-use Rattle.std.proofs.lemmas.List.Elements.{All-append, All-cons, All-get_or, All-head, All-nil, All-tail, All-weaker}
-use Rattle.std.proofs.lemmas.List.Kept.{AllPairs-filter}
-use Rattle.std.proofs.lemmas.List.Sums.{sum_by-cons, sum_by-take-le}
-use Rattle.cns_allocate.specs.Group.{rank}
+use Rattle.std.proofs.lemmas.List.{drop_all, drop_more, get_or_default, get_or-set_other, get_or-set_same, length-take-le, take_all}
+use Rattle.std.proofs.lemmas.List.Elements.{All-more, All-weaker}
+use Rattle.std.proofs.lemmas.List.Sums.{sum_by-take-le}
+use Rattle.std.proofs.lemmas.Option.{slice_get-get_or, slice_get_past, slice_get_read}
 use Rattle.cns_allocate.specs.Plan.{IsPlan}
-use Rattle.cns_allocate.specs.Served.{is_after_others, without}
+use Rattle.cns_allocate.specs.Served.{without}
 use Rattle.cns_allocate.specs.Waiting.{ArePlaces, AreWaiting, IsPlaceOf, is_placed, placed}
 use Rattle.cns_allocate.specs.declared.planned.Planned.{Planned}
 use Rattle.cns_allocate.proofs.NumberLemmas.{pigeonhole}
 use Rattle.cns_allocate.proofs.PlanLemmas.{is_planned_as}
-use Rattle.cns_allocate.proofs.TurnLemmas.{after-head, count_none, filter_twice}
+use Rattle.cns_allocate.proofs.TurnLemmas.{filter_twice, find-filter, filter_whole, find_one}
 
 -- ---- a table of places
 
@@ -31,9 +32,7 @@ first_few plan i is within members =
 
 -- one more of them
 pub members_more : (plan : List Planned) (i : ℕ) (p : Planned) → i < length plan → p ≡ get_or plan i p → HasMember p → All HasMember (take i plan) → All HasMember (take (i + 1) plan)
-members_more plan i p within is member members =
-    subst (All HasMember) (sym (take_more plan i p within ∙ ap (λ (q : Planned). take i plan ++ q ∷ []) (sym is)))
-    (All-append HasMember (take i plan) (p ∷ []) members (All-cons HasMember p [] member (All-nil HasMember)))
+members_more plan i p within is member members = All-more HasMember plan i p within members (subst HasMember is member)
 
 -- what a table has, once one place is written
 place_set : (places : List ℕ) (at value m : ℕ) → at < length places
@@ -79,10 +78,9 @@ places_more plan places i member p within is named small are m some = by (m == m
 pub placed_more : (plan : List Planned) (places : List ℕ) (i member : ℕ) (p : Planned) → i < length plan → p ≡ get_or plan i p → member ≡ p.member → member < length places
     → All (λ (q : Planned). is_placed places q ≡ true) (take i plan) → All (λ (q : Planned). is_placed (slice_set places member (i + 1)) q ≡ true) (take (i + 1) plan)
 placed_more plan places i member p within is named small all =
-    subst (All (λ (q : Planned). is_placed new q ≡ true)) (sym (take_more plan i p within ∙ ap (λ (q : Planned). take i plan ++ q ∷ []) (sym is)))
-    (All-append (λ (q : Planned). is_placed new q ≡ true) (take i plan) (p ∷ [])
+    All-more (λ (q : Planned). is_placed new q ≡ true) plan i p within
     (All-weaker (λ (q : Planned). is_placed places q ≡ true) (λ (q : Planned). is_placed new q ≡ true) (λ q e. stays q e) (take i plan) all)
-    (All-cons (λ (q : Planned). is_placed new q ≡ true) p [] here (All-nil (λ (q : Planned). is_placed new q ≡ true))))
+    (subst (λ (q : Planned). is_placed new q ≡ true) is here)
   where
     new : List ℕ
     new = slice_set places member (i + 1)
@@ -103,11 +101,6 @@ placed_more plan places i member p within is named small all =
         ∙ not_zero
 
 -- where each is placed, all are
-filter_whole : {X : Type 0} (test : X → Bool) (xs : List X) → All (λ x. test x ≡ true) xs → filter test xs ≡ xs
-filter_whole test [] all = refl
-filter_whole test (x ∷ xs) all =
-    cond-true (test x) _ _ (All-head (λ y. test y ≡ true) x xs all) ∙ ap (λ ys. x ∷ ys) (filter_whole test xs (All-tail (λ y. test y ≡ true) x xs all))
-
 pub placed_whole : (plan : List Planned) (places : List ℕ) (i : ℕ) → length plan ≤ i → All (λ (q : Planned). is_placed places q ≡ true) (take i plan) → placed places plan ≡ plan
 placed_whole plan places i all placed_all =
     filter_whole (is_placed places) plan (subst (All (λ (q : Planned). is_placed places q ≡ true)) (take_all i plan all) placed_all)
@@ -135,14 +128,22 @@ waits_some (p ∷ plan) places first are none = by (cases_lt first (length (p �
         absurd cc
     by (inr past) = omega (arith, are.within)
 
--- the first one decides whether one of an earlier group waits
-pub waits_after : (plan : List Planned) (places : List ℕ) (first : ℕ) (p q : Planned) → AreWaiting plan places first → first < length plan → q ≡ get_or plan first q
-    → nat_lt (rank q.group) (rank p.group) ≡ is_after_others (placed places plan) p
-waits_after plan places first p q are below is =
-    let list : placed places plan ≡ q ∷ placed places (drop (first + 1) plan) =
-    sym are.left ∙ placed_first plan places first q below (are.waits q below) ∙ ap (λ (x : Planned). x ∷ placed places (drop (first + 1) plan)) (sym is) in
-    after-head p q (placed places plan) (AllPairs-filter (λ (x y : Planned). rank x.group ≤ rank y.group) (is_placed places) plan are.lawful.groups)
-    (ap (λ (xs : List Planned). slice_get xs 0) list)
+-- what is read at a place is the element there
+pub read_copied : (plan : List Planned) (i : ℕ) (r : Option (Bor Planned)) → IsItemAt plan i r → option_copied r ≡ slice_get plan i
+read_copied plan i None is = sym (slice_get_past plan i is.3)
+read_copied plan i (Some p) is = sym (slice_get_read plan (length plan) i p.now refl is.3.0 is.1)
+
+-- the first place is that of the first of them
+pub waits_first : (plan : List Planned) (places : List ℕ) (first : ℕ) → AreWaiting plan places first → slice_get plan first ≡ slice_get (placed places plan) 0
+waits_first [] places first are = refl
+waits_first (p ∷ plan) places first are = by (cases_lt first (length (p ∷ plan)))
+  where
+    by : (first < length (p ∷ plan)) ⊎ (length (p ∷ plan) ≤ first) → slice_get (p ∷ plan) first ≡ slice_get (placed places (p ∷ plan)) 0
+    by (inl below) =
+        slice_get-get_or (p ∷ plan) first p below
+        ∙ ap (λ (l : List Planned). slice_get l 0) (sym (placed_first (p ∷ plan) places first p below (are.waits p below)) ∙ are.left)
+    by (inr past) =
+        slice_get_past (p ∷ plan) first past ∙ sym (ap (λ (l : List Planned). slice_get l 0) (waits_none (p ∷ plan) places first are (omega (arith, are.within))))
 
 -- ---- the one that is a member
 
@@ -159,45 +160,29 @@ find_unplaced (p ∷ plan) places member none = by (is_placed places p) refl (fi
     by false e rest = rest
 
 find_kept : (plan : List Planned) (places : List ℕ) (member : ℕ) → 0 < get_or places member 0 → find (is_planned_as member) (placed places plan) ≡ find (is_planned_as member) plan
-find_kept [] places member some = refl
-find_kept (p ∷ plan) places member some = by (is_placed places p) (is_planned_as member p) refl refl (find_kept plan places member some)
+find_kept plan places member some =
+    find-filter (is_planned_as member) (placed places plan)
+    ∙ ap (λ (l : List Planned). slice_get l 0)
+    (filter_twice (is_planned_as member) (is_placed places) (is_planned_as member) (λ p. both (is_placed places p) (is_planned_as member p) (mine p)) plan)
+    ∙ sym (find-filter (is_planned_as member) plan)
   where
-    mine : is_planned_as member p ≡ true → is_placed places p ≡ true
-    mine e = ap not (ne_eqb (get_or places p.member 0) 0 (λ none. (let k : get_or places member 0 ≡ 0 = ap (λ (m : ℕ). get_or places m 0) (sym (eqb-true p.member member e)) ∙ none in omega arith)))
+    both : (a b : Bool) → (b ≡ true → a ≡ true) → b ≡ (a && b)
+    both true b has = refl
+    both false true has = sym (has refl)
+    both false false has = refl
 
-    by : (b a : Bool) → is_placed places p ≡ b → is_planned_as member p ≡ a → find (is_planned_as member) (placed places plan) ≡ find (is_planned_as member) plan
-        → find (is_planned_as member) (cond b (p ∷ placed places plan) (placed places plan)) ≡ cond a (Some p) (find (is_planned_as member) plan)
-    by true true e f rest = cond-true (is_planned_as member p) _ _ f
-    by true false e f rest = cond-false (is_planned_as member p) _ _ f ∙ rest
-    by false true e f rest = let no : true ≡ false = sym (mine f) ∙ e in absurd cc
-    by false false e f rest = rest
+    mine : (p : Planned) → is_planned_as member p ≡ true → is_placed places p ≡ true
+    mine p e =
+        let same : get_or places p.member 0 ≡ get_or places member 0 = ap (λ (m : ℕ). get_or places m 0) (eqb-true p.member member e) in
+        ap not (ne_eqb (get_or places p.member 0) 0 (λ none. omega (arith, same, none, some)))
 
--- the one that stands at a place is found by its member
-find_at : (plan : List Planned) (member i : ℕ) (p : Planned) → count_by (is_planned_as member) plan ≤ 1 → i < length plan → (get_or plan i p).member ≡ member
-    → find (is_planned_as member) plan ≡ Some (get_or plan i p)
-find_at [] member i p once within named = absurd (omega arith)
-find_at (q ∷ plan) member zero p once within named = cond-true (is_planned_as member q) _ _ (eq-eqb q.member member named)
-find_at (q ∷ plan) member (suc i) p once within named = by (is_planned_as member q) refl (find_at plan member i p)
-  where
-    counted_head : count_by (is_planned_as member) (q ∷ plan) ≡ cond (is_planned_as member q) 1 0 + count_by (is_planned_as member) plan
-    counted_head = sum_by-cons (λ (r : Planned). cond (is_planned_as member r) 1 0) q plan
-
-    by : (b : Bool) → is_planned_as member q ≡ b
-        → (count_by (is_planned_as member) plan ≤ 1 → i < length plan → (get_or plan i p).member ≡ member → find (is_planned_as member) plan ≡ Some (get_or plan i p))
-        → cond b (Some q) (find (is_planned_as member) plan) ≡ Some (get_or plan i p)
-    by true e rest =
-        let one : ◌≡◌ {A = ℕ} (cond (is_planned_as member q) 1 0) 1 = cond-true _ 1 0 e in
-        let none : count_by (is_planned_as member) plan ≡ 0 = omega (arith, counted_head, one, once) in
-        let here = All-get_or (λ (r : Planned). is_planned_as member r ≡ false) plan i p (omega arith) (count_none (is_planned_as member) plan none) in
-        let no : true ≡ false = sym (eq-eqb (get_or plan i p).member member named) ∙ here in
-        absurd cc
-    by false e rest = rest (omega (arith, counted_head, once)) (omega arith) named
-
+-- the one that stands at its place is found by its member
 pub find_placed : (plan : List Planned) (places : List ℕ) (member : ℕ) (p : Planned) → IsPlan plan → ArePlaces plan places → 0 < get_or places member 0
     → find (is_planned_as member) (placed places plan) ≡ Some (get_or plan (get_or places member 0 - 1) p)
 find_placed plan places member p is are some =
     let place = are member some in
-    find_kept plan places member some ∙ find_at plan member (get_or places member 0 - 1) p (is.once member) (omega (arith, place.within)) (place.named p)
+    find_kept plan places member some
+    ∙ find_one (is_planned_as member) plan (get_or places member 0 - 1) p (is.once member) (omega (arith, place.within)) (eq-eqb _ member (place.named p))
 
 -- ---- one that waits no longer
 

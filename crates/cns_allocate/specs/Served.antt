@@ -1,6 +1,6 @@
 -- Who may draw a ticket next, and which tickets a lot may close with (this project's own rules).
-use Rattle.std.specs.Prelude.{◌≡◌, ℕ, ◌≤◌, ◌==◌, Bool, false, not, nat_lt, List, [], ◌∷◌, length, Some, None, AllPairs, IsPermutation, filter, find, if◌then◌else◌}
-use Rattle.std.specs.List.{list_any}
+use Rattle.std.specs.Prelude.{◌≡◌, ℕ, ◌≤◌, ◌==◌, Bool, false, not, nat_lt, List, [], ◌++◌, Some, None, AllPairs, IsPermutation, filter, find, if◌then◌else◌}
+use Rattle.std.specs.List.{AllZip, list_any}
 use Rattle.cns_pool.specs.declared.ticket.Ticket.{Ticket}
 use Rattle.cns_pool.specs.Tiles.{AreChained}
 use Rattle.cns_pool.specs.Pool.{intervals_of}
@@ -30,20 +30,26 @@ is_after_others plan planned = list_any (λ (p : Planned). nat_lt (rank p.group)
 abbrev pub turn_of : List Planned → ℕ → Turn
 turn_of plan member = elim (find (λ (p : Planned). p.member == member) plan) [ None ↦ NotLong | Some p ↦ if is_after_others plan p then EarlierGroup else Next p.asked ]
 
--- the first of some planned drew these tickets: the same members and shares, in the same order
-abbrev pub AreDrawnBy : List Ticket → List Planned → Type 0
-AreDrawnBy [] order = Unit {0}
-AreDrawnBy (t ∷ ts) [] = ⊥
-AreDrawnBy (t ∷ ts) (p ∷ ps) = (t.member ≡ p.member) × (t.asked ≡ p.asked) × AreDrawnBy ts ps
+-- a ticket is of a planned member, and of all the shares that are planned for it
+abbrev pub IsDrawnBy : Ticket → Planned → Type 0
+IsDrawnBy t p = (t.member ≡ p.member) × (t.asked ≡ p.asked)
 
--- tickets that follow a plan: an order of the whole plan, in which no group comes after a later one, begins with those who drew
--- them; where nothing is sealed, everybody planned drew one
+-- some of those planned drew these tickets, in their order; the others drew none
+pub record AreDrawnOf (planned : List Planned) (tickets : List Ticket) : Type 0 where
+  pub drawers : List Planned
+  pub others : List Planned
+  pub permutation : IsPermutation (drawers ++ others) planned
+  pub drawn : AllZip IsDrawnBy tickets drawers
+
+-- tickets that follow a plan: those who drew them, in their order, and then the others, are an order of the whole plan in which no
+-- group comes after a later one; where nothing is sealed, everybody planned drew one
 pub record FollowPlan (plan : List Planned) (tickets : List Ticket) (sealed : Bool) : Type 0 where
-  pub order : List Planned
-  pub permutation : IsPermutation order plan
-  pub groups : AllPairs (λ (p q : Planned). rank p.group ≤ rank q.group) order
-  pub drawn : AreDrawnBy tickets order
-  pub whole : sealed ≡ false → length tickets ≡ length order
+  pub drawers : List Planned
+  pub others : List Planned
+  pub permutation : IsPermutation (drawers ++ others) plan
+  pub groups : AllPairs (λ (p q : Planned). rank p.group ≤ rank q.group) (drawers ++ others)
+  pub drawn : AllZip IsDrawnBy tickets drawers
+  pub whole : sealed ≡ false → others ≡ []
 
 -- the tickets of a lot that may close: they follow its plan, and stand end to end from 0
 pub record IsServed (plan : List Planned) (tickets : List Ticket) (sealed : Bool) : Type 0 where

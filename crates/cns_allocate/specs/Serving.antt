@@ -4,7 +4,7 @@ use Rattle.std.specs.List.{flat_map, list_any}
 use Rattle.std.specs.List.Sorted.{IsNonDecreasingBy}
 use Rattle.cns_pool.specs.declared.ticket.Ticket.{Ticket}
 use Rattle.cns_pool.specs.WorkerSeat.{WorkerState, calls_out, room_taken, split_off}
-use Rattle.cns_allocate.specs.Served.{AreDrawnBy, FollowPlan}
+use Rattle.cns_allocate.specs.Served.{AreDrawnOf, FollowPlan}
 use Rattle.cns_allocate.specs.declared.planned.Planned.{Planned}
 
 -- those of some planned that stand at the place k, and from there on those that come after each `gap` others
@@ -41,15 +41,6 @@ have_seen_seal seats = list_any (λ (seat : WorkerState). seat.seen.sealed) seat
 abbrev pub rooms_of : List WorkerState → ℕ
 rooms_of seats = sum_by room_taken seats
 
--- some of the planned drew these tickets, all from a start on; the others drew none
-pub record AreDrawnOf (start : ℕ) (planned : List Planned) (tickets : List Ticket) : Type 0 where
-  pub drawers : List Planned
-  pub others : List Planned
-  pub permutation : IsPermutation (drawers ++ others) planned
-  pub drawn : AreDrawnBy tickets drawers
-  pub each : length tickets ≡ length drawers
-  pub after : All (λ (t : Ticket). start ≤ t.start) tickets
-
 -- by start, tickets follow a plan
 pub record FollowPlanByStart (plan : List Planned) (tickets : List Ticket) (sealed : Bool) : Type 0 where
   pub sorted : List Ticket
@@ -63,7 +54,8 @@ pub record HasDrawn (old : WorkerState) (planned : List Planned) (new : WorkerSt
   pub given : new.given ≡ old.given
   pub tickets : List Ticket
   pub added : new.tickets ≡ old.tickets ++ tickets
-  pub drawn : AreDrawnOf old.seen.asked planned tickets
+  pub drawn : AreDrawnOf planned tickets
+  pub after : All (λ (t : Ticket). old.seen.asked ≤ t.start) tickets
   pub made : new.made + new.calls ≡ old.made + old.calls
   pub used : length tickets + new.calls ≤ old.calls
   pub calls : old.calls ≤ new.calls + length planned

@@ -1,10 +1,9 @@
-ghost use Rattle.std.specs.Prelude.{◌≡◌, ◌↔◌, ◌^◌, ◌<◌, ◌≤◌, ◌==◌, [], ◌++◌, length, filter, All, IfOk, IfSome, OnOk, IsTrue};
-ghost use Rattle.std.specs.List.{filter_map, position_from};
+ghost use Rattle.std.specs.Prelude.{◌≡◌, ◌↔◌, ◌^◌, ◌≤◌, [], ◌++◌, length, filter, All, IfOk, OnOk, IsTrue};
+ghost use Rattle.std.specs.List.{filter_map};
 ghost use Rattle.cns_netting.specs.declared.position.PositionRow.{PositionRow};
 ghost use Rattle.cns_netting.specs.History.{credit_part};
 ghost use Rattle.cns_allocate.specs.Group.{is_in};
 ghost use Rattle.cns_allocate.specs.Plan.{IsPlan, IsServable, LongsFit, plan_of, planned_of};
-ghost use Rattle.cns_allocate.specs.Served.{without};
 ghost use Rattle.cns_allocate.specs.declared.planned.Planned.{Planned};
 
 use crate::group::Group;
@@ -69,15 +68,6 @@ impl Plan {
         Ok(Plan { list })
     }
 
-    // The plan of nobody. It takes no memory.
-    pub(crate) fn new(alloc: Global) -> Plan
-        ensures { result ≡ [] }
-    {
-        Plan {
-            list: Vec::new(alloc),
-        }
-    }
-
     // The plan that has these members, in their order.
     pub(crate) fn from_slice(alloc: Global, planned: &[Planned]) -> Result<Plan, AllocError>
         requires plan { IsPlan planned.now }
@@ -92,15 +82,6 @@ impl Plan {
         ensures { IfOk result (λ plan. plan ≡ self.now) }
     {
         Plan::from_slice(alloc, self.as_slice())
-    }
-
-    // Takes a member out, where it is planned. It takes no memory.
-    pub(crate) fn remove(&mut self, member: MemberNo)
-        ensures { self.new ≡ without member self.old }
-    {
-        if let Some(place) = place_of(self.list.as_slice(), member) {
-            self.list.remove(place);
-        }
     }
 
     /// The members planned, in their order.
@@ -151,12 +132,4 @@ fn add_group(list: &mut Vec<Planned>, planned: &[Planned], group: Group) -> Resu
     ensures { OnOk result (list.new.items ≡ list.old.items ++ filter (is_in group) planned.now) }
 {
     list.extend(planned.iter().filter(|one| one.is_in(group)).copied())
-}
-
-// The place of what is planned for a member.
-fn place_of(plan: &[Planned], member: MemberNo) -> Option<usize>
-    ensures place { result ≡ position_from (λ (p : Planned). p.member == member) 0 plan.now }
-    ensures within { IfSome result (λ place. place < length plan.now) }
-{
-    plan.iter().position(|planned| planned.member == member)
 }

@@ -1,10 +1,10 @@
-ghost use Rattle.std.specs.Prelude.{◌≡◌, ◌↔◌, ◌==◌, [], find, IfOk, IsTrue, nat_lt};
+ghost use Rattle.std.specs.Prelude.{◌≡◌, ◌↔◌, ℕ, ◌<◌, ◌==◌, [], find, length, nat_lt, position, slice_get, IfOk, IfSome, IsTrue, List};
+ghost use Rattle.std.specs.Option.{option_copied};
 ghost use Rattle.cns_allocate.specs.Group.{rank};
 ghost use Rattle.cns_allocate.specs.Plan.{IsPlan};
-ghost use Rattle.cns_allocate.specs.Served.{is_after_others, turn_of, without};
+ghost use Rattle.cns_allocate.specs.Served.{turn_of, without};
 ghost use Rattle.cns_allocate.specs.declared.planned.Planned.{Planned};
 
-use crate::plan::Plan;
 use crate::planned::Planned;
 use cns_ids::MemberNo;
 use std::alloc::{AllocError, Global};
@@ -30,16 +30,22 @@ pub enum Turn {
 /// the order is free. (This project's own rule.) Contracts see the members that wait, in their order.
 #[derive(Debug, Drop)]
 pub struct Turns {
-    waiting: Plan,
+    // The members that wait stand from `start` on, in the plan's order. Those before it drew their
+    // tickets.
+    list: Vec<Planned>,
+    start: usize,
 }
 
 impl Model for Turns {
-    ghost use Rattle.std.specs.Prelude.{List};
+    ghost use Rattle.std.specs.Prelude.{◌≤◌, List, drop, length};
+    ghost use Rattle.cns_allocate.specs.Plan.{IsPlan};
     ghost use Rattle.cns_allocate.specs.declared.planned.Planned.{Planned};
 
     ghost Value = { List Planned };
 
-    ghost view = { λ t. t.waiting };
+    ghost view = { λ t. drop t.start t.list.items };
+
+    ghost invariant = { λ t. (t.start ≤ length t.list.items) × IsPlan (drop t.start t.list.items) };
 }
 
 impl Turns {
@@ -48,7 +54,8 @@ impl Turns {
         ensures { result ≡ [] }
     {
         Turns {
-            waiting: Plan::new(alloc),
+            list: Vec::new(alloc),
+            start: 0,
         }
     }
 
@@ -57,53 +64,68 @@ impl Turns {
         requires plan { IsPlan plan.now }
         ensures { IfOk result (λ turns. turns ≡ plan.now) }
     {
-        let waiting = Plan::from_slice(alloc, plan)?;
-        Ok(Turns { waiting })
+        let list = Vec::from_slice(alloc, plan)?;
+        Ok(Turns { list, start: 0 })
     }
 
     /// What a member is answered that asks for a ticket now.
     pub fn turn(&self, member: MemberNo) -> Turn
         ensures { result ≡ turn_of self.now member }
     {
-        match planned_as(self.waiting.as_slice(), member) {
-            None => Turn::NotLong,
-            Some(planned) if self.is_after_others(&planned) => Turn::EarlierGroup,
-            Some(planned) => Turn::Next {
-                asked: planned.asked,
-            },
-        }
+        let waiting = &self.list[self.start..];
+        turn_among(waiting.first(), planned_as(waiting, member))
     }
 
     /// Notes that a member has its ticket: it waits no longer. It takes no memory.
     pub fn serve(&mut self, member: MemberNo)
         ensures { self.new ≡ without member self.old }
     {
-        self.waiting.remove(member);
+        match place_of(self.as_slice(), member) {
+            Some(0) => self.start += 1,
+            Some(place) => {
+                self.list.remove(self.start + place);
+            }
+            None => {}
+        }
     }
 
     /// The members that wait, in the plan's order.
     pub fn as_slice(&self) -> &[Planned]
         ensures { result.now ≡ self.now }
     {
-        self.waiting.as_slice()
+        &self.list[self.start..]
     }
 
     /// Whether no member waits.
     pub fn is_empty(&self) -> bool
         ensures { IsTrue result ↔ (self.now ≡ []) }
     {
-        self.waiting.is_empty()
+        self.start == self.list.len()
     }
+}
 
-    // Whether a member of an earlier group waits: then the first one is of such a group.
-    fn is_after_others(&self, planned: &Planned) -> bool
-        ensures { result ≡ is_after_others self.now planned.now }
-    {
-        match self.waiting.as_slice().first() {
-            Some(first) => is_before(first, planned),
-            None => false,
-        }
+// What a member is answered, by the first one that waits and by what is planned for the member if it
+// waits. Where a member of an earlier group waits, the first one is of such a group.
+pub(crate) fn turn_among(first: Option<&Planned>, planned: Option<Planned>) -> Turn
+    ensures { (waiting : List Planned) (member : ℕ) → IsPlan waiting → option_copied first.entry ≡ slice_get waiting 0
+        → planned ≡ find (λ (p : Planned). p.member == member) waiting → result ≡ turn_of waiting member }
+{
+    let Some(planned) = planned else {
+        return Turn::NotLong;
+    };
+    match first {
+        Some(first) if is_before(first, &planned) => Turn::EarlierGroup,
+        _ => Turn::Next {
+            asked: planned.asked,
+        },
     }
+}
+
+// Whether one is of an earlier group than another.
+fn is_before(one: &Planned, other: &Planned) -> bool
+    ensures { result ≡ nat_lt (rank one.now.group) (rank other.now.group) }
+{
+    one.group < other.group
 }
 
 // What is planned for a member.
@@ -115,9 +137,10 @@ fn planned_as(plan: &[Planned], member: MemberNo) -> Option<Planned>
         .find(|planned| planned.member == member)
 }
 
-// Whether one is of an earlier group than another.
-pub(crate) fn is_before(one: &Planned, other: &Planned) -> bool
-    ensures { result ≡ nat_lt (rank one.now.group) (rank other.now.group) }
+// The place of what is planned for a member.
+fn place_of(plan: &[Planned], member: MemberNo) -> Option<usize>
+    ensures place { result ≡ position (λ (p : Planned). p.member == member) plan.now }
+    ensures within { IfSome result (λ place. place < length plan.now) }
 {
-    one.group < other.group
+    plan.iter().position(|planned| planned.member == member)
 }

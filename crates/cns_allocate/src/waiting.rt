@@ -1,12 +1,11 @@
-ghost use Rattle.std.specs.Prelude.{◌≡◌, ◌↔◌, ◌<◌, ◌≤◌, ◌==◌, [], drop, find, length, nat_lt, replicate, slice_index, slice_index_or, slice_set, true, IsTrue};
-ghost use Rattle.cns_allocate.specs.Group.{rank};
+ghost use Rattle.std.specs.Prelude.{◌≡◌, ◌↔◌, ◌<◌, ◌≤◌, ◌==◌, [], drop, find, length, replicate, slice_index, slice_index_or, slice_set, true, IsTrue};
 ghost use Rattle.cns_allocate.specs.Plan.{IsPlan};
-ghost use Rattle.cns_allocate.specs.Served.{is_after_others, turn_of, without};
+ghost use Rattle.cns_allocate.specs.Served.{turn_of, without};
 ghost use Rattle.cns_allocate.specs.Waiting.{ArePlaces, is_placed, placed};
 ghost use Rattle.cns_allocate.specs.declared.planned.Planned.{Planned};
 
 use crate::planned::Planned;
-use crate::turns::{Turn, is_before};
+use crate::turns::{Turn, turn_among};
 use cns_ids::MemberNo;
 use std::marker::Model;
 
@@ -56,13 +55,7 @@ impl<'a> Waiting<'a> {
     pub(crate) fn turn(&self, member: MemberNo) -> Turn
         ensures { result ≡ turn_of self.now member }
     {
-        match self.planned_as(member) {
-            None => Turn::NotLong,
-            Some(planned) if self.is_after_others(&planned) => Turn::EarlierGroup,
-            Some(planned) => Turn::Next {
-                asked: planned.asked,
-            },
-        }
+        turn_among(self.plan.get(self.first), self.planned_as(member))
     }
 
     // Notes that a member has its ticket: it waits no longer.
@@ -87,16 +80,6 @@ impl<'a> Waiting<'a> {
         match place_of(self.places, member) {
             0 => None,
             place => Some(self.plan[place - 1]),
-        }
-    }
-
-    // Whether a member of an earlier group waits: then the first one is of such a group.
-    fn is_after_others(&self, planned: &Planned) -> bool
-        ensures { result ≡ is_after_others self.now planned.now }
-    {
-        match self.plan.get(self.first) {
-            Some(first) => is_before(first, planned),
-            None => false,
         }
     }
 }

@@ -2,9 +2,10 @@ use Rattle.std.proofs.Common.{◌≡◌, arith, ap, ◌∙◌, length, List, sub
 use Rattle.std.proofs.lemmas.Iterator.Adapters.{YieldsList-from_vec}
 use Rattle.std.proofs.lemmas.Iterator.Consumers.{YieldsList-end, YieldsList-so_far, YieldsList-turn}
 use Rattle.std.proofs.lemmas.List.{map-id}
+use Rattle.std.proofs.lemmas.List.Sums.{sum_by_push}
 use Rattle.cns_pool.specs.WorkerSeat.{WorkerState, room_taken}
 use Rattle.cns_allocate.specs.Serving.{HasJoined}
-use Rattle.cns_allocate.proofs.SeatLemmas.{joined-more, room-left, sum_by-push}
+use Rattle.cns_allocate.proofs.SeatLemmas.{joined-more, room-left}
 use Rattle.cns_allocate.proofs.seats.join_seats.Goals as goal
 
 pub unreachable-requires : goal.unreachable-requires
@@ -32,7 +33,7 @@ loop-other-preserved c =
             arith,
             c.loop-other.invariant.room,
             ap (λ (s : WorkerState). s.room) joins.after,
-            sum_by-push room_taken c.loop-other.yielded c.in-Some.other,
+            sum_by_push room_taken c.loop-other.yielded c.in-Some.other,
           );
     }
 

@@ -1,9 +1,5 @@
-use Rattle.std.proofs.Common.{◌≡◌, ◌∙◌, List, ap}
-use Rattle.std.specs.Prelude.{filter}
-use Rattle.cns_allocate.specs.Group.{is_in}
-use Rattle.cns_allocate.specs.Plan.{by_group}
-use Rattle.cns_allocate.specs.declared.group.Group.{Group}
-use Rattle.cns_allocate.specs.declared.planned.Planned.{Planned}
+use Rattle.std.proofs.Common.{◌≡◌, sym, subst}
+use Rattle.cns_allocate.specs.Plan.{IsPlan}
 use Rattle.cns_allocate.proofs.PlanLemmas.{IsPlan-plan_of, groups_added, rows_in-fit, wanting, wanting-rows_in}
 use Rattle.cns_allocate.proofs.plan.Plan.of.Goals as goal
 
@@ -17,11 +13,11 @@ invariant_of-result c =
     let settings = c.args.priorities.now.settings in
     let planned : c.in_ok-planned.planned.items ≡ wanting c.args.issue h book settings c.args.were_long.now =
     cc (c.in_ok-planned.ensures, c.in_ok-were_long.ensures, c.deref.ensures.value, c.in_ok-rows.ensures, wanting-rows_in c.args.issue h book settings c.args.were_long.now) in
-    let of : Group → List Planned = λ g. filter (is_in g) c.in_ok-planned.planned.items in
     let all =
-    groups_added of c.new-list.result.items c.add_group.new.list.items c.add_group-2.new.list.items c.add_group-3.new.list.items
-    c.new-list.ensures.items (cc c.in_ok-add_group.ensures) (cc c.in_ok-add_group-2.ensures) (cc c.in_ok-add_group-3.ensures) in
-    rw (all, planned) (IsPlan-plan_of c.args.issue h book settings c.args.were_long.now c.requires.long)
+    groups_added c.args.issue h book settings c.args.were_long.now c.in_ok-planned.planned.items c.new-list.result.items c.add_group.new.list.items
+    c.add_group-2.new.list.items c.add_group-3.new.list.items planned c.new-list.ensures.items (cc c.in_ok-add_group.ensures) (cc c.in_ok-add_group-2.ensures)
+    (cc c.in_ok-add_group-3.ensures) in
+    subst IsPlan (sym all) (IsPlan-plan_of c.args.issue h book settings c.args.were_long.now c.requires.long)
 
 pub returns : goal.returns
 returns c =
@@ -30,6 +26,6 @@ returns c =
     let settings = c.args.priorities.now.settings in
     let planned : c.in_ok-planned.planned.items ≡ wanting c.args.issue h book settings c.args.were_long.now =
     cc (c.in_ok-planned.ensures, c.in_ok-were_long.ensures, c.deref.ensures.value, c.in_ok-rows.ensures, wanting-rows_in c.args.issue h book settings c.args.were_long.now) in
-    let of : Group → List Planned = λ g. filter (is_in g) c.in_ok-planned.planned.items in
-    groups_added of c.new-list.result.items c.add_group.new.list.items c.add_group-2.new.list.items c.add_group-3.new.list.items
-    c.new-list.ensures.items (cc c.in_ok-add_group.ensures) (cc c.in_ok-add_group-2.ensures) (cc c.in_ok-add_group-3.ensures) ∙ ap by_group planned
+    groups_added c.args.issue h book settings c.args.were_long.now c.in_ok-planned.planned.items c.new-list.result.items c.add_group.new.list.items
+    c.add_group-2.new.list.items c.add_group-3.new.list.items planned c.new-list.ensures.items (cc c.in_ok-add_group.ensures) (cc c.in_ok-add_group-2.ensures)
+    (cc c.in_ok-add_group-3.ensures)

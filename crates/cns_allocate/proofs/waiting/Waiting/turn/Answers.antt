@@ -1,16 +1,15 @@
-use Rattle.std.proofs.Common.{◌≡◌, ◌∙◌, Some, sym}
-use Rattle.std.specs.Prelude.{find}
-use Rattle.std.proofs.lemmas.Bool.{cond-false, cond-true}
-use Rattle.cns_allocate.proofs.PlanLemmas.{is_planned_as}
-use Rattle.cns_allocate.proofs.TurnLemmas.{turn_found}
+use Rattle.std.proofs.Common.{◌∙◌, List, ap, subst}
+use Rattle.std.specs.Prelude.{slice_get}
+use Rattle.cns_allocate.specs.Plan.{IsPlan}
+use Rattle.cns_allocate.specs.Waiting.{is_placed}
+use Rattle.cns_allocate.specs.declared.planned.Planned.{Planned}
+use Rattle.cns_allocate.proofs.TurnLemmas.{IsPlan-filter}
+use Rattle.cns_allocate.proofs.WaitingLemmas.{read_copied, waits_first}
 use Rattle.cns_allocate.proofs.waiting.Waiting.turn.Goals as goal
 
-pub returns-in-Some : goal.returns-in-Some
-returns-in-Some c =
-    let found : Some c.in-Some.planned ≡ find (is_planned_as c.args.member) c.args.self.now = cc (c.in-Some.is, c.planned_as.ensures) in
-    sym (turn_found c.args.self.now c.args.member c.in-Some.planned c.is_after_others.result found c.is_after_others.ensures ∙ cond-true _ _ _ c.if-is_after_others.true)
-
-pub returns-in-Some-2 : goal.returns-in-Some-2
-returns-in-Some-2 c =
-    let found : Some c.in-Some.planned ≡ find (is_planned_as c.args.member) c.args.self.now = cc (c.in-Some.is, c.planned_as.ensures) in
-    sym (turn_found c.args.self.now c.args.member c.in-Some.planned c.is_after_others.result found c.is_after_others.ensures ∙ cond-false _ _ _ c.if-is_after_others.false)
+pub returns : goal.returns
+returns c =
+    let at = c.self.inside in
+    let first = read_copied at.plan.now at.first c.get.result c.get.ensures.lookup in
+    c.turn_among.ensures c.args.self.now c.args.member (subst IsPlan c.self.view_is (IsPlan-filter (is_placed at.places.now) at.plan.now c.self.invariant.lawful))
+    (first ∙ waits_first at.plan.now at.places.now at.first c.self.invariant ∙ ap (λ (l : List Planned). slice_get l 0) c.self.view_is) c.planned_as.ensures
