@@ -20,10 +20,6 @@ apart_from_none seen none ts = ap (λ b. b && is_apart ts) (all ts)
     all [] = refl
     all (t ∷ ts) = ap (λ b. not b && list_all (λ (u : Ticket). not (seen u.member)) ts) (none t.member) ∙ all ts
 
--- the first one was seen
-pub apart_from_seen : (seen : ℕ → Bool) (t : Ticket) (ts : List Ticket) → seen t.member ≡ true → is_apart_from seen (t ∷ ts) ≡ false
-apart_from_seen seen t ts e = ap (λ b. (not b && list_all (λ (u : Ticket). not (seen u.member)) ts) && is_apart (t ∷ ts)) e
-
 -- the first one was not, and is from now on
 all_later : (seen new : ℕ → Bool) (member : ℕ) → ((m : ℕ) → new m ≡ ((m == member) || seen m)) → (ts : List Ticket)
     → list_all (λ (t : Ticket). not (new t.member)) ts ≡ (not (has_ticket ts member) && list_all (λ (t : Ticket). not (seen t.member)) ts)

@@ -14,18 +14,15 @@ use Rattle.cns_records.proofs.DrawnLaws.{by_start-sound}
 use Rattle.cns_records.specs.Clear.{spelling, HasPayload, IsWritable, AreWritable}
 use Rattle.cns_records.specs.declared.clear_record.ClearRecord.{ClearRecord}
 use Rattle.cns_records.specs.declared.clear_record.ClearRecord.TheVariants.{Accept, Exempt, Priority, Cycle, Allocate, Confirm}
-use Rattle.cns_journal.proofs.LogLemmas.{committed_lawful, opened_lawful, planned_lawful, restarted_lawful}
-use Rattle.cns_journal.specs.Keeper.{KeeperState}
+use Rattle.cns_journal.proofs.LogLemmas.{committed_lawful, planned_lawful, restarted_lawful}
 use Rattle.cns_journal.specs.RecordLog.{IsLawfulLog, LogCommits, LogRestarts, LogState}
 use Rattle.cns_journal.specs.declared.keeper.NotPlanned.{NotPlanned}
-use Rattle.cns_journal.specs.declared.record_log.CommitFault.{CommitFault}
-use Rattle.cns_journal.specs.declared.record_log.CommitFault.TheVariants as commit
 use Rattle.cns_journal.specs.declared.record_log.ReplayFault.{ReplayFault}
 use Rattle.cns_journal.specs.declared.record_log.ReplayFault.TheVariants.{OutOfMemory, BadJournal, Device}
 use Rattle.cns_journal.specs.declared.record_log.Restarted.{Restarted}
 use Rattle.cns_clearing.specs.Books.{Allows, AreBooksOf, AreSound, Books, IsAllowed, books_of, tickets_of, with_record}
 use Rattle.cns_clearing.specs.Lots.{AreLots, DoesNotDisturb, lots_after}
-use Rattle.cns_clearing.specs.Node.{ClearNode, IsNode, IsOpened, NodePlanned, RestartLeaves}
+use Rattle.cns_clearing.specs.Node.{ClearNode, IsNode, NodePlanned, RestartLeaves}
 use Rattle.cns_clearing.specs.declared.lot.Lot.{Lot}
 use Rattle.cns_clearing.proofs.BooksLemmas.{lawful_sound}
 use Rattle.cns_clearing.proofs.LotLemmas.{lots_more, lots_none}
@@ -104,15 +101,6 @@ node_added r b b' old new n up allowed quiet payload more left lots =
           (subst (AreLots (r ∷ old.log.records)) (sym lots) (lots_more old.log.records r old.lots n.lots quiet));
     }
 
-refused_records : (r : ClearRecord) (fault : CommitFault) (old new : LogState ClearRecord) → LogCommits r (Err fault) old new → new.records ≡ old.records
-refused_records r commit.OutOfMemory old new left = ap (λ (l : LogState ClearRecord). l.records) left
-refused_records r commit.Device old new left = ap (λ (l : LogState ClearRecord). l.records) left.0
-
-pub node_refused : (r : ClearRecord) (fault : CommitFault) (b : Books) (old new : ClearNode) → IsNode b old → old.log.down ≡ false → IsAllowed old.log.records r
-    → LogCommits r (Err fault) old.log new.log → new.lots ≡ old.lots → IsNode b new
-node_refused r fault b old new n up allowed left lots =
-    same_records b old new n (refused_records r fault old.log new.log left) (committed_lawful IsAllowed r (Err fault) old.log new.log n.log up allowed left) lots
-
 pub node_planned : (stands : Bool) (result : Result (Unit {0}) NotPlanned) (b : Books) (old new : ClearNode) → IsNode b old → NodePlanned stands result old new → IsNode b new
 node_planned stands result b old new n left =
     same_records b old new n (ap (λ (l : LogState ClearRecord). l.records) left.0.1) (planned_lawful IsAllowed stands result old.log new.log n.log left.0) left.1
@@ -125,9 +113,6 @@ without_lots b new are law none = record {
   fits = are.fits;
   lots = subst (AreLots new.log.records) (sym none) (lots_none new.log.records);
 }
-
-pub node_opened : (b : Books) (keeper : KeeperState) (node : ClearNode) → IsOpened keeper node → AreBooksOf b node.log.records → IsNode b node
-node_opened b keeper node opened are = without_lots b node are (opened_lawful IsAllowed spelling HasPayload keeper node.log opened.0) opened.1
 
 pub node_restarted : (b b' : Books) (old new : ClearNode) (done : Restarted) → IsNode b old → RestartLeaves (Ok done) old new → AreBooksOf b' new.log.records → IsNode b' new
 node_restarted b b' old new done n left are = without_lots b' new are (restarted_lawful IsAllowed spelling HasPayload (Ok done) old.log new.log n.log left.0) left.1

@@ -1,4 +1,4 @@
-ghost use Rattle.std.specs.Prelude.{◌≡◌, ℕ, ◌+◌, ◌*◌, ◌^◌, ◌<◌, ◌≤◌, ◌&&◌, ◌||◌, ◌==◌, nat_eq, true, is_some, length, sum_by, IfOk, if◌then◌else◌};
+ghost use Rattle.std.specs.Prelude.{◌≡◌, ℕ, ◌+◌, ◌*◌, ◌^◌, ◌<◌, ◌≤◌, ◌&&◌, ◌||◌, ◌==◌, nat_eq, true, is_some, length, sum_by, IfOk, IfSome, if◌then◌else◌};
 ghost use Rattle.std.specs.HashMap.{get, spare};
 ghost use Rattle.std.specs.List.{IsDistinct, list_any};
 ghost use Rattle.cns_movements.specs.Order.{is_cover, is_delivery};
@@ -91,6 +91,23 @@ fn ask(pools: &mut HashMap<Cusip, PoolSums>, issue: Cusip, asked: u64)
     *sums = sums.asked_by(asked);
 }
 
+// `ask` of an issue, without a look-up where nothing is asked of the one that was asked last, which has sums.
+fn ask_next(pools: &mut HashMap<Cusip, PoolSums>, last: Option<Cusip>, issue: Cusip, asked: u64)
+    requires room { 0 < spare pools.old }
+    requires small { (sums_at (get nat_eq pools.old issue)).out + asked < 2 ^ 128 }
+    requires last { IfSome last (λ i. is_some (get nat_eq pools.old i) ≡ true) }
+    ensures covered { (i : ℕ) → (sums_at (get nat_eq pools.new i)).covered ≡ (sums_at (get nat_eq pools.old i)).covered }
+    ensures delivered { (i : ℕ) → (sums_at (get nat_eq pools.new i)).delivered ≡ (sums_at (get nat_eq pools.old i)).delivered }
+    ensures out { (i : ℕ) → (sums_at (get nat_eq pools.new i)).out
+        ≡ (sums_at (get nat_eq pools.old i)).out + (if issue == i then asked else 0) }
+    ensures named { (i : ℕ) → is_some (get nat_eq pools.new i) ≡ ((issue == i) || is_some (get nat_eq pools.old i)) }
+    ensures left { spare pools.old ≤ spare pools.new + 1 }
+{
+    if asked > 0 || last != Some(issue) {
+        ask(pools, issue, asked);
+    }
+}
+
 /// Adds what new orders ask of the pools, where there is room for their issues. Each of these has sums from
 /// then on.
 pub(crate) fn ask_all(pools: &mut HashMap<Cusip, PoolSums>, asks: &[Ask])
@@ -104,10 +121,12 @@ pub(crate) fn ask_all(pools: &mut HashMap<Cusip, PoolSums>, asks: &[Ask])
     ensures most { sum_by (λ (a : Ask). a.asked) asks.now ≤ 10 ^ 18 * length asks.now }
 {
     let mut left = asks;
+    let mut last = None;
     while let Some((first, rest)) = left.split_first() {
         let asked = first.asked.shares();
         let asked_of_pool = asked_of(first.kind, asked);
-        ask(pools, first.issue, asked_of_pool);
+        ask_next(pools, last, first.issue, asked_of_pool);
+        last = Some(first.issue);
         left = rest;
     }
 }

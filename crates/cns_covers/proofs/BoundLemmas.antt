@@ -312,10 +312,6 @@ bought_most h m i book = omega (arith, bought-most None h m i book.quantities, b
 pub settled_most : (h : List NetEntry) (book : Orders) → AreBounded h book → (m i : ℕ) → settled_in h m i ≤ sold (due h) m i
 settled_most h book bounded m i = omega (arith, bounded.covered m i)
 
--- deliveries take no more than was bought, so no member is short of more than it sold
-pub bounded_shorts : (h : List NetEntry) (book : Orders) → IsBook h → AreBounded h book → ShortsFit h
-bounded_shorts h book fits bounded = record { within = λ m i. omega (arith, sold_most h m i fits, bounded.delivered m i) }
-
 pub bounded_shorts_netted : (h : List NetEntry) (book : Orders) (day : ℕ) → IsBook h → AreBounded h book → ShortsFit (Netted day ∷ h)
 unfolding settled_in settled_out
 bounded_shorts_netted h book day fits bounded =

@@ -7,7 +7,7 @@ use Rattle.std.proofs.lemmas.Int.{ints}
 use Rattle.std.proofs.lemmas.List.Sums.{sum_by-cons}
 use Rattle.cns_netting.specs.History.{accepted, credit, debit, debit_part, position_of, settled_out}
 use Rattle.cns_netting.specs.Rows.{holdings_of, open_row, rows_of}
-use Rattle.cns_netting.specs.Book.{IsBook, QuantitiesFit}
+use Rattle.cns_netting.specs.Book.{QuantitiesFit}
 use Rattle.cns_netting.specs.declared.entry.NetEntry.{NetEntry}
 use Rattle.cns_netting.specs.declared.entry.NetEntry.TheVariants.{Accepted, Netted, Settled}
 use Rattle.cns_ids.specs.declared.holding.Holding.{Holding}
@@ -99,7 +99,3 @@ shorts_fit h few quantities none = record {
 pub shorts_fit_netted : (day : ℕ) (h : List NetEntry) → length (accepted h) ≤ 1000000 → QuantitiesFit h → IsUnsettled h → ShortsFit (Netted day ∷ h)
 unfolding QuantitiesFit
 shorts_fit_netted day h few quantities none = shorts_fit (Netted day ∷ h) few quantities none
-
--- the same for what a book of positions keeps
-pub shorts_fit_in_book : (day : ℕ) (h : List NetEntry) → IsBook h → IsUnsettled h → ShortsFit (Netted day ∷ h)
-shorts_fit_in_book day h book none = shorts_fit_netted day h book.few book.quantities none

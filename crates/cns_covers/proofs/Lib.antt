@@ -2,4 +2,3 @@ pub mod RowLemmas
 pub mod CoverLemmas
 pub mod BoundLemmas
 pub mod TotalLemmas
-pub mod SettingLemmas

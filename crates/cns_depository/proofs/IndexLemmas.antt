@@ -7,9 +7,10 @@ use Rattle.std.proofs.lemmas.List.Folds.{list_any-append}
 use Rattle.std.proofs.lemmas.List.Sums.{sum_by-cons, sum_by-append}
 use Rattle.cns_trades.specs.declared.opening.Opening.{Opening}
 use Rattle.cns_depository.specs.declared.account.Account.TheVariants.{Member}
-use Rattle.cns_depository.specs.declared.opening_index.Holding.{Holding}
+use Rattle.cns_ids.specs.Holding.{holding_at}
+use Rattle.cns_ids.specs.declared.holding.Holding.{Holding}
 use Rattle.cns_depository.specs.Openings.{is_opening_of, issue_sum, opening_shares}
-use Rattle.cns_depository.specs.OpeningIndex.{holding_at, opened_with, IsIndex}
+use Rattle.cns_depository.specs.OpeningIndex.{opened_with, IsIndex}
 use Rattle.cns_depository.proofs.MovementLemmas.{and_left, and_right}
 use Rattle.cns_depository.proofs.OpeningLemmas.{issue_sum-more, fits_more}
 
@@ -80,7 +81,7 @@ pub index_none : (held : Holding → Option ℕ) (sums : ℕ → Option ℕ) →
 unfolding issue_sum
 index_none held sums no_held no_sums = record {
   fits = λ i. omega arith;
-  held_is = λ m i. no_held (holding_at m i);
+  held_is = λ m i. no_held (holding_at i m);
   sum_is = λ i. ap (λ (s : Option ℕ). unwrap_or s 0) (no_sums i);
 }
 
@@ -88,13 +89,13 @@ pub index_kept : (xs xs' : List Opening) (held held' : Holding → Option ℕ) (
     → ((k : Holding) → held' k ≡ held k) → ((i : ℕ) → sums' i ≡ sums i) → IsIndex xs' held' sums'
 index_kept xs xs' held held' sums sums' n list same_held same_sums = subst (λ (l : List Opening). IsIndex l held' sums') (sym list) (record {
   fits = n.fits;
-  held_is = λ m i. same_held (holding_at m i) ∙ n.held_is m i;
+  held_is = λ m i. same_held (holding_at i m) ∙ n.held_is m i;
   sum_is = λ i. ap (λ (s : Option ℕ). unwrap_or s 0) (same_sums i) ∙ n.sum_is i;
 })
 
 pub index_more : (xs : List Opening) (o : Opening) (held held' : Holding → Option ℕ) (sums sums' : ℕ → Option ℕ) → IsIndex xs held sums → list_any (is_opening_of o.member o.issue) xs ≡ false
     → issue_sum xs o.issue + o.shares ≤ 10 ^ 18
-    → ((m i : ℕ) → held' (holding_at m i) ≡ (if is_opening_of m i o then Some o.shares else held (holding_at m i)))
+    → ((m i : ℕ) → held' (holding_at i m) ≡ (if is_opening_of m i o then Some o.shares else held (holding_at i m)))
     → ((i : ℕ) → unwrap_or (sums' i) 0 ≡ (if o.issue == i then issue_sum xs o.issue + o.shares else unwrap_or (sums i) 0))
     → IsIndex (xs ++ o ∷ []) held' sums'
 index_more xs o held held' sums sums' n closed within new_held new_sums = record {
@@ -113,8 +114,8 @@ index_more xs o held held' sums sums' n closed within new_held new_sums = record
 -- an opening that was refused neither as a double nor for its issue's sum
 pub index_added : (xs ys zs : List Opening) (o : Opening) (held held1 held2 : Holding → Option ℕ) (sums sums1 sums2 : ℕ → Option ℕ) (sum : ℕ) → IsIndex xs held sums
     → ys ≡ xs → ((k : Holding) → held1 k ≡ held k) → ((i : ℕ) → sums1 i ≡ sums i)
-    → is_some (held (holding_at o.member o.issue)) ≡ false → sum ≡ unwrap_or (sums o.issue) 0 + o.shares → sum ≤ 10 ^ 18
-    → ((m i : ℕ) → held2 (holding_at m i) ≡ (if is_opening_of m i o then Some o.shares else held1 (holding_at m i)))
+    → is_some (held (holding_at o.issue o.member)) ≡ false → sum ≡ unwrap_or (sums o.issue) 0 + o.shares → sum ≤ 10 ^ 18
+    → ((m i : ℕ) → held2 (holding_at i m) ≡ (if is_opening_of m i o then Some o.shares else held1 (holding_at i m)))
     → ((i : ℕ) → unwrap_or (sums2 i) 0 ≡ (if o.issue == i then sum else unwrap_or (sums1 i) 0))
     → zs ≡ ys ++ o ∷ [] → IsIndex zs held2 sums2
 index_added xs ys zs o held held1 held2 sums sums1 sums2 sum n same_list same_held same_sums unknown sum_is within new_held new_sums list =

@@ -1,8 +1,8 @@
 -- What the calls of a depository come to, in each case.
-use Rattle.std.proofs.Common.{◌≡◌, ℕ, Bool, true, false, List, Option, Some, None, Result, Ok, Err, refl, sym}
+use Rattle.std.proofs.Common.{◌≡◌, Bool, true, false, List, Some, None, Ok, Err, refl}
 use Rattle.cns_trades.specs.declared.opening.Opening.{Opening}
 use Rattle.cns_movements.specs.declared.order.Order.{Order}
-use Rattle.cns_records.specs.Call.{Deed, Commits, Tells}
+use Rattle.cns_records.specs.Call.{Commits}
 use Rattle.cns_records.specs.declared.dep_record.DepRecord.{DepRecord}
 use Rattle.cns_records.specs.declared.dep_record.DepRecord.TheVariants as entry
 use Rattle.cns_records.specs.declared.instruction.Instruction.{Instruction}

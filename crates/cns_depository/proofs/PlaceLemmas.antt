@@ -1,14 +1,11 @@
 -- The order of places.
-use Rattle.std.proofs.Common.{◌≡◌, ◌∙◌, ◌<◌, ◌^◌, ℕ, Bool, true, false, refl, sym, ap, arith}
+use Rattle.std.proofs.Common.{◌≡◌, ◌∙◌, ℕ, Bool, true, false, refl, sym, ap, arith}
 use Rattle.std.specs.Cmp.{IsEquivalence, IsTotalOrder, tied_itself}
 use Rattle.std.specs.Ordering.{eq_by_cmp, is_eq, nat_cmp, ordering_then}
 use Rattle.std.specs.declared.cmp.Ordering.{Ordering}
 use Rattle.std.specs.declared.cmp.Ordering.TheVariants.{Less, Equal, Greater}
 use Rattle.std.proofs.lemmas.Bool.{true≢false}
 use Rattle.std.proofs.lemmas.Cmp.{nat_cmp_total, on_total, ranked, then_total}
-use Rattle.cns_ids.specs.CusipNumber.{narrowed, widened}
-use Rattle.cns_ids.specs.Holding.{holding_at}
-use Rattle.cns_ids.proofs.HoldingOrder.{word_cmp}
 use Rattle.cns_depository.specs.declared.account.Account.{Account}
 use Rattle.cns_depository.specs.declared.account.Account.TheVariants.{Cns, Member}
 use Rattle.cns_depository.specs.declared.account.Side.{Side}
@@ -16,18 +13,12 @@ use Rattle.cns_depository.specs.declared.account.Side.TheVariants.{Outside, At}
 use Rattle.cns_depository.specs.declared.place.Place.{Place}
 use Rattle.cns_depository.specs.contracts.place.PlaceEq.TheImpl.Laws.{laws-law}
 use Rattle.cns_depository.specs.Balances.{place_cmp, rank, side_rank}
-use Rattle.cns_depository.specs.Places.{place_word}
 use Rattle.cns_depository.specs.Totals.{place_eq}
 use Rattle.cns_depository.proofs.TotalLemmas.{equal_places}
 
 -- the order is one
 pub place_total : IsTotalOrder place_cmp
 place_total = then_total (on_total (λ (k : Place). k.issue) nat_cmp_total) (on_total (λ (k : Place). side_rank k.side) nat_cmp_total)
-
--- places stand in the order of their numbers
-pub word_order : (a b : Place) → widened 9 (narrowed 9 a.issue) ≡ a.issue → widened 9 (narrowed 9 b.issue) ≡ b.issue → side_rank a.side < 2 ^ 64 → side_rank b.side < 2 ^ 64
-    → nat_cmp (place_word a) (place_word b) ≡ place_cmp a b
-word_order a b = word_cmp (holding_at a.issue (side_rank a.side)) (holding_at b.issue (side_rank b.side))
 
 -- places that compare equal are the same
 same_number : (x y : ℕ) → nat_cmp x y ≡ Equal → x ≡ y

@@ -59,7 +59,7 @@ index_some_of records k i o stands some =
 
 -- ---- places
 
-swap : (a b : Bool) → (a && b) ≡ (b && a)
+pub swap : (a b : Bool) → (a && b) ≡ (b && a)
 swap true true = refl
 swap true false = refl
 swap false true = refl

@@ -1,7 +1,7 @@
 -- What each call of a depository comes to, by whether it is down, its openings and its records, and what it leaves (this project's own rules). The
 -- first refusal that applies is told.
-use Rattle.std.specs.Prelude.{ℕ, Bool, not, List, Option, Some, None, Result, Ok, Err}
-use Rattle.cns_ids.specs.Steps.{◌>>=◌, ◌>>◌, need}
+use Rattle.std.specs.Prelude.{Bool, not, List, Some, None, Result, Ok, Err}
+use Rattle.cns_ids.specs.Steps.{◌>>◌, need}
 use Rattle.cns_trades.specs.declared.opening.Opening.{Opening}
 use Rattle.cns_movements.specs.Order.{agrees_with}
 use Rattle.cns_movements.specs.declared.order.Order.{Order}

@@ -1,21 +1,11 @@
 -- What an index of openings has (this project's own rule).
-use Rattle.std.specs.Prelude.{◌≡◌, ℕ, Bool, ◌&&◌, ◌==◌, List, Option, Some, None, unwrap_or, if◌then◌else◌}
+use Rattle.std.specs.Prelude.{◌≡◌, ℕ, List, Option, Some, None, unwrap_or, if◌then◌else◌}
 use Rattle.std.specs.List.{list_any}
 use Rattle.cns_trades.specs.declared.opening.Opening.{Opening}
 use Rattle.cns_depository.specs.declared.account.Account.TheVariants.{Member}
-use Rattle.cns_depository.specs.declared.opening_index.Holding.{Holding}
+use Rattle.cns_ids.specs.Holding.{holding_at}
+use Rattle.cns_ids.specs.declared.holding.Holding.{Holding}
 use Rattle.cns_depository.specs.Openings.{is_opening_of, issue_sum, opening_shares, DoIssuesFit}
-
--- a member's holding in an issue, and what an opening is of
-abbrev pub holding_at : ℕ → ℕ → Holding
-holding_at member issue = record { member = member; issue = issue }
-
-abbrev pub holding_of : Opening → Holding
-holding_of o = holding_at o.member o.issue
-
--- whether two holdings are the same
-abbrev pub holding_eq : Holding → Holding → Bool
-holding_eq a b = (a.member == b.member) && (a.issue == b.issue)
 
 -- the shares with which a member opens in an issue, where it has an opening there
 abbrev pub opened_with : List Opening → ℕ → ℕ → Option ℕ
@@ -25,5 +15,5 @@ opened_with openings member issue =
 -- the shares of each holding, and the sum of each issue
 pub record IsIndex (openings : List Opening) (held : Holding → Option ℕ) (sums : ℕ → Option ℕ) : Type 0 where
   pub fits : DoIssuesFit openings
-  pub held_is : (member issue : ℕ) → held (holding_at member issue) ≡ opened_with openings member issue
+  pub held_is : (member issue : ℕ) → held (holding_at issue member) ≡ opened_with openings member issue
   pub sum_is : (issue : ℕ) → unwrap_or (sums issue) 0 ≡ issue_sum openings issue

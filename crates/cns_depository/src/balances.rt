@@ -76,12 +76,13 @@ fn named_places(alloc: Global, openings: &Openings, stock: &Stock) -> Result<Vec
 }
 
 // Puts places into order, and leaves each once.
-fn sort_places(places: &mut Vec<Place>)
-    ensures order { IsStrictlySortedBy place_cmp places.new.items }
+fn sort_places(places: &mut Vec<Place>) -> Result<(), AllocError>
+    ensures order { OnOk result (IsStrictlySortedBy place_cmp places.new.items) }
     ensures keeps { (place : Place) → Contains places.old.items place → Contains places.new.items place }
 {
-    places.sort_unstable_by(|one, other| one.order(other));
+    places.sort_by_cached_key(Place::key)?;
     places.dedup();
+    Ok(())
 }
 
 // The places that some opening names, or into which or out of which something was moved, each once, in
@@ -95,7 +96,7 @@ fn places_in_order(
     ensures named { IfOk result (λ v. (place : Place) → Contains (places_named openings.now stock.now) place → Contains v.items place) }
 {
     let mut places = named_places(alloc, openings, stock)?;
-    sort_places(&mut places);
+    sort_places(&mut places)?;
     Ok(places)
 }
 

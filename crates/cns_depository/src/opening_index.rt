@@ -1,32 +1,25 @@
 ghost use Rattle.std.specs.Prelude.{◌≡◌, ℕ, ◌<◌, Some, is_some, unwrap_or, if◌then◌else◌, OnOk, vec_len, vec_capacity, nat_eq, ◌==◌};
 ghost use Rattle.std.specs.HashMap.{get, spare};
 ghost use Rattle.cns_depository.specs.Openings.{is_opening_of};
-ghost use Rattle.cns_depository.specs.OpeningIndex.{holding_at, holding_of as holding_of_opening, holding_eq};
+ghost use Rattle.cns_ids.specs.Holding.{holding_at, holding_eq};
 
-use cns_ids::{Cusip, MemberNo, Shares};
+use cns_ids::{Cusip, Holding, MemberNo, Shares};
 use cns_trades::Opening;
 use std::alloc::AllocError;
 use std::collections::HashMap;
 
-// What an opening is of: a member's holding in an issue.
-#[derive(Clone, Copy, PartialEq, Eq, Hash)]
-pub(crate) struct Holding {
-    member: MemberNo,
-    issue: Cusip,
-}
-
 // Whether a member has an opening in an issue.
 pub(crate) fn is_held(shares: &HashMap<Holding, Shares>, member: MemberNo, issue: Cusip) -> bool
-    ensures { result ≡ is_some (get holding_eq shares.now (holding_at member issue)) }
+    ensures { result ≡ is_some (get holding_eq shares.now (holding_at issue member)) }
 {
-    shares.contains_key(&Holding { member, issue })
+    shares.contains_key(&Holding { issue, member })
 }
 
 // The shares with which a member opens in an issue.
 pub(crate) fn held(shares: &HashMap<Holding, Shares>, member: MemberNo, issue: Cusip) -> u128
-    ensures { result ≡ unwrap_or (get holding_eq shares.now (holding_at member issue)) 0 }
+    ensures { result ≡ unwrap_or (get holding_eq shares.now (holding_at issue member)) 0 }
 {
-    match shares.get(&Holding { member, issue }) {
+    match shares.get(&Holding { issue, member }) {
         Some(held) => u128::from(held.count()),
         None => 0,
     }
@@ -61,13 +54,13 @@ pub(crate) fn make_room(
 // Enters the shares of an opening.
 pub(crate) fn enter(shares: &mut HashMap<Holding, Shares>, opening: &Opening)
     requires { 0 < spare shares.old }
-    ensures { (member issue : ℕ) → get holding_eq shares.new (holding_at member issue)
+    ensures { (member issue : ℕ) → get holding_eq shares.new (holding_at issue member)
         ≡ (if is_opening_of member issue opening.now then Some opening.now.shares
-        else get holding_eq shares.old (holding_at member issue)) }
+        else get holding_eq shares.old (holding_at issue member)) }
 {
     let holding = Holding {
-        member: opening.member,
         issue: opening.issue,
+        member: opening.member,
     };
     let Ok(_) = shares.insert(holding, opening.shares) else {
         unreachable!()

@@ -2,8 +2,8 @@ ghost use Rattle.std.specs.Prelude.{◌≡◌, ◌^◌, ◌≤◌, []};
 ghost use Rattle.cns_depository.specs.Openings.{AddLeaves, issue_sum, opening_shares as shares_of_opening};
 
 use crate::account::Account;
-use crate::opening_index::{Holding, enter, held, is_held, make_room, set_sum, sum_of};
-use cns_ids::{Cusip, Shares};
+use crate::opening_index::{enter, held, is_held, make_room, set_sum, sum_of};
+use cns_ids::{Cusip, Holding, Shares};
 use cns_trades::Opening;
 use std::alloc::Global;
 use std::collections::HashMap;
@@ -40,7 +40,8 @@ impl Model for Openings {
     ghost use Rattle.std.specs.Prelude.{List, nat_eq};
     ghost use Rattle.std.specs.HashMap.{get};
     ghost use Rattle.cns_trades.specs.declared.opening.Opening.{Opening};
-    ghost use Rattle.cns_depository.specs.OpeningIndex.{IsIndex, holding_eq};
+    ghost use Rattle.cns_ids.specs.Holding.{holding_eq};
+    ghost use Rattle.cns_depository.specs.OpeningIndex.{IsIndex};
 
     ghost Value = { List Opening };
 

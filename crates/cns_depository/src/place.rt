@@ -1,14 +1,16 @@
-ghost use Rattle.std.specs.Prelude.{◌≡◌, ◌^◌, ◌<◌};
-ghost use Rattle.cns_ids.specs.CusipNumber.{narrowed, widened};
-ghost use Rattle.cns_depository.specs.Balances.{place_cmp, side_rank};
+ghost use Rattle.std.specs.Prelude.{◌≡◌};
+ghost use Rattle.std.proofs.Common.{rules};
+ghost use Rattle.std.specs.Cmp.Rules.{hashing};
+ghost use Rattle.std.specs.Hash as fed;
+ghost use Rattle.cns_depository.specs.Balances.{side_rank};
 ghost use Rattle.cns_depository.specs.Places.{place_word};
 
 use crate::account::{Account, Side};
 use cns_ids::Cusip;
-use std::cmp::Ordering;
+use std::hash::{Hash, Hasher};
 
 /// A side of transfers in an issue.
-#[derive(Clone, Copy, PartialEq, Eq, Hash)]
+#[derive(Clone, Copy, PartialEq, Eq)]
 pub(crate) struct Place {
     pub(crate) issue: Cusip,
     pub(crate) side: Side,
@@ -25,20 +27,24 @@ fn rank(side: &Side) -> u64
     }
 }
 
-impl Place {
-    // The issue and the side as one number. Places stand in the order of these.
-    fn word(&self) -> u128
-        ensures word { result ≡ place_word self.now }
-        ensures issue { widened 9 (narrowed 9 self.now.issue) ≡ self.now.issue }
-        ensures side { side_rank self.now.side < 2 ^ 64 }
-    {
-        u128::from(self.issue.word()) * 18446744073709551616 + u128::from(rank(&self.side))
-    }
+impl Hash for Place {
+    ghost hash_input = { λ k. fed.u128 (place_word k) };
 
-    /// How two places stand: by issue, then side, the outside first.
-    pub(crate) fn order(&self, other: &Place) -> Ordering
-        ensures { result ≡ place_cmp self.now other.now }
+    ghost respects_eq = { Prim.search (hashing, rules) };
+
+    // The issue and the side as one number.
+    fn hash<H: Hasher>(&self, state: &mut H) {
+        let word = u128::from(self.issue.word()) * 18446744073709551616
+            + u128::from(rank(&self.side));
+        word.hash(state);
+    }
+}
+
+impl Place {
+    /// The issue and the rank of the side. Places stand by issue, then rank.
+    pub(crate) fn key(&self) -> (Cusip, u64)
+        ensures { result ≡ (self.now.issue, side_rank self.now.side) }
     {
-        self.word().cmp(&other.word())
+        (self.issue, rank(&self.side))
     }
 }

@@ -1,6 +1,6 @@
 -- What the unconfirmed orders of each holding ask for, as orders are issued and confirmed.
 use Rattle.std.proofs.Common.{◌≡◌, ℕ, suc, ◌+◌, ◌*◌, ◌^◌, ◌≤◌, Bool, true, false, List, [], ◌∷◌, length, length-append, Option, Some, None, refl, ap, ◌∙◌, arith}
-use Rattle.std.specs.Prelude.{◌&&◌, ◌==◌, sum_by, if◌then◌else◌}
+use Rattle.std.specs.Prelude.{◌&&◌, ◌==◌, sum_by, unwrap_or, if◌then◌else◌}
 use Rattle.std.proofs.lemmas.Bool.{eq-eqb}
 use Rattle.std.proofs.lemmas.List.Sums.{sum_by-append, sum_by-cons}
 use Rattle.cns_ids.specs.Holding.{holding_at}
@@ -43,6 +43,16 @@ less Cover Cover before w asked now sum is = ap (λ n. n + asked) is ∙ sum
 less Cover Delivery before w asked now sum is = omega (arith, is)
 less Delivery Cover before w asked now sum is = omega (arith, is)
 less Delivery Delivery before w asked now sum is = ap (λ n. n + asked) is ∙ sum
+
+-- what is found for a holding: nothing where it has none
+pub open_found : (found : Option OpenShares) (now : OpenShares) (entry : Option OpenShares) → now ≡ unwrap_or entry (record { covers = 0; deliveries = 0 }) → entry ≡ found
+    → (k : MoveKind) → shares_of k now ≡ open_at k found
+open_found found now entry value same k = ap (shares_of k) value ∙ ap (λ (o : Option OpenShares). shares_of k (unwrap_or o (record { covers = 0; deliveries = 0 }))) same ∙ by k found
+  where
+    by : (k : MoveKind) (o : Option OpenShares) → shares_of k (unwrap_or o (record { covers = 0; deliveries = 0 })) ≡ open_at k o
+    by Cover None = refl
+    by Delivery None = refl
+    by k (Some shares) = refl
 
 -- after what a holding's orders of a kind ask for grew there
 pub shares_added : (kind : MoveKind) (member issue asked now : ℕ) (before w : OpenShares) (old new : Holding → Option OpenShares) → Puts member issue w old new

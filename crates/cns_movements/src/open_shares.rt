@@ -19,6 +19,11 @@ pub(crate) struct OpenShares {
 }
 
 impl OpenShares {
+    const NOTHING: OpenShares = OpenShares {
+        covers: 0,
+        deliveries: 0,
+    };
+
     /// What those of a kind ask for.
     pub(crate) fn of(&self, kind: MoveKind) -> u128
         ensures { result ≡ shares_of kind self.now }
@@ -56,10 +61,7 @@ pub(crate) fn open_shares(
 {
     match sums.get(&Holding { issue, member }) {
         Some(shares) => *shares,
-        None => OpenShares {
-            covers: 0,
-            deliveries: 0,
-        },
+        None => OpenShares::NOTHING,
     }
 }
 
@@ -71,15 +73,16 @@ fn ask(sums: &mut HashMap<Holding, OpenShares>, new: &Ask)
         ≡ open_in sums.old k m i + (if same_kind k new.now.kind && ((new.now.member == m) && (new.now.issue == i)) then new.now.asked else 0) }
     ensures left { spare sums.old ≤ spare sums.new + 1 }
 {
-    let before = open_shares(sums, new.member, new.issue);
-    let asked = before.of(new.kind) + u128::from(new.asked.shares());
     let holding = Holding {
         issue: new.issue,
         member: new.member,
     };
-    let Ok(_) = sums.insert(holding, before.with(new.kind, asked)) else {
+    let Ok(entry) = sums.entry(holding) else {
         unreachable!()
     };
+    let shares = entry.or_insert(OpenShares::NOTHING);
+    let asked = shares.of(new.kind) + u128::from(new.asked.shares());
+    *shares = shares.with(new.kind, asked);
 }
 
 /// Adds what new orders ask for, where there is room for their holdings.

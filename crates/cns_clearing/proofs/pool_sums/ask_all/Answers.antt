@@ -1,6 +1,7 @@
-use Rattle.std.proofs.Common.{◌≡◌, ◌≤◌, ◌∷◌, ℕ, ◌∙◌, ap, sym, length, arith, rules}
+use Rattle.std.proofs.Common.{◌≡◌, ◌≤◌, ◌∷◌, ℕ, ◌∙◌, ap, sym, length, arith, refl, rules}
 use Rattle.std.specs.Prelude.{◌==◌, ◌||◌, is_some, nat_eq, List, sum_by, if◌then◌else◌}
 use Rattle.std.specs.HashMap.{get}
+use Rattle.std.proofs.lemmas.Bool.{eq-eqb}
 use Rattle.std.proofs.lemmas.List.Sums.{sum_by-cons}
 use borrow.Author.Tests.{tests}
 use Rattle.cns_movements.specs.Order.{is_delivery}
@@ -22,12 +23,13 @@ loop-first-preserved c =
     let is : c.asked_of-asked_of_pool.result ≡ (if is_delivery a.kind then a.asked else 0) = c.asked_of-asked_of_pool.ensures ∙ ap (λ n. if is_delivery a.kind then n else 0) c.shares-asked.ensures.value in
     let adds : (i : ℕ) → (if a.issue == i then c.asked_of-asked_of_pool.result else 0) ≡ (if a.issue == i then (if is_delivery a.kind then a.asked else 0) else 0) = λ i. ap (λ n. if a.issue == i then n else 0) is in
     record {
-      room = omega (arith, before.room, shorter, c.ask.ensures.left);
-      covered = λ i. c.ask.ensures.covered i ∙ before.covered i;
-      delivered = λ i. c.ask.ensures.delivered i ∙ before.delivered i;
-      out = λ i. omega (arith, before.out i, c.ask.ensures.out i, adds i, ap (asked_of_pool i) list, ask_first a rest i);
-      named = λ i. ask_named (a.issue == i) _ (is_asked i rest) _ (c.ask.ensures.named i) ∙ ap (λ (l : List Ask). is_some (get nat_eq c.loop-first.pools i) || is_asked i l) (sym list) ∙ before.named i;
-      small = λ i. omega (arith, before.small i, shorter, c.ask.ensures.out i, is, asked, at_most (a.issue == i) c.asked_of-asked_of_pool.result, at_most (is_delivery a.kind) a.asked);
+      room = omega (arith, before.room, shorter, c.ask_next.ensures.left);
+      last = c.ask_next.ensures.named a.issue ∙ ap (λ b. b || is_some (get nat_eq c.loop-first.pools a.issue)) (eq-eqb a.issue a.issue refl);
+      covered = λ i. c.ask_next.ensures.covered i ∙ before.covered i;
+      delivered = λ i. c.ask_next.ensures.delivered i ∙ before.delivered i;
+      out = λ i. omega (arith, before.out i, c.ask_next.ensures.out i, adds i, ap (asked_of_pool i) list, ask_first a rest i);
+      named = λ i. ask_named (a.issue == i) _ (is_asked i rest) _ (c.ask_next.ensures.named i) ∙ ap (λ (l : List Ask). is_some (get nat_eq c.loop-first.pools i) || is_asked i l) (sym list) ∙ before.named i;
+      small = λ i. omega (arith, before.small i, shorter, c.ask_next.ensures.out i, is, asked, at_most (a.issue == i) c.asked_of-asked_of_pool.result, at_most (is_delivery a.kind) a.asked);
       most = omega (arith, before.most, shorter, asked, ap (sum_by (λ (x : Ask). x.asked)) list, sum_by-cons (λ (x : Ask). x.asked) a rest);
     }
 

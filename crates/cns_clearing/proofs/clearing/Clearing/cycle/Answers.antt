@@ -1,4 +1,4 @@
-use Rattle.std.proofs.Common.{◌≡◌, ◌≢◌, [], true, false, length, Some, Ok, Err, ap, refl, rules}
+use Rattle.std.proofs.Common.{◌≡◌, ◌≢◌, [], true, false, length, Some, Ok, Err, refl, rules}
 use Rattle.std.specs.Prelude.{if◌then◌else◌}
 use Rattle.cns_netting.specs.History.{becoming_due}
 use Rattle.cns_movements.specs.Book.{next_orders}

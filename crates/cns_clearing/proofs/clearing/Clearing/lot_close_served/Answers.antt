@@ -1,13 +1,12 @@
-use Rattle.std.proofs.Common.{◌≡◌, ◌∙◌, true, false, Option, Ok, Err, ap, refl, sym, rules}
+use Rattle.std.proofs.Common.{◌≡◌, ◌∙◌, true, false, Option, Ok, Err, ap, refl, rules}
 use Rattle.std.specs.Prelude.{min}
 use Rattle.cns_ids.specs.declared.cycle.CycleId.{CycleId}
 use Rattle.cns_movements.specs.Book.{next_orders}
 use Rattle.cns_pool.specs.Pool.{asked_sum}
 use Rattle.cns_records.specs.Refusals.{commit_refusal}
-use Rattle.cns_records.specs.declared.clear_record.ClearRecord.TheVariants.{Allocate}
 use Rattle.cns_records.specs.declared.refusal.Refusal.TheVariants as refusal
 use Rattle.cns_records.proofs.CallLemmas.{refused}
-use Rattle.cns_clearing.specs.Answers.{allocation_of, close_call, closed_of}
+use Rattle.cns_clearing.specs.Answers.{close_call, closed_of}
 use Rattle.cns_clearing.specs.Node.{IsCommitted}
 use Rattle.cns_clearing.proofs.CallsLemmas.{added, adds, close_down, close_goes, close_none, short_of}
 use Rattle.cns_clearing.proofs.LeavesLemmas.{close_allowed, close_asks, close_numbers, close_small, closed_is}

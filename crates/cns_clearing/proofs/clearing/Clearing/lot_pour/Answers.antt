@@ -1,4 +1,4 @@
-use Rattle.std.proofs.Common.{◌≡◌, ◌-◌, true, false, None, Some, Ok, Err, refl, sym, rules}
+use Rattle.std.proofs.Common.{◌≡◌, ◌-◌, true, false, None, Err, refl, sym, rules}
 use Rattle.cns_records.specs.declared.refusal.Refusal.TheVariants as refusal
 use Rattle.cns_records.proofs.CallLemmas.{unchanged}
 use Rattle.cns_clearing.specs.Answers.{pour_call}

@@ -1,4 +1,4 @@
-use Rattle.std.proofs.Common.{◌≡◌, true, false, Ok, Err, ap, refl, sym, ◌∙◌, rules}
+use Rattle.std.proofs.Common.{◌≡◌, true, false, Ok, Err, refl, rules}
 use Rattle.cns_records.specs.Refusals.{commit_refusal}
 use Rattle.cns_records.specs.declared.clear_record.ClearRecord.TheVariants.{Accept}
 use Rattle.cns_records.specs.declared.refusal.Refusal.TheVariants as refusal

@@ -2,7 +2,7 @@ use Rattle.std.proofs.Common.{◌≡◌, true, false, None, Some, Ok, Err, refl,
 use Rattle.cns_records.specs.Call.{answered}
 use Rattle.cns_records.specs.declared.dep_record.DepRecord.TheVariants.{Own}
 use Rattle.cns_records.proofs.CallLemmas.{committed, refused}
-use Rattle.cns_depository.specs.Answers.{InstructLeaves, instruct_call, own_fault, own_refused}
+use Rattle.cns_depository.specs.Answers.{instruct_call, own_fault, own_refused}
 use Rattle.cns_depository.specs.Node.{IsCommitted}
 use Rattle.cns_depository.specs.Stock.{instructed_of, instruction_of, own_refusal}
 use Rattle.cns_depository.specs.declared.fault.Own.TheVariants.{Done}

@@ -1,9 +1,9 @@
-use Rattle.std.proofs.Common.{◌≡◌, true, false, None, Some, Ok, Err, refl, sym, rules}
+use Rattle.std.proofs.Common.{◌≡◌, true, false, None, Ok, refl, sym, rules}
 use Rattle.cns_records.specs.Call.{answered}
 use Rattle.cns_records.proofs.CallLemmas.{committed, refused}
-use Rattle.cns_depository.specs.Answers.{OrderLeaves, dep_fault, order_call, reply_to}
+use Rattle.cns_depository.specs.Answers.{dep_fault, order_call, reply_to}
 use Rattle.cns_depository.specs.Node.{IsCommitted}
-use Rattle.cns_depository.specs.Stock.{executed_of, execution, movement, movement_of}
+use Rattle.cns_depository.specs.Stock.{executed_of, movement, movement_of}
 use Rattle.cns_depository.specs.declared.fault.Answer.TheVariants.{Done}
 use Rattle.cns_depository.specs.declared.fault.DepFault.TheVariants.{Down}
 use Rattle.cns_depository.proofs.NodeLemmas.{order_down, order_known, order_new}

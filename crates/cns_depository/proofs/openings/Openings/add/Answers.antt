@@ -1,7 +1,7 @@
 use Rattle.std.proofs.Common.{◌≡◌, ◌+◌, ◌≤◌, ◌^◌, ◌∙◌, sym, arith}
 use Rattle.std.specs.Prelude.{nat_eq, unwrap_or}
 use Rattle.std.specs.HashMap.{get}
-use Rattle.cns_depository.specs.OpeningIndex.{holding_eq}
+use Rattle.cns_ids.specs.Holding.{holding_eq}
 use Rattle.cns_depository.proofs.IndexLemmas.{index_added}
 use Rattle.cns_depository.proofs.openings.Openings.add.Goals as goal
 

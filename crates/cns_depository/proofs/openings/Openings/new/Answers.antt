@@ -2,7 +2,7 @@ use Rattle.std.proofs.Common.{ap}
 use Rattle.std.specs.Prelude.{nat_eq}
 use Rattle.std.specs.Map.{lookup}
 use Rattle.std.specs.HashMap.{get}
-use Rattle.cns_depository.specs.OpeningIndex.{holding_eq}
+use Rattle.cns_ids.specs.Holding.{holding_eq}
 use Rattle.cns_depository.proofs.IndexLemmas.{index_none}
 use Rattle.cns_depository.proofs.openings.Openings.new.Goals as goal
 
