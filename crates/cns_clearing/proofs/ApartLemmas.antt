@@ -1,11 +1,11 @@
 -- Tickets that are tested one after another for a member that was seen before.
-use Rattle.std.proofs.Common.{◌≡◌, ℕ, ◌+◌, ◌<◌, Bool, true, false, List, [], ◌∷◌, length, drop, get_or, slice_set, refl, sym, ap, ◌∙◌}
+use Rattle.std.proofs.Common.{◌≡◌, ℕ, ◌+◌, ◌<◌, Bool, true, false, List, [], ◌∷◌, length, drop, get_or, slice_set, refl, sym, ap, ◌∙◌, arith, zero, suc, replicate}
 use Rattle.std.specs.Prelude.{◌==◌, ◌&&◌, ◌||◌, not}
 use Rattle.std.specs.List.{list_all}
-use Rattle.std.proofs.lemmas.List.{drop_more}
+use Rattle.std.proofs.lemmas.Bool.Decides.{nat_tests}
+use Rattle.std.proofs.lemmas.List.{drop_more, get_or-set_other, get_or-set_same}
 use Rattle.cns_pool.specs.declared.ticket.Ticket.{Ticket}
 use Rattle.cns_allocate.specs.Served.{has_ticket}
-use Rattle.cns_clearing.proofs.TableLemmas.{table_more}
 use Rattle.cns_clearing.specs.Closing.{is_apart}
 
 -- whether the tickets are of members that were not seen, and different ones
@@ -14,36 +14,32 @@ is_apart_from seen ts = list_all (λ (t : Ticket). not (seen t.member)) ts && is
 
 -- none was seen
 pub apart_from_none : (seen : ℕ → Bool) → ((member : ℕ) → seen member ≡ false) → (ts : List Ticket) → is_apart_from seen ts ≡ is_apart ts
-apart_from_none seen none ts = ap (λ b. b && is_apart ts) (all ts)
+apart_from_none seen none ts = rw (all ts) refl
   where
     all : (ts : List Ticket) → list_all (λ (t : Ticket). not (seen t.member)) ts ≡ true
     all [] = refl
-    all (t ∷ ts) = ap (λ b. not b && list_all (λ (u : Ticket). not (seen u.member)) ts) (none t.member) ∙ all ts
+    all (t ∷ ts) = rw (none t.member) (all ts)
 
 -- the first one was not, and is from now on
 all_later : (seen new : ℕ → Bool) (member : ℕ) → ((m : ℕ) → new m ≡ ((m == member) || seen m)) → (ts : List Ticket)
     → list_all (λ (t : Ticket). not (new t.member)) ts ≡ (not (has_ticket ts member) && list_all (λ (t : Ticket). not (seen t.member)) ts)
 all_later seen new member more [] = refl
-all_later seen new member more (t ∷ ts) =
-    ap (λ b. not b && list_all (λ (u : Ticket). not (new u.member)) ts) (more t.member) ∙ ap (λ b. not ((t.member == member) || seen t.member) && b) (all_later seen new member more ts)
-    ∙ law (t.member == member) (seen t.member) (has_ticket ts member) (list_all (λ (u : Ticket). not (seen u.member)) ts)
-  where
-    law : (a b h n : Bool) → (not (a || b) && (not h && n)) ≡ (not (a || h) && (not b && n))
-    law true b h n = refl
-    law false true true n = refl
-    law false true false n = refl
-    law false false h n = refl
+all_later seen new member more (t ∷ ts) = grind (arith, more t.member, all_later seen new member more ts)
 
+-- so the tickets after it are told apart as all are
 pub apart_from_next : (seen new : ℕ → Bool) (t : Ticket) (ts : List Ticket) → seen t.member ≡ false → ((m : ℕ) → new m ≡ ((m == t.member) || seen m))
     → is_apart_from new ts ≡ is_apart_from seen (t ∷ ts)
-apart_from_next seen new t ts e more =
-    ap (λ b. b && is_apart ts) (all_later seen new t.member more ts) ∙ law (has_ticket ts t.member) (list_all (λ (u : Ticket). not (seen u.member)) ts) (is_apart ts)
-    ∙ ap (λ b. (not b && list_all (λ (u : Ticket). not (seen u.member)) ts) && is_apart (t ∷ ts)) (sym e)
-  where
-    law : (h n a : Bool) → ((not h && n) && a) ≡ ((true && n) && (not h && a))
-    law true true a = refl
-    law true false a = refl
-    law false n a = refl
+apart_from_next seen new t ts e more = grind (arith, all_later seen new t.member more ts)
+
+-- a table of the members that were seen, once one more is
+pub table_more : (table : List Bool) (member : ℕ) → member < length table → (m : ℕ) → get_or (slice_set table member true) m false ≡ ((m == member) || get_or table m false)
+table_more table member within m = grind (arith, nat_tests, get_or-set_same table member true false within, get_or-set_other table member m true false)
+
+-- a table in which none is
+pub table_none : (n m : ℕ) → get_or (replicate n false) m false ≡ false
+table_none zero m = refl
+table_none (suc n) zero = refl
+table_none (suc n) (suc m) = table_none n m
 
 -- one more ticket was tested, whose member was not seen before
 pub apart_step : (tickets : List Ticket) (i : ℕ) (t : Ticket) (table : List Bool) (member : ℕ) → i < length tickets → t ≡ get_or tickets i t → member ≡ t.member → member < length table

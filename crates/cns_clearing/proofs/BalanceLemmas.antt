@@ -1,18 +1,18 @@
 -- In each issue longs less shorts are the shares that confirmed covers brought, less those that confirmed deliveries took.
-use Rattle.std.proofs.Common.{◌≡◌, ◌≤◌, ◌+◌, ℕ, List, [], ◌∷◌, Option, Some, None, Bool, true, false, refl, ◌∙◌, arith}
+use Rattle.std.proofs.Common.{◌≡◌, ◌≤◌, ◌+◌, ℕ, List, [], ◌∷◌, Option, Some, None, Bool, refl, ◌∙◌, arith}
 use Rattle.std.specs.Prelude.{◌&&◌, ◌==◌, sum_by, if◌then◌else◌}
 use Rattle.std.proofs.lemmas.List.Sums.{sum_by-cons}
 use Rattle.cns_netting.specs.History.{bought, due, longs_of, settled_in, settled_out, shorts_of, sold}
 use Rattle.cns_netting.specs.declared.entry.NetEntry.{NetEntry}
 use Rattle.cns_netting.proofs.BalanceLemmas.{AreMembers, IsUpTo, bought-members, longs_balance, part_of, parts_total, sold-members, total, total-same, upto_less}
-use Rattle.cns_movements.specs.Order.{is_of, moved_part, moved_sum, order_of, same_kind}
+use Rattle.cns_movements.specs.Order.{moved_part, moved_sum, order_of, same_kind}
 use Rattle.cns_movements.specs.declared.order.MoveKind.{MoveKind}
 use Rattle.cns_movements.specs.declared.order.MoveKind.TheVariants.{Cover, Delivery}
 use Rattle.cns_movements.specs.declared.order.Order.{Order}
 use Rattle.cns_movements.specs.declared.order.Reply.{Reply}
 use Rattle.cns_records.specs.Clear.{AreWritable}
 use Rattle.cns_records.specs.declared.clear_record.ClearRecord.{ClearRecord}
-use Rattle.cns_records.specs.declared.clear_record.ClearRecord.TheVariants.{Accept, Exempt, Priority, Cycle, Allocate, Confirm}
+use Rattle.cns_records.specs.declared.clear_record.ClearRecord.TheVariants.{Accept, Confirm}
 use Rattle.cns_clearing.specs.Books.{Books, IsLawful, books_of, history_of, orders_of, settled_by}
 use Rattle.cns_clearing.specs.Pools.{covered_of, delivered_of, kind_part}
 use Rattle.cns_clearing.proofs.BooksLemmas.{lawful_bounded}
@@ -28,11 +28,8 @@ writable_members : (c : List ClearRecord) → AreWritable c → AreMembers 9999 
 unfolding books_of
 writable_members [] fits = tt
 writable_members (Accept t ∷ c) fits = (fits.0.0.buyer.from, fits.0.0.buyer.to, fits.0.0.seller.from, fits.0.0.seller.to, writable_members c fits.1)
-writable_members (Exempt m i s ∷ c) fits = writable_members c fits.1
-writable_members (Priority m i is_on ∷ c) fits = writable_members c fits.1
-writable_members (Cycle id ∷ c) fits = writable_members c fits.1
-writable_members (Allocate a ∷ c) fits = writable_members c fits.1
 writable_members (Confirm r ∷ c) fits = members_settled (order_of (orders_of c).orders r.number) r.moved (history_of c) (writable_members c fits.1)
+writable_members (_ ∷ c) fits = writable_members c fits.1
 
 -- what orders of a kind moved for a member in an issue is its part of what they moved in the issue
 pub member_part : (kind : MoveKind) (rs : List Reply) (orders : List Order) (member issue : ℕ)
@@ -40,19 +37,10 @@ pub member_part : (kind : MoveKind) (rs : List Reply) (orders : List Order) (mem
 unfolding moved_sum
 member_part kind rs [] member issue = refl
 member_part kind rs (o ∷ orders) member issue =
-    omega (
-      arith,
-      sum_by-cons (λ (x : Order). if x.member == member then kind_part kind issue (moved_part rs) x else 0) o orders,
-      sum_by-cons (λ (x : Order). if is_of kind member issue x then moved_part rs x else 0) o orders,
-      by (same_kind kind o.kind) (o.member == member) (o.issue == issue),
-      member_part kind rs orders member issue,
-    )
+    omega (arith, by (same_kind kind o.kind) (o.member == member) (o.issue == issue), member_part kind rs orders member issue, sum_by-cons)
   where
     by : (its mine here : Bool) → (if mine then (if its && here then moved_part rs o else 0) else 0) ≡ (if its && (mine && here) then moved_part rs o else 0)
-    by true true here = refl
-    by true false here = refl
-    by false true here = refl
-    by false false here = refl
+    by its mine here = grind arith
 
 -- what was settled with the members either way is what the orders of a kind moved, where none but the members 1 to 9999 can have any
 settled_total : (kind : MoveKind) (rs : List Reply) (orders : List Order) (issue : ℕ) (settled bound : ℕ → ℕ) → ((m : ℕ) → settled m ≡ moved_sum orders rs kind m issue)

@@ -3,7 +3,6 @@ pub mod NodeLemmas
 pub mod PositionLemmas
 pub mod ListLemmas
 pub mod ClosingLemmas
-pub mod TableLemmas
 pub mod ApartLemmas
 pub mod LotLemmas
 pub mod OpenLotLemmas
@@ -16,6 +15,5 @@ pub mod DrawnLemmas
 pub mod PlanLemmas
 pub mod AllocationLemmas
 pub mod PouredLemmas
-pub mod LeavesLemmas
 pub mod CallsLemmas
 pub mod BalanceLemmas

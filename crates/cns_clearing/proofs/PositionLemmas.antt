@@ -1,24 +1,22 @@
 -- Due trades, and positions now and after the latest two cycles, are those of the books.
-use Rattle.std.proofs.Common.{◌≡◌, ℕ, List, [], ◌∷◌, Option, Some, None, refl, sym, ap, ◌∙◌, subst, arith}
-use Rattle.std.specs.Prelude.{◌&&◌, ◌==◌, ◌||◌, nat_le, ℤ, pos, neg_ℤ, ◌+ℤ◌, ◌-ℤ◌, ◌≤ℤ◌}
+use Rattle.std.proofs.Common.{◌≡◌, ℕ, List, [], ◌∷◌, Option, Some, None, refl, sym, ap, ◌∙◌, arith}
+use Rattle.std.specs.Prelude.{◌&&◌, ◌==◌, ◌||◌, nat_le}
 use Rattle.std.specs.List.{list_any}
 use Rattle.cns_ids.specs.declared.cycle.CycleId.{CycleId}
 use Rattle.cns_movements.specs.Book.{IsOrderBook, with_asks}
-use Rattle.cns_trades.specs.declared.trade.Trade.{Trade}
-use Rattle.cns_netting.specs.History.{bought, due, due_since, is_reached, latest, position_of, settled_in, settled_out, sold}
+use Rattle.cns_netting.specs.History.{due, due_since, is_reached, latest, position_of, settled_in, settled_out}
 use Rattle.cns_netting.specs.declared.entry.NetEntry.{NetEntry}
 use Rattle.cns_netting.proofs.TradeLemmas.{is_reached-latest}
-use Rattle.cns_movements.specs.Order.{is_of, moved_sum, open_sum}
+use Rattle.cns_movements.specs.Order.{is_of, moved_sum}
 use Rattle.cns_movements.specs.declared.order.Ask.{Ask}
 use Rattle.cns_movements.specs.declared.order.MoveKind.{MoveKind}
 use Rattle.cns_movements.specs.declared.order.MoveKind.TheVariants.{Cover, Delivery}
 use Rattle.cns_movements.specs.declared.order.Order.{Order}
-use Rattle.cns_movements.specs.declared.order.Reply.{Reply}
-use Rattle.cns_movements.proofs.ConfirmLemmas.{IsTaken, taken_from_done}
+use Rattle.cns_movements.proofs.ConfirmLemmas.{taken_from_done}
 use Rattle.cns_movements.proofs.ReplyLemmas.{moved_sum-with_reply}
 use Rattle.cns_covers.proofs.BoundLemmas.{credit_moved, debit_moved, position_bounds}
 use Rattle.cns_records.specs.declared.clear_record.ClearRecord.{ClearRecord}
-use Rattle.cns_records.specs.declared.clear_record.ClearRecord.TheVariants.{Accept, Exempt, Priority, Cycle, Allocate, Confirm}
+use Rattle.cns_records.specs.declared.clear_record.ClearRecord.TheVariants.{Accept, Cycle, Allocate, Confirm}
 use Rattle.cns_clearing.specs.Books.{Books, Allows, IsLawful, books_of, covers_on, deliveries_in, history_of, settled_by, with_record}
 use Rattle.cns_clearing.specs.Position.{IsBetween, due_before, due_in, is_cycle_from, position_in}
 use Rattle.cns_clearing.proofs.BooksLemmas.{lawful_bounded}
@@ -33,19 +31,17 @@ due_settled reached (Some o) moved h = refl
 abbrev ReachAlike : Option ℕ → List ClearRecord → Type 0
 ReachAlike reached later = (s : ℕ) → is_reached reached s ≡ list_any (is_cycle_from s) later
 
+-- so the same trades are due
 due_alike : (reached : Option ℕ) (later c : List ClearRecord) → ReachAlike reached later → due_since reached (history_of c) ≡ due_before later c
 unfolding books_of
 due_alike reached later [] alike = refl
 due_alike reached later (Accept t ∷ c) alike =
     let rest = due_alike reached (Accept t ∷ later) c (λ s. alike s) in
     rw (alike t.settle, rest) refl
-due_alike reached later (Exempt m i s ∷ c) alike = due_alike reached (Exempt m i s ∷ later) c (λ s. alike s)
-due_alike reached later (Priority m i is_on ∷ c) alike = due_alike reached (Priority m i is_on ∷ later) c (λ s. alike s)
 due_alike reached later (Cycle id ∷ c) alike =
     due_alike (latest reached id.day) (Cycle id ∷ later) c (λ s. is_reached-latest reached id.day s ∙ ap (λ b. nat_le s id.day || b) (alike s))
-due_alike reached later (Allocate a ∷ c) alike = due_alike reached (Allocate a ∷ later) c (λ s. alike s)
-due_alike reached later (Confirm r ∷ c) alike =
-    due_settled reached _ r.moved (history_of c) ∙ due_alike reached (Confirm r ∷ later) c (λ s. alike s)
+due_alike reached later (Confirm r ∷ c) alike = due_settled reached _ r.moved (history_of c) ∙ due_alike reached (Confirm r ∷ later) c (λ s. alike s)
+due_alike reached later (r ∷ c) alike = due_alike reached (r ∷ later) c (λ s. alike s)
 
 -- the due trades are those of the history
 pub due_in_is : (c : List ClearRecord) → due (history_of c) ≡ due_in c
@@ -56,9 +52,25 @@ pub record AreMoved (b : Books) (m i : ℕ) : Type 0 where
   pub brought : settled_in b.history m i ≡ moved_sum b.orders.orders b.orders.replies Cover m i
   pub took : settled_out b.history m i ≡ moved_sum b.orders.orders b.orders.replies Delivery m i
 
-moved_confirmed : (b : Books) (r : Reply) (m i : ℕ) → IsOrderBook b.orders → IsTaken b.orders r → AreMoved b m i → AreMoved (with_record (Confirm r) b) m i
+-- new orders have moved nothing
+moved_ordered : (b : Books) (cycle : Option CycleId) (asks : List Ask) (kind : MoveKind) (m i : ℕ) → IsOrderBook b.orders
+    → moved_sum (with_asks b.orders cycle asks).orders b.orders.replies kind m i ≡ moved_sum b.orders.orders b.orders.replies kind m i
+unfolding moved_sum
+moved_ordered b cycle asks kind m i ordered = moved_with_asks (is_of kind m i) b.orders cycle asks ordered
+
+-- it stays so with each record that may follow
+moved_more : (r : ClearRecord) (b : Books) (m i : ℕ) → IsOrderBook b.orders → Allows b r → AreMoved b m i → AreMoved (with_record r b) m i
 unfolding settled_in settled_out
-moved_confirmed b r m i ordered taken moved =
+moved_more (Cycle id) b m i ordered allowed moved = record {
+  brought = moved.brought ∙ sym (moved_ordered b (Some id) (covers_on b id.day) Cover m i ordered);
+  took = moved.took ∙ sym (moved_ordered b (Some id) (covers_on b id.day) Delivery m i ordered);
+}
+moved_more (Allocate a) b m i ordered allowed moved = record {
+  brought = moved.brought ∙ sym (moved_ordered b b.latest (deliveries_in a) Cover m i ordered);
+  took = moved.took ∙ sym (moved_ordered b b.latest (deliveries_in a) Delivery m i ordered);
+}
+moved_more (Confirm r) b m i ordered allowed moved =
+    let taken = taken_from_done b.orders r allowed in
     let o = taken.order in
     let here = (o.member == m) && (o.issue == i) in
     let by = moved_sum-with_reply b.orders.orders b.orders.replies r o in
@@ -68,26 +80,7 @@ moved_confirmed b r m i ordered taken moved =
       brought = rw taken.found (omega (arith, covers, moved.brought, credit_moved o.kind here r.moved));
       took = rw taken.found (omega (arith, deliveries, moved.took, debit_moved o.kind here r.moved));
     }
-
-moved_ordered : (b : Books) (cycle : Option CycleId) (asks : List Ask) (kind : MoveKind) (m i : ℕ) → IsOrderBook b.orders
-    → moved_sum (with_asks b.orders cycle asks).orders b.orders.replies kind m i ≡ moved_sum b.orders.orders b.orders.replies kind m i
-unfolding moved_sum
-moved_ordered b cycle asks kind m i ordered = moved_with_asks (is_of kind m i) b.orders cycle asks ordered
-
-moved_more : (r : ClearRecord) (b : Books) (m i : ℕ) → IsOrderBook b.orders → Allows b r → AreMoved b m i → AreMoved (with_record r b) m i
-unfolding settled_in settled_out
-moved_more (Accept t) b m i ordered allowed moved = record { brought = moved.brought; took = moved.took }
-moved_more (Exempt member issue s) b m i ordered allowed moved = record { brought = moved.brought; took = moved.took }
-moved_more (Priority member issue is_on) b m i ordered allowed moved = record { brought = moved.brought; took = moved.took }
-moved_more (Cycle id) b m i ordered allowed moved = record {
-  brought = moved.brought ∙ sym (moved_ordered b (Some id) (covers_on b id.day) Cover m i ordered);
-  took = moved.took ∙ sym (moved_ordered b (Some id) (covers_on b id.day) Delivery m i ordered);
-}
-moved_more (Allocate a) b m i ordered allowed moved = record {
-  brought = moved.brought ∙ sym (moved_ordered b b.latest (deliveries_in a) Cover m i ordered);
-  took = moved.took ∙ sym (moved_ordered b b.latest (deliveries_in a) Delivery m i ordered);
-}
-moved_more (Confirm r) b m i ordered allowed moved = moved_confirmed b r m i ordered (taken_from_done b.orders r allowed) moved
+moved_more _ b m i ordered allowed moved = record { brought = moved.brought; took = moved.took }
 
 -- so it is of lawful records
 pub lawful_moved : (c : List ClearRecord) (m i : ℕ) → IsLawful c → AreMoved (books_of c) m i
@@ -105,12 +98,5 @@ position_in_is c m i lawful =
 pub position_between : (c : List ClearRecord) (m i : ℕ) → IsLawful c → IsBetween c m i (position_of (history_of c) m i)
 position_between c m i lawful =
     let b = books_of c in
-    let bounded = (lawful_bounded c lawful).bounded in
-    let position : ℤ = position_of (history_of c) m i in
-    let more : ℕ = open_sum b.orders.orders b.orders.replies Cover m i in
-    let less : ℕ = open_sum b.orders.orders b.orders.replies Delivery m i in
-    let bounds = position_bounds b.history b.orders m i bounded in
-    record {
-      low = subst (λ (ts : List Trade). neg_ℤ (pos (sold ts m i)) ≤ℤ (position -ℤ pos less)) (due_in_is c) bounds.0;
-      high = subst (λ (ts : List Trade). (position +ℤ pos more) ≤ℤ pos (bought ts m i)) (due_in_is c) bounds.1;
-    }
+    let bounds = position_bounds b.history b.orders m i (lawful_bounded c lawful).bounded in
+    record { low = rw (← due_in_is c) bounds.0; high = rw (← due_in_is c) bounds.1 }

@@ -1,9 +1,6 @@
 -- What lots have of the shares that are there.
-use Rattle.std.proofs.Common.{◌≡◌, ◌≤◌, ◌+◌, ◌-◌, ℕ, List, Option, Some, None, refl, sym, ap, ◌∙◌, subst, arith}
-use Rattle.std.specs.Prelude.{option_map, unwrap_or, if◌then◌else◌}
-use Rattle.std.proofs.lemmas.Bool.{cond-true, le-leb}
-use Rattle.std.proofs.lemmas.Option.{none-some}
-use Rattle.cns_ids.specs.Shares.{is_shares}
+use Rattle.std.proofs.Common.{◌≡◌, ◌≤◌, ◌+◌, ◌-◌, ℕ, List, Option, Some, None, refl, arith}
+use Rattle.std.specs.Prelude.{option_map, unwrap_or}
 use Rattle.cns_records.specs.Clear.{AreWritable}
 use Rattle.cns_records.specs.declared.clear_record.ClearRecord.{ClearRecord}
 use Rattle.cns_clearing.specs.Answers.{IsPoured}
@@ -20,10 +17,7 @@ use Rattle.cns_clearing.proofs.TotalLemmas.{avail_most, taken_covered}
 pub found_most : (c : List ClearRecord) (lots : List Lot) (issue : ℕ) (lot : Lot) → IsLawful c → AreLots c lots → lot_of lots issue ≡ Some lot → lot.poured ≤ avail_in c issue
 found_most c lots issue lot lawful are found =
     let is = lot_found c lots issue lot are found in
-    subst (λ (i : ℕ). lot.poured ≤ avail_in c i) is.1 (lot_pours c lot lawful is.0)
-
-lent_found : (lots : List Lot) (issue : ℕ) (lot : Lot) → lot_of lots issue ≡ Some lot → lent_of lots issue ≡ lot.poured
-lent_found lots issue lot found = ap (λ (o : Option Lot). unwrap_or (option_map (λ (l : Lot). l.poured) o) 0) found
+    rw (← is.1) (lot_pours c lot lawful is.0)
 
 -- nor is more lent than is there
 pub lent_most : (c : List ClearRecord) (lots : List Lot) (issue : ℕ) → IsLawful c → AreLots c lots → lent_of lots issue ≤ avail_in c issue
@@ -49,10 +43,6 @@ pub pour_adds : (node : ClearNode) (issue shares : ℕ) (lot : Lot) → IsLawful
     → shares ≡ avail_in node.log.records issue - lot.poured → IsPoured node issue shares
 pour_adds node issue shares lot lawful fits are found is =
     let most = found_most node.log.records node.lots issue lot lawful are found in
-    let lent = lent_found node.lots issue lot found in
+    let lent : lent_of node.lots issue ≡ lot.poured = rw found refl in
     let there = avail_most node.log.records issue lawful fits in
     record { lot = lot; found = found; free = omega (arith, is, lent); all = omega (arith, is, most); few = omega (arith, is, most, there) }
-
--- so many shares are a count of shares
-pub shares_fit : (n : ℕ) (answer : Option ℕ) → n ≤ 1000000000000000000 → answer ≡ (if is_shares n then Some n else None) → answer ≡ None → ⊥
-shares_fit n answer few is none = none-some n (sym none ∙ is ∙ cond-true (is_shares n) (Some n) None (le-leb n 1000000000000000000 few))

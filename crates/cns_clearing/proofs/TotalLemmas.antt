@@ -1,5 +1,5 @@
 -- What orders and tickets come to over all members.
-use Rattle.std.proofs.Common.{◌≡◌, ◌≤◌, ℕ, ◌+◌, List, [], ◌∷◌, Some, Bool, true, false, refl, sym, subst, arith}
+use Rattle.std.proofs.Common.{◌≡◌, ◌≤◌, ℕ, ◌+◌, List, [], ◌∷◌, Some, Bool, true, false, refl, arith}
 use Rattle.std.specs.Prelude.{◌==◌}
 use Rattle.std.proofs.lemmas.Bool.{eqb-true}
 use Rattle.cns_netting.specs.History.{due}
@@ -14,37 +14,28 @@ use Rattle.cns_covers.proofs.TotalLemmas.{moved_total, sold_all}
 use Rattle.cns_records.specs.Clear.{AreWritable}
 use Rattle.cns_records.specs.declared.allocation.Allocation.{Allocation}
 use Rattle.cns_records.specs.declared.clear_record.ClearRecord.{ClearRecord}
-use Rattle.cns_records.specs.declared.clear_record.ClearRecord.TheVariants.{Accept, Exempt, Priority, Cycle, Allocate, Confirm}
+use Rattle.cns_records.specs.declared.clear_record.ClearRecord.TheVariants.{Cycle, Allocate, Confirm}
 use Rattle.cns_movements.specs.Order.{moved_part}
 use Rattle.cns_clearing.specs.Books.{Books, Allows, IsAllocable, IsLawful, books_of, covers_on, deliveries_in, orders_of, tickets_of, with_record}
 use Rattle.cns_clearing.specs.Lots.{avail_in}
 use Rattle.cns_clearing.specs.Pools.{asked_of_pool, avail_of, covered_of, delivered_of, kind_part, out_of}
 use Rattle.cns_clearing.proofs.BalanceLemmas.{member_part}
 use Rattle.cns_clearing.proofs.BooksLemmas.{lawful_bounded, lawful_sound}
-use Rattle.cns_clearing.proofs.PoolLemmas.{allocation_issue, covered_confirmed, covered_ordered, covers_deliver_nothing, delivered_most, others_deliver_nothing, taken_confirmed, taken_ordered}
+use Rattle.cns_clearing.proofs.PoolLemmas.{allocation_issue, covered_confirmed, covered_ordered, covers_deliver_nothing, delivered_most, delivered_ordered, others_deliver_nothing, out_ordered, taken_confirmed}
 use Rattle.cns_clearing.proofs.PositionLemmas.{lawful_moved}
 
 -- ---- the shares that covers brought
 
--- covers brought at most 10^18 shares of an issue
-pub covered_most : (c : List ClearRecord) (issue : ℕ) → IsLawful c → AreWritable c → covered_of (orders_of c) issue ≤ 1000000000000000000
+-- covers brought at most 10^18 shares of an issue, so at most that many are there
+pub avail_most : (c : List ClearRecord) (issue : ℕ) → IsLawful c → AreWritable c → avail_in c issue ≤ 1000000000000000000
 unfolding covered_of
-covered_most c issue lawful fits =
+avail_most c issue lawful fits =
     let b : Books = books_of c in
     let sound = lawful_sound c lawful fits in
     let total =
     moved_total (due b.history) b.orders.orders (kind_part Cover issue (moved_part b.orders.replies)) issue
-    (λ member. omega (
-      arith,
-      member_part Cover b.orders.replies b.orders.orders member issue,
-      (lawful_moved c member issue lawful).brought,
-      sound.bounded.covered member issue,
-    )) in
+    (λ m. omega (arith, member_part Cover b.orders.replies b.orders.orders m issue, (lawful_moved c m issue lawful).brought, sound.bounded.covered m issue)) in
     omega (arith, total, sold_all b.history sound.netted)
-
--- so at most that many are there
-pub avail_most : (c : List ClearRecord) (issue : ℕ) → IsLawful c → AreWritable c → avail_in c issue ≤ 1000000000000000000
-avail_most c issue lawful fits = omega (arith, covered_most c issue lawful fits)
 
 -- ---- the shares that deliveries take
 
@@ -54,27 +45,25 @@ allocation_takes b a issue allocable = by (issue == a.issue) refl
   where
     by : (its : Bool) → (issue == a.issue) ≡ its → asked_of_pool issue (deliveries_in a) ≤ avail_of b.orders issue
     by true e =
-        let same : issue ≡ a.issue = eqb-true issue a.issue e in
-        let there : a.poured ≤ avail_of b.orders issue = subst (λ (i : ℕ). a.poured ≤ avail_of b.orders i) (sym same) allocable.there in
+        let there : a.poured ≤ avail_of b.orders issue = rw (eqb-true issue a.issue e) allocable.there in
         omega (arith, there, delivered_most (deliveries_in a) issue, deliveries_sum a.issue a.poured (tickets_of a.drawn) allocable.chained)
     by false e = omega (arith, others_deliver_nothing (deliveries_in a) issue a.issue e (allocation_issue b a allocable))
 
 -- with one more record deliveries still take no more than covers brought
 taken_more : (r : ClearRecord) (b : Books) (issue : ℕ) → IsOrderBook b.orders → Allows b r → delivered_of b.orders issue + out_of b.orders issue ≤ covered_of b.orders issue
     → delivered_of (with_record r b).orders issue + out_of (with_record r b).orders issue ≤ covered_of (with_record r b).orders issue
-taken_more (Accept t) b issue ordered allowed before = before
-taken_more (Exempt m i s) b issue ordered allowed before = before
-taken_more (Priority m i is_on) b issue ordered allowed before = before
 taken_more (Cycle id) b issue ordered allowed before =
     let asks : List Ask = covers_on b id.day in
     let none = covers_deliver_nothing asks issue (covers_are_covers (Netted id.day ∷ b.history) b.orders b.exemptions) in
-    omega (arith, before, covered_ordered b.orders (Some id) asks issue ordered, taken_ordered b.orders (Some id) asks issue ordered, none)
+    omega (arith, before, covered_ordered b.orders (Some id) asks issue ordered, delivered_ordered b.orders (Some id) asks issue ordered, out_ordered b.orders (Some id) asks issue ordered, none)
 taken_more (Allocate a) b issue ordered allowed before =
     let asks : List Ask = deliveries_in a in
-    omega (arith, before, covered_ordered b.orders b.latest asks issue ordered, taken_ordered b.orders b.latest asks issue ordered, allocation_takes b a issue allowed)
+    let takes = allocation_takes b a issue allowed in
+    omega (arith, before, covered_ordered b.orders b.latest asks issue ordered, delivered_ordered b.orders b.latest asks issue ordered, out_ordered b.orders b.latest asks issue ordered, takes)
 taken_more (Confirm r) b issue ordered allowed before =
     let taken = taken_from_done b.orders r allowed in
     omega (arith, before, covered_confirmed b.orders r issue ordered taken, taken_confirmed b.orders r issue ordered taken)
+taken_more _ b issue ordered allowed before = before
 
 -- deliveries never take more shares of an issue than covers brought
 pub taken_covered : (c : List ClearRecord) (issue : ℕ) → IsLawful c → delivered_of (orders_of c) issue + out_of (orders_of c) issue ≤ covered_of (orders_of c) issue

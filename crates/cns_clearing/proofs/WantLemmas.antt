@@ -17,7 +17,7 @@ use Rattle.cns_movements.proofs.ReplyLemmas.{open_sum-with_reply}
 use Rattle.cns_covers.specs.Bounds.{amount_of, want_in}
 use Rattle.cns_covers.proofs.BoundLemmas.{all_debit, no_credit}
 use Rattle.cns_records.specs.declared.clear_record.ClearRecord.{ClearRecord}
-use Rattle.cns_records.specs.declared.clear_record.ClearRecord.TheVariants.{Accept, Exempt, Priority, Cycle, Allocate, Confirm}
+use Rattle.cns_records.specs.declared.clear_record.ClearRecord.TheVariants.{Cycle, Allocate, Confirm}
 use Rattle.cns_clearing.specs.Books.{Books, Allows, IsLawful, books_of, deliveries_in, history_of, orders_of, with_record}
 use Rattle.cns_clearing.specs.Lots.{AreQuiet, IsQuiet}
 use Rattle.cns_clearing.proofs.BooksLemmas.{lawful_bounded}
@@ -45,15 +45,13 @@ want_confirmed h book r m i lawful taken =
 want_more : (r : ClearRecord) (b : Books) (m i : ℕ) → IsOrderBook b.orders → Allows b r → IsQuiet i r
     → want_in b.history b.orders m i ≤ want_in (with_record r b).history (with_record r b).orders m i
 unfolding settled_in settled_out
-want_more (Accept t) b m i ordered allowed quiet = le_refl (want_in b.history b.orders m i)
-want_more (Exempt member issue s) b m i ordered allowed quiet = le_refl (want_in b.history b.orders m i)
-want_more (Priority member issue is_on) b m i ordered allowed quiet = le_refl (want_in b.history b.orders m i)
 want_more (Cycle id) b m i ordered allowed quiet = absurd quiet
 want_more (Allocate a) b m i ordered allowed quiet =
     omega (arith, others_leave_open b.orders b.latest (deliveries_in a) Delivery m i a.issue ordered quiet (allocation_issue b a allowed))
 want_more (Confirm r) b m i ordered allowed quiet =
     let taken = taken_from_done b.orders r allowed in
     rw taken.found (want_confirmed b.history b.orders r m i ordered taken)
+want_more _ b m i ordered allowed quiet = le_refl (want_in b.history b.orders m i)
 
 -- while no lot of an issue closes and no cycle runs, each member wants no less of it
 pub want_since : (later c : List ClearRecord) (member issue : ℕ) → IsLawful (later ++ c) → AreQuiet issue later

@@ -276,6 +276,10 @@ impl<K: Keeper> Clearing<K> {
     /// Closes the lot of an issue as `lot_close` does, with tickets that serve its plan. So who knows that
     /// they do need not have it tested once more.
     ///
+    /// Refuses `Down`, then `NoLot`, then `NumbersSpent`, which never comes where nothing is granted. These are
+    /// found without memory, so `OutOfMemory` is told only where none of them applies. After `Device` the lot is
+    /// open and nothing is ordered, and the node is down until it is restarted. (This project's own rule.)
+    ///
     /// Costs its tickets, look-ups, and one commit.
     pub fn lot_close_served(
         &mut self,

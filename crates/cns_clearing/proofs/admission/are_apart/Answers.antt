@@ -1,6 +1,5 @@
 use Rattle.std.proofs.Common.{◌<◌, ◌∙◌, length, length-set, refl, true, arith}
-use Rattle.cns_clearing.proofs.TableLemmas.{table_none}
-use Rattle.cns_clearing.proofs.ApartLemmas.{apart_from_none, apart_step}
+use Rattle.cns_clearing.proofs.ApartLemmas.{apart_from_none, apart_step, table_none}
 use Rattle.cns_clearing.proofs.admission.are_apart.Goals as goal
 
 pub loop-ticket-init : goal.loop-ticket-init

@@ -1,9 +1,7 @@
-use Rattle.std.proofs.Common.{◌∙◌, ap, sym, rules}
+use Rattle.std.proofs.Common.{sym, rules}
 use Rattle.std.specs.Int.{w128}
 use mir.Val.{SFits}
 use Rattle.std.proofs.lemmas.Int.{to_z-of_z}
-use Rattle.cns_movements.specs.Book.{Orders}
-use Rattle.cns_movements.specs.Order.{order_of}
 use Rattle.cns_covers.proofs.BoundLemmas.{bounded_within}
 use Rattle.cns_clearing.proofs.BooksLemmas.{settle_within}
 use Rattle.cns_clearing.proofs.books.Books.confirm.Goals as goal
@@ -20,4 +18,4 @@ settle_reserved-requires-clause-after c =
     let book = rw (← c.self.view_is) at c.orders.ensures in
     let fits : SFits w128 c.amount_of-amount.result = search rules in
     let amount = to_z-of_z w128 c.amount_of-amount.result fits in
-    rw (amount, c.amount_of-amount.ensures) (settle_within _ c.args.reply.now c.in-Some.order sound allowed (sym (c.in-Some.ensures.order ∙ ap (λ (o : Orders). order_of o.orders c.args.reply.now.number) book)))
+    rw (amount, c.amount_of-amount.ensures) (settle_within _ c.args.reply.now c.in-Some.order sound allowed (sym (rw book at c.in-Some.ensures.order)))

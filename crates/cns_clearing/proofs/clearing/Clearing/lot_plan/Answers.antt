@@ -1,5 +1,4 @@
-use Rattle.cns_clearing.proofs.LeavesLemmas.{plan_told}
 use Rattle.cns_clearing.proofs.clearing.Clearing.lot_plan.Goals as goal
 
 pub returns : goal.returns
-returns g c = plan_told c.args.self.now.log.records c.args.issue c.books.result.now.books c.plan.result c.books.ensures.books c.plan.ensures
+returns g c = rw c.books.ensures.books at c.plan.ensures

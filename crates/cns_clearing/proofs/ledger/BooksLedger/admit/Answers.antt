@@ -1,5 +1,5 @@
-use Rattle.std.proofs.Common.{◌∙◌, ◌∷◌, ap, reverse, sym, subst}
-use Rattle.cns_clearing.specs.Books.{Allows, AreBooksOf, Books, with_record}
+use Rattle.std.proofs.Common.{◌∙◌, ap}
+use Rattle.cns_clearing.specs.Books.{with_record}
 use Rattle.cns_clearing.proofs.NodeLemmas.{books_more, books_sound}
 use Rattle.cns_clearing.proofs.ledger.BooksLedger.admit.Goals as goal
 
@@ -15,4 +15,4 @@ returns c =
     let admitted = rw c.in-Some.is at c.in_ok-effects.ensures.admitted in
     let are = books_more _ _ entry c.requires.comes admitted.0 c.requires.fits in
     let same = c.add.ensures.books ∙ ap (with_record entry) (c.in_ok-room.ensures.same ∙ c.in_ok-effects.ensures.same) in
-    (subst (λ (b : Books). Allows b entry) c.requires.comes.books_are admitted.0, subst (λ (b : Books). AreBooksOf b (entry ∷ reverse c.args._records.now)) (sym same) are)
+    (rw c.requires.comes.books_are at admitted.0, rw same are)
