@@ -4,7 +4,6 @@ use Rattle.std.specs.Prelude.{◌==◌, All, sum_by, if◌then◌else◌}
 use Rattle.std.proofs.lemmas.List.Elements.{All-cons, All-nil}
 use Rattle.std.proofs.lemmas.List.Sums.{sum_by-cons}
 use Rattle.cns_movements.specs.Order.{is_cover, is_delivery}
-use Rattle.cns_movements.specs.declared.order.MoveKind.{MoveKind}
 use Rattle.cns_movements.specs.declared.order.MoveKind.TheVariants.{Cover, Delivery}
 use Rattle.cns_movements.specs.declared.order.Order.{Order}
 use Rattle.cns_records.specs.declared.dep_record.DepRecord.{DepRecord}
@@ -13,7 +12,6 @@ use Rattle.cns_trades.specs.declared.opening.Opening.{Opening}
 use Rattle.cns_depository.specs.declared.account.Account.TheVariants.{Cns}
 use Rattle.cns_depository.specs.declared.account.Side.TheVariants.{At}
 use Rattle.cns_records.specs.declared.instruction.Instruction.{Instruction}
-use Rattle.cns_records.specs.declared.instruction.Sort.{Sort}
 use Rattle.cns_records.specs.declared.instruction.Sort.TheVariants.{Deposit, Withdraw}
 use Rattle.cns_depository.specs.declared.movement.Movement.{Movement}
 use Rattle.cns_depository.specs.Account.{giver, own_giver, own_receiver, receiver, same_account, same_side}
@@ -54,18 +52,10 @@ abbrev pub deliveries_moved : List Movement → ℕ → ℕ
 deliveries_moved movements issue = sum_by (moved_where (λ o. is_delivery o.kind && (o.issue == issue))) movements
 
 cover_enters : (o : Order) → same_account (receiver o) Cns ≡ is_cover o.kind
-cover_enters o = by o.kind refl
-  where
-    by : (kind : MoveKind) → o.kind ≡ kind → same_account (receiver o) Cns ≡ is_cover o.kind
-    by Cover is = rw is refl
-    by Delivery is = rw is refl
+cover_enters o = elim o.kind as (λ kind. same_account (receiver (record o { kind = kind })) Cns ≡ is_cover kind) [ Cover ↦ refl | Delivery ↦ refl ]
 
 delivery_leaves : (o : Order) → same_account (giver o) Cns ≡ is_delivery o.kind
-delivery_leaves o = by o.kind refl
-  where
-    by : (kind : MoveKind) → o.kind ≡ kind → same_account (giver o) Cns ≡ is_delivery o.kind
-    by Cover is = rw is refl
-    by Delivery is = rw is refl
+delivery_leaves o = elim o.kind as (λ kind. same_account (giver (record o { kind = kind })) Cns ≡ is_delivery kind) [ Cover ↦ refl | Delivery ↦ refl ]
 
 -- a sum over records to which each adds what its movement moved, where the order passes a test, and an instruction nothing
 sum_executed : (part : DepRecord → ℕ) (test : Order → Bool) → ((o : Order) (moved : ℕ) → part (Exec o moved) ≡ moved_where test (record { order = o; moved = moved }))
@@ -78,18 +68,10 @@ sum_executed part test same none (Own i ∷ p) = omega (arith, sum_by-cons part 
 
 -- no instruction brings anything to the CNS account, or takes anything from it
 own_enters : (i : Instruction) → same_side (own_receiver i) (At Cns) ≡ false
-own_enters i = by i.sort
-  where
-    by : (sort : Sort) → same_side (own_receiver (record i { sort = sort })) (At Cns) ≡ false
-    by Deposit = refl
-    by Withdraw = refl
+own_enters i = elim i.sort as (λ sort. same_side (own_receiver (record i { sort = sort })) (At Cns) ≡ false) [ Deposit ↦ refl | Withdraw ↦ refl ]
 
 own_leaves : (i : Instruction) → same_side (own_giver i) (At Cns) ≡ false
-own_leaves i = by i.sort
-  where
-    by : (sort : Sort) → same_side (own_giver (record i { sort = sort })) (At Cns) ≡ false
-    by Deposit = refl
-    by Withdraw = refl
+own_leaves i = elim i.sort as (λ sort. same_side (own_giver (record i { sort = sort })) (At Cns) ≡ false) [ Deposit ↦ refl | Withdraw ↦ refl ]
 
 -- covers alone move shares into the CNS account, and deliveries alone move them out of it
 pub moved_in_cns : (p : List DepRecord) (issue : ℕ) → moved_in p Cns issue ≡ covers_moved (executed_of p) issue

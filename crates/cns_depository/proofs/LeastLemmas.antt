@@ -1,21 +1,17 @@
 -- The least openings: records that may stand with any openings may stand with these.
-use Rattle.std.proofs.Common.{◌≡◌, ℕ, ◌+◌, ◌-◌, ◌^◌, ◌≤◌, ◌&&◌, Bool, true, false, List, [], ◌∷◌, Some, None, arith, refl, ap, sym, ◌∙◌}
-use Rattle.std.specs.Prelude.{◌==◌, ◌<◌, max, min, nat_lt, if◌then◌else◌, Option}
-use Rattle.std.proofs.lemmas.Bool.{cond-false, cond-true, eq-eqb, le-ltb, ltb-false}
+use Rattle.std.proofs.Common.{◌≡◌, ℕ, ◌+◌, ◌-◌, ◌^◌, ◌≤◌, ◌&&◌, true, false, List, [], ◌∷◌, None, arith, refl, ap, sym, ◌∙◌}
+use Rattle.std.specs.Prelude.{◌==◌, ◌<◌, max, min, nat_lt}
+use Rattle.std.proofs.lemmas.Bool.{and_from, and_left, cond-false, cond-true, eq-eqb, le-ltb, ltb-false}
 use Rattle.std.proofs.lemmas.List.Sums.{sum_by-cons}
-use Rattle.cns_movements.specs.declared.order.MoveKind.{MoveKind}
 use Rattle.cns_movements.specs.declared.order.MoveKind.TheVariants.{Cover, Delivery}
 use Rattle.cns_movements.specs.declared.order.Order.{Order}
 use Rattle.cns_records.specs.declared.dep_record.DepRecord.{DepRecord}
 use Rattle.cns_records.specs.declared.dep_record.DepRecord.TheVariants.{Exec, Own}
 use Rattle.cns_records.specs.declared.instruction.Instruction.{Instruction}
-use Rattle.cns_records.specs.declared.instruction.Sort.{Sort}
-use Rattle.cns_records.specs.declared.instruction.Sort.TheVariants.{Deposit, Withdraw}
 use Rattle.cns_trades.specs.declared.opening.Opening.{Opening}
 use Rattle.cns_depository.specs.declared.account.Account.{Account}
 use Rattle.cns_depository.specs.declared.account.Account.TheVariants.{Cns, Member}
 use Rattle.cns_depository.specs.declared.account.Side.TheVariants.{At, Outside}
-use Rattle.cns_depository.specs.declared.fault.OwnRefusal.{OwnRefusal}
 use Rattle.cns_depository.specs.declared.fault.OwnRefusal.TheVariants.{IssueSum}
 use Rattle.cns_depository.specs.declared.movement.Movement.{Movement}
 use Rattle.cns_depository.specs.Account.{giver, own_giver, own_receiver, receiver, same_account, same_side}
@@ -23,11 +19,17 @@ use Rattle.cns_depository.specs.Least.{least}
 use Rattle.cns_depository.specs.Openings.{issue_sum, opening_shares}
 use Rattle.cns_depository.specs.Ranges.{AreEnough}
 use Rattle.cns_depository.specs.Stock.{IsExecutable, IsLawfulDepot, balance_of, brought, held_in, moved_in, moved_out, own_refusal, part_in, part_out, taken, transfer_of}
+use Rattle.cns_depository.specs.declared.account.Side.{Side}
 use Rattle.cns_depository.proofs.BalanceLemmas.{moved_out_covered}
+use Rattle.cns_depository.proofs.MovementLemmas.{by_sort, none_refused}
 
 pub own_account : (a : Account) → same_account a a ≡ true
 own_account Cns = refl
 own_account (Member m) = eq-eqb m m refl
+
+pub own_side : (s : Side) → same_side s s ≡ true
+own_side Outside = refl
+own_side (At a) = own_account a
 
 -- no lawful records began with less
 pub least_lawful : (openings : List Opening) (p : List DepRecord) (a : Account) (issue : ℕ) → IsLawfulDepot openings p → least p a issue ≤ opening_shares openings a issue
@@ -42,42 +44,27 @@ pub least_before : (e : DepRecord) (p : List DepRecord) (a : Account) (issue : �
 unfolding least
 least_before e p a issue = omega arith
 
--- what a record takes of an account, and what it does not bring there
-pub out_here : (e : DepRecord) (p : List DepRecord) (a : Account) (issue : ℕ) → (transfer_of e).giver ≡ At a → (transfer_of e).issue ≡ issue
-    → moved_out (e ∷ p) a issue ≡ (transfer_of e).shares + moved_out p a issue
+-- what a record takes of its giver, and leaves elsewhere
+pub taken_here : (e : DepRecord) (p : List DepRecord) (s : Side) (issue : ℕ) → (transfer_of e).giver ≡ s → (transfer_of e).issue ≡ issue → taken (e ∷ p) s issue ≡ (transfer_of e).shares + taken p s issue
 unfolding taken
-out_here e p a issue from of =
+taken_here e p s issue from of =
     let t = transfer_of e in
-    let gives : same_side t.giver (At a) ≡ true = ap (λ s. same_side s (At a)) from ∙ own_account a in
-    let its : (t.issue == issue) ≡ true = eq-eqb t.issue issue of in
-    let both : (same_side t.giver (At a) && (t.issue == issue)) ≡ true = rw (gives, its) refl in
-    let out : part_out (At a) issue t ≡ t.shares = cond-true _ t.shares 0 both in
-    let outs = sum_by-cons (λ (e : DepRecord). part_out (At a) issue (transfer_of e)) e p in
-    omega (arith, out, outs)
+    let both = and_from (same_side t.giver s) (t.issue == issue) (ap (λ x. same_side x s) from ∙ own_side s) (eq-eqb t.issue issue of) in
+    omega (arith, cond-true _ t.shares 0 both, sum_by-cons (λ (e : DepRecord). part_out s issue (transfer_of e)) e p)
 
-pub in_other : (e : DepRecord) (p : List DepRecord) (a : Account) (issue : ℕ) → same_side (transfer_of e).receiver (At a) ≡ false → moved_in (e ∷ p) a issue ≡ moved_in p a issue
-unfolding brought
-in_other e p a issue other =
-    let t = transfer_of e in
-    let none : (same_side t.receiver (At a) && (t.issue == issue)) ≡ false = rw other refl in
-    let into : part_in (At a) issue t ≡ 0 = cond-false _ t.shares 0 none in
-    let intos = sum_by-cons (λ (e : DepRecord). part_in (At a) issue (transfer_of e)) e p in
-    omega (arith, into, intos)
-
-pub in_more : (e : DepRecord) (p : List DepRecord) (a : Account) (issue : ℕ) → moved_in p a issue ≤ moved_in (e ∷ p) a issue
-unfolding brought
-in_more e p a issue =
-    let intos = sum_by-cons (λ (e : DepRecord). part_in (At a) issue (transfer_of e)) e p in
-    omega (arith, intos)
-
-pub out_other : (e : DepRecord) (p : List DepRecord) (a : Account) (issue : ℕ) → (same_side (transfer_of e).giver (At a) && ((transfer_of e).issue == issue)) ≡ false
-    → moved_out (e ∷ p) a issue ≡ moved_out p a issue
+taken_other : (e : DepRecord) (p : List DepRecord) (s : Side) (issue : ℕ) → (same_side (transfer_of e).giver s && ((transfer_of e).issue == issue)) ≡ false → taken (e ∷ p) s issue ≡ taken p s issue
 unfolding taken
-out_other e p a issue other =
-    let t = transfer_of e in
-    let out : part_out (At a) issue t ≡ 0 = cond-false _ t.shares 0 other in
-    let outs = sum_by-cons (λ (e : DepRecord). part_out (At a) issue (transfer_of e)) e p in
-    omega (arith, out, outs)
+taken_other e p s issue other = omega (arith, cond-false _ (transfer_of e).shares 0 other, sum_by-cons (λ (e : DepRecord). part_out s issue (transfer_of e)) e p)
+
+-- what it brings is not less, and nothing where it is not the receiver's
+brought_more : (e : DepRecord) (p : List DepRecord) (s : Side) (issue : ℕ) → brought p s issue ≤ brought (e ∷ p) s issue
+unfolding brought
+brought_more e p s issue = omega (arith, sum_by-cons (λ (e : DepRecord). part_in s issue (transfer_of e)) e p)
+
+pub brought_other : (e : DepRecord) (p : List DepRecord) (s : Side) (issue : ℕ) → same_side (transfer_of e).receiver s ≡ false → brought (e ∷ p) s issue ≡ brought p s issue
+unfolding brought
+brought_other e p s issue other =
+    omega (arith, cond-false _ (transfer_of e).shares 0 (and_left (same_side (transfer_of e).receiver s) ((transfer_of e).issue == issue) other), sum_by-cons (λ (e : DepRecord). part_in s issue (transfer_of e)) e p)
 
 pub least_is : (e : DepRecord) (p : List DepRecord) (a : Account) (issue : ℕ) → least (e ∷ p) a issue ≡ max (least p a issue) (moved_out (e ∷ p) a issue - moved_in (e ∷ p) a issue)
 unfolding least
@@ -91,7 +78,7 @@ least_covers (e ∷ p) a issue = omega arith
 
 pub least_same : (e : DepRecord) (p : List DepRecord) (a : Account) (issue : ℕ) → (same_side (transfer_of e).giver (At a) && ((transfer_of e).issue == issue)) ≡ false
     → least (e ∷ p) a issue ≡ least p a issue
-least_same e p a issue other = omega (arith, least_is e p a issue, least_covers p a issue, out_other e p a issue other, in_more e p a issue)
+least_same e p a issue other = omega (arith, least_is e p a issue, least_covers p a issue, taken_other e p (At a) issue other, brought_more e p (At a) issue)
 
 balance_is : (openings : List Opening) (p : List DepRecord) (a : Account) (issue : ℕ) → balance_of openings p a issue ≡ (opening_shares openings a issue + moved_in p a issue) - moved_out p a issue
 unfolding balance_of
@@ -105,30 +92,6 @@ pub held_is : (openings : List Opening) (p : List DepRecord) (issue : ℕ) → h
 unfolding held_in
 held_is openings p issue = refl
 
--- what comes from outside, and what an account receives
-pub from_outside : (e : DepRecord) (p : List DepRecord) (issue : ℕ) → (transfer_of e).giver ≡ Outside → (transfer_of e).issue ≡ issue
-    → taken (e ∷ p) Outside issue ≡ (transfer_of e).shares + taken p Outside issue
-unfolding taken
-from_outside e p issue from of =
-    let t = transfer_of e in
-    let both : (same_side t.giver Outside && (t.issue == issue)) ≡ true = rw (from, eq-eqb t.issue issue of) refl in
-    let out : part_out Outside issue t ≡ t.shares = cond-true _ t.shares 0 both in
-    let outs = sum_by-cons (λ (e : DepRecord). part_out Outside issue (transfer_of e)) e p in
-    omega (arith, out, outs)
-
-pub to_inside : (e : DepRecord) (p : List DepRecord) (issue : ℕ) (a : Account) → (transfer_of e).receiver ≡ At a → brought (e ∷ p) Outside issue ≡ brought p Outside issue
-unfolding brought
-to_inside e p issue a to =
-    let t = transfer_of e in
-    let none : (same_side t.receiver Outside && (t.issue == issue)) ≡ false = rw to refl in
-    let into : part_in Outside issue t ≡ 0 = cond-false _ t.shares 0 none in
-    let intos = sum_by-cons (λ (e : DepRecord). part_in Outside issue (transfer_of e)) e p in
-    omega (arith, into, intos)
-
-pub none_refused : (r : OwnRefusal) (b : Bool) → ◌≡◌ {A = Option OwnRefusal} (if b then Some r else None) None → b ≡ false
-none_refused r true e = absurd cc
-none_refused r false e = refl
-
 held_less : (less more : List Opening) (p : List DepRecord) (issue : ℕ) → issue_sum less issue ≤ issue_sum more issue → held_in less p issue ≤ held_in more p issue
 unfolding held_in
 held_less less more p issue fewer = omega (arith, fewer)
@@ -141,24 +104,22 @@ enough_before less more e p are = record {
 }
 
 -- who gives receives nothing
-order_apart : (o : Order) (a : Account) → giver o ≡ a → same_account (receiver o) a ≡ false
-order_apart o a from = by o.kind a from
-  where
-    by : (kind : MoveKind) (a : Account) → giver (record o { kind = kind }) ≡ a → same_account (receiver (record o { kind = kind })) a ≡ false
-    by Cover Cns from = absurd cc
-    by Cover (Member m) from = refl
-    by Delivery Cns from = refl
-    by Delivery (Member m) from = absurd cc
+order_apart : (o : Order) → same_account (receiver o) (giver o) ≡ false
+order_apart o = elim o.kind as (λ kind. same_account (receiver (record o { kind = kind })) (giver (record o { kind = kind })) ≡ false) [ Cover ↦ refl | Delivery ↦ refl ]
 
 -- what an account that gave all that it had opened with
 pub all_taken : (openings : List Opening) (p : List DepRecord) (o : Order) (moved : ℕ) → moved < o.asked → IsLawfulDepot openings (Exec o moved ∷ p)
     → opening_shares openings (giver o) o.issue ≤ moved_out (Exec o moved ∷ p) (giver o) o.issue - moved_in (Exec o moved ∷ p) (giver o) o.issue
 all_taken openings p o moved less lawful =
-    let moves : moved ≡ min o.asked (balance_of openings p (giver o) o.issue) = ap (λ (m : Movement). m.moved) lawful.0.moves in
-    let held = balance_is openings p (giver o) o.issue in
-    let out = out_here (Exec o moved) p (giver o) o.issue refl refl in
-    let into = in_other (Exec o moved) p (giver o) o.issue (order_apart o (giver o) refl) in
-    omega (arith, moves, held, out, into, less, moved_out_covered openings p (giver o) o.issue lawful.1)
+    omega (
+      arith,
+      less,
+      ap (λ (m : Movement). m.moved) lawful.0.moves,
+      balance_is openings p (giver o) o.issue,
+      taken_here (Exec o moved) p (At (giver o)) o.issue refl refl,
+      brought_other (Exec o moved) p (At (giver o)) o.issue (order_apart o),
+      moved_out_covered openings p (giver o) o.issue lawful.1,
+    )
 
 module _ (less more : List Opening) (p : List DepRecord) where
   moves_same : (o : Order) (moved : ℕ) → AreEnough less more (Exec o moved ∷ p) → IsLawfulDepot more (Exec o moved ∷ p) → moved ≡ min o.asked (balance_of less p (giver o) o.issue)
@@ -173,29 +134,31 @@ module _ (less more : List Opening) (p : List DepRecord) where
           ap (λ (x : Account). balance_of more p x o.issue) e ∙ cns_balance more less p o.issue ∙ ap (λ (x : Account). balance_of less p x o.issue) (sym e) in
           moves ∙ ap (min o.asked) same
       by (Member m) e =
-          let out = out_here (Exec o moved) p (Member m) o.issue (ap At e) refl in
-          let into = in_other (Exec o moved) p (Member m) o.issue (order_apart o (Member m) e) in
+          let out = taken_here (Exec o moved) p (At (Member m)) o.issue (ap At e) refl in
+          let into = brought_other (Exec o moved) p (At (Member m)) o.issue (ap (same_account (receiver o)) (sym e) ∙ order_apart o) in
           let need = least_is (Exec o moved) p (Member m) o.issue in
           let held = ap (λ (x : Account). balance_of more p x o.issue) e ∙ balance_is more p (Member m) o.issue in
           let has = ap (λ (x : Account). balance_of less p x o.issue) e ∙ balance_is less p (Member m) o.issue in
           omega (arith, moves, held, has, moved_out_covered more p (Member m) o.issue lawful.1, out, into, need, are.enough m o.issue, are.fewer m o.issue)
 
   still_may : (i : Instruction) → AreEnough less more (Own i ∷ p) → own_refusal more p i ≡ None → own_refusal less p i ≡ None
-  still_may i are may = by i.sort refl may
-    where
-      by : (sort : Sort) → i.sort ≡ sort → own_refusal more p (record i { sort = sort }) ≡ None → own_refusal less p (record i { sort = sort }) ≡ None
-      by Deposit is may =
-          let fits = ltb-false (10 ^ 18) (held_in more p i.issue + i.shares) (none_refused IssueSum (nat_lt (10 ^ 18) (held_in more p i.issue + i.shares)) may) in
-          let fewer = held_less less more p i.issue (are.sums i.issue) in
-          rw (le-ltb (10 ^ 18) (held_in less p i.issue + i.shares) (omega (arith, fits, fewer))) refl
-      by Withdraw is may =
-          let from : own_giver i ≡ At (Member i.member) = ap (λ (s : Sort). own_giver (record i { sort = s })) is in
-          let to : own_receiver i ≡ Outside = ap (λ (s : Sort). own_receiver (record i { sort = s })) is in
-          let out = out_here (Own i) p (Member i.member) i.issue from refl in
-          let into = in_other (Own i) p (Member i.member) i.issue (ap (λ s. same_side s (At (Member i.member))) to) in
-          let need = least_is (Own i) p (Member i.member) i.issue in
-          let has = balance_is less p (Member i.member) i.issue in
-          rw (le-ltb (balance_of less p (Member i.member) i.issue) i.shares (omega (arith, has, out, into, need, are.enough i.member i.issue))) refl
+  still_may i are may = by_sort i.sort
+      (λ deposit.
+      let fits = ltb-false (10 ^ 18) (held_in more p i.issue + i.shares) (none_refused IssueSum (nat_lt (10 ^ 18) (held_in more p i.issue + i.shares)) (rw deposit at may)) in
+      rw (deposit, le-ltb (10 ^ 18) (held_in less p i.issue + i.shares) (omega (arith, fits, held_less less more p i.issue (are.sums i.issue)))) refl)
+      (λ withdraw.
+      let from : own_giver i ≡ At (Member i.member) = rw withdraw refl in
+      let into : same_side (own_receiver i) (At (Member i.member)) ≡ false = rw withdraw refl in
+      let enough : i.shares ≤ balance_of less p (Member i.member) i.issue =
+      omega (
+        arith,
+        balance_is less p (Member i.member) i.issue,
+        taken_here (Own i) p (At (Member i.member)) i.issue from refl,
+        brought_other (Own i) p (At (Member i.member)) i.issue into,
+        least_is (Own i) p (Member i.member) i.issue,
+        are.enough i.member i.issue,
+      ) in
+      rw (withdraw, le-ltb (balance_of less p (Member i.member) i.issue) i.shares enough) refl)
 
   still_stands : (e : DepRecord) → AreEnough less more (e ∷ p) → IsLawfulDepot more (e ∷ p) → IsExecutable less p e
   still_stands (Exec o moved) are lawful = record {

@@ -1,9 +1,11 @@
 -- The openings that ranges begin with.
-use Rattle.std.proofs.Common.{◌≡◌, ℕ, ◌+◌, ◌^◌, ◌≤◌, ◌<◌, ◌&&◌, Bool, true, false, List, [], ◌∷◌, ◌++◌, Option, Some, None, arith, refl, ap, sym, ◌∙◌, subst, ◌⊎◌, inl, inr}
+use Rattle.std.proofs.Common.{⊎_elim, ◌≡◌, ℕ, ◌+◌, ◌^◌, ◌≤◌, ◌&&◌, Bool, true, false, List, [], ◌∷◌, ◌++◌, Option, Some, None, arith, refl, ap, sym, ◌∙◌, subst}
 use Rattle.std.specs.Prelude.{◌==◌, nat_le, nat_lt, if◌then◌else◌}
 use Rattle.std.specs.List.{AllByRecursion, cons_option, filter_map, fold, IsDistinct, list_any}
 use Rattle.std.specs.Map.{keys_of, lookup}
-use Rattle.std.proofs.lemmas.Bool.{eq-eqb, le-leb, le-ltb, lt-ltb, ltb-false, cases_lt}
+use Rattle.std.proofs.lemmas.Bool.{both_ways, cases_Bool, eq-eqb, false_from_ne_true, le-ltb, ltb-false}
+use Rattle.std.proofs.lemmas.Bool.Decides.{nat_tests}
+use Rattle.std.proofs.lemmas.Option.{none-some, same_Some}
 use Rattle.std.proofs.lemmas.List.{append_assoc, append-nil}
 use Rattle.std.proofs.lemmas.List.Elements.{filter_map-append}
 use Rattle.std.proofs.lemmas.List.Sums.{sum_by-append, sum_by-cons}
@@ -14,16 +16,15 @@ use Rattle.cns_depository.specs.declared.account.Side.{Side}
 use Rattle.cns_depository.specs.declared.account.Side.TheVariants.{At, Outside}
 use Rattle.cns_depository.specs.declared.place.Place.{Place}
 use Rattle.cns_depository.specs.declared.ranges.Range.{Range}
-use Rattle.cns_depository.specs.Account.{same_side}
 use Rattle.cns_depository.specs.Least.{least}
 use Rattle.cns_depository.specs.declared.openings.OpeningFault.{OpeningFault}
 use Rattle.cns_depository.specs.declared.openings.OpeningFault.TheVariants.{Double, IssueSum}
 use Rattle.cns_depository.specs.Openings.{DoIssuesFit, is_opening_of, issue_sum, opening_fault, opening_shares}
 use Rattle.cns_depository.specs.Ranges.{AreEnough, AreOpeningsOf, AreRanges, least_at, least_opening, place_of, range_by, standing, with_opening}
 use Rattle.cns_depository.specs.Totals.{place_eq}
-use Rattle.cns_depository.proofs.LeastLemmas.{least_lawful, own_account}
+use Rattle.cns_depository.proofs.LeastLemmas.{least_lawful, own_side}
 use Rattle.cns_depository.proofs.MemberSums.{opens_all, opens_up_to, up_to-le}
-use Rattle.cns_depository.proofs.OpeningLemmas.{fits_more, member_small}
+use Rattle.cns_depository.proofs.OpeningLemmas.{fits_more, member_small, shares_its, shares_other}
 use Rattle.cns_depository.proofs.TotalLemmas.{at_place, equal_places}
 
 abbrev opens : List (Place × Range) → List Opening
@@ -34,69 +35,36 @@ abbrev clipped : ℕ → ℕ
 clipped n = if nat_lt 0 n && nat_le n (10 ^ 18) then n else 0
 
 clipped_le : (n : ℕ) → clipped n ≤ n
-clipped_le n = by (nat_lt 0 n && nat_le n (10 ^ 18))
-  where
-    by : (b : Bool) → (if b then n else 0) ≤ n
-    by true = omega arith
-    by false = omega arith
+clipped_le n = grind arith
 
 clipped_is : (n : ℕ) → n ≤ 10 ^ 18 → clipped n ≡ n
-clipped_is n small = by (cases_lt 0 n)
-  where
-    by : ((0 < n) ⊎ (n ≤ 0)) → clipped n ≡ n
-    by (inl some) = rw (lt-ltb 0 n some, le-leb n (10 ^ 18) small) refl
-    by (inr none) = rw (le-ltb 0 n none) (omega (arith, none))
-
-own_side : (s : Side) → same_side s s ≡ true
-own_side Outside = refl
-own_side (At a) = own_account a
+clipped_is n small = grind (arith, nat_tests)
 
 own_place : (k : Place) → place_eq k k ≡ true
 own_place k = at_place k.side k.side k.issue k.issue ∙ rw (own_side k.side, eq-eqb k.issue k.issue refl) refl
 
 -- places differ either way
 turned : (a b : Place) → place_eq a b ≡ false → place_eq b a ≡ false
-turned a b other = by (place_eq b a) refl
-  where
-    by : (t : Bool) → place_eq b a ≡ t → place_eq b a ≡ false
-    by false is = is
-    by true is =
-        let same : place_eq a b ≡ true = ap (λ k. place_eq a k) (equal_places b a is) ∙ own_place a in
-        absurd cc
+turned a b other = false_from_ne_true (place_eq b a) (λ is. both_ways (place_eq a b) other (ap (λ k. place_eq a k) (equal_places b a is) ∙ own_place a))
 
--- the opening of an entry is that of a member in an issue where its place is
-own_part : (issue : ℕ) (side : Side) (n m i : ℕ) → place_eq (record { issue = issue; side = side }) (place_of (Member m) i) ≡ false
-    → (rest : List Opening) → opening_shares (cons_option (least_at issue side n) rest) (Member m) i ≡ opening_shares rest (Member m) i
-own_part issue Outside n m i other rest = refl
-own_part issue (At Cns) n m i other rest = refl
-own_part issue (At (Member k)) n m i other rest = by (nat_lt 0 n && nat_le n (10 ^ 18))
-  where
-    opening : Opening
-    opening = record { member = k; issue = issue; shares = n }
+-- the opening of an entry is that of a member in an issue where its place is: what passes over an opening of another passes over it
+other_part : {X : Type 0} (F : List Opening → X) (m i : ℕ) → ((o : Opening) (rest : List Opening) → is_opening_of m i o ≡ false → F (o ∷ rest) ≡ F rest)
+    → (issue : ℕ) (side : Side) (n : ℕ) (rest : List Opening) → place_eq (record { issue = issue; side = side }) (place_of (Member m) i) ≡ false
+    → F (cons_option (least_at issue side n) rest) ≡ F rest
+other_part F m i over issue Outside n rest other = refl
+other_part F m i over issue (At Cns) n rest other = refl
+other_part F m i over issue (At (Member k)) n rest other = ⊎_elim
+    (λ e. rw e (over (record { member = k; issue = issue; shares = n }) rest (sym (at_place (At (Member k)) (At (Member m)) issue i) ∙ other))) (λ e. rw e refl)
+    (cases_Bool (nat_lt 0 n && nat_le n (10 ^ 18)))
 
-    not_its : is_opening_of m i opening ≡ false
-    not_its = sym (at_place (At (Member k)) (At (Member m)) issue i) ∙ other
-
-    by : (b : Bool) → opening_shares (cons_option (if b then Some opening else None) rest) (Member m) i ≡ opening_shares rest (Member m) i
-    by true =
-        let none : (if is_opening_of m i opening then n else 0) ≡ 0 = rw not_its refl in
-        omega (arith, sum_by-cons (λ (o : Opening). if is_opening_of m i o then o.shares else 0) opening rest, none)
-    by false = refl
+own_part : (k : Place) (n m i : ℕ) (rest : List Opening) → place_eq k (place_of (Member m) i) ≡ false
+    → opening_shares (cons_option (least_at k.issue k.side n) rest) (Member m) i ≡ opening_shares rest (Member m) i
+own_part k n m i rest other = other_part (λ os. opening_shares os (Member m) i) m i (λ o os. shares_other o os m i) k.issue k.side n rest other
 
 its_part : (n m i : ℕ) (rest : List Opening) → opening_shares (cons_option (least_at i (At (Member m)) n) rest) (Member m) i ≡ clipped n + opening_shares rest (Member m) i
-its_part n m i rest = by (nat_lt 0 n && nat_le n (10 ^ 18))
-  where
-    opening : Opening
-    opening = record { member = m; issue = i; shares = n }
-
-    its : is_opening_of m i opening ≡ true
-    its = sym (at_place (At (Member m)) (At (Member m)) i i) ∙ own_place (place_of (Member m) i)
-
-    by : (b : Bool) → opening_shares (cons_option (if b then Some opening else None) rest) (Member m) i ≡ (if b then n else 0) + opening_shares rest (Member m) i
-    by true =
-        let all : (if is_opening_of m i opening then n else 0) ≡ n = rw its refl in
-        omega (arith, sum_by-cons (λ (o : Opening). if is_opening_of m i o then o.shares else 0) opening rest, all)
-    by false = omega arith
+its_part n m i rest =
+    let its = sym (at_place (At (Member m)) (At (Member m)) i i) ∙ own_place (place_of (Member m) i) in
+    ⊎_elim (λ e. rw e (shares_its (record { member = m; issue = i; shares = n }) rest m i its)) (λ e. rw e (omega arith)) (cases_Bool (nat_lt 0 n && nat_le n (10 ^ 18)))
 
 -- keys that are all others than a place
 abbrev Apart : Place → List (Place × Range) → Type 0
@@ -104,27 +72,24 @@ Apart k entries = AllByRecursion (λ (y : Place). place_eq k y ≡ false) (keys_
 
 none_of : (entries : List (Place × Range)) (m i : ℕ) → Apart (place_of (Member m) i) entries → opening_shares (opens entries) (Member m) i ≡ 0
 none_of [] m i apart = refl
-none_of ((k, r) ∷ rest) m i apart = own_part k.issue k.side r.least m i (turned (place_of (Member m) i) k apart.0) (opens rest) ∙ none_of rest m i apart.1
+none_of ((k, r) ∷ rest) m i apart = own_part k r.least m i (opens rest) (turned (place_of (Member m) i) k apart.0) ∙ none_of rest m i apart.1
 
 -- each member opens with what its range begins with
 shares_in : (entries : List (Place × Range)) → IsDistinct place_eq (keys_of entries) → (m i : ℕ)
     → opening_shares (opens entries) (Member m) i ≡ clipped (range_by (place_of (Member m) i) (lookup (place_eq (place_of (Member m) i)) entries)).least
 unfolding IsDistinct
 shares_in [] distinct m i = refl
-shares_in ((k, r) ∷ rest) distinct m i = by (place_eq (place_of (Member m) i) k) refl (shares_in rest distinct.1 m i)
-  where
-    its : Place
-    its = place_of (Member m) i
-
-    by : (t : Bool) → place_eq its k ≡ t → opening_shares (opens rest) (Member m) i ≡ clipped (range_by its (lookup (place_eq its) rest)).least
-        → opening_shares (opens ((k, r) ∷ rest)) (Member m) i ≡ clipped (range_by its (lookup (place_eq its) ((k, r) ∷ rest))).least
-    by true is before =
-        let same : k ≡ its = sym (equal_places its k is) in
-        let none : opening_shares (opens rest) (Member m) i ≡ 0 = none_of rest m i (subst (λ (x : Place). Apart x rest) same distinct.0) in
-        let here : opening_shares (opens ((k, r) ∷ rest)) (Member m) i ≡ clipped r.least + opening_shares (opens rest) (Member m) i =
-        subst (λ (x : Place). opening_shares (opens ((x, r) ∷ rest)) (Member m) i ≡ clipped r.least + opening_shares (opens rest) (Member m) i) (sym same) (its_part r.least m i (opens rest)) in
-        rw is (omega (arith, here, none))
-    by false is before = rw is (own_part k.issue k.side r.least m i (turned its k is) (opens rest) ∙ before)
+shares_in ((k, r) ∷ rest) distinct m i =
+    let its : Place = place_of (Member m) i in
+    ⊎_elim
+    (λ is.
+    let same : k ≡ its = sym (equal_places its k is) in
+    let none : opening_shares (opens rest) (Member m) i ≡ 0 = none_of rest m i (subst (λ (x : Place). Apart x rest) same distinct.0) in
+    let here : opening_shares (opens ((k, r) ∷ rest)) (Member m) i ≡ clipped r.least + opening_shares (opens rest) (Member m) i =
+    subst (λ (x : Place). opening_shares (opens ((x, r) ∷ rest)) (Member m) i ≡ clipped r.least + opening_shares (opens rest) (Member m) i) (sym same) (its_part r.least m i (opens rest)) in
+    rw is (omega (arith, here, none)))
+    (λ other. rw other (own_part k r.least m i (opens rest) (turned its k other) ∙ shares_in rest distinct.1 m i))
+    (cases_Bool (place_eq its k))
 
 -- ---- each of them stands behind those before it
 
@@ -141,36 +106,16 @@ distinct_before (x ∷ xs) e ys distinct = (at_last (λ y. place_eq x.0 y ≡ fa
 not_held : (done : List (Place × Range)) (m i : ℕ) → AllByRecursion (λ (x : Place). place_eq x (place_of (Member m) i) ≡ false) (keys_of done)
     → list_any (is_opening_of m i) (opens done) ≡ false
 not_held [] m i apart = refl
-not_held ((k, r) ∷ rest) m i apart = by k.issue k.side r.least apart.0 (not_held rest m i apart.1)
-  where
-    by : (issue : ℕ) (side : Side) (n : ℕ) → place_eq (record { issue = issue; side = side }) (place_of (Member m) i) ≡ false
-        → list_any (is_opening_of m i) (opens rest) ≡ false → list_any (is_opening_of m i) (cons_option (least_at issue side n) (opens rest)) ≡ false
-    by issue Outside n other before = before
-    by issue (At Cns) n other before = before
-    by issue (At (Member j)) n other before = at (nat_lt 0 n && nat_le n (10 ^ 18))
-      where
-        opening : Opening
-        opening = record { member = j; issue = issue; shares = n }
-
-        not_its : is_opening_of m i opening ≡ false
-        not_its = sym (at_place (At (Member j)) (At (Member m)) issue i) ∙ other
-
-        at : (b : Bool) → list_any (is_opening_of m i) (cons_option (if b then Some opening else None) (opens rest)) ≡ false
-        at true = rw not_its before
-        at false = before
+not_held ((k, r) ∷ rest) m i apart =
+    other_part (list_any (is_opening_of m i)) m i (λ o os other. rw other refl) k.issue k.side r.least (opens rest) apart.0 ∙ not_held rest m i apart.1
 
 -- an entry whose opening is this one has its place
 opening_place : (issue : ℕ) (side : Side) (n : ℕ) (o : Opening) → least_at issue side n ≡ Some o → record { issue = issue; side = side } ≡ place_of (Member o.member) o.issue
 opening_place issue Outside n o is = absurd cc
 opening_place issue (At Cns) n o is = absurd cc
-opening_place issue (At (Member m)) n o is = by (nat_lt 0 n && nat_le n (10 ^ 18)) is
-  where
-    opening : Opening
-    opening = record { member = m; issue = issue; shares = n }
-
-    by : (b : Bool) → ◌≡◌ {A = Option Opening} (if b then Some opening else None) (Some o) → place_of (Member m) issue ≡ place_of (Member o.member) o.issue
-    by true same = let its : opening ≡ o = cc in ap (λ (x : Opening). place_of (Member x.member) x.issue) its
-    by false none = absurd cc
+opening_place issue (At (Member m)) n o is = ⊎_elim
+    (λ e. ap (λ (x : Opening). place_of (Member x.member) x.issue) (same_Some (record { member = m; issue = issue; shares = n }) o (rw e at is))) (λ e. absurd (none-some o (rw e at is)))
+    (cases_Bool (nat_lt 0 n && nat_le n (10 ^ 18)))
 
 sum_with : (xs : List Opening) (o : Opening) (ys : List Opening) → issue_sum xs o.issue + o.shares ≤ issue_sum (xs ++ o ∷ ys) o.issue
 unfolding issue_sum
@@ -239,9 +184,7 @@ least_enough entries p openings distinct ranges are =
 -- ---- openings that stand behind one another fit
 
 no_fault : (a b : Bool) → ◌≡◌ {A = Option OpeningFault} (if a then Some Double else if b then Some IssueSum else None) None → b ≡ false
-no_fault true b e = absurd cc
-no_fault false true e = absurd cc
-no_fault false false e = refl
+no_fault a b e = grind arith
 
 fits_with : (held : List Opening) (o : Opening) (found : Option OpeningFault) → opening_fault held o ≡ found → DoIssuesFit held
     → DoIssuesFit (elim found [ None ↦ held ++ o ∷ [] | Some _ ↦ held ])

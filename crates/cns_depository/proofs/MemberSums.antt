@@ -1,5 +1,6 @@
 -- Sums of a number of each member.
-use Rattle.std.proofs.Common.{◌≡◌, ℕ, zero, suc, ◌+◌, ◌-◌, ◌≤◌, ◌<◌, ◌&&◌, Bool, true, false, List, [], ◌∷◌, arith, refl, ap, ◌⊎◌, inl, inr}
+use Rattle.std.proofs.Common.{◌≡◌, ℕ, zero, suc, ◌+◌, ◌-◌, ◌≤◌, ◌<◌, ◌&&◌, Bool, false, List, [], ◌∷◌, arith, refl, ap, ⊎_elim}
+use Rattle.cns_journal.proofs.LayoutLemmas.{by_bool}
 use Rattle.std.specs.Prelude.{◌==◌, max, if◌then◌else◌}
 use Rattle.std.proofs.lemmas.Bool.{cases_lt, eq-eqb, eqb-true, ne_eqb}
 use Rattle.std.proofs.lemmas.List.Sums.{sum_by-cons}
@@ -28,24 +29,17 @@ pub up_to-more : (n k : ℕ) (f : ℕ → ℕ) → n ≤ k → up_to n f ≤ up_
 unfolding up_to
 up_to-more zero zero f within = omega arith
 up_to-more (suc n) zero f within = absurd (omega (arith, within))
-up_to-more n (suc k) f within = by (cases_lt k n) (λ few. up_to-more n k f few)
-  where
-    by : ((k < n) ⊎ (n ≤ k)) → (n ≤ k → up_to n f ≤ up_to k f) → up_to n f ≤ up_to (suc k) f
-    by (inl all) rest = let same : n ≡ suc k = omega (arith, all, within) in let both = ap (λ i. up_to i f) same in omega (arith, both)
-    by (inr few) rest = omega (arith, rest few)
+up_to-more n (suc k) f within = ⊎_elim
+    (λ all. let same : n ≡ suc k = omega (arith, all, within) in omega (arith, ap (λ i. up_to i f) same)) (λ few. omega (arith, up_to-more n k f few)) (cases_lt k n)
 
 -- where one member's number grows, so does the sum, by no less
 pub up_to-grows : (n k : ℕ) (f g : ℕ → ℕ) → k ≤ n → ((m : ℕ) → f m ≤ g m) → up_to n f + (g k - f k) ≤ up_to n g
 unfolding up_to
 up_to-grows zero zero f g within less = omega (arith, less 0)
 up_to-grows zero (suc k) f g within less = absurd (omega (arith, within))
-up_to-grows (suc n) k f g within less = by (cases_lt n k) (λ before. up_to-grows n k f g before less)
-  where
-    by : ((n < k) ⊎ (k ≤ n)) → (k ≤ n → up_to n f + (g k - f k) ≤ up_to n g) → up_to (suc n) f + (g k - f k) ≤ up_to (suc n) g
-    by (inl last) rest =
-        let same : k ≡ suc n = omega (arith, last, within) in
-        omega (arith, up_to-le n f g less, less (suc n), ap f same, ap g same)
-    by (inr before) rest = omega (arith, rest before, less (suc n))
+up_to-grows (suc n) k f g within less = ⊎_elim
+    (λ last. let same : k ≡ suc n = omega (arith, last, within) in omega (arith, up_to-le n f g less, less (suc n), ap f same, ap g same))
+    (λ before. omega (arith, up_to-grows n k f g before less, less (suc n))) (cases_lt n k)
 
 -- a member's number is a part of the sum
 up_to-has : (n k : ℕ) (f : ℕ → ℕ) → k ≤ n → f k ≤ up_to n f
@@ -61,9 +55,7 @@ module _ (o : Opening) (issue : ℕ) where
   whole = if o.issue == issue then o.shares else 0
 
   part_le : (a : Bool) → (b : Bool) → (if a && b then o.shares else 0) ≤ (if b then o.shares else 0)
-  part_le true b = omega arith
-  part_le false true = omega arith
-  part_le false false = omega arith
+  part_le a b = grind arith
 
   part_none : (m : ℕ) → (o.member == m) ≡ false → part m ≡ 0
   part_none m other = rw other refl
@@ -72,17 +64,11 @@ module _ (o : Opening) (issue : ℕ) where
   one_part : (n : ℕ) → (up_to n part ≤ whole) × (n < o.member → up_to n part ≡ 0)
   unfolding up_to
   one_part zero = (part_le (o.member == 0) (o.issue == issue), λ more. part_none 0 (ne_eqb o.member 0 (λ e. omega (arith, more, e))))
-  one_part (suc n) = by (o.member == suc n) refl (one_part n)
-    where
-      by : (b : Bool) → (o.member == suc n) ≡ b → (up_to n part ≤ whole) × (n < o.member → up_to n part ≡ 0)
-          → (up_to (suc n) part ≤ whole) × (suc n < o.member → up_to (suc n) part ≡ 0)
-      by true is rest =
-          let here : o.member ≡ suc n = eqb-true o.member (suc n) is in
-          let before = rest.1 (omega (arith, here)) in
-          (omega (arith, before, part_le (o.member == suc n) (o.issue == issue)), λ more. absurd (omega (arith, more, here)))
-      by false is rest =
-          let none = part_none (suc n) is in
-          (omega (arith, rest.0, none), λ more. let before = rest.1 (omega (arith, more)) in omega (arith, before, none))
+  one_part (suc n) = let before = one_part n in by_bool (o.member == suc n)
+      (λ is.
+      let here : o.member ≡ suc n = eqb-true o.member (suc n) is in
+      (omega (arith, before.1 (omega (arith, here)), part_le (o.member == suc n) (o.issue == issue)), λ more. absurd (omega (arith, more, here))))
+      (λ other. let none = part_none (suc n) other in (omega (arith, before.0, none), λ more. omega (arith, before.1 (omega (arith, more)), none)))
 
   part_here : part o.member ≡ whole
   part_here = rw (eq-eqb o.member o.member refl) refl

@@ -1,5 +1,6 @@
 -- What adding an opening does to the sums of the issues.
-use Rattle.std.proofs.Common.{◌≡◌, ℕ, ◌+◌, ◌^◌, ◌≤◌, List, [], ◌∷◌, ◌++◌, arith}
+use Rattle.std.proofs.Common.{◌≡◌, ℕ, ◌+◌, ◌^◌, ◌≤◌, true, false, List, [], ◌∷◌, ◌++◌, arith}
+use Rattle.std.proofs.lemmas.Bool.{and_parts, cond-false, cond-true, eqb-true}
 use Rattle.std.specs.Prelude.{sum_by, if◌then◌else◌, ◌==◌}
 use Rattle.std.proofs.lemmas.List.Sums.{sum_by-cons, sum_by-append}
 use Rattle.cns_trades.specs.declared.opening.Opening.{Opening}
@@ -19,6 +20,16 @@ fits_more xs o fits within issue =
     let more = issue_sum-more xs o issue in
     let before = fits issue in
     grind (arith, more, before, within)
+
+-- an opening of a member in an issue, and one that is not
+pub opening_is : (o : Opening) (m i : ℕ) → is_opening_of m i o ≡ true → (o.member ≡ m) × (o.issue ≡ i)
+opening_is o m i its = let both = and_parts (o.member == m) (o.issue == i) its in (eqb-true o.member m both.0, eqb-true o.issue i both.1)
+
+pub shares_its : (o : Opening) (xs : List Opening) (m i : ℕ) → is_opening_of m i o ≡ true → opening_shares (o ∷ xs) (Member m) i ≡ o.shares + opening_shares xs (Member m) i
+shares_its o xs m i its = omega (arith, sum_by-cons (λ (x : Opening). if is_opening_of m i x then x.shares else 0) o xs, cond-true (is_opening_of m i o) o.shares 0 its)
+
+pub shares_other : (o : Opening) (xs : List Opening) (m i : ℕ) → is_opening_of m i o ≡ false → opening_shares (o ∷ xs) (Member m) i ≡ opening_shares xs (Member m) i
+shares_other o xs m i other = omega (arith, sum_by-cons (λ (x : Opening). if is_opening_of m i x then x.shares else 0) o xs, cond-false (is_opening_of m i o) o.shares 0 other)
 
 -- a member opens with no more than the sum of the issue
 pub member_le_issue : (xs : List Opening) (member issue : ℕ) → opening_shares xs (Member member) issue ≤ issue_sum xs issue

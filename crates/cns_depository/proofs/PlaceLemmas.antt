@@ -1,5 +1,5 @@
 -- The order of places.
-use Rattle.std.proofs.Common.{◌≡◌, ◌∙◌, ℕ, Bool, true, false, refl, sym, ap, arith}
+use Rattle.std.proofs.Common.{◌≡◌, ◌∙◌, ℕ, refl, sym, ap, arith}
 use Rattle.std.specs.Cmp.{IsEquivalence, IsTotalOrder, tied_itself}
 use Rattle.std.specs.Ordering.{eq_by_cmp, is_eq, nat_cmp, ordering_then}
 use Rattle.std.specs.declared.cmp.Ordering.{Ordering}
@@ -14,6 +14,7 @@ use Rattle.cns_depository.specs.declared.place.Place.{Place}
 use Rattle.cns_depository.specs.contracts.place.PlaceEq.TheImpl.Laws.{laws-law}
 use Rattle.cns_depository.specs.Balances.{place_cmp, rank, side_rank}
 use Rattle.cns_depository.specs.Totals.{place_eq}
+use Rattle.cns_journal.proofs.LayoutLemmas.{by_bool}
 use Rattle.cns_depository.proofs.TotalLemmas.{equal_places}
 
 -- the order is one
@@ -52,14 +53,15 @@ same_place a b e =
 pub place_equivalence : IsEquivalence place_eq
 place_equivalence = laws-law
 
-pub place_ties : (x y : Place) → place_eq x y ≡ eq_by_cmp place_cmp x y
-place_ties x y = by (place_eq x y) refl (place_cmp x y) refl
-  where
-    at_itself : place_eq x y ≡ true → place_cmp x y ≡ Equal
-    at_itself e = ap (place_cmp x) (sym (equal_places x y e)) ∙ tied_itself place_total x
+-- what follows in each case of an order
+pub by_order : {P : Type 0} (r : Ordering) → (r ≡ Less → P) → (r ≡ Equal → P) → (r ≡ Greater → P) → P
+by_order Less less equal greater = less refl
+by_order Equal less equal greater = equal refl
+by_order Greater less equal greater = greater refl
 
-    by : (b : Bool) → place_eq x y ≡ b → (r : Ordering) → place_cmp x y ≡ r → b ≡ is_eq r
-    by true e r f = sym (ap is_eq (sym f ∙ at_itself e))
-    by false e Less f = refl
-    by false e Equal f = absurd (true≢false (sym (place_equivalence.refl x) ∙ ap (place_eq x) (same_place x y f) ∙ e))
-    by false e Greater f = refl
+pub place_ties : (x y : Place) → place_eq x y ≡ eq_by_cmp place_cmp x y
+place_ties x y = by_bool (place_eq x y)
+    (λ same. same ∙ sym (ap (λ z. eq_by_cmp place_cmp z y) (equal_places x y same) ∙ ap is_eq (tied_itself place_total y)))
+    (λ other. by_order (place_cmp x y) (λ e. other ∙ rw e refl)
+    (λ e. absurd (true≢false (sym (place_equivalence.refl x) ∙ ap (place_eq x) (same_place x y e) ∙ other)))
+    (λ e. other ∙ rw e refl))

@@ -1,11 +1,11 @@
 -- The ranges of openings, as there are more records.
-use Rattle.std.proofs.Common.{None, ◌≡◌, ℕ, ◌+◌, ◌-◌, ◌^◌, ◌≤◌, ◌&&◌, Bool, true, false, List, [], ◌∷◌, arith, refl, ap, sym, ◌∙◌, subst}
+use Rattle.std.proofs.Common.{◌≡◌, ℕ, ◌+◌, ◌-◌, ◌^◌, ◌≤◌, ◌&&◌, Bool, true, false, List, [], ◌∷◌, arith, refl, ap, sym, ◌∙◌, subst}
 use Rattle.std.specs.Prelude.{◌==◌, max, min, nat_lt}
-use Rattle.std.proofs.lemmas.Bool.{eqb-true, le-leb, ltb-false, ltb-true}
+use Rattle.std.proofs.lemmas.Bool.{and_parts, eqb-true, le-leb, ltb-false, ltb-true}
+use Rattle.cns_journal.proofs.LayoutLemmas.{by_bool}
+use Rattle.cns_depository.specs.declared.account.Side.{Side}
 use Rattle.cns_records.specs.declared.dep_record.DepRecord.{DepRecord}
 use Rattle.cns_records.specs.declared.dep_record.DepRecord.TheVariants.{Exec, Own}
-use Rattle.cns_records.specs.declared.instruction.Sort.{Sort}
-use Rattle.cns_records.specs.declared.instruction.Sort.TheVariants.{Deposit, Withdraw}
 use Rattle.cns_trades.specs.declared.opening.Opening.{Opening}
 use Rattle.cns_depository.specs.declared.account.Account.{Account}
 use Rattle.cns_depository.specs.declared.account.Account.TheVariants.{Cns, Member}
@@ -13,14 +13,14 @@ use Rattle.cns_depository.specs.declared.account.Side.TheVariants.{At, Outside}
 use Rattle.cns_depository.specs.declared.place.Place.{Place}
 use Rattle.cns_depository.specs.declared.ranges.Range.{Range}
 use Rattle.cns_depository.specs.declared.fault.OwnRefusal.TheVariants.{IssueSum}
-use Rattle.cns_depository.specs.Account.{giver, own_giver, own_receiver, same_account, same_side}
+use Rattle.cns_depository.specs.Account.{giver, own_receiver, same_account, same_side}
 use Rattle.cns_depository.specs.Least.{least}
 use Rattle.cns_depository.specs.Openings.{issue_sum, opening_shares}
 use Rattle.cns_depository.specs.Ranges.{AreOpeningsOf, AreRanges, IsDemanded, IsLimited, first_range, is_met, issue_place, least_sum, place_of, takes_all}
-use Rattle.cns_depository.specs.Stock.{brought, held_in, moved_in, moved_out, own_refusal, taken, transfer_of}
-use Rattle.cns_depository.proofs.LeastLemmas.{all_taken, from_outside, held_is, least_before, least_is, least_lawful, least_same, none_refused, to_inside}
+use Rattle.cns_depository.specs.Stock.{brought, held_in, moved_in, moved_out, taken, transfer_of}
+use Rattle.cns_depository.proofs.LeastLemmas.{all_taken, brought_other, held_is, least_before, least_is, least_lawful, least_same, taken_here}
 use Rattle.cns_depository.proofs.MemberSums.{opens_up_to, up_to-grows, up_to-le, up_to-more}
-use Rattle.cns_depository.proofs.MovementLemmas.{and_left, and_right, equal_accounts, same_At}
+use Rattle.cns_depository.proofs.MovementLemmas.{by_sort, equal_accounts, none_refused, same_At}
 use Rattle.cns_depository.proofs.OpeningLemmas.{member_small}
 use Rattle.cns_depository.proofs.TotalLemmas.{at_place}
 
@@ -47,22 +47,22 @@ sum_grows n e p (Member m) issue =
     (k, omega (arith, grows, up_to-more n k old (omega arith), least_before e p Cns issue))
 
 -- no ranges are known of no records
+first_least : (a : Account) → (first_range (At a)).least ≡ 0
+first_least Cns = refl
+first_least (Member m) = refl
+
+first_most : (openings : List Opening) (a : Account) (issue : ℕ) → AreOpeningsOf openings [] → opening_shares openings a issue ≤ (first_range (At a)).most
+first_most openings Cns issue are = omega arith
+first_most openings (Member m) issue are = member_small openings m issue are.fit
+
 pub ranges_first : AreRanges (λ k. first_range k.side) []
 unfolding least
 ranges_first = record {
-  least_is = at_first;
+  least_is = λ a issue. first_least a;
   sum_least = λ issue. (0, omega arith);
-  most = most_first;
+  most = λ openings are a issue. first_most openings a issue are;
   sum_most = λ openings are issue. are.fit issue;
 }
-  where
-    at_first : (a : Account) (issue : ℕ) → (first_range (At a)).least ≡ 0
-    at_first Cns issue = refl
-    at_first (Member m) issue = refl
-
-    most_first : (openings : List Opening) → AreOpeningsOf openings [] → (a : Account) (issue : ℕ) → opening_shares openings a issue ≤ (first_range (At a)).most
-    most_first openings are Cns issue = omega arith
-    most_first openings are (Member m) issue = member_small openings m issue are.fit
 
 pub ranges_same : (old new : Place → Range) (p : List DepRecord) → ((k : Place) → new k ≡ old k) → AreRanges old p → AreRanges new p
 ranges_same old new p same are = record {
@@ -80,41 +80,32 @@ module _ (e : DepRecord) (p : List DepRecord) (old new : Place → Range) (range
     apart : (b : Account) (i : ℕ) → (same_account a b && (issue == i)) ≡ false → new (place_of b i) ≡ old (place_of b i)
     apart b i other = demanded.others (place_of b i) (at_place (At a) (At b) issue i ∙ other) (at_place Outside (At b) issue i)
 
-    least_demanded : (b : Account) (i : ℕ) → (new (place_of b i)).least ≡ least (e ∷ p) b i
-    least_demanded b i = by (same_account a b && (issue == i)) refl
-      where
-        here : (new (place_of a issue)).least ≡ least (e ∷ p) a issue
-        here = omega (arith, ap (λ (r : Range). r.least) demanded.place, ranges.least_is a issue, need, least_is e p a issue)
+    sum_apart : (i : ℕ) → (issue == i) ≡ false → new (issue_place i) ≡ old (issue_place i)
+    sum_apart i other = demanded.others (issue_place i) (at_place (At a) Outside issue i) (at_place Outside Outside issue i ∙ other)
 
-        by : (t : Bool) → (same_account a b && (issue == i)) ≡ t → (new (place_of b i)).least ≡ least (e ∷ p) b i
-        by true is =
-            let same = equal_accounts a b (and_left _ _ is) in
-            let its = eqb-true issue i (and_right (same_account a b) _ is) in
-            subst (λ j. (new (place_of b j)).least ≡ least (e ∷ p) b j) its (subst (λ c. (new (place_of c issue)).least ≡ least (e ∷ p) c issue) same here)
-        by false is =
-            let other : (same_side (transfer_of e).giver (At b) && ((transfer_of e).issue == i)) ≡ false = rw (from, of) is in
-            ap (λ (r : Range). r.least) (apart b i is) ∙ ranges.least_is b i ∙ sym (least_same e p b i other)
+    -- the account and the issue of the record, or others
+    at_both : (P : Account → ℕ → Type 0) (b : Account) (i : ℕ) → P a issue → ((same_account a b && (issue == i)) ≡ false → P b i) → P b i
+    at_both P b i here there = by_bool (same_account a b && (issue == i))
+        (λ is. let both = and_parts (same_account a b) (issue == i) is in
+        subst (λ j. P b j) (eqb-true issue i both.1) (subst (λ c. P c issue) (equal_accounts a b both.0) here)) there
+
+    least_demanded : (b : Account) (i : ℕ) → (new (place_of b i)).least ≡ least (e ∷ p) b i
+    least_demanded b i = at_both (λ c j. (new (place_of c j)).least ≡ least (e ∷ p) c j) b i
+        (omega (arith, ap (λ (r : Range). r.least) demanded.place, ranges.least_is a issue, need, least_is e p a issue))
+        (λ other. ap (λ (r : Range). r.least) (apart b i other) ∙ ranges.least_is b i ∙ sym (least_same e p b i (rw (from, of) other)))
 
     sum_demanded : (i : ℕ) → (n : ℕ) × ((new (issue_place i)).least ≤ least_sum n (e ∷ p) i)
-    sum_demanded i = by (issue == i) refl
-      where
-        here : (n : ℕ) × ((new (issue_place issue)).least ≤ least_sum n (e ∷ p) issue)
-        here =
-            let was = ranges.sum_least issue in
-            let grows = sum_grows was.0 e p a issue in (
-              grows.0,
-              omega (arith, was.1, grows.1, ap (λ (r : Range). r.least) demanded.sum, ranges.least_is a issue, need, least_is e p a issue),
-            )
-
-        by : (t : Bool) → (issue == i) ≡ t → (n : ℕ) × ((new (issue_place i)).least ≤ least_sum n (e ∷ p) i)
-        by true is = subst (λ j. (n : ℕ) × ((new (issue_place j)).least ≤ least_sum n (e ∷ p) j)) (eqb-true issue i is) here
-        by false is =
-            let was = ranges.sum_least i in
-            let same = demanded.others (issue_place i) (at_place (At a) Outside issue i) (at_place Outside Outside issue i ∙ is) in
-            (was.0, omega (arith, was.1, sum_before was.0 e p i, ap (λ (r : Range). r.least) same))
+    sum_demanded i = by_bool (issue == i)
+        (λ is.
+        let was = ranges.sum_least issue in
+        let grows = sum_grows was.0 e p a issue in
+        subst (λ j. (n : ℕ) × ((new (issue_place j)).least ≤ least_sum n (e ∷ p) j)) (eqb-true issue i is)
+        (grows.0, omega (arith, was.1, grows.1, ap (λ (r : Range). r.least) demanded.sum, ranges.least_is a issue, need, least_is e p a issue)))
+        (λ other. let was = ranges.sum_least i in (was.0, omega (arith, was.1, sum_before was.0 e p i, ap (λ (r : Range). r.least) (sum_apart i other))))
 
     most_demanded : (openings : List Opening) → AreOpeningsOf openings (e ∷ p) → (b : Account) (i : ℕ) → opening_shares openings b i ≤ (new (place_of b i)).most
-    most_demanded openings are b i = by (same_account a b && (issue == i)) refl
+    most_demanded openings are b i = at_both (λ c j. opening_shares openings c j ≤ (new (place_of c j)).most) b i (most exactly refl)
+        (λ other. omega (arith, ap (λ (r : Range). r.most) (apart b i other), ranges.most openings (before are) b i))
       where
         most : (t : Bool) → exactly ≡ t → opening_shares openings a issue ≤ (new (place_of a issue)).most
         most true is =
@@ -124,24 +115,11 @@ module _ (e : DepRecord) (p : List DepRecord) (old new : Place → Range) (range
             let same : (new (place_of a issue)).most ≡ (old (place_of a issue)).most = ap (λ (r : Range). r.most) demanded.place ∙ rw is refl in
             omega (arith, same, ranges.most openings (before are) a issue)
 
-        by : (t : Bool) → (same_account a b && (issue == i)) ≡ t → opening_shares openings b i ≤ (new (place_of b i)).most
-        by true is =
-            let same = equal_accounts a b (and_left _ _ is) in
-            let its = eqb-true issue i (and_right (same_account a b) _ is) in
-            subst (λ j. opening_shares openings b j ≤ (new (place_of b j)).most) its
-            (subst (λ c. opening_shares openings c issue ≤ (new (place_of c issue)).most) same (most exactly refl))
-        by false is = omega (arith, ap (λ (r : Range). r.most) (apart b i is), ranges.most openings (before are) b i)
-
     sum_most_demanded : (openings : List Opening) → AreOpeningsOf openings (e ∷ p) → (i : ℕ) → issue_sum openings i ≤ (new (issue_place i)).most
-    sum_most_demanded openings are i = by (issue == i) refl
-      where
-        by : (t : Bool) → (issue == i) ≡ t → issue_sum openings i ≤ (new (issue_place i)).most
-        by true is =
-            subst (λ j. issue_sum openings j ≤ (new (issue_place j)).most) (eqb-true issue i is)
-            (omega (arith, ap (λ (r : Range). r.most) demanded.sum, ranges.sum_most openings (before are) issue))
-        by false is =
-            let same = demanded.others (issue_place i) (at_place (At a) Outside issue i) (at_place Outside Outside issue i ∙ is) in
-            omega (arith, ap (λ (r : Range). r.most) same, ranges.sum_most openings (before are) i)
+    sum_most_demanded openings are i = by_bool (issue == i)
+        (λ is. subst (λ j. issue_sum openings j ≤ (new (issue_place j)).most) (eqb-true issue i is)
+        (omega (arith, ap (λ (r : Range). r.most) demanded.sum, ranges.sum_most openings (before are) issue)))
+        (λ other. omega (arith, ap (λ (r : Range). r.most) (sum_apart i other), ranges.sum_most openings (before are) i))
 
     pub ranges_demanded : AreRanges new (e ∷ p)
     ranges_demanded = record { least_is = least_demanded; sum_least = sum_demanded; most = most_demanded; sum_most = sum_most_demanded }
@@ -152,33 +130,25 @@ module _ (e : DepRecord) (p : List DepRecord) (old new : Place → Range) (range
     stays : (b : Account) (i : ℕ) → new (place_of b i) ≡ old (place_of b i)
     stays b i = limited.others (place_of b i) (at_place Outside (At b) issue i)
 
+    sum_stays : (i : ℕ) → (issue == i) ≡ false → new (issue_place i) ≡ old (issue_place i)
+    sum_stays i other = limited.others (issue_place i) (at_place Outside Outside issue i ∙ other)
+
     pub ranges_limited : AreRanges new (e ∷ p)
     ranges_limited = record {
       least_is = λ b i.
           let other : (same_side (transfer_of e).giver (At b) && ((transfer_of e).issue == i)) ≡ false = rw from refl in
           ap (λ (r : Range). r.least) (stays b i) ∙ ranges.least_is b i ∙ sym (least_same e p b i other);
-      sum_least = λ i. by (issue == i) refl;
+      sum_least = λ i. by_bool (issue == i)
+          (λ is. let was = ranges.sum_least issue in
+          subst (λ j. (n : ℕ) × ((new (issue_place j)).least ≤ least_sum n (e ∷ p) j)) (eqb-true issue i is)
+          (was.0, omega (arith, was.1, sum_before was.0 e p issue, ap (λ (r : Range). r.least) limited.sum)))
+          (λ other. let was = ranges.sum_least i in (was.0, omega (arith, was.1, sum_before was.0 e p i, ap (λ (r : Range). r.least) (sum_stays i other))));
       most = λ openings are b i. omega (arith, ap (λ (r : Range). r.most) (stays b i), ranges.most openings (before are) b i);
-      sum_most = λ openings are i. most openings are i (issue == i) refl;
+      sum_most = λ openings are i. by_bool (issue == i)
+          (λ is. subst (λ j. issue_sum openings j ≤ (new (issue_place j)).most) (eqb-true issue i is)
+          (omega (arith, ap (λ (r : Range). r.most) limited.sum, ranges.sum_most openings (before are) issue, fits openings are)))
+          (λ other. omega (arith, ap (λ (r : Range). r.most) (sum_stays i other), ranges.sum_most openings (before are) i));
     }
-      where
-        by : {i : ℕ} (t : Bool) → (issue == i) ≡ t → (n : ℕ) × ((new (issue_place i)).least ≤ least_sum n (e ∷ p) i)
-        by {i} true is =
-            let was = ranges.sum_least issue in
-            subst (λ j. (n : ℕ) × ((new (issue_place j)).least ≤ least_sum n (e ∷ p) j)) (eqb-true issue i is)
-            (was.0, omega (arith, was.1, sum_before was.0 e p issue, ap (λ (r : Range). r.least) limited.sum))
-        by {i} false is =
-            let was = ranges.sum_least i in
-            let same = limited.others (issue_place i) (at_place Outside Outside issue i ∙ is) in
-            (was.0, omega (arith, was.1, sum_before was.0 e p i, ap (λ (r : Range). r.least) same))
-
-        most : (openings : List Opening) → AreOpeningsOf openings (e ∷ p) → (i : ℕ) (t : Bool) → (issue == i) ≡ t → issue_sum openings i ≤ (new (issue_place i)).most
-        most openings are i true is =
-            subst (λ j. issue_sum openings j ≤ (new (issue_place j)).most) (eqb-true issue i is)
-            (omega (arith, ap (λ (r : Range). r.most) limited.sum, ranges.sum_most openings (before are) issue, fits openings are))
-        most openings are i false is =
-            let same = limited.others (issue_place i) (at_place Outside Outside issue i ∙ is) in
-            omega (arith, ap (λ (r : Range). r.most) same, ranges.sum_most openings (before are) i)
 
 -- ---- where a range is empty there are no openings
 
@@ -198,16 +168,18 @@ module _ (ranges : Place → Range) (p : List DepRecord) (are : AreRanges ranges
 pub deposit_limit : (e : DepRecord) (p : List DepRecord) (openings : List Opening) → AreOpeningsOf openings (e ∷ p) → (transfer_of e).giver ≡ Outside
     → issue_sum openings (transfer_of e).issue ≤ (10 ^ 18 + brought (e ∷ p) Outside (transfer_of e).issue) - taken (e ∷ p) Outside (transfer_of e).issue
 deposit_limit (Exec o moved) p openings are from = absurd cc
-deposit_limit (Own i) p openings are from = by i.sort refl from are.lawful.0.may
-  where
-    by : (sort : Sort) → i.sort ≡ sort → own_giver (record i { sort = sort }) ≡ Outside → own_refusal openings p (record i { sort = sort }) ≡ None
-        → issue_sum openings i.issue ≤ (10 ^ 18 + brought (Own i ∷ p) Outside i.issue) - taken (Own i ∷ p) Outside i.issue
-    by Withdraw is from may = absurd cc
-    by Deposit is from may =
-        let gives : own_giver i ≡ Outside = ap (λ (s : Sort). own_giver (record i { sort = s })) is in
-        let takes : own_receiver i ≡ At (Member i.member) = ap (λ (s : Sort). own_receiver (record i { sort = s })) is in
-        let fits = ltb-false (10 ^ 18) (held_in openings p i.issue + i.shares) (none_refused IssueSum (nat_lt (10 ^ 18) (held_in openings p i.issue + i.shares)) may) in
-        omega (arith, fits, held_is openings p i.issue, from_outside (Own i) p i.issue gives refl, to_inside (Own i) p i.issue (Member i.member) takes)
+deposit_limit (Own i) p openings are from = by_sort i.sort
+    (λ deposit.
+    let takes : own_receiver i ≡ At (Member i.member) = rw deposit refl in
+    let fits = ltb-false (10 ^ 18) (held_in openings p i.issue + i.shares) (none_refused IssueSum (nat_lt (10 ^ 18) (held_in openings p i.issue + i.shares)) (rw deposit at are.lawful.0.may)) in
+    omega (
+      arith,
+      fits,
+      held_is openings p i.issue,
+      taken_here (Own i) p Outside i.issue from refl,
+      brought_other (Own i) p Outside i.issue (ap (λ (s : Side). same_side s Outside) takes),
+    ))
+    (λ withdraw. let none : At (Member i.member) ≡ Outside = rw withdraw at from in absurd cc)
 
 -- one that gives all that it had tells with how many its giver opened
 pub taken_all : (e : DepRecord) (p : List DepRecord) (a : Account) (openings : List Opening) → takes_all e ≡ true → (transfer_of e).giver ≡ At a → AreOpeningsOf openings (e ∷ p)

@@ -2,9 +2,9 @@
 use Rattle.std.proofs.Common.{◌≡◌, ℕ, ◌+◌, ◌^◌, ◌<◌, ◌≤◌, Bool, true, false, ◌&&◌, List, [], ◌∷◌, ◌++◌, reverse, length, length-append, Option, Some, None, cond, unwrap_or, refl, sym, ap, ◌∙◌, subst, arith}
 use Rattle.std.specs.Prelude.{◌==◌, if◌then◌else◌}
 use Rattle.std.specs.List.{slice_get}
-use Rattle.std.proofs.Math.Seq.{get_or-append_seam}
-use Rattle.std.proofs.lemmas.Bool.{eqb-true}
-use Rattle.std.proofs.lemmas.List.{get_or_append_left, length-reverse, reverse-append, reverse-reverse}
+use Rattle.std.proofs.lemmas.Bool.{and_parts, eqb-true}
+use Rattle.cns_journal.proofs.LayoutLemmas.{by_bool}
+use Rattle.std.proofs.lemmas.List.{get_or_append_left, get_or_push, length-reverse, reverse-append, reverse-reverse}
 use Rattle.std.proofs.lemmas.List.Sums.{sum_by-cons}
 use Rattle.std.proofs.lemmas.Option.{slice_get-get_or}
 use Rattle.cns_records.specs.declared.dep_record.DepRecord.{DepRecord}
@@ -18,7 +18,7 @@ use Rattle.cns_depository.specs.declared.place.Place.{Place}
 use Rattle.cns_depository.specs.Account.{same_side}
 use Rattle.cns_depository.specs.Stock.{brought, part_in, part_out, taken, transfer_of}
 use Rattle.cns_depository.specs.Totals.{AreTransferred, AreTotalsOf, HasIndex, key_eq, key_of, moved_at, place_eq, record_of}
-use Rattle.cns_depository.proofs.MovementLemmas.{and_left, and_right, earlier_record, equal_sides, newest_record}
+use Rattle.cns_depository.proofs.MovementLemmas.{earlier_record, equal_sides, newest_record}
 
 -- ---- the index of a record
 
@@ -27,25 +27,24 @@ slice_more xs e i within =
     slice_get-get_or (xs ++ e ∷ []) i e (omega (arith, within, length-append xs (e ∷ []))) ∙ ap (λ (x : DepRecord). Some x) (get_or_append_left xs (e ∷ []) e i within)
     ∙ sym (slice_get-get_or xs i e within)
 
-slice_last : (xs : List DepRecord) (e : DepRecord) → slice_get (xs ++ e ∷ []) (length xs) ≡ Some e
-slice_last xs e = slice_get-get_or (xs ++ e ∷ []) (length xs) e (omega (arith, length-append xs (e ∷ []))) ∙ ap (λ (x : DepRecord). Some x) (get_or-append_seam xs e [] e)
+slice_last : (xs : List DepRecord) (e : DepRecord) (n : ℕ) → length xs ≡ n → slice_get (xs ++ e ∷ []) n ≡ Some e
+slice_last xs e n size = slice_get-get_or (xs ++ e ∷ []) n e (omega (arith, size, length-append xs (e ∷ []))) ∙ ap (λ (x : DepRecord). Some x) (get_or_push xs e e n size)
 
 -- the record that is added stands after the others
 index_more : (p : List DepRecord) (e : DepRecord) (k : Key) (index : Option ℕ) → HasIndex p k index
     → HasIndex (e ∷ p) k (if key_eq (key_of e) k then Some (length p) else index)
-index_more p e k index has = by (key_eq (key_of e) k) refl index has
+index_more p e k index has = by_bool (key_eq (key_of e) k)
+    (λ is. rw is (omega arith, ap (λ (xs : List DepRecord). slice_get xs (length p)) turned ∙ slice_last (reverse p) e (length p) (length-reverse p) ∙ sym (newest_record e p k is)))
+    (λ other. rw other (later other index has))
   where
     turned : reverse (e ∷ p) ≡ reverse p ++ e ∷ []
     turned = reverse-append (e ∷ []) p
 
-    by : (b : Bool) → key_eq (key_of e) k ≡ b → (o : Option ℕ) → HasIndex p k o → HasIndex (e ∷ p) k (if b then Some (length p) else o)
-    by true is o had =
-        let last : slice_get (reverse p ++ e ∷ []) (length p) ≡ Some e = ap (slice_get (reverse p ++ e ∷ [])) (sym (length-reverse p)) ∙ slice_last (reverse p) e in
-        (omega arith, ap (λ (xs : List DepRecord). slice_get xs (length p)) turned ∙ last ∙ sym (newest_record e p k is))
-    by false is None had = earlier_record e p k is ∙ had
-    by false is (Some i) had =
+    later : key_eq (key_of e) k ≡ false → (o : Option ℕ) → HasIndex p k o → HasIndex (e ∷ p) k o
+    later other None had = earlier_record e p k other ∙ had
+    later other (Some i) had =
         let within : i < length (reverse p) = omega (arith, had.0, length-reverse p) in
-        (omega (arith, had.0), ap (λ (xs : List DepRecord). slice_get xs i) turned ∙ slice_more (reverse p) e i within ∙ had.1 ∙ sym (earlier_record e p k is))
+        (omega (arith, had.0), ap (λ (xs : List DepRecord). slice_get xs i) turned ∙ slice_more (reverse p) e i within ∙ had.1 ∙ sym (earlier_record e p k other))
 
 -- the record of a key by the index that is found
 pub index_none_of : (p : List DepRecord) (k : Key) (o : Option ℕ) → HasIndex p k o → o ≡ None → record_of p k ≡ None
@@ -60,10 +59,7 @@ index_some_of records k i o stands some =
 -- ---- places
 
 pub swap : (a b : Bool) → (a && b) ≡ (b && a)
-swap true true = refl
-swap true false = refl
-swap false true = refl
-swap false false = refl
+swap a b = grind arith
 
 -- a place is that of a side in an issue where both are the same
 pub at_place : (x s : Side) (i issue : ℕ) → place_eq (record { issue = i; side = x }) (record { issue = issue; side = s }) ≡ (same_side x s && (i == issue))
@@ -75,34 +71,26 @@ at_place (At Cns) (At (Member m)) i issue = swap (i == issue) false
 at_place (At (Member m)) (At Cns) i issue = swap (i == issue) false
 at_place (At (Member m)) (At (Member n)) i issue = swap (i == issue) (m == n)
 
-equal_parts : (issue other : ℕ) (a b : Side) → place_eq (record { issue = issue; side = a }) (record { issue = other; side = b }) ≡ true → (issue ≡ other) × (a ≡ b)
-equal_parts issue other a b e =
-    let parts = at_place a b issue other in
-    let same : (same_side a b && (issue == other)) ≡ true = sym parts ∙ e in
-    (eqb-true issue other (and_right (same_side a b) (issue == other) same), equal_sides a b (and_left (same_side a b) (issue == other) same))
-
 pub equal_places : (a b : Place) → place_eq a b ≡ true → a ≡ b
 equal_places a b e =
-    let both = equal_parts a.issue b.issue a.side b.side e in
-    λ i. record { issue = both.0 i; side = both.1 i }
+    let both = and_parts (same_side a.side b.side) (a.issue == b.issue) (sym (at_place a.side b.side a.issue b.issue) ∙ e) in
+    let issue = eqb-true a.issue b.issue both.1 in
+    let side = equal_sides a.side b.side both.0 in
+    λ i. record { issue = issue i; side = side i }
 
 -- a number of each place grows by n where w is put at a place, and stays everywhere else
-pub put_adds : (at : Moved → ℕ) (k : Place) (w : Moved) (n : ℕ) (old new : Place → Moved) → ((q : Place) → new q ≡ (if place_eq k q then w else old q)) → at w ≡ at (old k) + n
-    → (q : Place) → at (new q) ≡ at (old q) + (if place_eq k q then n else 0)
-put_adds at k w n old new puts more q = by (place_eq k q) refl (puts q)
-  where
-    by : (b : Bool) → place_eq k q ≡ b → new q ≡ (if b then w else old q) → at (new q) ≡ at (old q) + (if b then n else 0)
-    by true e is = ap at is ∙ more ∙ ap (λ (z : Place). at (old z) + n) (equal_places k q e)
-    by false e is = ap at is ∙ omega arith
+pub put_adds : (at : Moved → ℕ) (k : Place) (w : Moved) (n : ℕ) (old new : Place → Option Moved) → ((q : Place) → new q ≡ cond (place_eq k q) (Some w) (old q)) → at w ≡ at (moved_at (old k)) + n
+    → (q : Place) → at (moved_at (new q)) ≡ at (moved_at (old q)) + (if place_eq k q then n else 0)
+put_adds at k w n old new puts more q = by_bool (place_eq k q)
+    (λ is. rw is (ap (λ o. at (moved_at o)) (rw is at (puts q)) ∙ more ∙ ap (λ (z : Place). at (moved_at (old z)) + n) (equal_places k q is)))
+    (λ other. rw other (ap (λ o. at (moved_at o)) (rw other at (puts q)) ∙ omega arith))
 
 -- and all stay where w has the number that was there
-pub put_same : (at : Moved → ℕ) (k : Place) (w : Moved) (old new : Place → Moved) → ((q : Place) → new q ≡ (if place_eq k q then w else old q)) → at w ≡ at (old k)
-    → (q : Place) → at (new q) ≡ at (old q)
-put_same at k w old new puts same q = by (place_eq k q) refl (puts q)
-  where
-    by : (b : Bool) → place_eq k q ≡ b → new q ≡ (if b then w else old q) → at (new q) ≡ at (old q)
-    by true e is = ap at is ∙ same ∙ ap (λ (z : Place). at (old z)) (equal_places k q e)
-    by false e is = ap at is
+pub put_same : (at : Moved → ℕ) (k : Place) (w : Moved) (old new : Place → Option Moved) → ((q : Place) → new q ≡ cond (place_eq k q) (Some w) (old q)) → at w ≡ at (moved_at (old k))
+    → (q : Place) → at (moved_at (new q)) ≡ at (moved_at (old q))
+put_same at k w old new puts same q = by_bool (place_eq k q)
+    (λ is. ap (λ o. at (moved_at o)) (rw is at (puts q)) ∙ same ∙ ap (λ (z : Place). at (moved_at (old z))) (equal_places k q is))
+    (λ other. ap (λ o. at (moved_at o)) (rw other at (puts q)))
 
 -- what is found for a place, nothing where it is not named
 pub moved_found : (found : Option Moved) (now : Moved) (entry : Option Moved) → now ≡ unwrap_or entry (record { entered = 0; left = 0 }) → entry ≡ found → now ≡ moved_at found
@@ -112,16 +100,10 @@ moved_found found now entry value same = value ∙ ap (λ (o : Option Moved). un
     by None = refl
     by (Some m) = refl
 
--- and after w is put at one
-pub moved_put : (b : Bool) (w : Moved) (old new : Option Moved) → new ≡ cond b (Some w) old → moved_at new ≡ (if b then w else moved_at old)
-moved_put true w old new is = ap moved_at is
-moved_put false w old new is = ap moved_at is
-
 -- ---- the totals
 
 at_most : (b : Bool) (n : ℕ) → (if b then n else 0) ≤ n
-at_most true n = omega arith
-at_most false n = omega arith
+at_most b n = grind arith
 
 -- those of no records
 pub sums_none : (moved : Place → Moved) → ((k : Place) → moved k ≡ record { entered = 0; left = 0 }) → AreTransferred moved []

@@ -1,181 +1,156 @@
 -- What each of the two writes of a commit may leave.
-use Rattle.std.proofs.Common.{◌≡◌, ◌⊎◌, inl, inr, ⊎_elim, ℕ, zero, suc, ◌+◌, ◌*◌, ◌<◌, ◌≤◌, List, [], ◌∷◌, ◌++◌, length, get_or, take, drop, refl, sym, ◌∙◌, ap, subst, arith, length-drop, length-append, append_assoc}
+use Rattle.std.proofs.Common.{◌≡◌, ◌⊎◌, inl, inr, ℕ, ◌+◌, ◌≤◌, List, [], ◌∷◌, ◌++◌, length, get_or, take, drop, refl, sym, ◌∙◌, ap, subst, arith, length-drop, length-append, append_assoc}
 use Rattle.std.proofs.lemmas.Bool.{cases_eq}
-use Rattle.std.proofs.lemmas.List.{take_at, drop_at, get_or-take, get_or-drop, length-take, drop_more, drop-drop}
+use Rattle.std.proofs.lemmas.List.{append-nil, take_at, drop_at, get_or_at, get_or_default, get_or-drop, length-take, drop_more, drop-drop}
 use Rattle.cns_journal.specs.Disk.{overwritten, Torn, Only}
 use Rattle.std.specs.Int.{to_be_bytes, w32}
 use Rattle.std.proofs.lemmas.Nat.{from_be_bytes-to_be_bytes_4}
-use Rattle.cns_journal.specs.Layout.{journal_of, size_of, first_payload, behind, closed_record, HasWithOrWithout, IsSettled}
-use Rattle.cns_journal.proofs.LayoutLemmas.{Counts, journal-more, journal-none, journal-same, journal-closed, take-short, append-none, first-of-drop}
+use Rattle.cns_journal.specs.Layout.{journal_of, size_of, payload_length, first_payload, behind, closed_record, HasWithOrWithout, IsSettled}
+use Rattle.cns_journal.proofs.LayoutLemmas.{Counts, byte-same, counts-shut, front-same, journal-more, journal-none, journal-behind, journal-closed, first-of-drop, size-append}
 
--- a record's bytes behind its gate, with the next gate
-abbrev pub block_of : ℕ → ℕ → ℕ → ℕ → List ℕ → List ℕ
-block_of a b c d p = a ∷ b ∷ c ∷ d ∷ (p ++ 0 ∷ [])
+-- a record's bytes behind this gate, and what stands behind them
+abbrev pub tail_of : ℕ → List ℕ → List ℕ → List ℕ
+tail_of gate p junk = gate ∷ (closed_record p ++ junk)
 
-end-append : (ps : List (List ℕ)) (p : List ℕ) → size_of (ps ++ p ∷ []) ≡ size_of ps + (5 + length p)
-end-append [] p = omega arith
-end-append (q ∷ ps) p = let r = end-append ps p in omega arith
+module _ (gate : ℕ) (p junk : List ℕ) (small : length p ≤ 1048576) where
+  abbrev tail : List ℕ
+  tail = tail_of gate p junk
 
--- whole records of a payload, by the gate before it
-tail-open : (g a b c d : ℕ) (p junk : List ℕ) → a * 16777216 + b * 65536 + c * 256 + d ≡ length p → length p ≤ 1048576 → g ≡ 165
-    → journal_of (g ∷ a ∷ b ∷ c ∷ d ∷ (p ++ 0 ∷ junk)) ≡ p ∷ []
-tail-open g a b c d p junk size small is =
-    let t : List ℕ = g ∷ a ∷ b ∷ c ∷ d ∷ (p ++ 0 ∷ junk) in let l = length-append p (0 ∷ junk) in
-    let cc : Counts t = record { gate = is; allowed = omega arith; whole = omega arith } in
-    let q : first_payload t ≡ p = take_at p (0 ∷ junk) _ (sym size) in
-    let r : behind t ≡ 0 ∷ junk = ap (λ (k : ℕ). drop k t) (omega arith) ∙ drop_at (g ∷ a ∷ b ∷ c ∷ d ∷ p) (0 ∷ junk) (5 + length p) (omega arith) in
-    journal-more t cc ∙ (λ i. q i ∷ journal_of (r i)) ∙ ap (λ (l : List (List ℕ)). p ∷ l) (journal-none (0 ∷ junk) (λ e. omega arith))
+  -- the record, and then the closed gate
+  abbrev front : List ℕ
+  front = gate ∷ (to_be_bytes w32 (length p) ++ p)
 
-module _ (f : List ℕ) (end : ℕ) (is_end : end ≡ size_of (journal_of f)) (inside : end < length f) (closed : get_or f end 1 ≡ 0) (a b c d : ℕ) (p : List ℕ) (size : a * 16777216 + b * 65536 + c * 256 + d ≡ length p) (small : length p ≤ 1048576) where
-  abbrev block : List ℕ
-  block = block_of a b c d p
+  tail-is : tail ≡ front ++ 0 ∷ junk
+  tail-is = ap (λ (l : List ℕ). gate ∷ (to_be_bytes w32 (length p) ++ l)) (append_assoc p (0 ∷ []) junk)
 
-  abbrev junk : List ℕ
+  -- the length of the record is the payload's
+  pub size-tail : payload_length tail ≡ length p
+  size-tail = omega (arith, from_be_bytes-to_be_bytes_4 (length p) (omega arith))
+
+  -- all of it is a gate, the record, the next gate and what stands behind
+  pub length-tail : length tail ≡ 6 + length p + length junk
+  length-tail = ap length tail-is ∙ omega (arith, length-append p (0 ∷ junk))
+
+  -- behind the record stands the closed gate
+  pub behind-tail : behind tail ≡ 0 ∷ junk
+  behind-tail = ap (λ (k : ℕ). drop (5 + k) tail) size-tail ∙ ap (drop (5 + length p)) tail-is ∙ drop_at front (0 ∷ junk) (5 + length p) (omega arith)
+
+  -- the gate behind the record
+  pub closed-tail : get_or tail (5 + length p) 1 ≡ 0
+  closed-tail = ap (λ (l : List ℕ). get_or l (5 + length p) 1) tail-is ∙ get_or_at front 0 junk 1 (5 + length p) (omega arith)
+
+  -- the record counts where its gate is open
+  pub counts-tail : gate ≡ 165 → Counts tail
+  counts-tail opened = record { gate = opened; allowed = omega (arith, size-tail); whole = omega (arith, size-tail, length-tail) }
+
+  -- and is the only one then
+  tail-open : gate ≡ 165 → journal_of tail ≡ p ∷ []
+  tail-open opened =
+      let first : first_payload tail ≡ p = ap (λ (k : ℕ). take k (drop 5 tail)) size-tail ∙ ap (take (length p)) (append_assoc p (0 ∷ []) junk) ∙ take_at p (0 ∷ junk) (length p) refl in
+      journal-more tail (counts-tail opened) ∙ (λ i. first i ∷ journal_of (behind-tail i))
+
+-- what a write leaves is the file that it found, or one that is no shorter, and the same before the place of the write and behind it
+pub by_torn : (P : List ℕ → Type 0) (at n : ℕ) (old image : List ℕ)
+    → ((c : List ℕ) → length old ≤ length c → take at c ≡ take at old → drop (at + n) c ≡ drop (at + n) old → P c) → (image ≡ old) ⊎ Torn at n old image → P image
+by_torn P at n old image holds (inl is) = subst P (sym is) (holds old (omega arith) refl refl)
+by_torn P at n old image holds (inr torn) = holds image torn.no_shorter torn.before torn.after
+
+-- a record is put behind the closed gate of a file
+module _ {f : List ℕ} {images : List ℕ → Type 0} {end : ℕ} (s : IsSettled f images end) (p : List ℕ) {block : List ℕ} (block_is : block ≡ closed_record p) (small : length p ≤ 1048576) where
+  -- a file that is the same up to the closed gate
+  pub shut-gate : (image : List ℕ) → take (end + 1) image ≡ take (end + 1) f → get_or image end 0 ≡ 0
+  shut-gate image same = byte-same (end + 1) end image f same (omega arith) ∙ get_or_default f end 0 1 s.inside ∙ s.closed
+
+  -- what a crash leaves of the write has the records of the file
+  pub stage-leaves : (image : List ℕ) → (image ≡ f) ⊎ Torn (end + 1) (length block) f image → journal_of image ≡ journal_of f
+  stage-leaves image = by_torn (λ (c : List ℕ). journal_of c ≡ journal_of f) (end + 1) (length block) f image (λ c long same rest.
+      journal-closed f c end s.end_is (omega (arith, s.inside, long)) (front-same end (end + 1) c f (omega arith) same) (λ opened. omega (arith, opened, shut-gate c same)))
+
+  -- what stands behind the bytes that were written
+  abbrev pub junk : List ℕ
   junk = drop (end + 1 + length block) f
 
-  abbrev staged : List ℕ
-  staged = overwritten f (end + 1) block
+  module _ {g : List ℕ} (written : g ≡ overwritten f (end + 1) block) where
+    length-front : length (take (end + 1) f) ≡ end + 1
+    length-front = omega (arith, length-take (end + 1) f, s.inside)
 
-  length-block : length block ≡ 5 + length p
-  length-block = omega (arith, length-append p (0 ∷ []))
+    staged-is : g ≡ take (end + 1) f ++ (block ++ junk)
+    staged-is = written ∙ append_assoc (take (end + 1) f) block junk
 
-  get-default : (l : List ℕ) (i x y : ℕ) → i < length l → get_or l i x ≡ get_or l i y
-  get-default [] i x y h = absurd (omega arith)
-  get-default (z ∷ zs) zero x y h = refl
-  get-default (z ∷ zs) (suc i) x y h = get-default zs i x y (omega arith)
+    -- the file once they are written: its length, and what stands up to the gate
+    pub length-staged : length g ≡ end + 6 + length p + length junk
+    length-staged = ap length staged-is ∙ omega (arith, length-append (take (end + 1) f) (block ++ junk), length-front, length-append block junk, ap length block_is, length-append p (0 ∷ []))
 
-  -- any image that is the same up to the closed gate
-  pub before-gate : (image : List ℕ) → length f ≤ length image → take (end + 1) image ≡ take (end + 1) f → journal_of image ≡ journal_of f
-  before-gate image long same = let e : size_of (journal_of f) ≡ end = sym is_end in
-      let short : take end image ≡ take end f = sym (take-short end (end + 1) image (omega arith)) ∙ ap (λ (l : List ℕ). take end l) same ∙ take-short end (end + 1) f (omega arith) in
-      let g : get_or image end 0 ≡ 0 = sym (get_or-take (end + 1) image end 0 (omega arith)) ∙ ap (λ (l : List ℕ). get_or l end 0) same ∙ get_or-take (end + 1) f end 0 (omega arith) ∙ get-default f end 0 1 inside ∙ closed in
-      journal-closed (journal_of f) f image refl (omega arith) (subst (λ (k : ℕ). take k image ≡ take k f) is_end short) (λ h. let g' : get_or image end 0 ≡ 165 = ap (λ (k : ℕ). get_or image k 0) is_end ∙ h in omega arith)
+    pub staged-front : take end g ≡ take end f
+    staged-front = front-same end (end + 1) g f (omega arith) (ap (take (end + 1)) staged-is ∙ take_at (take (end + 1) f) (block ++ junk) (end + 1) length-front)
 
-  pub torn-stage : (image : List ℕ) → (image ≡ f) ⊎ Torn (end + 1) (length block) f image → journal_of image ≡ journal_of f
-  torn-stage image h = ⊎_elim (λ e. ap journal_of e) (λ t. before-gate image t.no_shorter t.before) h
+    -- what stands from the gate on, in a file that is the same behind it
+    pub staged-tail : (image : List ℕ) → length g ≤ length image → drop (end + 1) image ≡ drop (end + 1) g → drop end image ≡ tail_of (get_or image end 0) p junk
+    staged-tail image long rest = drop_more image end 0 (omega (arith, long, length-staged)) ∙ ap (λ (l : List ℕ). get_or image end 0 ∷ l) (rest
+        ∙ ap (drop (end + 1)) staged-is ∙ drop_at (take (end + 1) f) (block ++ junk) (end + 1) length-front ∙ ap (λ (l : List ℕ). l ++ junk) block_is)
 
-  front : take (end + 1) staged ≡ take (end + 1) f
-  front = ap (λ (l : List ℕ). take (end + 1) l) (append_assoc (take (end + 1) f) block junk) ∙ take_at (take (end + 1) f) (block ++ junk) (end + 1) (omega (arith, length-take (end + 1) f))
+    -- the records of such a file, by its gate
+    at-gate : (image : List ℕ) → length g ≤ length image → take end image ≡ take end g → drop (end + 1) image ≡ drop (end + 1) g
+        → journal_of image ≡ journal_of f ++ journal_of (tail_of (get_or image end 0) p junk)
+    at-gate image long same rest = journal-behind f image end s.end_is (omega (arith, long, length-staged)) (same ∙ staged-front)
+        ∙ ap (λ (l : List ℕ). journal_of f ++ journal_of l) (staged-tail image long rest)
 
-  back : drop (end + 1) staged ≡ block ++ junk
-  back = ap (λ (l : List ℕ). drop (end + 1) l) (append_assoc (take (end + 1) f) block junk) ∙ drop_at (take (end + 1) f) (block ++ junk) (end + 1) (omega (arith, length-take (end + 1) f))
-
-  pub length-staged : (length f ≤ length staged) × (end + 1 + 5 + length p ≤ length staged)
-  length-staged = let s : length staged ≡ end + 1 + length block + length junk = ap (λ (l : List ℕ). length l) (append_assoc (take (end + 1) f) block junk) ∙ length-append (take (end + 1) f) (block ++ junk) ∙ omega (arith, length-take (end + 1) f, length-append block junk) in
-      let j = length-drop (end + 1 + length block) f in let l = length-block in (omega arith, omega arith)
-
-  -- any image that is the same but for the gate
-  pub at-gate : (image : List ℕ) → length staged ≤ length image → take end image ≡ take end staged → drop (end + 1) image ≡ drop (end + 1) staged
-      → (journal_of image ≡ journal_of f ++ journal_of (get_or image end 0 ∷ a ∷ b ∷ c ∷ d ∷ (p ++ 0 ∷ junk)))
-  at-gate image long same rest = let e : size_of (journal_of f) ≡ end = sym is_end in let ls = length-staged in
-      let short : take end image ≡ take end f = same ∙ sym (take-short end (end + 1) staged (omega arith)) ∙ ap (λ (l : List ℕ). take end l) front ∙ take-short end (end + 1) f (omega arith) in
-      let t : drop end image ≡ get_or image end 0 ∷ a ∷ b ∷ c ∷ d ∷ (p ++ 0 ∷ junk) = drop_more image end 0 (omega arith) ∙ ap (λ (l : List ℕ). get_or image end 0 ∷ l) (rest ∙ back ∙ ap (λ (l : List ℕ). a ∷ b ∷ c ∷ d ∷ l) (append_assoc p (0 ∷ []) junk)) in
-      journal-same (journal_of f) f image refl (omega arith) (subst (λ (k : ℕ). take k image ≡ take k f) is_end short) ∙ ap (λ (k : ℕ). journal_of f ++ journal_of (drop k image)) e ∙ ap (λ (l : List ℕ). journal_of f ++ journal_of l) t
-
-  pub either-gate : (image : List ℕ) → length staged ≤ length image → take end image ≡ take end staged → drop (end + 1) image ≡ drop (end + 1) staged → HasWithOrWithout (journal_of f) p image
-  either-gate image long same rest = let m = at-gate image long same rest in let g : ℕ = get_or image end 0 in elim (cases_eq g 165) [
-    | inl opened ↦ inr (m ∙ ap (λ (l : List (List ℕ)). journal_of f ++ l) (tail-open g a b c d p junk size small opened))
-    | inr shut ↦ inl (m ∙ ap (λ (l : List (List ℕ)). journal_of f ++ l) (journal-none (g ∷ a ∷ b ∷ c ∷ d ∷ (p ++ 0 ∷ junk)) shut) ∙ append-none (journal_of f))
-  ]
-
-  pub torn-gate : (image : List ℕ) → (image ≡ staged) ⊎ Torn end 1 staged image → HasWithOrWithout (journal_of f) p image
-  torn-gate image h = ⊎_elim (λ e. subst (HasWithOrWithout (journal_of f) p) (sym e) (either-gate staged (omega arith) refl refl)) (λ t. either-gate image t.no_shorter t.before t.after) h
-
-  abbrev opened : List ℕ
-  opened = overwritten staged end (165 ∷ [])
-
-  open-whole : opened ≡ take end staged ++ 165 ∷ drop (end + 1) staged
-  open-whole = append_assoc (take end staged) (165 ∷ []) (drop (end + 1) staged)
-
-  length-opened : length opened ≡ length staged
-  length-opened = let ls = length-staged in ap (λ (l : List ℕ). length l) open-whole ∙ length-append (take end staged) (165 ∷ drop (end + 1) staged) ∙ omega (arith, length-take end staged, length-drop (end + 1) staged)
-
-  open-front' : take end opened ≡ take end staged
-  open-front' = let ls = length-staged in ap (λ (l : List ℕ). take end l) open-whole ∙ take_at (take end staged) (165 ∷ drop (end + 1) staged) end (omega (arith, length-take end staged))
-
-  open-from : drop end opened ≡ 165 ∷ drop (end + 1) staged
-  open-from = let ls = length-staged in ap (λ (l : List ℕ). drop end l) open-whole ∙ drop_at (take end staged) (165 ∷ drop (end + 1) staged) end (omega (arith, length-take end staged))
-
-  open-gate : get_or opened end 0 ≡ 165
-  open-gate = sym (first-of-drop end opened) ∙ ap (λ (l : List ℕ). get_or l 0 0) open-from
-
-  open-back : drop (end + 1) opened ≡ drop (end + 1) staged
-  open-back = sym (drop-drop 1 end opened) ∙ ap (λ (l : List ℕ). drop 1 l) open-from
-
-  -- both writes done, the record is in
-  pub journal-opened : journal_of opened ≡ journal_of f ++ p ∷ []
-  journal-opened = let l = length-opened in at-gate opened (omega arith) open-front' open-back ∙ ap (λ (l : List (List ℕ)). journal_of f ++ l) (tail-open _ a b c d p junk size small open-gate)
-
-  pub end-opened : size_of (journal_of opened) ≡ end + 5 + length p
-  end-opened = ap size_of journal-opened ∙ end-append (journal_of f) p ∙ omega (arith, is_end)
-
-  pub closed-opened : (end + 5 + length p < length opened) × (get_or opened (end + 5 + length p) 1 ≡ 0)
-  closed-opened = let ls = length-staged in let lo = length-opened in let long : end + 5 + length p < length opened = omega arith in (
-    long,
-    get-default opened (end + 5 + length p) 1 0 long ∙ ap (λ (k : ℕ). get_or opened k 0) (omega arith) ∙ sym (get_or-drop (end + 1) opened (4 + length p) 0)
-        ∙ ap (λ (l : List ℕ). get_or l (4 + length p) 0) (open-back ∙ back ∙ ap (λ (l : List ℕ). a ∷ b ∷ c ∷ d ∷ l) (append_assoc p (0 ∷ []) junk))
-        ∙ sym (get_or-drop (4 + length p) (a ∷ b ∷ c ∷ d ∷ (p ++ 0 ∷ junk)) 0 0 ∙ ap (λ (k : ℕ). get_or (a ∷ b ∷ c ∷ d ∷ (p ++ 0 ∷ junk)) k 0) (omega arith))
-        ∙ ap (λ (l : List ℕ). get_or l 0 0) (drop_at (a ∷ b ∷ c ∷ d ∷ p) (0 ∷ junk) (4 + length p) (omega arith)),
-  )
-
--- a payload's length by its four bytes
-pub record IsBlock (p block : List ℕ) : Type 0 where
-  pub a : ℕ
-  pub b : ℕ
-  pub c : ℕ
-  pub d : ℕ
-  pub size : a * 16777216 + b * 65536 + c * 256 + d ≡ length p
-  pub block_is : block ≡ block_of a b c d p
-
-pub closed_is : (p : List ℕ) → length p ≤ 1048576 → IsBlock p (closed_record p)
-closed_is p small = let n : ℕ = length p in let bytes : List ℕ = to_be_bytes w32 n in let s = from_be_bytes-to_be_bytes_4 n (omega arith) in record {
-  a = get_or bytes 0 0;
-  b = get_or bytes 1 0;
-  c = get_or bytes 2 0;
-  d = get_or bytes 3 0;
-  size = omega (arith, s);
-  block_is = refl;
-}
-
-module _ (f : List ℕ) (images : List ℕ → Type 0) (end : ℕ) (s : IsSettled f images end) (p block : List ℕ) (block-is : block ≡ closed_record p) (small : length p ≤ 1048576) where
-  is : IsBlock p block
-  is = subst (IsBlock p) (sym block-is) (closed_is p small)
-
-  pub stage-leaves : (image : List ℕ) → (image ≡ f) ⊎ Torn (end + 1) (length block) f image → journal_of image ≡ journal_of f
-  stage-leaves image h = torn-stage f end s.end_is s.inside s.closed is.a is.b is.c is.d p is.size small image (subst (λ (b : List ℕ). (image ≡ f) ⊎ Torn (end + 1) (length b) f image) is.block_is h)
-
-  module _ (g : List ℕ) (staged_is : g ≡ overwritten f (end + 1) block) where
-    g-is : g ≡ overwritten f (end + 1) (block_of is.a is.b is.c is.d p)
-    g-is = staged_is ∙ ap (overwritten f (end + 1)) is.block_is
-
-    pub gate-fits : end ≤ length g
-    gate-fits = let l = length-staged f end s.end_is s.inside s.closed is.a is.b is.c is.d p is.size small in omega (arith, ap length g-is, l.1)
-
+    -- what a crash leaves of the gate that is opened then has the record, or has it not
     pub gate-leaves : (image : List ℕ) → (image ≡ g) ⊎ Torn end 1 g image → HasWithOrWithout (journal_of f) p image
-    gate-leaves image h = torn-gate f end s.end_is s.inside s.closed is.a is.b is.c is.d p is.size small image (subst (λ (x : List ℕ). (image ≡ x) ⊎ Torn end 1 x image) g-is h)
+    gate-leaves image = by_torn (HasWithOrWithout (journal_of f) p) end 1 g image (λ c long same rest.
+        let gate : ℕ = get_or c end 0 in elim (cases_eq gate 165) [
+          | inl opened ↦ inr (at-gate c long same rest ∙ ap (λ (l : List (List ℕ)). journal_of f ++ l) (tail-open gate p junk small opened))
+          | inr shut ↦ inl (at-gate c long same rest ∙ ap (λ (l : List (List ℕ)). journal_of f ++ l) (journal-none (tail_of gate p junk) (counts-shut (tail_of gate p junk) shut)) ∙ append-nil (journal_of f))
+        ])
 
-    pub both-done : (h : List ℕ) (left : List ℕ → Type 0) → h ≡ overwritten g end (165 ∷ []) → Only h left → IsSettled h left (end + 5 + length p) × (journal_of h ≡ journal_of f ++ p ∷ [])
-    both-done h left opened_is only = let o : h ≡ overwritten (overwritten f (end + 1) (block_of is.a is.b is.c is.d p)) end (165 ∷ []) = opened_is ∙ ap (λ (x : List ℕ). overwritten x end (165 ∷ [])) g-is in
-        let e = end-opened f end s.end_is s.inside s.closed is.a is.b is.c is.d p is.size small in let l = closed-opened f end s.end_is s.inside s.closed is.a is.b is.c is.d p is.size small in (
-          record {
-            end_is = sym (ap (λ (x : List ℕ). size_of (journal_of x)) o ∙ e);
-            inside = subst (λ (x : List ℕ). end + 5 + length p < length x) (sym o) l.0;
-            closed = ap (λ (x : List ℕ). get_or x (end + 5 + length p) 1) o ∙ l.1;
-            durable = only;
-          },
-          ap journal_of o ∙ journal-opened f end s.end_is s.inside s.closed is.a is.b is.c is.d p is.size small,
-        )
+    -- the gate is within the file
+    pub gate-fits : end ≤ length g
+    gate-fits = omega (arith, length-staged)
+
+    -- both writes done, the record is in
+    module _ {h : List ℕ} (opened : h ≡ overwritten g end (165 ∷ [])) where
+      -- what stands up to the gate, and from there on
+      opened-is : h ≡ take end g ++ 165 ∷ drop (end + 1) g
+      opened-is = opened ∙ append_assoc (take end g) (165 ∷ []) (drop (end + 1) g)
+
+      length-opened : length h ≡ length g
+      length-opened = ap length opened-is ∙ omega (arith, length-append (take end g) (165 ∷ drop (end + 1) g), length-take end g, length-drop (end + 1) g, length-staged)
+
+      length-start : length (take end g) ≡ end
+      length-start = omega (arith, length-take end g, length-staged)
+
+      opened-from : drop end h ≡ 165 ∷ drop (end + 1) g
+      opened-from = ap (drop end) opened-is ∙ drop_at (take end g) (165 ∷ drop (end + 1) g) end length-start
+
+      opened-tail : drop end h ≡ tail_of 165 p junk
+      opened-tail =
+          let gate = sym (first-of-drop end h) ∙ ap (λ (l : List ℕ). get_or l 0 0) opened-from in
+          staged-tail h (omega (arith, length-opened)) (sym (drop-drop 1 end h) ∙ ap (drop 1) opened-from) ∙ ap (λ (x : ℕ). tail_of x p junk) gate
+
+      -- the file has its records and the new one
+      journal-opened : journal_of h ≡ journal_of f ++ p ∷ []
+      journal-opened = journal-behind f h end s.end_is (omega (arith, length-opened, length-staged)) (ap (take end) opened-is ∙ take_at (take end g) (165 ∷ drop (end + 1) g) end length-start ∙ staged-front)
+          ∙ ap (λ (l : List ℕ). journal_of f ++ journal_of l) opened-tail ∙ ap (λ (l : List (List ℕ)). journal_of f ++ l) (tail-open 165 p junk small refl)
+
+      -- so it is settled at the end of that one
+      pub both-done : (left : List ℕ → Type 0) → Only h left → IsSettled h left (end + 5 + length p) × (journal_of h ≡ journal_of f ++ p ∷ [])
+      both-done left only = (
+        record {
+          end_is = omega (arith, ap size_of journal-opened, size-append (journal_of f) (p ∷ []), s.end_is);
+          inside = omega (arith, length-opened, length-staged);
+          closed = ap (λ (k : ℕ). get_or h k 1) (omega arith) ∙ sym (get_or-drop end h (5 + length p) 1) ∙ ap (λ (l : List ℕ). get_or l (5 + length p) 1) opened-tail ∙ closed-tail 165 p junk small;
+          durable = only;
+        },
+        journal-opened,
+      )
 
 -- what stands below the place of a write stays
 pub front-stays : (f c : List ℕ) (end at n : ℕ) → end ≤ at → (c ≡ f) ⊎ Torn at n f c → take end c ≡ take end f
-front-stays f c end at n le h = ⊎_elim (λ e. ap (λ (l : List ℕ). take end l) e) (λ t. sym (take-short end at c le) ∙ ap (λ (l : List ℕ). take end l) t.before ∙ take-short end at f le) h
+front-stays f c end at n le = by_torn (λ (x : List ℕ). take end x ≡ take end f) at n f c (λ x long same rest. front-same end at x f le same)
 
 -- the records below the end of a settled file
-pub below-end : (f c : List ℕ) (images : List ℕ → Type 0) (end : ℕ) → IsSettled f images end → take end c ≡ take end f → journal_of (take end c ++ 0 ∷ []) ≡ journal_of f
-below-end f c images end s same = let i = s.inside in let g : List ℕ = take end c ++ 0 ∷ [] in
-    let lt : length (take end c) ≡ end = ap (λ (l : List ℕ). length l) same ∙ length-take end f ∙ omega arith in
-    let lg : length g ≡ end + 1 = length-append (take end c) (0 ∷ []) ∙ omega arith in
-    let front : take end g ≡ take end f = take_at (take end c) (0 ∷ []) end lt ∙ same in
-    let gate : get_or g end 0 ≡ 0 = sym (first-of-drop end g) ∙ ap (λ (l : List ℕ). get_or l 0 0) (drop_at (take end c) (0 ∷ []) end lt) in
-    let e = s.end_is in
-    journal-closed (journal_of f) f g refl (omega arith) (subst (λ (k : ℕ). take k g ≡ take k f) e front) (λ h. let g' : get_or g end 0 ≡ 165 = ap (λ (k : ℕ). get_or g k 0) e ∙ h in omega arith)
+pub below-end : {f : List ℕ} (c : List ℕ) {images : List ℕ → Type 0} {end : ℕ} → IsSettled f images end → take end c ≡ take end f → journal_of (take end c ++ 0 ∷ []) ≡ journal_of f
+below-end {f} c {end = end} s same =
+    let front : length (take end c) ≡ end = ap length same ∙ omega (arith, length-take end f, s.inside) in
+    journal-closed f (take end c ++ 0 ∷ []) end s.end_is (omega (arith, length-append (take end c) (0 ∷ []), front)) (take_at (take end c) (0 ∷ []) end front ∙ same)
+    (λ opened. omega (arith, opened, get_or_at (take end c) 0 [] 0 end front))

@@ -3,7 +3,6 @@ pub mod CloseLemmas
 pub mod CrashLemmas
 pub mod DiskJournalLemmas
 pub mod FillLemmas
-pub mod KeeperLemmas
 pub mod LayoutLemmas
 pub mod LogLemmas
 pub mod MemCallLemmas

@@ -11,6 +11,7 @@ pieces_more (n ∷ lengths) bytes payload all =
     rw (take-append-le n bytes payload all.0) (rw (drop-append-le n bytes payload all.0)
     (ap (λ (rest : List (List ℕ)). take n bytes ∷ rest) (pieces_more lengths (drop n bytes) payload all.1)))
 
+-- the lengths are still those of all bytes
 pub all_more : (lengths bytes payload : List ℕ) → AreAll lengths bytes → AreAll (lengths ++ length payload ∷ []) (bytes ++ payload)
 all_more [] bytes payload all = subst (λ (b : List ℕ). (length payload ≤ length (b ++ payload)) × (drop (length payload) (b ++ payload) ≡ [])) (sym all) (omega arith, drop-length payload)
 all_more (n ∷ lengths) bytes payload all = (
@@ -18,6 +19,7 @@ all_more (n ∷ lengths) bytes payload all = (
   subst (λ (b : List ℕ). AreAll (lengths ++ length payload ∷ []) b) (sym (drop-append-le n bytes payload all.0)) (all_more lengths (drop n bytes) payload all.1),
 )
 
+-- there are as many payloads as lengths
 pub length-pieces : (lengths bytes : List ℕ) → length (pieces lengths bytes) ≡ length lengths
 length-pieces [] bytes = refl
 length-pieces (n ∷ lengths) bytes = ap suc (length-pieces lengths (drop n bytes))

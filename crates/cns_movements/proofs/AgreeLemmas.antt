@@ -1,33 +1,24 @@
 -- The test of whether two orders agree holds where they do, and nowhere else.
-use Rattle.std.proofs.Common.{◌≡◌, true, false, Option, None, Some, refl, sym, ap, ◌∙◌}
+use Rattle.std.proofs.Common.{◌≡◌, true, false, Option, None, Some, refl, sym, ap, ◌∙◌, arith}
 use Rattle.std.proofs.lemmas.Bool.{and_parts, eq-eqb, eqb-true, false_from_ne_true}
 use Rattle.std.proofs.lemmas.Option.{none-some, same_Some}
 use Rattle.cns_ids.specs.Cycle.{rank}
 use Rattle.cns_ids.specs.declared.cycle.CycleId.{CycleId}
 use Rattle.cns_ids.specs.declared.cycle.CycleKind.{CycleKind}
-use Rattle.cns_ids.specs.declared.cycle.CycleKind.TheVariants.{Night, Day}
 use Rattle.cns_movements.specs.Order.{AgreesWith, agrees_with, cycles_agree, same_cycle, same_kind}
 use Rattle.cns_movements.specs.declared.order.MoveKind.{MoveKind}
-use Rattle.cns_movements.specs.declared.order.MoveKind.TheVariants.{Cover, Delivery}
 use Rattle.cns_movements.specs.declared.order.Order.{Order}
 
 pub same_kind-refl : (k : MoveKind) → same_kind k k ≡ true
-same_kind-refl Cover = refl
-same_kind-refl Delivery = refl
+same_kind-refl k = grind arith
 
 same_kind-is : (a b : MoveKind) → same_kind a b ≡ true → a ≡ b
-same_kind-is Cover Cover e = refl
-same_kind-is Cover Delivery e = absurd (cc e)
-same_kind-is Delivery Cover e = absurd (cc e)
-same_kind-is Delivery Delivery e = refl
+same_kind-is a b e = grind arith
 
 -- ---- cycles
 
 rank-is : (a b : CycleKind) → rank a ≡ rank b → a ≡ b
-rank-is Night Night e = refl
-rank-is Night Day e = absurd (cc e)
-rank-is Day Night e = absurd (cc e)
-rank-is Day Day e = refl
+rank-is a b e = grind arith
 
 same_cycle-refl : (x : CycleId) → same_cycle x x ≡ true
 same_cycle-refl x = rw (eq-eqb x.day x.day refl, eq-eqb (rank x.kind) (rank x.kind) refl) refl

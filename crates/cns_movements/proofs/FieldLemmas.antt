@@ -2,10 +2,10 @@
 use Rattle.std.proofs.Common.{◌≡◌, ℕ, ◌+◌, ◌/◌, ◌%◌, ◌≤◌, Bool, true, false, cond, ◌&&◌, List, [], ◌∷◌, ◌++◌, length, take, drop, refl, sym, ap, subst, ◌∙◌, arith, Option, Some, None}
 use Rattle.std.specs.Prelude.{IfSome, Result, Ok, Err, option_map, slice_index, ◌==◌}
 use Rattle.std.specs.Int.{from_be_bytes, to_be_bytes, w16, w64}
-use Rattle.std.proofs.lemmas.Bool.{and_parts, eqb-true}
+use Rattle.std.proofs.lemmas.Bool.{and_parts}
 use Rattle.std.proofs.lemmas.Bool.Decides.{nat_tests}
-use Rattle.std.proofs.lemmas.Option.{none-some, same_Some}
-use Rattle.std.proofs.lemmas.List.{take-append-drop, length-take, length-drop, append_assoc, nil_from_length, take_all, take-take, drop-take}
+use Rattle.std.proofs.lemmas.Option.{cond_some, none-some, option_and_then_some, same_Some}
+use Rattle.std.proofs.lemmas.List.{take-append-drop, length-take, length-drop, append_assoc, nil_from_length, take_all, take_more, take-take, drop-take}
 use Rattle.std.proofs.lemmas.Nat.{be_bytes_2, be_bytes_8, from_be_bytes-to_be_bytes_2, from_be_bytes-to_be_bytes_8}
 use Rattle.cns_ids.specs.Cusip.{cusip_text, read_cusip, with_digit, first_bad, number_of, check_digit, IsCusip}
 use Rattle.cns_ids.specs.Day.{IsRealDay, IsDayNumber, is_real_day, number_of_day}
@@ -87,21 +87,13 @@ reply_parts bytes size = take_then 8 8 bytes ∙ take_all 16 bytes (omega (arith
 
 -- bytes of a date, and of a cycle
 day_parts : (bytes : List ℕ) → length bytes ≡ 4 → take 2 bytes ++ slice_index bytes 2 ∷ slice_index bytes 3 ∷ [] ≡ bytes
-day_parts [] size = absurd (omega (arith, size))
-day_parts (a ∷ []) size = absurd (omega (arith, size))
-day_parts (a ∷ b ∷ []) size = absurd (omega (arith, size))
-day_parts (a ∷ b ∷ c ∷ []) size = absurd (omega (arith, size))
-day_parts (a ∷ b ∷ c ∷ d ∷ []) size = refl
-day_parts (a ∷ b ∷ c ∷ d ∷ e ∷ rest) size = absurd (omega (arith, size))
+day_parts bytes size =
+    sym (append_assoc (take 2 bytes) (slice_index bytes 2 ∷ []) (slice_index bytes 3 ∷ []))
+    ∙ ap (λ (front : List ℕ). front ++ slice_index bytes 3 ∷ []) (sym (take_more bytes 2 0 (omega (arith, size))))
+    ∙ sym (take_more bytes 3 0 (omega (arith, size))) ∙ take_all 4 bytes (omega (arith, size))
 
 cycle_parts : (bytes : List ℕ) → length bytes ≡ 5 → take 4 bytes ++ slice_index bytes 4 ∷ [] ≡ bytes
-cycle_parts [] size = absurd (omega (arith, size))
-cycle_parts (a ∷ []) size = absurd (omega (arith, size))
-cycle_parts (a ∷ b ∷ []) size = absurd (omega (arith, size))
-cycle_parts (a ∷ b ∷ c ∷ []) size = absurd (omega (arith, size))
-cycle_parts (a ∷ b ∷ c ∷ d ∷ []) size = absurd (omega (arith, size))
-cycle_parts (a ∷ b ∷ c ∷ d ∷ e ∷ []) size = refl
-cycle_parts (a ∷ b ∷ c ∷ d ∷ e ∷ f ∷ rest) size = absurd (omega (arith, size))
+cycle_parts bytes size = sym (take_more bytes 4 0 (omega (arith, size))) ∙ take_all 5 bytes (omega (arith, size))
 
 -- a part within the bytes has its length, and bytes in it
 part_length : (i k : ℕ) (bytes : List ℕ) → i + k ≤ length bytes → length (take k (drop i bytes)) ≡ k
@@ -118,11 +110,6 @@ word_back i bytes h within = be_bytes_8 (take 8 (drop i bytes)) _ (part_length i
 pair_back : (i : ℕ) (bytes : List ℕ) → IsBytes bytes → i + 2 ≤ length bytes
     → to_be_bytes w16 (from_be_bytes w16 (take 2 (drop i bytes))) ≡ take 2 (drop i bytes)
 pair_back i bytes h within = be_bytes_2 (take 2 (drop i bytes)) _ (part_length i 2 bytes within) (part_bytes i 2 bytes h) refl
-
--- a value that passed its test
-taken : {A : Type 0} (b : Bool) (x y : A) → cond b (Some x) None ≡ Some y → (b ≡ true) × (x ≡ y)
-taken true x y e = (refl, cc)
-taken false x y e = absurd cc
 
 -- ---- dates
 
@@ -164,7 +151,7 @@ read_day-spelled bytes n size h e =
     let y = from_be_bytes w16 (take 2 bytes) in
     let m = slice_index bytes 2 in
     let d = slice_index bytes 3 in
-    let t = taken (is_real_day y m d) (number_of_day y m d) n e in
+    let t = cond_some (is_real_day y m d) (number_of_day y m d) n e in
     let real = is_real_day-sound y m d t.0 in
     let text = ap (λ (front : List ℕ). front ++ m ∷ d ∷ []) (pair_back 0 bytes h (omega (arith, size))) ∙ day_parts bytes size in
     rw (← t.1) (record { text = rw (year-number y m d real, month-number y m d real, day-number y m d real) text; real = IsDayNumber-number y m d real })
@@ -181,12 +168,7 @@ kind_back Night = refl
 kind_back Day = refl
 
 kind_spelled : (byte : ℕ) (kind : CycleKind) → cycle_kind_of byte ≡ Some kind → cycle_byte kind ≡ byte
-kind_spelled byte kind e = by (byte == 0) (byte == 1) refl refl e
-  where
-    by : (night day : Bool) → (byte == 0) ≡ night → (byte == 1) ≡ day → cond night (Some Night) (cond day (Some Day) None) ≡ Some kind → cycle_byte kind ≡ byte
-    by true day is_night is_day e = subst (λ (k : CycleKind). cycle_byte k ≡ byte) (same_Some Night kind e) (sym (eqb-true byte 0 is_night))
-    by false true is_night is_day e = subst (λ (k : CycleKind). cycle_byte k ≡ byte) (same_Some Day kind e) (sym (eqb-true byte 1 is_day))
-    by false false is_night is_day e = absurd (none-some kind e)
+kind_spelled byte kind e = grind (arith, nat_tests)
 
 -- a cycle's bytes are read back as the cycle
 cycle_fields : (id : CycleId) → read_cycle (cycle_bytes id) ≡ cycle_with (read_day (day_bytes id.day)) (cycle_kind_of (cycle_byte id.kind))
@@ -232,18 +214,9 @@ version_back One = refl
 version_back Two = refl
 
 pub version_spelled : (byte : ℕ) (version : Version) → version_of_byte byte ≡ Some version → version_byte version ≡ byte
-version_spelled byte version e = by (byte == 1) (byte == 2) refl refl e
-  where
-    by : (one two : Bool) → (byte == 1) ≡ one → (byte == 2) ≡ two → cond one (Some One) (cond two (Some Two) None) ≡ Some version → version_byte version ≡ byte
-    by true two is_one is_two e = subst (λ (v : Version). version_byte v ≡ byte) (same_Some One version e) (sym (eqb-true byte 1 is_one))
-    by false true is_one is_two e = subst (λ (v : Version). version_byte v ≡ byte) (same_Some Two version e) (sym (eqb-true byte 2 is_two))
-    by false false is_one is_two e = absurd (none-some version e)
+version_spelled byte version e = grind (arith, nat_tests)
 
 -- ---- an order's cycle
-
-pub length-cycle_part : (cycle : Option CycleId) → length (cycle_part cycle) ≡ cycle_size (version_with cycle)
-length-cycle_part None = refl
-length-cycle_part (Some id) = refl
 
 cycle_back : (cycle : Option CycleId) → IfSome cycle (λ id. IsDayNumber id.day) → cycle_in (version_with cycle) (cycle_part cycle) ≡ Some cycle
 cycle_back None real = refl
@@ -257,19 +230,11 @@ record IsPart (version : Version) (part : List ℕ) (cycle : Option CycleId) : T
 cycle_read : (version : Version) (part : List ℕ) (cycle : Option CycleId) → length part ≡ cycle_size version → IsBytes part → cycle_in version part ≡ Some cycle → IsPart version part cycle
 cycle_read One part cycle size h e =
     subst (IsPart One part) (same_Some None cycle e) (record { text = sym (nil_from_length part size); version_is = refl; real = tt })
-cycle_read Two part cycle size h e = by (read_cycle part) refl e
-  where
-    by : (read : Option CycleId) → read_cycle part ≡ read → option_map (λ (x : CycleId). Some x) read ≡ Some cycle → IsPart Two part cycle
-    by None is e = absurd (none-some cycle e)
-    by (Some id) is e =
-        let in_part = read_cycle-spelled part id size h is in
-        subst (IsPart Two part) (same_Some (Some id) cycle e) (record { text = in_part.text; version_is = refl; real = in_part.real })
+cycle_read Two part cycle size h e = option_and_then_some (λ (id : CycleId). Some (Some id)) (read_cycle part) cycle e (λ id is same.
+    let in_part = read_cycle-spelled part id size h is in
+    subst (IsPart Two part) (same_Some (Some id) cycle same) (record { text = in_part.text; version_is = refl; real = in_part.real }))
 
 -- ---- orders
-
-same_fields : (kind : MoveKind) (n' n : ℕ) (c' c : Option (Option CycleId)) (m' m : ℕ) (r' r : Result ℕ CusipFault) (a' a : ℕ) → n' ≡ n → c' ≡ c → m' ≡ m → r' ≡ r → a' ≡ a
-    → order_with kind n' c' m' r' a' ≡ order_with kind n c m r a
-same_fields kind n' n c' c m' m r' r a' a d e f g h = rw (d, e, f, g, h) refl
 
 -- fields in their ranges make an order
 order_with_fields : (o : Order) → IsOrderInRange o → order_with o.kind o.number (Some o.cycle) o.member (Ok o.issue) o.asked ≡ Some o
@@ -290,22 +255,20 @@ fields_of kind n (Some id) m i a = refl
 -- an order's bytes are read back as the order
 pub read_order-order_bytes : (o : Order) → IsOrderInRange o → read_order (version_of o) o.kind (order_bytes o) ≡ Some o
 read_order-order_bytes o h =
+    let number = from_be_bytes-to_be_bytes_8 o.number (omega (arith, h.number.to)) in
+    let member = from_be_bytes-to_be_bytes_2 o.member (omega (arith, h.member.to)) in
+    let asked = from_be_bytes-to_be_bytes_8 o.asked (omega (arith, h.asked.to)) in
     fields_of o.kind o.number o.cycle o.member o.issue o.asked
-    ∙ same_fields o.kind _ o.number _ (Some o.cycle) _ o.member _ (Ok o.issue) _ o.asked
-    (from_be_bytes-to_be_bytes_8 o.number (omega (arith, h.number.to)))
-    (cycle_back o.cycle h.cycle)
-    (from_be_bytes-to_be_bytes_2 o.member (omega (arith, h.member.to)))
-    h.issue.reads
-    (from_be_bytes-to_be_bytes_8 o.asked (omega (arith, h.asked.to)))
+    ∙ (λ k. order_with o.kind (number k) (cycle_back o.cycle h.cycle k) (member k) (h.issue.reads k) (asked k))
     ∙ order_with_fields o h
 
 pub length-order_bytes : (o : Order) → length (order_bytes o) ≡ order_size (version_of o)
 unfolding order_bytes
-length-order_bytes o = by o.cycle
-  where
-    by : (cycle : Option CycleId) → length (to_be_bytes w64 o.number ++ cycle_part cycle ++ to_be_bytes w16 o.member ++ cusip_text o.issue ++ to_be_bytes w64 o.asked) ≡ order_size (version_with cycle)
-    by None = refl
-    by (Some id) = refl
+length-order_bytes o =
+    elim o.cycle as (λ cycle. length (to_be_bytes w64 o.number ++ cycle_part cycle ++ to_be_bytes w16 o.member ++ cusip_text o.issue ++ to_be_bytes w64 o.asked) ≡ order_size (version_with cycle)) [
+      | None ↦ refl
+      | Some id ↦ refl
+    ]
 
 -- the fields that were read of an order
 record HasFields (kind : MoveKind) (n : ℕ) (c : Option (Option CycleId)) (m : ℕ) (r : Result ℕ CusipFault) (a : ℕ) (o : Order) : Type 0 where
@@ -320,11 +283,8 @@ fields_read : (kind : MoveKind) (n : ℕ) (c : Option (Option CycleId)) (m : ℕ
 fields_read kind n None m r a o e = absurd cc
 fields_read kind n (Some cycle) m (Err fault) a o e = absurd cc
 fields_read kind n (Some cycle) m (Ok i) a o e =
-    let t = taken (is_move_no n && (is_member m && is_asked a)) (record { number = n; cycle = cycle; kind = kind; member = m; issue = i; asked = a }) o e in
+    let t = cond_some (is_move_no n && (is_member m && is_asked a)) (record { number = n; cycle = cycle; kind = kind; member = m; issue = i; asked = a }) o e in
     record { cycle = cycle; cycle_is = refl; issue = i; issue_is = refl; whole = sym t.1; tests = t.0 }
-
-join_five : (a a' b b' c c' d d' e e' : List ℕ) → a ≡ a' → b ≡ b' → c ≡ c' → d ≡ d' → e ≡ e' → a ++ b ++ c ++ d ++ e ≡ a' ++ b' ++ c' ++ d' ++ e'
-join_five a a' b b' c c' d d' e e' p q r s t = rw (p, q, r, s, t) refl
 
 ranges_of_order : (n m i a : ℕ) (cycle : Option CycleId) (kind : MoveKind) → IfSome cycle (λ id. IsDayNumber id.day) → IsCusip i → (is_move_no n && (is_member m && is_asked a)) ≡ true
     → IsOrderInRange (record { number = n; cycle = cycle; kind = kind; member = m; issue = i; asked = a })
@@ -367,9 +327,11 @@ spelled_by version kind bytes o c wide size h e =
     let f = fields_read kind n (cycle_in version part) m r a o e in
     let p = cycle_read version part f.cycle (part_length 8 c bytes (omega (arith, size)) ∙ sym wide) (part_bytes 8 c bytes h) f.cycle_is in
     let i = issue_read (take 9 (drop 2 rest)) f.issue (part_length 2 9 rest (omega (arith, long))) (part_bytes 2 9 rest are) f.issue_is in
+    let number = word_back 0 bytes h (omega (arith, size)) in
+    let member = pair_back 0 rest are (omega (arith, long)) in
+    let asked = be_bytes_8 last _ (omega (arith, long, length-drop 11 rest)) (IsBytes-drop 11 rest are) refl in
     let text =
-    join_five _ _ _ _ _ _ _ _ _ _ (word_back 0 bytes h (omega (arith, size))) p.text (pair_back 0 rest are (omega (arith, long))) i.back
-    (be_bytes_8 last _ (omega (arith, long, length-drop 11 rest)) (IsBytes-drop 11 rest are) refl)
+    (λ k. number k ++ p.text k ++ member k ++ i.back k ++ asked k)
     ∙ order_parts c bytes in
     rw f.whole (record { text = text; in_range = ranges_of_order n m f.issue a f.cycle kind p.real i.cusip f.tests; version_is = p.version_is; kind_is = refl })
 
@@ -387,9 +349,6 @@ order_spelled version kind bytes (Some o) size h e = read_order-spelled version 
 
 -- ---- replies
 
-same_parts : (n' n m' m : ℕ) → n' ≡ n → m' ≡ m → reply_with n' m' ≡ reply_with n m
-same_parts n' n m' m e f = rw (e, f) refl
-
 reply_with_fields : (r : Reply) → IsReplyInRange r → reply_with r.number r.moved ≡ Some r
 reply_with_fields r h =
     let number : is_move_no r.number ≡ true = grind (arith, nat_tests, h.number.from, h.number.to) in
@@ -403,9 +362,9 @@ parts_of r = refl
 -- a reply's bytes are read back as the reply
 pub read_reply-reply_bytes : (r : Reply) → IsReplyInRange r → read_reply (reply_bytes r) ≡ Some r
 read_reply-reply_bytes r h =
-    parts_of r
-    ∙ same_parts _ r.number _ r.moved (from_be_bytes-to_be_bytes_8 r.number (omega (arith, h.number.to))) (from_be_bytes-to_be_bytes_8 r.moved (omega (arith, h.moved)))
-    ∙ reply_with_fields r h
+    let number = from_be_bytes-to_be_bytes_8 r.number (omega (arith, h.number.to)) in
+    let moved = from_be_bytes-to_be_bytes_8 r.moved (omega (arith, h.moved)) in
+    parts_of r ∙ (λ k. reply_with (number k) (moved k)) ∙ reply_with_fields r h
 
 pub length-reply_bytes : (r : Reply) → length (reply_bytes r) ≡ 16
 unfolding reply_bytes
@@ -423,14 +382,13 @@ pub record IsReplyIn (bytes : List ℕ) (r : Reply) : Type 0 where
   pub text : reply_bytes r ≡ bytes
   pub in_range : IsReplyInRange r
 
-join_two : (a a' b b' : List ℕ) → a ≡ a' → b ≡ b' → a ++ b ≡ a' ++ b'
-join_two a a' b b' p q = rw (p, q) refl
-
 pub read_reply-spelled : (bytes : List ℕ) (r : Reply) → length bytes ≡ 16 → IsBytes bytes → read_reply bytes ≡ Some r → IsReplyIn bytes r
 unfolding read_reply reply_bytes
 read_reply-spelled bytes r size h e =
     let n = from_be_bytes w64 (take 8 bytes) in
     let m = from_be_bytes w64 (take 8 (drop 8 bytes)) in
-    let t = taken (is_move_no n && is_shares m) (record { number = n; moved = m }) r e in
-    let text = join_two _ _ _ _ (word_back 0 bytes h (omega (arith, size))) (word_back 8 bytes h (omega (arith, size))) ∙ reply_parts bytes size in
+    let t = cond_some (is_move_no n && is_shares m) (record { number = n; moved = m }) r e in
+    let number = word_back 0 bytes h (omega (arith, size)) in
+    let moved = word_back 8 bytes h (omega (arith, size)) in
+    let text = (λ k. number k ++ moved k) ∙ reply_parts bytes size in
     rw (← t.1) (record { text = text; in_range = ranges_of_reply n m t.0 })

@@ -1,5 +1,5 @@
 -- What the unconfirmed orders of each holding ask for, as orders are issued and confirmed.
-use Rattle.std.proofs.Common.{◌≡◌, ℕ, suc, ◌+◌, ◌*◌, ◌^◌, ◌≤◌, Bool, true, false, List, [], ◌∷◌, length, length-append, Option, Some, None, refl, ap, ◌∙◌, arith}
+use Rattle.std.proofs.Common.{◌≡◌, ℕ, suc, ◌+◌, ◌*◌, ◌^◌, ◌≤◌, Bool, List, [], ◌∷◌, length, length-append, Option, Some, None, refl, ap, ◌∙◌, arith}
 use Rattle.std.specs.Prelude.{◌&&◌, ◌==◌, sum_by, unwrap_or, if◌then◌else◌}
 use Rattle.std.proofs.lemmas.Bool.{eq-eqb}
 use Rattle.std.proofs.lemmas.List.Sums.{sum_by-append, sum_by-cons}
@@ -25,24 +25,15 @@ use Rattle.cns_movements.proofs.AgreeLemmas.{same_kind-refl}
 
 -- one test inside another is both of them
 both : (a b : Bool) (n : ℕ) → (if a then (if b then n else 0) else 0) ≡ (if b && a then n else 0)
-both true true n = refl
-both true false n = refl
-both false true n = refl
-both false false n = refl
+both a b n = grind arith
 
 more : (k kind : MoveKind) (before w : OpenShares) (asked now : ℕ) → now ≡ shares_of kind before + asked → shares_of k w ≡ (if same_kind k kind then now else shares_of k before)
     → shares_of k w ≡ shares_of k before + (if same_kind k kind then asked else 0)
-more Cover Cover before w asked now sum is = is ∙ sum
-more Cover Delivery before w asked now sum is = omega (arith, is)
-more Delivery Cover before w asked now sum is = omega (arith, is)
-more Delivery Delivery before w asked now sum is = is ∙ sum
+more k kind before w asked now sum is = grind arith
 
 less : (k kind : MoveKind) (before w : OpenShares) (asked now : ℕ) → now + asked ≡ shares_of kind before → shares_of k w ≡ (if same_kind k kind then now else shares_of k before)
     → shares_of k w + (if same_kind k kind then asked else 0) ≡ shares_of k before
-less Cover Cover before w asked now sum is = ap (λ n. n + asked) is ∙ sum
-less Cover Delivery before w asked now sum is = omega (arith, is)
-less Delivery Cover before w asked now sum is = omega (arith, is)
-less Delivery Delivery before w asked now sum is = ap (λ n. n + asked) is ∙ sum
+less k kind before w asked now sum is = grind arith
 
 -- what is found for a holding: nothing where it has none
 pub open_found : (found : Option OpenShares) (now : OpenShares) (entry : Option OpenShares) → now ≡ unwrap_or entry (record { covers = 0; deliveries = 0 }) → entry ≡ found
@@ -90,8 +81,7 @@ nothing_asked k m i (a ∷ asks) none = absurd (omega arith)
 
 -- a part that is counted is no more than the whole
 pub counted_le : (b : Bool) (n : ℕ) → (if b then n else 0) ≤ n
-counted_le true n = omega arith
-counted_le false n = omega arith
+counted_le b n = grind arith
 
 -- ---- the sums of a book
 

@@ -1,5 +1,5 @@
 -- Confirmations by the numbers of their orders, and what one more of them does to the sums.
-use Rattle.std.proofs.Common.{◌≡◌, ℕ, suc, ◌+◌, ◌<◌, ◌≤◌, Bool, true, false, eqb, List, [], ◌∷◌, ◌++◌, length, Option, Some, None, sym, refl, ap, ◌∙◌, arith, inl, inr}
+use Rattle.std.proofs.Common.{◌≡◌, ℕ, suc, ◌+◌, ◌<◌, ◌≤◌, Bool, eqb, List, [], ◌∷◌, ◌++◌, length, Option, Some, None, sym, refl, ap, ◌∙◌, arith, inl, inr}
 use Rattle.std.specs.Prelude.{find, option_map, is_some, unwrap_or, sum_by, if◌then◌else◌}
 use Rattle.std.proofs.lemmas.Bool.{cases_eq, eq-eqb, ne_eqb, cond-true, cond-false}
 use Rattle.std.proofs.lemmas.Option.{none-some, same_Some}
@@ -60,8 +60,7 @@ term counted part = if counted then part else 0
 
 -- a part of 0 is a term of 0, whether it is counted or not
 pub nothing_either : (b : Bool) (p : ℕ) → p ≡ 0 → (if b then p else 0) ≡ 0
-nothing_either true p e = e
-nothing_either false p e = refl
+nothing_either b p e = grind arith
 
 -- a first confirmation takes what its order asked for out of the open shares, whichever orders are counted
 pub open_with_reply : (counted : Order → Bool) (os : List Order) (rs : List Reply) (r : Reply) (o : Order) → IsNumbered 1 os
@@ -113,12 +112,6 @@ pub open_sum-append : (os more : List Order) (rs : List Reply) (kind : MoveKind)
     → open_sum (os ++ more) rs kind member issue ≡ open_sum os rs kind member issue + open_sum more rs kind member issue
 unfolding open_sum
 open_sum-append os more rs kind member issue = sum_by-append (λ (o : Order). if is_of kind member issue o then open_part rs o else 0) os more
-
--- the moved shares of two lists of orders
-pub moved_sum-append : (os more : List Order) (rs : List Reply) (kind : MoveKind) (member issue : ℕ)
-    → moved_sum (os ++ more) rs kind member issue ≡ moved_sum os rs kind member issue + moved_sum more rs kind member issue
-unfolding moved_sum
-moved_sum-append os more rs kind member issue = sum_by-append (λ (o : Order). if is_of kind member issue o then moved_part rs o else 0) os more
 
 -- new orders are open with all that they ask for, whichever of them are counted
 pub open_new : (counted : Order → Bool) (n : ℕ) (cycle : Option CycleId) (asks : List Ask) (rs : List Reply) → ((j : ℕ) → n ≤ j → moved_of rs j ≡ None)

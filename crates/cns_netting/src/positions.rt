@@ -150,8 +150,8 @@ fn add_places(all: &IndexMap<Holding, Position>, order: &mut Vec<u32>) -> Result
     push_places(order, behind.as_slice())
 }
 
-// Puts the places of all holdings into order. Without memory for it, those that were in order may have
-// others behind them.
+// Puts the places of all holdings into order: two runs, each in order, of which the sort makes one. Without
+// memory for it, those that were in order may have others behind them.
 fn sort_places(all: &IndexMap<Holding, Position>, order: &mut Vec<u32>) -> Result<(), AllocError>
     requires before { ArePlacesInOrder order.old.items all.now.entries }
     requires most { length all.now.entries ≤ 2 ^ 32 }

@@ -16,7 +16,7 @@ records-preserved g c =
       size = size_more vec_items _ _ _ _ _ items taken known.size;
       honest = c.read_next.ensures.honest ∙ known.honest;
       failures = search rules;
-      reads = λ honest. reads_on g.D.Disk.seen g.D.Disk.images g.D.Disk.moment g.D.Disk.left_since _ _ _ (known.reads honest) (c.read_next.ensures.reads (known.honest ∙ honest));
+      reads = λ honest. reads_on (known.reads honest) (c.read_next.ensures.reads (known.honest ∙ honest));
       len = known.len;
       so_far = λ honest. so_far_more vec_items _ _ (known.reads honest).same _ _ (known.so_far honest) _ _ _ items taken
           (subst (IsNext (drop c.records.end (g.D.Disk.seen c.records.disk))) c.in-Record.is

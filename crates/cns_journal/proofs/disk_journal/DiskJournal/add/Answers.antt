@@ -11,11 +11,11 @@ invariant_of-self g c =
     (c.self.invariant.decided (ap down_at c.in-Up.is))
 
 pub returns-in-Ok-clause-durable : goal.returns-in-Ok-clause-durable
-returns-in-Ok-clause-durable g c honest = settled_images _ _ _ (c.in-Ok.ensures.ok (rw (← c.self.view_is) at honest)).0
+returns-in-Ok-clause-durable g c honest = settled_images (c.in-Ok.ensures.ok (rw (← c.self.view_is) at honest)).0
 
 pub returns-in-Ok-clause-keeps : goal.returns-in-Ok-clause-keeps
 returns-in-Ok-clause-keeps g c honest =
     let sure = rw (← c.self.view_is) at honest in
     let after = c.in-Ok.ensures.ok sure in
-    commit_keeps _ c.self.inside.stage (g.D.Disk.seen c.self.inside.disk) (g.D.Disk.seen c.append.new.disk) (g.D.Disk.images c.self.inside.disk) (g.D.Disk.images c.append.new.disk) c.in-Up.end _ _ _ (ap (λ s. s.journal) c.self.view_is) c.in-Up.is (c.self.invariant.stands sure)
+    commit_keeps c.self.inside.stage (g.D.Disk.seen c.self.inside.disk) (g.D.Disk.images c.self.inside.disk) c.in-Up.end _ (ap (λ s. s.journal) c.self.view_is) c.in-Up.is (c.self.invariant.stands sure)
     (c.self.invariant.decided (ap down_at c.in-Up.is)) after.0 after.1

@@ -15,7 +15,7 @@ pub returns-in-Ok-clause-keeps : goal.returns-in-Ok-clause-keeps
 returns-in-Ok-clause-keeps g c honest =
     let sure = rw (← c.self.view_is) at honest in
     let after = c.in-Ok.ensures.value sure in
-    reopen_keeps _ c.self.inside.stage (g.D.Disk.seen c.self.inside.disk) (g.D.Disk.seen c.reread.new.disk) (g.D.Disk.images c.reread.new.disk) _ _ _ (ap (λ s. s.journal) c.self.view_is) (c.self.invariant.found sure) after.0 after.1 (c.reread.ensures.seen sure).0
+    reopen_keeps c.self.inside.stage (g.D.Disk.seen c.self.inside.disk) (ap (λ s. s.journal) c.self.view_is) (c.self.invariant.found sure) after.0 after.1 (c.reread.ensures.seen sure).0
 
 pub returns-in-Err-Device-clause-keeps : goal.returns-in-Err-Device-clause-keeps
 returns-in-Err-Device-clause-keeps g c honest =

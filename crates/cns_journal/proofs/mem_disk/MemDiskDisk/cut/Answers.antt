@@ -1,7 +1,8 @@
 use Rattle.std.proofs.Common.{rules}
 use Rattle.cns_journal.specs.Disk.{Shortened}
 use Rattle.cns_journal.specs.MemDisk.{Calls, Cuts, IsIdle}
-use Rattle.cns_journal.proofs.MemDiskLemmas.{calls_cut_crash, content_idle, fewer_idle, follows_idle}
+use Rattle.cns_journal.proofs.MemCallLemmas.{idle_content}
+use Rattle.cns_journal.proofs.MemDiskLemmas.{calls_cut_crash, fewer_idle, follows_idle}
 use Rattle.cns_journal.proofs.mem_disk.MemDiskDisk.cut.Goals as goal
 
 pub returns-then-matches-clause-crash : goal.returns-then-matches-clause-crash
@@ -18,4 +19,4 @@ returns-clause-crash c within =
 pub returns-then-matches-clause-outside : goal.returns-then-matches-clause-outside
 returns-then-matches-clause-outside c past =
     let idle : IsIdle c.args.self.now.steps c.refuse.new.self.steps = search rules in
-    record { fails = search rules; same = content_idle _ _ idle; fewer = fewer_idle _ _ idle }
+    record { fails = search rules; same = idle_content _ _ idle; fewer = fewer_idle _ _ idle }

@@ -1,7 +1,8 @@
 use Rattle.std.proofs.Common.{rules, length}
 use Rattle.cns_journal.specs.Disk.{Torn}
 use Rattle.cns_journal.specs.MemDisk.{Calls, Writes, IsIdle}
-use Rattle.cns_journal.proofs.MemDiskLemmas.{calls_write_crash, content_idle, fewer_idle, follows_idle}
+use Rattle.cns_journal.proofs.MemCallLemmas.{idle_content}
+use Rattle.cns_journal.proofs.MemDiskLemmas.{calls_write_crash, fewer_idle, follows_idle}
 use Rattle.cns_journal.proofs.mem_disk.MemDiskDisk.write_at.Goals as goal
 
 pub returns-then-matches-clause-crash : goal.returns-then-matches-clause-crash
@@ -21,4 +22,4 @@ returns-clause-crash c within =
 pub returns-then-matches-clause-outside : goal.returns-then-matches-clause-outside
 returns-then-matches-clause-outside c past =
     let idle : IsIdle c.args.self.now.steps c.refuse.new.self.steps = search rules in
-    record { fails = search rules; same = content_idle _ _ idle; fewer = fewer_idle _ _ idle }
+    record { fails = search rules; same = idle_content _ _ idle; fewer = fewer_idle _ _ idle }
