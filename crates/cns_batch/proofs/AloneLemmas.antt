@@ -1,6 +1,7 @@
 -- Over honest keepers of which all is known, an act does what it does where nothing comes between, where no event is refused for want of memory.
-use Rattle.std.proofs.Common.{◌≡◌, ◌≢◌, ℕ, Bool, true, false, get_or, List, [], ◌∷◌, ◌++◌, drop, None, Result, Ok, inl, refl, sym, ap, ◌∙◌}
+use Rattle.std.proofs.Common.{◌≡◌, ◌≢◌, ℕ, Bool, true, false, get_or, List, [], ◌∷◌, ◌++◌, drop, None, Result, Ok, inl, inr, refl, sym, ap, ◌∙◌}
 use Rattle.std.specs.Prelude.{if◌then◌else◌}
+use Rattle.std.proofs.lemmas.Bool.{cases_Bool}
 use Rattle.std.proofs.lemmas.List.Elements.{All-head, All-tail}
 use Rattle.cns_records.specs.declared.refusal.Refusal.TheVariants as refusal
 use Rattle.cns_trades.specs.declared.opening.Opening.{Opening}
@@ -37,14 +38,6 @@ planned_known : (name : NodeName) (stands : Bool) (s : Scene) → AreKnown s →
 planned_known node.Clear stands s known = (record { honest = known.0.honest; foreseen = refl; stands = known.0.stands }, known.1)
 planned_known node.Depot stands s known = (known.0, record { honest = known.1.honest; foreseen = refl; stands = known.1.stands })
 
--- whether a failure is planned
-either_alone : {A : Type 0} (planner : Bool) (o : Occurrence) (first second : Act A) (c d : Course) → GoesAlone first d → GoesAlone second c
-    → HadMemory (if planner then after_all [] (o ∷ []) (in_turn first d) else in_turn second c).occurred
-    → (if planner then after_all [] (o ∷ []) (in_turn first (alone d)) else in_turn second (alone c)) ≡ told_alone (if planner then after_all [] (o ∷ []) (in_turn first d) else in_turn second c)
-either_alone true o first second c d one two had =
-    ap (after_all [] (o ∷ [])) (one (All-tail (λ (o : Occurrence). was_short o ≡ false) o (in_turn first d).occurred had))
-either_alone false o first second c d one two had = two had
-
 act_alone : {A : Type 0} (act : Act A) (c : Course) → AreKnown c.scene → GoesAlone act c
 unfolding in_turn
 act_alone (Gives a) c known had = refl
@@ -61,8 +54,12 @@ act_alone {A} (Lets e next) c known had =
 act_alone (Plans name stands next) c known had =
     let scene = planned name stands c.scene in
     let after : Course = record c { scene = scene } in
-    either_alone (is_planner name c.scene) (WasPlanned name stands scene) (next true) (next false) c after
-    (act_alone (next true) after (planned_known name stands c.scene known)) (act_alone (next false) c known) had
+    elim (cases_Bool (is_planner name c.scene)) [
+      | inl is ↦
+          let later = All-tail (λ (o : Occurrence). was_short o ≡ false) (WasPlanned name stands scene) (in_turn (next true) after).occurred (rw is at had) in
+          rw is (ap (after_all [] (WasPlanned name stands scene ∷ [])) (act_alone (next true) after (planned_known name stands c.scene known) later))
+      | inr is ↦ rw is (act_alone (next false) c known (rw is at had))
+    ]
 act_alone (Looks next) c known had = act_alone (next c.scene.shown) c known had
 act_alone (Draws lot next) c known had = act_alone (next None) c known had
 

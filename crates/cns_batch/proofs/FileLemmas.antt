@@ -1,5 +1,5 @@
 -- A file that is cut has a first part of the records of the whole.
-use Rattle.std.proofs.Common.{◌≡◌, ◌⊎◌, ℕ, zero, suc, ◌+◌, ◌<◌, true, List, [], ◌∷◌, ◌++◌, length, map, reverse, take, drop, Ok, refl, sym, ap, ◌∙◌, subst, inl, inr, arith, length-drop}
+use Rattle.std.proofs.Common.{◌≡◌, ◌⊎◌, ℕ, zero, suc, ◌+◌, ◌<◌, ◌≤◌, true, List, [], ◌∷◌, ◌++◌, length, map, reverse, take, drop, Ok, refl, sym, ap, ◌∙◌, subst, inl, inr, arith, length-drop}
 use Rattle.std.proofs.Math.Seq.{take-append_seam}
 use Rattle.std.proofs.lemmas.List.{length-take, reverse-append, take-append-drop, take-map}
 use Rattle.cns_journal.specs.Layout.{behind, counts, first_payload, first_records, journal_of, payload_length, size_of}
@@ -21,17 +21,13 @@ ends_before (suc n) file =
     by_bool (counts file) (λ all. inr (rw (records-true n file all) (some_end n file all (ends_before n (behind file))))) (λ none. inl (records-false (suc n) file none))
 
 cut_payloads : (size : ℕ) (file : List ℕ) → IsFirstPart (journal_of (take size file)) (journal_of file)
-cut_payloads size file = by (ends_before (length (take size file)) (take size file))
-  where
-    cut : List ℕ
-    cut = take size file
-
-    by : (journal_of cut ≡ []) ⊎ (size_of (journal_of cut) < length cut) → IsFirstPart (journal_of cut) (journal_of file)
-    by (inl none) = (journal_of file, rw none refl)
-    by (inr before) =
-        let end = size_of (journal_of cut) in
-        let long = length-take size file in
-        (journal_of (drop end file), journal-same (journal_of cut) cut file refl (omega (arith, before, long)) (sym (take-short end size file (omega (arith, before, long)))))
+cut_payloads size file = elim (ends_before (length (take size file)) (take size file)) [
+  | inl none ↦ (journal_of file, rw none refl)
+  | inr before ↦
+      let payloads = journal_of (take size file) in
+      let end : size_of payloads ≤ size = omega (arith, before, length-take size file) in
+      (journal_of (drop (size_of payloads) file), journal-same payloads (take size file) file refl (omega (arith, before, length-take size file)) (sym (take-short (size_of payloads) size file end)))
+]
 
 -- ---- records that are taken
 

@@ -1,5 +1,4 @@
 pub mod FileLemmas
-pub mod WriteLemmas
 pub mod PrintLemmas
 pub mod PutLemmas
 pub mod ActLemmas

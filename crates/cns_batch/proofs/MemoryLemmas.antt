@@ -1,49 +1,30 @@
 -- Over honest keepers of which all is known, an event that is not refused for want of memory comes to what it does where nothing comes between.
-use Rattle.std.proofs.Common.{◌≡◌, ◌≢◌, ℕ, ◌+◌, ◌==◌, ◌++◌, ◌⊎◌, Bool, true, false, List, [], ◌∷◌, length, map, Option, Some, None, Result, Ok, Err, inl, inr, refl, sym, ap, ◌∙◌, subst}
+use Rattle.std.proofs.Common.{◌≡◌, ◌≢◌, ◌⊎◌, Bool, true, false, List, Option, Some, None, Result, Ok, Err, inl, inr, refl, sym, ap, ◌∙◌, subst}
 use Rattle.std.specs.Prelude.{IfOk, unwrap_or}
-use Rattle.std.specs.Option.{ok_or, option_flatten}
 use Rattle.cns_ids.specs.Steps.{◌>>=◌}
-use Rattle.cns_journal.specs.Keeper.{Forecast, Foresight, Unforeseen, Succeeds, Fails}
-use Rattle.cns_movements.specs.Order.{order_of}
-use Rattle.cns_movements.specs.declared.order.Order.{Order}
-use Rattle.cns_movements.specs.declared.order.Reply.{Reply}
-use Rattle.cns_wire.specs.Packet.{at_number}
-use Rattle.cns_pool.specs.Pool.{asked_sum}
-use Rattle.cns_pool.specs.declared.ticket.Ticket.{Ticket}
+use Rattle.cns_journal.specs.Keeper.{Forecast, Unforeseen, Succeeds, Fails}
 use Rattle.cns_records.specs.Call.{Deed}
 use Rattle.cns_records.specs.Call as call
 use Rattle.cns_records.specs.declared.clear_record.ClearRecord.{ClearRecord}
-use Rattle.cns_records.specs.declared.clear_record.ClearRecord.TheVariants as entry
 use Rattle.cns_records.specs.declared.dep_record.DepRecord.{DepRecord}
 use Rattle.cns_records.specs.declared.instruction.Instruction.{Instruction}
 use Rattle.cns_records.specs.declared.refusal.Refusal.{Refusal}
 use Rattle.cns_records.specs.declared.refusal.Refusal.TheVariants as refusal
-use Rattle.cns_clearing.specs.Answers.{cycle_call, reply_call, setting_call, trade_call, up}
-use Rattle.cns_clearing.specs.Books.{orders_of}
-use Rattle.cns_clearing.specs.Pools.{lent_of}
-use Rattle.cns_clearing.specs.declared.answer.Closed.{Closed}
-use Rattle.cns_clearing.specs.declared.answer.Cycled.{Cycled}
-use Rattle.cns_clearing.specs.declared.lot.Lot.{Lot}
-use Rattle.cns_depository.specs.Answers.{instruct_call, order_call}
 use Rattle.cns_depository.specs.declared.fault.Answer.{Answer}
 use Rattle.cns_depository.specs.declared.fault.DepFault.{DepFault}
 use Rattle.cns_depository.specs.declared.fault.Own.{Own}
 use Rattle.cns_depository.specs.declared.fault.OwnFault.{OwnFault}
 use Rattle.cns_system.specs.Devices.{node_of}
-use Rattle.cns_system.specs.Happens.{Change, Leaves, Grows, Commits, Restarts, Decision, Goes, NoMemory, DeviceFails, ClearReads, DepotReads, by_clear, by_order, by_own, clear_deed, happens, judged, decided, taken_told}
-use Rattle.cns_system.specs.Lot.{LotState, with_end, with_seal}
-use Rattle.cns_system.specs.Lots.{change_call, going_lot, reserve_call}
-use Rattle.cns_system.specs.Numbered.{numbered_close, lots_ended, numbered_open, numbered_pour}
+use Rattle.cns_system.specs.Happens.{Change, Leaves, Grows, Commits, Restarts, Decision, Goes, NoMemory, DeviceFails, ClearReads, DepotReads, by_order, by_own, clear_deed, happens, judged, decided}
+use Rattle.cns_system.specs.Lot.{LotState}
 use Rattle.cns_system.specs.Scene.{Chance, ComesBack, Decides, Forgets, Scene, Sight, after_commit, comes_to, event_decision, given_back, is_foreseen, known_after, known_of, restart_decision, with_known}
-use Rattle.cns_system.specs.Shown.{LogShown, Shown, with_new_lot}
+use Rattle.cns_system.specs.Shown.{LogShown, Shown}
 use Rattle.cns_system.specs.declared.event.Event.{Event}
 use Rattle.cns_system.specs.declared.event.Event.TheVariants as event
 use Rattle.cns_system.specs.declared.event.NodeName.{NodeName}
 use Rattle.cns_system.specs.declared.event.NodeName.TheVariants as node
-use Rattle.cns_system.specs.declared.numbered.Opened.{Opened}
 use Rattle.cns_system.specs.declared.outcome.Outcome.{Outcome}
 use Rattle.cns_system.specs.declared.outcome.Outcome.TheVariants as outcomes
-use Rattle.cns_system.proofs.HappensLemmas.{tells_holds}
 use Rattle.cns_system.proofs.StepLemmas.{ok_then}
 
 -- ---- what is known of both keepers
@@ -57,17 +38,17 @@ pub record IsKnown {R : Type 0} (log : LogShown R) (s : Sight) : Type 0 where
 abbrev pub AreKnown : Scene → Type 0
 AreKnown s = IsKnown s.shown.clear s.clear × IsKnown s.shown.depot s.depot
 
-known_same : {R : Type 0} (old new : LogShown R) (s : Sight) → new.tried ≡ old.tried → IsKnown old s → IsKnown new s
-known_same {R} old new s same known = record {
-  honest = known.honest;
-  foreseen = known.foreseen;
-  stands = subst (λ (tried : Option R). (tried ≡ None) ⊎ ((stands : Bool) × (s.foresight.stands ≡ Some stands))) (sym same) known.stands;
-}
+-- another log with the same record undecided
+known_same : {R : Type 0} {old new : LogShown R} {s : Sight} → new.tried ≡ old.tried → IsKnown old s → IsKnown new s
+known_same same known = record { honest = known.honest; foreseen = known.foreseen; stands = rw same known.stands }
 
 -- a commit failed, as was planned
-failed_known : {R : Type 0} (log : LogShown R) (honest : Bool) (f : Foresight) (stands : Bool) → honest ≡ true → f.next ≡ Fails stands
-    → IsKnown log (record { honest = honest; foresight = after_commit DeviceFails f })
-failed_known log honest f stands is next = record { honest = is; foreseen = rw next refl; stands = inr (stands, rw next refl) }
+failed_known : {R : Type 0} {log : LogShown R} (s : Sight) (stands : Bool) → s.honest ≡ true → s.foresight.next ≡ Fails stands → IsKnown log (record s { foresight = after_commit DeviceFails s.foresight })
+failed_known s stands is next = record { honest = is; foreseen = rw next refl; stands = inr (stands, rw next refl) }
+
+-- a journal was read again
+reread_known : {R : Type 0} {log read : LogShown R} {s : Sight} → read.tried ≡ None → IsKnown log s → IsKnown read (record s { foresight = record s.foresight { stands = None } })
+reread_known none known = record { honest = known.honest; foreseen = known.foreseen; stands = inl none }
 
 known_of_is : (name : NodeName) (s : Scene) → AreKnown s → is_foreseen (known_of name s).next ≡ true
 known_of_is node.Clear s known = known.0.foreseen
@@ -115,40 +96,8 @@ IsPlain _ = Unit {0}
 
 plain_leaves : (e : Event) (w : Shown) → IsPlain e → IfOk (judged e w) (LeavesTried (node_of e) w)
 unfolding judged
-plain_leaves (event.Trade t) w plain = clear_leaves w (λ _. outcomes.Accepted) (λ ls. ls) (trade_call t w.clear.down w.clear.records)
-plain_leaves (event.Exempt member issue shares) w plain = clear_leaves w (λ _. outcomes.Done) (λ ls. ls) (setting_call (entry.Exempt member issue shares) w.clear.down)
-plain_leaves (event.Priority member issue on) w plain = clear_leaves w (λ _. outcomes.Done) (λ ls. ls) (setting_call (entry.Priority member issue on) w.clear.down)
-plain_leaves (event.Cycle id) w plain =
-    clear_leaves w (λ (done : Cycled). outcomes.Cycled done) (λ ls. ls) (cycle_call id w.clear.down w.clear.records w.open_lots)
-plain_leaves (event.LotOpen issue) w plain =
-    ok_then (LeavesTried node.Clear w) (numbered_open issue w.clear.down w.clear.records w.open_lots w.lots)
-    (λ (opened : Opened × Lot). Ok (Grows (outcomes.LotOpened opened.0) (with_new_lot opened.1 w))) (λ opened is. (refl, refl))
-plain_leaves (event.LotPour number) w plain =
-    ok_then (LeavesTried node.Clear w) (numbered_pour number w.clear.down w.clear.records w.open_lots w.lots)
-    (λ (poured : ℕ × List Lot). Ok (Leaves (outcomes.Poured poured.0) (record w { open_lots = poured.1 }))) (λ poured is. (refl, refl))
-plain_leaves (event.Reserve number member) w plain =
-    ok_then (LeavesTried node.Clear w) (reserve_call number member w.lots)
-    (λ (drawn : Ticket × List LotState). Ok (Leaves (outcomes.Drawn drawn.0) (record w { lots = drawn.1 }))) (λ drawn is. (refl, refl))
-plain_leaves (event.Seal number) w plain =
-    ok_then (LeavesTried node.Clear w) (change_call with_seal number w.lots)
-    (λ (sealed : Unit {0} × List LotState). Ok (Leaves outcomes.Done (record w { lots = sealed.1 }))) (λ sealed is. (refl, refl))
-plain_leaves (event.LotClose number) w plain =
-    clear_leaves w (λ (done : Closed). outcomes.Closed done) (lots_ended number) (numbered_close number w.clear.down w.clear.records w.open_lots w.lots)
-plain_leaves (event.Send number) w plain =
-    let put : Order → Result Change Refusal = λ o. Ok (Grows (outcomes.Sent (length w.orders + 1)) (record w { orders = w.orders ++ Some o ∷ [] })) in
-    let orders = (orders_of w.clear.records).orders in
-    ok_then (LeavesTried node.Clear w) (up w.clear.down) (λ _. ok_or (order_of orders number) refusal.UnknownMove >>= put) (λ u is.
-    ok_then (LeavesTried node.Clear w) (ok_or (order_of orders number) refusal.UnknownMove) put (λ o there. (refl, refl)))
-plain_leaves (event.OrderIn packet) w plain =
-    ok_then (LeavesTried node.Depot w) (ok_or (option_flatten (at_number w.orders packet)) refusal.NoPacket)
-    (λ (o : Order). by_order w (order_call o w.depot.down w.openings w.depot.records)) (λ o there. order_leaves w (order_call o w.depot.down w.openings w.depot.records))
-plain_leaves (event.ReplyIn packet) w plain =
-    ok_then (LeavesTried node.Clear w) (ok_or (option_flatten (at_number w.replies packet)) refusal.NoPacket)
-    (λ (r : Reply). by_clear (taken_told r) w (reply_call r w.clear.down w.clear.records))
-    (λ r there. clear_leaves w (taken_told r) (λ ls. ls) (reply_call r w.clear.down w.clear.records))
-plain_leaves (event.Own i) w plain = own_leaves w i (instruct_call i w.depot.down w.openings w.depot.records)
 plain_leaves (event.Restart name) w plain = absurd plain
-plain_leaves e w plain = tells_holds (LeavesTried node.Clear w) w e refl (λ o. (refl, refl))
+plain_leaves e w plain = search (ok_then, clear_leaves, order_leaves, own_leaves)
 
 -- ---- an event that is no restart
 
@@ -186,41 +135,29 @@ module _ (chance : Chance) (name : NodeName) (s : Scene) where
       → (ended chance d name s j).0 ≢ outcomes.Refused refusal.OutOfMemory → (d ≡ NoMemory) ⊎ (d ≡ as_is) → ended chance d name s j ≡ ended (Decides Goes) as_is name s j
   ended_same d as_is (Err r) leaves memory either = refl
   ended_same d as_is (Ok (Leaves outcome left)) leaves memory either = refl
-  ended_same d as_is (Ok (Grows outcome left)) leaves memory (inl is) =
-      absurd (memory (ap (λ (d : Decision). (ended chance d name s (Ok (Grows outcome left))).0) is))
-  ended_same d as_is (Ok (Grows outcome left)) leaves memory (inr is) = ap (λ (d : Decision). ended chance d name s (Ok (Grows outcome left))) is
-  ended_same d as_is (Ok (Commits outcome left failed)) leaves memory (inl is) =
-      absurd (memory (ap (λ (d : Decision). (ended chance d name s (Ok (Commits outcome left failed))).0) is))
-  ended_same d as_is (Ok (Commits outcome left failed)) leaves memory (inr is) = ap (λ (d : Decision). ended chance d name s (Ok (Commits outcome left failed))) is
   ended_same d as_is (Ok (Restarts other)) leaves memory either = absurd leaves
+  ended_same d as_is (Ok (Grows outcome left)) leaves memory (inl is) = absurd (memory (rw is refl))
+  ended_same d as_is (Ok (Commits outcome left failed)) leaves memory (inl is) = absurd (memory (rw is refl))
+  ended_same d as_is (Ok _) leaves memory (inr is) = rw is refl
 
-  both_known : (left : Shown) → AreKnown s → TriedStay s.shown left → AreKnown (with_known name (known_of name s) (record s { shown = left }))
-  both_known left known stay = by name
-    where
-      by : (n : NodeName) → AreKnown (with_known n (known_of n s) (record s { shown = left }))
-      by node.Clear = (known_same s.shown.clear left.clear s.clear stay.0 known.0, known_same s.shown.depot left.depot s.depot stay.1 known.1)
-      by node.Depot = (known_same s.shown.clear left.clear s.clear stay.0 known.0, known_same s.shown.depot left.depot s.depot stay.1 known.1)
+both_known : (name : NodeName) (s : Scene) (left : Shown) → AreKnown s → TriedStay s.shown left → AreKnown (with_known name (known_of name s) (record s { shown = left }))
+both_known node.Clear s left known stay = (known_same stay.0 known.0, known_same stay.1 known.1)
+both_known node.Depot s left known stay = (known_same stay.0 known.0, known_same stay.1 known.1)
 
 failed_as_known : (name : NodeName) (s : Scene) (failed : Shown) (stands : Bool) → AreKnown s → OtherStays name s.shown failed → (known_of name s).next ≡ Fails stands
     → AreKnown (with_known name (after_commit DeviceFails (known_of name s)) (record s { shown = failed }))
-failed_as_known node.Clear s failed stands known stays next =
-    (failed_known failed.clear s.clear.honest s.clear.foresight stands known.0.honest next, known_same s.shown.depot failed.depot s.depot stays known.1)
-failed_as_known node.Depot s failed stands known stays next =
-    (known_same s.shown.clear failed.clear s.clear stays known.0, failed_known failed.depot s.depot.honest s.depot.foresight stands known.1.honest next)
+failed_as_known node.Clear s failed stands known stays next = (failed_known s.clear stands known.0.honest next, known_same stays known.1)
+failed_as_known node.Depot s failed stands known stays next = (known_same stays known.0, failed_known s.depot stands known.1.honest next)
 
 -- all is known after it
 known_left : (name : NodeName) (s : Scene) (d : Decision) (j : Result Change Refusal) → AreKnown s → IsForeseen (known_of name s).next d → IfOk j (LeavesTried name s.shown)
     → AreKnown (ended (Decides Goes) d name s j).1
-known_left name s d (Err r) known is leaves = both_known (Decides Goes) name s s.shown known (refl, refl)
-known_left name s d (Ok (Leaves outcome left)) known is leaves = both_known (Decides Goes) name s left known leaves
-known_left name s d (Ok (Grows outcome left)) known (inl is) leaves =
-    subst (λ (d : Decision). AreKnown (ended (Decides Goes) d name s (Ok (Grows outcome left))).1) (sym is) (both_known (Decides Goes) name s left known leaves)
-known_left name s d (Ok (Grows outcome left)) known (inr (is, planned)) leaves =
-    subst (λ (d : Decision). AreKnown (ended (Decides Goes) d name s (Ok (Grows outcome left))).1) (sym is) (both_known (Decides Goes) name s left known leaves)
-known_left name s d (Ok (Commits outcome left failed)) known (inl is) leaves =
-    subst (λ (d : Decision). AreKnown (ended (Decides Goes) d name s (Ok (Commits outcome left failed))).1) (sym is) (both_known (Decides Goes) name s left known leaves.0)
-known_left name s d (Ok (Commits outcome left failed)) known (inr (is, (stands, next))) leaves =
-    subst (λ (d : Decision). AreKnown (ended (Decides Goes) d name s (Ok (Commits outcome left failed))).1) (sym is) (failed_as_known name s failed stands known leaves.1 next)
+known_left name s d (Err r) known is leaves = both_known name s s.shown known (refl, refl)
+known_left name s d (Ok (Leaves outcome left)) known is leaves = both_known name s left known leaves
+known_left name s d (Ok (Grows outcome left)) known (inl is) leaves = rw is (both_known name s left known leaves)
+known_left name s d (Ok (Grows outcome left)) known (inr (is, planned)) leaves = rw is (both_known name s left known leaves)
+known_left name s d (Ok (Commits outcome left failed)) known (inl is) leaves = rw is (both_known name s left known leaves.0)
+known_left name s d (Ok (Commits outcome left failed)) known (inr (is, (stands, next))) leaves = rw is (failed_as_known name s failed stands known leaves.1 next)
 known_left name s d (Ok (Restarts other)) known is leaves = absurd leaves
 
 -- an event comes to what it does where nothing comes between, and all is known after it
@@ -237,10 +174,8 @@ plain_alone chance e s plain known memory =
     let leaves = plain_leaves e s.shown plain in
     let told = comes_plain chance e s plain in
     let same = ended_same chance name s (event_decision next chance) as_is j leaves (λ is. memory (ap (λ (c : Outcome × Scene). c.0) told ∙ is)) (commit_either next chance foreseen) in
-    let come : comes_to chance e s ≡ ended (Decides Goes) as_is name s j = told ∙ same in (
-      come ∙ sym (comes_plain (Decides Goes) e s plain),
-      subst (λ (c : Outcome × Scene). AreKnown c.1) (sym come) (known_left name s as_is j known (foreseen_goes next foreseen) leaves),
-    )
+    let left = known_left name s as_is j known (foreseen_goes next foreseen) leaves in
+    (told ∙ same ∙ sym (comes_plain (Decides Goes) e s plain), subst (λ (c : Outcome × Scene). AreKnown c.1) (sym (told ∙ same)) left)
 
 -- ---- a restart
 
@@ -264,73 +199,21 @@ restart_either reads log s ComesBack known = inr (rw known.honest (ap reads (bac
 restart_either reads log s (Decides DeviceFails) known = inr (rw (known.honest, known.foreseen) refl)
 restart_either reads log s (Decides d) known = inr (rw known.honest refl)
 
-abbrev clear_reread : List ClearRecord → Scene → Outcome × Scene
-clear_reread read s = (
-  outcomes.Restarted (length read) (length read == length s.shown.clear.records + 1),
-  with_known node.Clear (record s.clear.foresight { stands = None })
-      (record s { shown = record s.shown { clear = record { records = read; tried = None; down = false }; open_lots = []; lots = map with_end s.shown.lots } }),
-)
-
-abbrev depot_reread : List DepRecord → Scene → Outcome × Scene
-depot_reread read s = (
-  outcomes.Restarted (length read) (length read == length s.shown.depot.records + 1),
-  with_known node.Depot (record s.depot.foresight { stands = None }) (record s { shown = record s.shown { depot = record { records = read; tried = None; down = false } } }),
-)
-
-clear_comes : (chance : Chance) (s : Scene) (read : List ClearRecord) → restart_decision ClearReads s.clear s.shown.clear.tried s.shown.clear.records chance ≡ ClearReads read
-    → comes_to chance (event.Restart node.Clear) s ≡ clear_reread read s
-unfolding comes_to happens judged
-clear_comes chance s read is = rw is refl
-
-depot_comes : (chance : Chance) (s : Scene) (read : List DepRecord) → restart_decision DepotReads s.depot s.shown.depot.tried s.shown.depot.records chance ≡ DepotReads read
-    → comes_to chance (event.Restart node.Depot) s ≡ depot_reread read s
-unfolding comes_to happens judged
-depot_comes chance s read is = rw is refl
-
-clear_short : (chance : Chance) (s : Scene) → restart_decision ClearReads s.clear s.shown.clear.tried s.shown.clear.records chance ≡ NoMemory
-    → (comes_to chance (event.Restart node.Clear) s).0 ≡ outcomes.Refused refusal.OutOfMemory
-unfolding comes_to happens judged
-clear_short chance s is = rw is refl
-
-depot_short : (chance : Chance) (s : Scene) → restart_decision DepotReads s.depot s.shown.depot.tried s.shown.depot.records chance ≡ NoMemory
-    → (comes_to chance (event.Restart node.Depot) s).0 ≡ outcomes.Refused refusal.OutOfMemory
-unfolding comes_to happens judged
-depot_short chance s is = rw is refl
-
-restart_known : {R : Type 0} (read : List R) (log : LogShown R) (s : Sight) → IsKnown log s
-    → IsKnown {R = R} (record { records = read; tried = None; down = false }) (record s { foresight = record s.foresight { stands = None } })
-restart_known read log s known = record { honest = known.honest; foreseen = known.foreseen; stands = inl refl }
-
 restart_goes : {R : Type 0} (reads : List R → Decision) (log : LogShown R) (s : Sight) → IsKnown log s
     → restart_decision reads s log.tried log.records (Decides Goes) ≡ reads (given_of log s)
 restart_goes reads log s known = rw known.honest refl
 
 restart_alone : (chance : Chance) (name : NodeName) (s : Scene) → AreKnown s → (comes_to chance (event.Restart name) s).0 ≢ outcomes.Refused refusal.OutOfMemory
     → IsAlone chance (event.Restart name) s
-restart_alone chance node.Clear s known memory = by (restart_either ClearReads s.shown.clear s.clear chance known.0)
-  where
-    by : (restart_decision ClearReads s.clear s.shown.clear.tried s.shown.clear.records chance ≡ NoMemory)
-        ⊎ (restart_decision ClearReads s.clear s.shown.clear.tried s.shown.clear.records chance ≡ ClearReads (given_of s.shown.clear s.clear))
-        → IsAlone chance (event.Restart node.Clear) s
-    by (inl short) = absurd (memory (clear_short chance s short))
-    by (inr is) =
-        let read = given_of s.shown.clear s.clear in
-        let come = clear_comes chance s read is in (
-          come ∙ sym (clear_comes (Decides Goes) s read (restart_goes ClearReads s.shown.clear s.clear known.0)),
-          subst (λ (c : Outcome × Scene). AreKnown c.1) (sym come) (restart_known read s.shown.clear s.clear known.0, known.1),
-        )
-restart_alone chance node.Depot s known memory = by (restart_either DepotReads s.shown.depot s.depot chance known.1)
-  where
-    by : (restart_decision DepotReads s.depot s.shown.depot.tried s.shown.depot.records chance ≡ NoMemory)
-        ⊎ (restart_decision DepotReads s.depot s.shown.depot.tried s.shown.depot.records chance ≡ DepotReads (given_of s.shown.depot s.depot))
-        → IsAlone chance (event.Restart node.Depot) s
-    by (inl short) = absurd (memory (depot_short chance s short))
-    by (inr is) =
-        let read = given_of s.shown.depot s.depot in
-        let come = depot_comes chance s read is in (
-          come ∙ sym (depot_comes (Decides Goes) s read (restart_goes DepotReads s.shown.depot s.depot known.1)),
-          subst (λ (c : Outcome × Scene). AreKnown c.1) (sym come) (known.0, restart_known read s.shown.depot s.depot known.1),
-        )
+unfolding comes_to happens judged
+restart_alone chance node.Clear s known memory = elim (restart_either ClearReads s.shown.clear s.clear chance known.0) [
+  | inl short ↦ absurd (memory (rw short refl))
+  | inr is ↦ (rw (is, restart_goes ClearReads s.shown.clear s.clear known.0) refl, rw is (reread_known refl known.0, known.1))
+]
+restart_alone chance node.Depot s known memory = elim (restart_either DepotReads s.shown.depot s.depot chance known.1) [
+  | inl short ↦ absurd (memory (rw short refl))
+  | inr is ↦ (rw (is, restart_goes DepotReads s.shown.depot s.depot known.1) refl, rw is (known.0, reread_known refl known.1))
+]
 
 pub comes_alone : (chance : Chance) (e : Event) (s : Scene) → AreKnown s → (comes_to chance e s).0 ≢ outcomes.Refused refusal.OutOfMemory → IsAlone chance e s
 comes_alone chance (event.Restart name) s known memory = restart_alone chance name s known memory

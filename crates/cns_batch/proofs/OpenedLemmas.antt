@@ -1,6 +1,6 @@
 -- Nodes that are opened over empty journals have no records, and these are never bad.
 use Rattle.std.proofs.Common.{◌≡◌, ℕ, List, [], ◌∷◌, true, false, None, Err, ◌∙◌, map, reverse, refl, sym, ap, inl, inr, length, length-append, arith}
-use Rattle.std.proofs.lemmas.List.{length-reverse}
+use Rattle.std.proofs.lemmas.List.{length-map, length-reverse, nil_from_length}
 use Rattle.std.proofs.lemmas.List.Elements.{All-nil}
 use Rattle.std.proofs.lemmas.Option.{none-some}
 use Rattle.cns_journal.specs.Keeper.{IsReopened, Succeeds, KeeperState}
@@ -21,15 +21,6 @@ use Rattle.cns_system.specs.World.{World}
 use Rattle.cns_system.specs.declared.fault.StartFault.TheVariants as start
 use Rattle.cns_batch.specs.Text.{Input, IsUnopened, first_scene, new_keeper}
 
--- no payloads are of no records
-no_items : {R : Type 0} (f : R → List ℕ) (items : List R) → map f items ≡ [] → items ≡ []
-no_items f [] e = refl
-no_items f (x ∷ xs) e = absurd (cc e)
-
-no_records : {R : Type 0} (records : List R) → reverse records ≡ [] → records ≡ []
-no_records [] e = refl
-no_records {R} (x ∷ xs) e = absurd (omega (arith, length-reverse (x ∷ xs), ap (λ (l : List R). length l) e))
-
 nothing_given : (given : List (List ℕ)) → IsReopened (record { kept = []; undecided = None }) given → given ≡ []
 nothing_given given (inl e) = e
 nothing_given given (inr more) = absurd (none-some more.0 more.1)
@@ -42,7 +33,9 @@ first_log = record { records = []; tried = None; down = false; rejected = []; fa
 
 first : {R : Type 0} (spelling : R → List ℕ) (allows : List R → R → Type 0) (fits : R → Type 0) (log : LogState R) → IsOpened spelling allows fits new_keeper log → log ≡ first_log
 first {R} spelling allows fits log opened =
-    opened.value ∙ ap (λ (rs : List R). record first_log { records = rs }) (no_records log.records (no_items spelling (reverse log.records) (nothing_given _ (opened.given refl))))
+    let given : map spelling (reverse log.records) ≡ [] = nothing_given _ (opened.given refl) in
+    let none : log.records ≡ [] = nil_from_length log.records (omega (arith, length-reverse log.records, length-map (reverse log.records) spelling, ap length given)) in
+    opened.value ∙ ap (λ (rs : List R). record first_log { records = rs }) none
 
 pub started_first : (openings : List Opening) (w : World) → IsStarted openings new_keeper new_keeper w → scene_of w ≡ first_scene openings
 started_first openings w started =
@@ -58,28 +51,23 @@ started_first openings w started =
 
 -- ---- no opening is refused but for want of memory
 
-no_bad_place : {R : Type 0} (spelling : R → List ℕ) (allows : List R → R → Type 0) (fits : R → Type 0) (given : List (List ℕ)) (place : ℕ) → given ≡ []
-    → IsBadPlace spelling allows fits given place → ⊥
-no_bad_place spelling allows fits given place none bad =
-    omega (arith, length-append (map spelling bad.before) (bad.payload ∷ bad.after), ap (λ (l : List (List ℕ)). length l) (sym bad.given_is ∙ none))
-
-reads : {R : Type 0} (spelling : R → List ℕ) (allows : List R → R → Type 0) (fits : R → Type 0) (rejected : List (List ℕ)) (new : KeeperState) (place : ℕ)
+-- a journal without payloads is not bad
+no_bad_place : {R : Type 0} (spelling : R → List ℕ) (allows : List R → R → Type 0) (fits : R → Type 0) (rejected : List (List ℕ)) (new : KeeperState) (place : ℕ)
     → Reread spelling allows fits (Err (replay.BadJournal place)) rejected new_keeper new → ⊥
-reads spelling allows fits rejected new place (reopened, bad) = no_bad_place spelling allows fits rejected place (nothing_given rejected (reopened.keeps refl).0) bad
+no_bad_place spelling allows fits rejected new place (reopened, bad) =
+    omega (arith, length-append (map spelling bad.before) (bad.payload ∷ bad.after), ap length (sym bad.given_is ∙ nothing_given rejected (reopened.keeps refl).0))
 
-nothing_agrees : (c : List ClearRecord) (p : List DepRecord) → c ≡ [] → p ≡ [] → Agree c p
+nothing_agrees : Agree [] []
 unfolding books_of
-nothing_agrees c p none nothing = rw (none, nothing) (record { executed = All-nil (IsOrdered (orders_of []).orders); confirmed = All-nil (IsExecuted []) })
+nothing_agrees = record { executed = All-nil (IsOrdered (orders_of []).orders); confirmed = All-nil (IsExecuted []) }
 
 pub none_unopened : (input : Input) (clear depot : KeeperState) → IsUnopened false input new_keeper new_keeper clear depot → ⊥
-none_unopened input clear depot (start.Clear (replay.BadJournal place), rejected, long, (unread, same)) = reads spelling IsAllowed HasPayload rejected clear place unread
+none_unopened input clear depot (start.Clear (replay.BadJournal place), rejected, long, (unread, same)) = no_bad_place spelling IsAllowed HasPayload rejected clear place unread
 none_unopened input clear depot (start.Clear replay.OutOfMemory, rejected, long, why) = absurd (cc long)
 none_unopened input clear depot (start.Clear replay.Device, rejected, long, (reopened, same)) = absurd (cc reopened.foreseen.0)
 none_unopened input clear depot (start.Depot (replay.BadJournal place), rejected, long, (returned, unread)) =
-    reads dep_spelling (IsExecutable input.openings) HasDepPayload rejected depot place unread
+    no_bad_place dep_spelling (IsExecutable input.openings) HasDepPayload rejected depot place unread
 none_unopened input clear depot (start.Depot replay.OutOfMemory, rejected, long, why) = absurd (cc long)
 none_unopened input clear depot (start.Depot replay.Device, rejected, long, (returned, reopened)) = absurd (cc reopened.foreseen.0)
 none_unopened input clear depot (start.Disagree, rejected, long, (c, opened, (p, stocked, differs))) =
-    differs
-    (nothing_agrees c.log.records p.log.records (ap (λ (l : LogState ClearRecord). l.records) (first spelling IsAllowed HasPayload c.log opened.0.0))
-    (ap (λ (l : LogState DepRecord). l.records) (first dep_spelling (IsExecutable input.openings) HasDepPayload p.log stocked.0.0)))
+    differs (rw (first spelling IsAllowed HasPayload c.log opened.0.0, first dep_spelling (IsExecutable input.openings) HasDepPayload p.log stocked.0.0) nothing_agrees)

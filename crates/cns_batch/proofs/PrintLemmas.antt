@@ -1,6 +1,7 @@
 -- What is written of texts that are told one after another.
-use Rattle.std.proofs.Common.{◌≡◌, ◌<◌, ◌≤◌, ℕ, suc, zero, ◌+◌, get_or, List, [], ◌∷◌, ◌++◌, length, take, drop, Option, Some, None, Result, Ok, Err, refl, sym, ap, ◌∙◌, subst, append_assoc, arith}
-use Rattle.std.proofs.lemmas.List.{append-nil, drop_all, drop_more}
+use Rattle.std.proofs.Common.{◌≡◌, ◌<◌, ◌≤◌, ℕ, ◌+◌, min, get_or, List, [], ◌∷◌, ◌++◌, length, take, drop, Option, Some, None, Result, Ok, Err, refl, sym, ap, ◌∙◌, subst, append_assoc, arith, take-add}
+use Rattle.std.proofs.Math.Seq.{take-append-add}
+use Rattle.std.proofs.lemmas.List.{append-nil, drop_all, drop_more, take-append-le, take_min}
 use Rattle.std.specs.Result.{IsErr}
 use Rattle.std.specs.Io.KnownBytes.{Appends, Keeps}
 use Rattle.std.specs.List.{flat_map}
@@ -16,6 +17,10 @@ appends_more (Some xs) None d s t f g = absurd f
 appends_more (Some xs) (Some ys) None s t f g = absurd g
 appends_more (Some xs) (Some ys) (Some zs) s t f g = g ∙ ap (λ l. l ++ t) f ∙ append_assoc xs s t
 
+-- one more part of a text is written
+pub write_more : (a b d : Option (List ℕ)) (text : List ℕ) (k n : ℕ) → Appends a b (take k text) → Appends b d (take n (drop k text)) → Appends a d (take (k + n) text)
+write_more a b d text k n f g = rw (take-add k n text) (appends_more a b d (take k text) (take n (drop k text)) f g)
+
 pub writes_more : (p q r : Output) (s t : List ℕ) → Writes s p q → Writes t q r → Writes (s ++ t) p r
 writes_more p q r s t (one, a, e) (two, b, f) = (
   one ++ two,
@@ -25,21 +30,14 @@ writes_more p q r s t (one, a, e) (two, b, f) = (
 
 -- as much is at the front of a longer list
 pub take_front : {A : Type 0} (n : ℕ) (xs ys : List A) → (m : ℕ) × (take m (xs ++ ys) ≡ take n xs)
-take_front zero xs ys = (0, refl)
-take_front (suc n) [] ys = (0, refl)
-take_front (suc n) (x ∷ xs) ys = let (m, e) = take_front n xs ys in (suc m, ap (λ l. x ∷ l) e)
-
-pub take_past : {A : Type 0} (n : ℕ) (xs ys : List A) → take (length xs + n) (xs ++ ys) ≡ xs ++ take n ys
-take_past n [] ys = let none : 0 + n ≡ n = omega arith in ap (λ k. take k ys) none
-take_past n (x ∷ xs) ys =
-    let one : suc (length xs) + n ≡ suc (length xs + n) = omega arith in ap (λ k. take k (x ∷ (xs ++ ys))) one ∙ ap (λ l. x ∷ l) (take_past n xs ys)
+take_front n xs ys = (min n (length xs), take-append-le (min n (length xs)) xs ys (omega arith) ∙ take_min n xs)
 
 -- a text was told, and the next one breaks off
 pub breaks_after : (p q : Output) (sent : Option (List ℕ)) (s t : List ℕ) → Writes s p q → BreaksOff t q sent → BreaksOff (s ++ t) p sent
 breaks_after p q sent s t (part, a, e) (size, b) =
     let all : p.held ++ (s ++ t) ≡ part ++ (q.held ++ t) = sym (append_assoc p.held s t) ∙ ap (λ l. l ++ t) (sym e) ∙ append_assoc part q.held t in (
       length part + size,
-      subst (λ l. Appends p.sent sent l) (sym (ap (take (length part + size)) all ∙ take_past size part (q.held ++ t)))
+      subst (λ l. Appends p.sent sent l) (sym (ap (take (length part + size)) all ∙ take-append-add part (q.held ++ t) size))
           (appends_more p.sent q.sent sent part (take size (q.held ++ t)) a b),
     )
 
@@ -89,6 +87,9 @@ holds text p q is = subst (λ q. Writes text p q) (sym is) ([], appends_nothing 
 pub prints_held : {E : Type 0} (text : List ℕ) (result : Result (Unit {0}) E) (p q r : Output) → q ≡ record p { held = p.held ++ text } → Prints [] result q r → Prints text result p r
 prints_held text result p q r is flushed = subst (λ t. Prints t result p r) (append-nil text) (prints_after result p q r text [] (holds text p q is) flushed)
 
+-- texts one after another, of which the last is told or breaks off
+pub ruleset texts = (prints_fault, prints_after, writes_more, breaks_front, breaks_after, breaks_here)
+
 -- ---- rows, one after another
 
 -- what is left of a list begins with the next one
@@ -108,15 +109,14 @@ pub lines_left : {A : Type 0} (line : A → List ℕ) (rows : List A) (i : ℕ) 
     → flat_map line (drop i rows) ≡ line x ++ flat_map line (drop (i + 1) rows)
 lines_left line rows i x lt is = ap (flat_map line) (first_left rows i x lt is)
 
-pub row_told : {A : Type 0} (line : A → List ℕ) (rows : List A) (i : ℕ) (x : A) (p q r : Output) → i < length rows → x ≡ get_or rows i x
+pub row_told : {A : Type 0} {line : A → List ℕ} {rows : List A} {i : ℕ} {x : A} {p q r : Output} → i < length rows → x ≡ get_or rows i x
     → AreTold line rows i p q → Writes (line x) q r → AreTold line rows (i + 1) p r
-row_told line rows i x p q r lt is so one = record {
+row_told {line = line} {rows = rows} {i = i} {x = x} {p = p} {q = q} {r = r} lt is so one = record {
   told = so.told ++ line x;
   rest_is = append_assoc so.told (line x) (flat_map line (drop (i + 1) rows)) ∙ ap (λ l. so.told ++ l) (sym (lines_left line rows i x lt is)) ∙ so.rest_is;
   writes = writes_more p q r so.told (line x) so.writes one;
 }
 
-pub all_told : {A : Type 0} (line : A → List ℕ) (rows : List A) (i : ℕ) (p q : Output) → length rows ≤ i → AreTold line rows i p q → Writes (flat_map line rows) p q
-all_told line rows i p q le so =
-    let all : so.told ≡ flat_map line rows = sym (append-nil so.told) ∙ ap (λ l. so.told ++ flat_map line l) (sym (drop_all i rows le)) ∙ so.rest_is in
-    subst (λ l. Writes l p q) all so.writes
+pub all_told : {A : Type 0} {line : A → List ℕ} {rows : List A} {i : ℕ} {p q : Output} → length rows ≤ i → AreTold line rows i p q → Writes (flat_map line rows) p q
+all_told {line = line} {rows = rows} {i = i} le so =
+    let all : so.told ≡ flat_map line rows = sym (append-nil so.told) ∙ ap (λ l. so.told ++ flat_map line l) (sym (drop_all i rows le)) ∙ so.rest_is in rw (← all) so.writes

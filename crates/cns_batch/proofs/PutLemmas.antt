@@ -39,23 +39,20 @@ pub record ArePut {A : Type 0} (line : A → List ℕ) (rows : List A) (i : ℕ)
 pub none_put : {A : Type 0} (line : A → List ℕ) (rows : List A) (p : Written) (a : Option (List ℕ)) → ArePut line rows 0 p p a a
 none_put line rows p a = record { told = none_told line rows (output p a); room = omega arith }
 
-pub row_put : {A : Type 0} (line : A → List ℕ) (rows : List A) (i : ℕ) (x : A) (p q r : Written) (a b d : Option (List ℕ)) → i < length rows → x ≡ get_or rows i x
+pub row_put : {A : Type 0} {line : A → List ℕ} {rows : List A} {i : ℕ} {x : A} {p q r : Written} {a b d : Option (List ℕ)} → i < length rows → x ≡ get_or rows i x
     → ArePut line rows i p q a b → Puts (line x) (Ok tt) q r b d → ArePut line rows (i + 1) p r a d
-row_put line rows i x p q r a b d lt is so one = record {
-  told = row_told line rows i x (output p a) (output q b) (output r d) lt is so.told one.0;
-  room = omega (arith, so.room, one.1);
-}
+row_put lt is so one = record { told = row_told lt is so.told one.0; room = omega (arith, so.room, one.1) }
 
-pub row_fails : {A : Type 0} (e : OutputFault) (line : A → List ℕ) (rows : List A) (i : ℕ) (x : A) (p q r : Written) (a b d : Option (List ℕ)) → i < length rows
+pub row_fails : {A : Type 0} {line : A → List ℕ} {rows : List A} {i : ℕ} {x : A} {p q : Written} {a b : Option (List ℕ)} (e : OutputFault) (r : Written) (d : Option (List ℕ)) → i < length rows
     → x ≡ get_or rows i x → ArePut line rows i p q a b → Puts (line x) (Err e) q r b d → Puts (flat_map line rows) (Err e) p r a d
-row_fails e line rows i x p q r a b d lt is so one =
+row_fails {line = line} {rows = rows} {i = i} {x = x} {p = p} {q = q} {a = a} {b = b} e r d lt is so one =
     let rest = flat_map line (drop (i + 1) rows) in
     subst (λ l. Puts l (Err e) p r a d) (ap (λ l. so.told.told ++ l) (sym (lines_left line rows i x lt is)) ∙ so.told.rest_is)
     (puts_after (Err e) p q r a b d so.told.told (line x ++ rest) (so.told.writes, so.room, tt) (puts_front e q r b d (line x) rest one))
 
-pub all_put : {A : Type 0} (line : A → List ℕ) (rows : List A) (i : ℕ) (p q : Written) (a b : Option (List ℕ)) → length rows ≤ i → ArePut line rows i p q a b
+pub all_put : {A : Type 0} {line : A → List ℕ} {rows : List A} {i : ℕ} {p q : Written} {a b : Option (List ℕ)} → length rows ≤ i → ArePut line rows i p q a b
     → Puts (flat_map line rows) (Ok tt) p q a b
-all_put line rows i p q a b le so = (all_told line rows i (output p a) (output q b) le so.told, so.room, tt)
+all_put le so = (all_told le so.told, so.room, tt)
 
 -- ---- what was told is written
 

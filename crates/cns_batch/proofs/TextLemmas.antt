@@ -1,6 +1,7 @@
 -- What a run of a script writes of an input's text.
 use Rattle.std.proofs.Common.{◌≡◌, ◌≤◌, ◌<◌, ℕ, Bool, false, true, length, List, [], ◌++◌, take, Option, None, Some, Result, Ok, Err, refl, sym, ap, ◌∙◌, subst, inl, inr, arith, append_assoc, ◌+◌, length-append}
 use Rattle.std.specs.Prelude.{IfErr, OnOk, if◌then◌else◌}
+use Rattle.std.proofs.Math.Seq.{take-append_seam}
 use Rattle.std.proofs.lemmas.List.{append-nil}
 use Rattle.std.proofs.lemmas.Bool.{le-leb, lt-leb}
 use Rattle.std.specs.Io.KnownBytes.{Appends, Consumes}
@@ -18,7 +19,7 @@ use Rattle.cns_batch.specs.Acts.{Gives}
 use Rattle.cns_batch.specs.Commands.{served_in_turn}
 use Rattle.cns_batch.specs.InTurn.{LeadsInTurn, Told, in_turn, scene_at}
 use Rattle.cns_batch.specs.Ending.{batch_result}
-use Rattle.cns_batch.specs.Runs.{Continues, Place, Runs, Stops, leaves, text_said}
+use Rattle.cns_batch.specs.Runs.{Continues, Output, Place, Runs, Stops, Writes, leaves, output_at, text_said}
 use Rattle.cns_input.specs.Reading.{HasGiven, IsInput, IsReadFault}
 use Rattle.cns_batch.specs.Text.{BatchLeaves, Input, KeptLeaves, OpensBoth, RunsInput, SaysOf, Tells, WritesAll, WritesNothing, WritesPart, WritesTextPart, fault_of_start, input_of, is_short, new_keeper, first_scene, parts_of, run_from, script_of, text_by, text_from}
 use Rattle.cns_input.specs.declared.fault.BatchFault.{BatchFault}
@@ -27,7 +28,7 @@ use Rattle.cns_batch.specs.declared.fault.OutputFault.{OutputFault}
 use Rattle.cns_batch.specs.declared.fault.OutputFault.TheVariants as output
 use Rattle.cns_batch.proofs.InTurnLemmas.{all_in_turn, course}
 use Rattle.cns_batch.proofs.OpenedLemmas.{none_unopened, started_first}
-use Rattle.cns_batch.proofs.PrintLemmas.{take_front, take_past}
+use Rattle.cns_batch.proofs.PrintLemmas.{take_front}
 
 -- both keepers of a place that was come to are as its nodes give them up
 abbrev pub AreOf : Place World → KeeperState → KeeperState → Type 0
@@ -37,20 +38,20 @@ AreOf q clear depot = IsGivenUp spelling q.nodes.clear.clear.log clear × IsGive
 abbrev pub start : {N : Type 0} → Input → N → Option (List ℕ) → Place N
 start input nodes sent = record { nodes = nodes; held = input.told; sent = sent }
 
+-- all of a text was written where nothing is held any more
+pub all_written : (text : List ℕ) (old new : Output) → Writes text old new → new.held ≡ [] → Appends old.sent new.sent (old.held ++ text)
+all_written text old new (part, appends, all) none = rw (← all, none, append-nil part) appends
+
 wrote_all : (shake : Option ℕ) (input : Input) (clear depot clear' depot' : KeeperState) (w : World) (last_left : Supply) (sent : Option (List ℕ)) (q : Place World) → IsStarted input.openings clear depot w
     → Continues LeadsInTurn (script_of served_in_turn shake input) (Gives last_left) (start input w sent) q → q.held ≡ [] → AreOf q clear' depot'
     → WritesAll shake input clear depot clear' depot' sent q.sent
 unfolding in_turn
 wrote_all shake input clear depot clear' depot' w last_left sent q started one none left =
-    let run = all_in_turn one.said (script_of served_in_turn shake input) (Gives last_left) w q.nodes one.follows one.led in
-    let chances = run.chances ++ [] in
     let text = text_said one.said in
-    let part = one.writes.0 in
-    let written : part ≡ input.told ++ text = sym (append-nil part) ∙ ap (λ l. part ++ l) (sym none) ∙ one.writes.2 in
-    let told : (run_from shake chances (scene_of w) input).text ≡ text = ap (λ (t : Told (Supply)). t.text) (run.act_is []) ∙ append-nil text in
-    let here : text_from shake chances (scene_of w) input ≡ part = ap (λ l. input.told ++ l) told ∙ sym written in
-    let last : scene_of q.nodes ≡ (run_from shake chances (scene_of w) input).course.scene = sym (ap (λ (t : Told (Supply)). t.course.scene) (run.act_is [])) in
-    (w, started, (chances, subst (λ t. Appends sent q.sent t) (sym here) one.writes.1, (q.nodes, last, left.0, left.1)))
+    let run = all_in_turn one.said (script_of served_in_turn shake input) (Gives last_left) w q.nodes one.follows one.led in
+    let here : text_from shake (run.chances ++ []) (scene_of w) input ≡ input.told ++ text = ap (λ (t : Told (Supply)). input.told ++ t.text) (run.act_is []) ∙ rw (append-nil text) refl in
+    let last = sym (ap (λ (t : Told (Supply)). t.course.scene) (run.act_is [])) in
+    (w, started, (run.chances ++ [], rw here (all_written text (output_at (start input w sent)) (output_at q) one.writes none), (q.nodes, last, left.0, left.1)))
 
 wrote_part : (shake : Option ℕ) (input : Input) (clear depot clear' depot' : KeeperState) (w : World) (sent : Option (List ℕ)) (q : Place World) → IsStarted input.openings clear depot w
     → Stops LeadsInTurn (script_of served_in_turn shake input) (start input w sent) q → AreOf q clear' depot' → WritesPart shake input clear depot clear' depot' sent q.sent
@@ -62,13 +63,9 @@ wrote_part shake input clear depot clear' depot' w sent q started stop left =
     let told : text_from shake chances (scene_of w) input ≡ (input.told ++ text) ++ rest.text =
     ap (λ (t : Told (Supply)). input.told ++ t.text) (run.act_is []) ∙ sym (append_assoc input.told text rest.text) in
     let (size, same) = take_front stop.writes.0 (input.told ++ text) rest.text in
-    let here : take size (text_from shake chances (scene_of w) input) ≡ take stop.writes.0 (input.told ++ text) = ap (take size) told ∙ same in
-    let all : (run_from shake chances (scene_of w) input).occurred ≡ run.occurred ++ rest.occurred = ap (λ (t : Told (Supply)). t.occurred) (run.act_is []) in
-    let first : take (length run.occurred + 0) (run_from shake chances (scene_of w) input).occurred ≡ run.occurred =
-    ap (take (length run.occurred + 0)) all ∙ take_past 0 run.occurred rest.occurred ∙ append-nil run.occurred in
-    let last : scene_of q.nodes ≡ scene_at (scene_of w) (take (length run.occurred + 0) (run_from shake chances (scene_of w) input).occurred) =
-    run.scene ∙ ap (scene_at (scene_of w)) (sym first) in
-    (w, started, (chances, (size, subst (λ t. Appends sent q.sent t) (sym here) stop.writes.1), (length run.occurred + 0, (q.nodes, last, left.0, left.1))))
+    let first : take (length run.occurred) (run_from shake chances (scene_of w) input).occurred ≡ run.occurred =
+    ap (λ (t : Told (Supply)). take (length run.occurred) t.occurred) (run.act_is []) ∙ take-append_seam run.occurred rest.occurred in
+    (w, started, (chances, (size, rw (told, same) stop.writes.1), (length run.occurred, (q.nodes, rw first run.scene, left.0, left.1))))
 
 pub runs_input : (ran : Result (Unit {0}) OutputFault) (shake : Option ℕ) (input : Input) (clear depot clear' depot' : KeeperState) (w : World) (last_left : Supply) (sent : Option (List ℕ)) (q : Place World)
     → IsStarted input.openings clear depot w → Runs LeadsInTurn (script_of served_in_turn shake input) (leaves ran last_left) (start input w sent) q → OnOk ran (q.held ≡ []) → AreOf q clear' depot'
@@ -108,7 +105,8 @@ given_refused e old new (given, took, long) = (given, took, (λ is. long.0 (cc i
 
 -- ---- what a batch over keepers leaves
 
-kept_by : (result : Result (Unit {0}) BatchFault) (shake : Option ℕ) (bytes : List ℕ) (input : Input) (c d c' d' : KeeperState) (old new : Option (List ℕ)) → input_of bytes ≡ Ok input
+-- the input was read, and ran
+pub kept_by : (result : Result (Unit {0}) BatchFault) (shake : Option ℕ) (bytes : List ℕ) (input : Input) (c d c' d' : KeeperState) (old new : Option (List ℕ)) → input_of bytes ≡ Ok input
     → RunsInput result shake input c d c' d' old new → KeptLeaves result shake bytes c d c' d' old new
 kept_by (Ok u) shake bytes input c d c' d' old new is runs = (input, is, runs)
 kept_by (Err fault.Journal) shake bytes input c d c' d' old new is runs = (input, is, runs)
@@ -116,44 +114,17 @@ kept_by (Err fault.Memory) shake bytes input c d c' d' old new is runs = inr (in
 kept_by (Err fault.Write) shake bytes input c d c' d' old new is runs = (input, is, runs)
 kept_by (Err _) shake bytes input c d c' d' old new is runs = absurd runs
 
--- the input was read
-pub kept_ran : (shake : Option ℕ) (known : Option (List ℕ)) (bytes : List ℕ) (input : Input) (result : Result (Unit {0}) BatchFault) (c d c' d' : KeeperState) (old new : Option (List ℕ))
-    → IsInput known bytes → length bytes ≤ 67108864 → parts_of bytes ≡ Ok input → RunsInput result shake input c d c' d' old new
-    → (bytes : List ℕ) × IsInput known bytes × KeptLeaves result shake bytes c d c' d' old new
-kept_ran shake known bytes input result c d c' d' old new all le is runs = (bytes, all, kept_by result shake bytes input c d c' d' old new (within bytes le ∙ is) runs)
-
--- and another answer than that it is too long follows
-pub runs_other : (result : Result (Unit {0}) BatchFault) (shake : Option ℕ) (input : Input) (c d c' d' : KeeperState) (old new : Option (List ℕ)) → RunsInput result shake input c d c' d' old new
-    → result ≡ Err fault.TooLong → ⊥
-runs_other (Ok u) shake input c d c' d' old new runs is = absurd (cc is)
-runs_other (Err fault.TooLong) shake input c d c' d' old new runs is = runs
-runs_other (Err fault.Journal) shake input c d c' d' old new runs is = absurd (cc is)
-runs_other (Err fault.Memory) shake input c d c' d' old new runs is = absurd (cc is)
-runs_other (Err fault.Write) shake input c d c' d' old new runs is = absurd (cc is)
-runs_other (Err fault.Read) shake input c d c' d' old new runs is = runs
-runs_other (Err fault.Sections) shake input c d c' d' old new runs is = runs
-runs_other (Err fault.Csv) shake input c d c' d' old new runs is = runs
-
-refused_by : (e : BatchFault) (shake : Option ℕ) (bytes : List ℕ) (c d : KeeperState) (old : Option (List ℕ)) → length bytes ≤ 67108864 → Tells e (parts_of bytes) → KeptLeaves (Err e) shake bytes c d c d old old
+-- the input was read, and is refused
+pub refused_by : (e : BatchFault) (shake : Option ℕ) (bytes : List ℕ) (c d : KeeperState) (old : Option (List ℕ)) → length bytes ≤ 67108864 → Tells e (parts_of bytes) → KeptLeaves (Err e) shake bytes c d c d old old
 refused_by fault.Read shake bytes c d old le told = (refl, refl)
 refused_by fault.Sections shake bytes c d old le told = (within bytes le ∙ told, refl, refl)
 refused_by fault.Csv shake bytes c d old le told = (within bytes le ∙ told, refl, refl)
 refused_by fault.Memory shake bytes c d old le told = inl (refl, refl, refl)
 refused_by _ shake bytes c d old le told = absurd told
 
--- the input was read, and is refused
-pub kept_refused : (shake : Option ℕ) (known : Option (List ℕ)) (bytes : List ℕ) (e : BatchFault) (c d : KeeperState) (old : Option (List ℕ)) → IsInput known bytes → length bytes ≤ 67108864
-    → Tells e (parts_of bytes) → (bytes : List ℕ) × IsInput known bytes × KeptLeaves (Err e) shake bytes c d c d old old
-kept_refused shake known bytes e c d old all le told = (bytes, all, refused_by e shake bytes c d old le told)
-
+-- and another answer than that it is too long
 pub refuses_other : (e : BatchFault) (r : Result Input BatchFault) → Tells e r → e ≡ fault.TooLong → ⊥
-refuses_other fault.TooLong r told is = told
-refuses_other fault.Read r told is = absurd (cc is)
-refuses_other fault.Memory r told is = absurd (cc is)
-refuses_other fault.Sections r told is = absurd (cc is)
-refuses_other fault.Csv r told is = absurd (cc is)
-refuses_other fault.Journal r told is = told
-refuses_other fault.Write r told is = told
+refuses_other e r told is = rw is at told
 
 -- the input was not read to its end
 pub kept_unread : {A : Type 0} (e : BatchFault) (shake : Option ℕ) (known left : Option (List ℕ)) (c d : KeeperState) (old : Option (List ℕ)) → IsReadFault e → HasGiven {A = A} (Err e) known left
@@ -162,10 +133,7 @@ kept_unread fault.Read shake known left c d old kind gave = let (bytes, all) = s
 kept_unread fault.Memory shake known left c d old kind gave = let (bytes, all) = some_input known in (bytes, all, inl (refl, refl, refl))
 kept_unread fault.TooLong shake known left c d old kind (given, took, long) =
     let (bytes, all, more) = long_input known left given took (long.0 refl) in (bytes, all, (too_long bytes more, refl, refl))
-kept_unread fault.Sections shake known left c d old kind gave = absurd kind
-kept_unread fault.Csv shake known left c d old kind gave = absurd kind
-kept_unread fault.Journal shake known left c d old kind gave = absurd kind
-kept_unread fault.Write shake known left c d old kind gave = absurd kind
+kept_unread _ shake known left c d old kind gave = absurd kind
 
 -- ---- over keepers in memory
 
@@ -199,11 +167,7 @@ batch_by (Err fault.Write) bytes c' d' old new (input, is, part) = part_here byt
 
 pub batch_leaves : (known : Option (List ℕ)) (result : Result (Unit {0}) BatchFault) (c d c' d' : KeeperState) (old new : Option (List ℕ)) → c ≡ new_keeper → d ≡ new_keeper
     → (bytes : List ℕ) × IsInput known bytes × KeptLeaves result None bytes c d c' d' old new → (bytes : List ℕ) × IsInput known bytes × BatchLeaves result bytes old new
-batch_leaves known result c d c' d' old new is_c is_d (bytes, all, kept) = (
-  bytes,
-  all,
-  batch_by result bytes c' d' old new (subst (λ c. KeptLeaves result None bytes c new_keeper c' d' old new) is_c (subst (λ d. KeptLeaves result None bytes c d c' d' old new) is_d kept)),
-)
+batch_leaves known result c d c' d' old new is_c is_d (bytes, all, kept) = (bytes, all, batch_by result bytes c' d' old new (rw (is_c, is_d) at kept))
 
 -- ---- what an answer says of the input, whatever was written
 
@@ -217,14 +181,11 @@ pub says_unopened : (known : Option (List ℕ)) (bytes : List ℕ) (input : Inpu
 says_unopened known bytes input why rejected c d c' d' all le is unopened =
     (bytes, all, said_unopened (is_short why) bytes input why rejected c d c' d' refl (within bytes le ∙ is) unopened)
 
-said_ran : (ran : Result (Unit {0}) OutputFault) (bytes : List ℕ) (c d : KeeperState) → OpensBoth bytes c d → SaysOf (batch_result ran) bytes c d
+-- both nodes were opened, and a run ended
+pub said_ran : (ran : Result (Unit {0}) OutputFault) (bytes : List ℕ) (c d : KeeperState) → OpensBoth bytes c d → SaysOf (batch_result ran) bytes c d
 said_ran (Ok u) bytes c d opens = opens
 said_ran (Err output.Memory) bytes c d opens = tt
 said_ran (Err output.Write) bytes c d opens = opens
-
-pub says_ran : (known : Option (List ℕ)) (ran : Result (Unit {0}) OutputFault) (bytes : List ℕ) (input : Input) (c d : KeeperState) (w : World) → IsInput known bytes
-    → length bytes ≤ 67108864 → parts_of bytes ≡ Ok input → IsStarted input.openings c d w → (bytes : List ℕ) × IsInput known bytes × SaysOf (batch_result ran) bytes c d
-says_ran known ran bytes input c d w all le is started = (bytes, all, said_ran ran bytes c d (input, within bytes le ∙ is, (w, started)))
 
 pub ran_other : (ran : Result (Unit {0}) OutputFault) → batch_result ran ≡ Err fault.TooLong → ⊥
 ran_other (Ok u) is = absurd (cc is)
@@ -237,10 +198,7 @@ pub says_unread : {A : Type 0} (e : BatchFault) (known left : Option (List ℕ))
 says_unread fault.Read known left c d kind gave = let (bytes, all) = some_input known in (bytes, all, tt)
 says_unread fault.Memory known left c d kind gave = let (bytes, all) = some_input known in (bytes, all, tt)
 says_unread fault.TooLong known left c d kind (given, took, long) = let (bytes, all, more) = long_input known left given took (long.0 refl) in (bytes, all, too_long bytes more)
-says_unread fault.Sections known left c d kind gave = absurd kind
-says_unread fault.Csv known left c d kind gave = absurd kind
-says_unread fault.Journal known left c d kind gave = absurd kind
-says_unread fault.Write known left c d kind gave = absurd kind
+says_unread _ known left c d kind gave = absurd kind
 
 -- a run that ends in a fault may have written
 pub run_may_write : (P : Type 0) (ran : Result (Unit {0}) OutputFault) → IfErr (batch_result ran) (λ e. WritesNothing e → P)

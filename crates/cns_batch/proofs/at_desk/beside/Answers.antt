@@ -1,24 +1,22 @@
 use Rattle.std.proofs.Common.{Some, rules, take, ◌≡◌}
 use Rattle.cns_system.specs.Begin.{opened_of}
 use Rattle.cns_batch.specs.ByWorkers.{served_by_workers}
+use Rattle.cns_batch.specs.Commands.{served_if_open}
 use Rattle.cns_batch.specs.Run.{all_run, left_of, run_beside}
 use Rattle.cns_batch.specs.Runs.{Place, Runs, at, leaves}
-use Rattle.cns_batch.proofs.ActLemmas.{leaves_fault}
-use Rattle.cns_batch.proofs.RunLemmas.{beside_none_runs, beside_runs, beside_stops, beside_stops_first, not_begun}
+use Rattle.cns_batch.proofs.ActLemmas.{leaves_fault, leaving_runs, runs_after, stops_followed}
+use Rattle.cns_batch.proofs.RunLemmas.{beside_none_runs, beside_ran, beside_stops, not_begun}
 use Rattle.cns_batch.proofs.at_desk.beside.Goals.{in-Err, in-Ok}
 use Rattle.cns_batch.proofs.at_desk.beside.Goals as goal
 
 pub returns-in_err-begun-clause-runs : goal.returns-in_err-begun-clause-runs
-returns-in_err-begun-clause-runs g c =
-    let cs = take c.args.count (left_of c.args.commands.now) in
-    let s = c.args.supply.now in
-    leaves_fault _ (run_beside served_by_workers c.args.issue cs s) c.from_residual.result s _ _ c.from_residual.ensures.0 (beside_stops_first served_by_workers c.args.issue cs s _ _ c.in_err-begun.ensures.runs)
+unfolding run_beside
+returns-in_err-begun-clause-runs g c = leaves_fault c.from_residual.result _ c.from_residual.ensures.0 (stops_followed _ c.in_err-begun.ensures.runs)
 
 pub returns-in_default-clause-runs : goal.returns-in_default-clause-runs
 returns-in_default-clause-runs g c =
-    let cs = take c.args.count (left_of c.args.commands.now) in
-    let none = not_begun c.in_ok-begun.field-0 c.in_default.not-Some in
-    beside_none_runs _ served_by_workers c.args.issue cs c.args.supply.now c.run_next.new.supply c.run_next.result _ _ _ (rw none at c.in_ok-begun.ensures.runs) c.run_next.ensures.runs
+    beside_none_runs _ served_by_workers c.args.issue _ c.args.supply.now c.run_next.new.supply c.run_next.result _ _ _
+    (rw (not_begun c.in_ok-begun.field-0 c.in_default.not-Some) at c.in_ok-begun.ensures.runs) c.run_next.ensures.runs
 
 pub returns-clause-runs : goal.returns-clause-runs
 returns-clause-runs g c =
@@ -34,6 +32,9 @@ returns-clause-runs g c =
     let run_back : other.3.now ≡ c.run-1.given.0 = search rules in
     let writer_back : other.8.now ≡ c.writer-1.given.0 = search rules in
     elim c.match-ran.branch [
-      | in-Ok w ↦ rw (w.run-is, w.writer-is, w.ended-is) (beside_runs _ served_by_workers c.args.issue cs s c.supply-1.given.0 lot w.end-ended.result _ p _ _ begun (rw (supply_back, run_back, writer_back, w.in-Ok.is) at ran) w.end-ended.ensures)
-      | in-Err w ↦ rw (w.run-is, w.writer-is, w.ended-is) (beside_stops served_by_workers c.args.issue cs s lot _ p _ begun (rw (run_back, writer_back, w.in-Err.is) at ran))
+      | in-Ok w ↦
+          rw (w.run-is, w.writer-is, w.ended-is)
+          (runs_after _ _ (beside_ran served_by_workers c.args.issue cs s begun (rw (supply_back, run_back, writer_back, w.in-Ok.is) at ran))
+          (leaving_runs _ (served_if_open served_by_workers lot) c.supply-1.given.0 w.end-ended.result _ _ w.end-ended.ensures))
+      | in-Err w ↦ rw (w.run-is, w.writer-is, w.ended-is) (beside_stops served_by_workers c.args.issue cs s begun (rw (run_back, writer_back, w.in-Err.is) at ran))
     ]

@@ -1,4 +1,5 @@
-use Rattle.cns_batch.proofs.TextLemmas.{given_after, given_refused, kept_ran, kept_refused, kept_unread, refuses_other, runs_other}
+use Rattle.std.proofs.Common.{◌∙◌}
+use Rattle.cns_batch.proofs.TextLemmas.{given_after, given_refused, kept_by, kept_unread, refused_by, refuses_other, within}
 use Rattle.cns_batch.proofs.batch.run_shaken.Goals as goal
 
 pub returns-in-Err-clause-leaves : goal.returns-in-Err-clause-leaves
@@ -9,17 +10,18 @@ returns-in-Err-clause-given g c = given_refused c.in-Err.fault _ _ c.in-Err.ensu
 
 pub returns-in-Ok-read_parts-clause-leaves : goal.returns-in-Ok-read_parts-clause-leaves
 returns-in-Ok-read_parts-clause-leaves g c =
-    let script = c.as_slice.ensures.value in
-    let ran = rw script at c.run_input.ensures in
-    kept_ran c.args.shake _ c.in-Ok.bytes.items _ _ _ _ _ _ _ _ c.in-Ok.ensures.text c.in-Ok.ensures.size c.in-Ok-read_parts.ensures ran
+    let bytes = c.in-Ok.bytes.items in
+    let ran = rw c.as_slice.ensures.value at c.run_input.ensures in
+    (bytes, c.in-Ok.ensures.text, kept_by c.run_input.result.result c.args.shake bytes _ _ _ _ _ _ _ (within bytes c.in-Ok.ensures.size ∙ c.in-Ok-read_parts.ensures) ran)
 
 pub returns-in-Ok-read_parts-clause-given : goal.returns-in-Ok-read_parts-clause-given
 returns-in-Ok-read_parts-clause-given g c =
-    given_after c.in-Ok.bytes c.run_input.result.result _ _ (runs_other _ _ _ _ _ _ _ _ _ c.run_input.ensures) c.in-Ok.ensures.given
+    given_after c.in-Ok.bytes c.run_input.result.result _ _ (λ is. rw is at c.run_input.ensures) c.in-Ok.ensures.given
 
 pub returns-in-Err-read_parts-clause-leaves : goal.returns-in-Err-read_parts-clause-leaves
 returns-in-Err-read_parts-clause-leaves g c =
-    kept_refused c.args.shake _ c.in-Ok.bytes.items c.in-Err-read_parts.fault _ _ _ c.in-Ok.ensures.text c.in-Ok.ensures.size c.in-Err-read_parts.ensures
+    let bytes = c.in-Ok.bytes.items in
+    (bytes, c.in-Ok.ensures.text, refused_by c.in-Err-read_parts.fault c.args.shake bytes _ _ _ c.in-Ok.ensures.size c.in-Err-read_parts.ensures)
 
 pub returns-in-Err-read_parts-clause-given : goal.returns-in-Err-read_parts-clause-given
 returns-in-Err-read_parts-clause-given g c =

@@ -2,8 +2,8 @@ use Rattle.std.proofs.Common.{sym, ◌∙◌}
 use Rattle.std.proofs.lemmas.Result.{err_from_is_err_and}
 use Rattle.cns_batch.specs.Runs.{at}
 use Rattle.cns_batch.specs.Text.{Input}
-use Rattle.cns_batch.proofs.TextLemmas.{given_after, ran_other, run_may_write, says_ran, says_unopened, says_unread}
-use Rattle.cns_batch.proofs.WorkerLemmas.{workers_ran, workers_unread}
+use Rattle.cns_batch.proofs.TextLemmas.{given_after, ran_other, run_may_write, said_ran, says_unopened, says_unread, within}
+use Rattle.cns_batch.proofs.WorkerLemmas.{by_workers, workers_unread}
 use Rattle.cns_batch.proofs.desk.run_paced.Goals as goal
 
 pub returns-in_err-bytes-clause-says : goal.returns-in_err-bytes-clause-says
@@ -18,9 +18,9 @@ returns-in-Err-clause-says g c =
 
 pub returns-clause-says : goal.returns-clause-says
 returns-clause-says g c =
-    rw c.batch_result.ensures
-    (says_ran _ c.run_script-ran.result c.in_ok-bytes.bytes.items _ _ _ c.in-Ok.system c.in_ok-bytes.ensures.text c.in_ok-bytes.ensures.size c.in_ok-openings.ensures
-    c.in-Ok.ensures.ok)
+    let bytes = c.in_ok-bytes.bytes.items in
+    let input = within bytes c.in_ok-bytes.ensures.size ∙ c.in_ok-openings.ensures in
+    rw c.batch_result.ensures (bytes, c.in_ok-bytes.ensures.text, said_ran c.run_script-ran.result bytes _ _ (_, input, (c.in-Ok.system, c.in-Ok.ensures.ok)))
 
 pub returns-clause-none : goal.returns-clause-none
 returns-clause-none g c = rw c.batch_result.ensures (run_may_write _ c.run_script-ran.result)
@@ -41,8 +41,8 @@ pub returns-clause-workers : goal.returns-clause-workers
 returns-clause-workers g c =
     let parts = c.in_ok-openings.field-0 in
     let input : Input = record { openings = parts.rows.openings; told = parts.rows.told.text; rows = parts.rows.trades; script = parts.script.items } in
+    let bytes = c.in_ok-bytes.bytes.items in
     let q = at c.run_script-ran.new.run (g.W.Write.contents c.run_script-ran.new.writer) in
     let runs = rw (c.supply_of-supply.ensures, c.new-2.ensures, c.as_slice.ensures.value) at c.run_script-ran.ensures.runs in
     λ some. rw c.batch_result.ensures
-    (workers_ran c.args.shake _ c.run_script-ran.result c.in_ok-bytes.bytes.items input c.run_script-ran.new.supply _ _ q c.in_ok-bytes.ensures.text c.in_ok-bytes.ensures.size c.in_ok-openings.ensures runs
-    c.run_script-ran.ensures.none)
+    (bytes, c.in_ok-bytes.ensures.text, by_workers c.run_script-ran.result c.args.shake bytes input c.run_script-ran.new.supply _ _ q (within bytes c.in_ok-bytes.ensures.size ∙ c.in_ok-openings.ensures) runs c.run_script-ran.ensures.none)

@@ -1,4 +1,4 @@
-use Rattle.std.proofs.Common.{◌≡◌, ◌≤◌, ◌-◌, drop, take}
+use Rattle.std.proofs.Common.{◌≡◌, ◌-◌, drop, take}
 use Rattle.cns_batch.specs.Commands.{served_in_turn}
 use Rattle.cns_batch.specs.InTurn.{LeadsInTurn}
 use Rattle.cns_batch.specs.Run.{all_run, left_of}
@@ -6,7 +6,6 @@ use Rattle.cns_batch.specs.Runs.{Continues, at}
 use Rattle.cns_batch.proofs.in_turn.run_next.Given as goal
 
 abbrev pub invariant-loop-command : goal.invariant-loop-command
-invariant-loop-command g l = (l._command ≤ l.count)
-    × (left_of l.commands ≡ drop l._command (left_of l.fn.commands))
+invariant-loop-command g l = (left_of l.commands ≡ drop l._command (left_of l.fn.commands))
     × Continues LeadsInTurn (all_run served_in_turn l.busy (take l.count (left_of l.fn.commands)) l.fn.supply)
     (all_run served_in_turn l.busy (take (l.count - l._command) (left_of l.commands)) l.supply) (at l.fn.run (g.W.Write.contents l.fn.writer)) (at l.run (g.W.Write.contents l.writer))

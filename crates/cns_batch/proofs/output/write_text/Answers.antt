@@ -1,5 +1,5 @@
 use Rattle.std.proofs.Common.{arith}
-use Rattle.cns_batch.proofs.WriteLemmas.{write_more}
+use Rattle.cns_batch.proofs.PrintLemmas.{write_more}
 use Rattle.cns_batch.proofs.output.write_text.Goals as goal
 
 pub loop-done-preserved : goal.loop-done-preserved

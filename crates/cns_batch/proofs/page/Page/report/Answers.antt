@@ -7,22 +7,14 @@ use Rattle.cns_depository.specs.Balances.{balance_rows}
 use Rattle.cns_netting.specs.Rows.{rows_of}
 use Rattle.cns_report.specs.Report.{balance_line, cycle_report_text}
 use Rattle.cns_batch.specs.Runs.{Output, output}
-use Rattle.cns_batch.proofs.PrintLemmas.{breaks_after, breaks_front, prints_after, prints_fault, writes_more}
+use Rattle.cns_batch.proofs.PrintLemmas.{breaks_after, breaks_front, prints_after, prints_fault, writes_more, texts}
 use Rattle.cns_batch.proofs.page.Page.report.Goals as goal
 
 abbrev last : List ℕ
 last = codes "END\n"
 
 pub returns-in_err-cycle_report : goal.returns-in_err-cycle_report
-returns-in_err-cycle_report g c =
-    let p : Output = output c.args.self.now (g.W.Write.contents c.args.writer.now) in
-    let node = c.args.system.now.clear.clear in
-    let records = node.log.records in
-    let depot = c.args.system.now.depot in
-    let first = cycle_report_text (latest_of records) (rows_of (history_of records)) (pools_of (orders_of records) node.lots) in
-    let balances = flat_map balance_line (balance_rows depot.openings depot.log.records) in
-    prints_fault (first ++ balances ++ last) c.from_residual.result p _ c.from_residual.ensures.0
-    (breaks_front p _ (first ++ balances) last (breaks_front p _ first balances (rw c.clearing.ensures at c.in_err-cycle_report.ensures)))
+returns-in_err-cycle_report g c = search (texts, c.from_residual.ensures.0, rw c.clearing.ensures at c.in_err-cycle_report.ensures)
 
 pub returns-in_err-balance_report : goal.returns-in_err-balance_report
 returns-in_err-balance_report g c =

@@ -1,23 +1,17 @@
 use Rattle.std.proofs.lemmas.Result.{err_from_is_err_and}
-use Rattle.cns_batch.specs.ByWorkers.{ticket_line}
 use Rattle.cns_batch.proofs.PutLemmas.{all_put, none_put, row_fails, row_put}
 use Rattle.cns_batch.proofs.page.Page.tickets.Goals as goal
 
 pub loop-outcome-init : goal.loop-outcome-init
-loop-outcome-init g c = none_put (ticket_line c.args.lot) c.args.entered.now _ _
+loop-outcome-init g c = none_put _ _ _ _
 
 pub returns-in_err-ticket : goal.returns-in_err-ticket
 returns-in_err-ticket g c =
     let p = err_from_is_err_and c.from_residual.result c.from_residual.ensures.1 in
-    rw (p.1, p.2)
-    (row_fails c.in_err-ticket.field-0.0 (ticket_line c.args.lot) c.args.entered.now c.loop-outcome.outcome-index c.outcome-item.result c.args.self.now c.loop-outcome.self c.ticket.new.self
-    (g.W.Write.contents c.args.writer.now) (g.W.Write.contents c.loop-outcome.writer) (g.W.Write.contents c.ticket.new.writer) c.loop-outcome-test.true c.outcome-item.is
-    c.loop-outcome.invariant c.in_err-ticket.ensures)
+    rw (p.1, p.2) (row_fails c.in_err-ticket.field-0.0 c.ticket.new.self _ c.loop-outcome-test.true c.outcome-item.is c.loop-outcome.invariant c.in_err-ticket.ensures)
 
 pub loop-outcome-preserved : goal.loop-outcome-preserved
-loop-outcome-preserved g c =
-    row_put (ticket_line c.args.lot) c.args.entered.now c.loop-outcome.outcome-index c.outcome-item.result _ _ _ _ _ _ c.loop-outcome-test.true c.outcome-item.is c.loop-outcome.invariant
-    c.in_ok-ticket.ensures
+loop-outcome-preserved g c = row_put c.loop-outcome-test.true c.outcome-item.is c.loop-outcome.invariant c.in_ok-ticket.ensures
 
 pub returns : goal.returns
-returns g c = all_put (ticket_line c.args.lot) c.args.entered.now c.loop-outcome.outcome-index _ _ _ _ c.loop-outcome-test.false c.loop-outcome.invariant
+returns g c = all_put c.loop-outcome-test.false c.loop-outcome.invariant

@@ -1,6 +1,5 @@
-use Rattle.cns_batch.specs.Acts.{done}
 use Rattle.cns_batch.proofs.ActLemmas.{continues_here}
 use Rattle.cns_batch.proofs.runner.Runner.draw.Goals as goal
 
 pub returns-in-None : goal.returns-in-None
-returns-in-None g c = rw c.in-None.is (continues_here done _)
+returns-in-None g c = rw c.in-None.is continues_here

@@ -1,19 +1,19 @@
-use Rattle.cns_batch.specs.Acts.{each}
 use Rattle.cns_batch.specs.Commands.{pumped}
-use Rattle.cns_batch.proofs.ActLemmas.{continues_here, each_done, each_ends, each_next, runs_fault}
+use Rattle.cns_batch.proofs.ActLemmas.{continues_here, each_left, each_over, runs_fault, step_gives, step_stops}
 use Rattle.cns_batch.proofs.runner.Runner.pump_each.Goals as goal
 
 pub loop-number-init : goal.loop-number-init
-loop-number-init g c = continues_here (each pumped c.args.numbers.now) _
+loop-number-init g c = continues_here
 
 pub returns-in_err-pump_one : goal.returns-in_err-pump_one
 returns-in_err-pump_one g c =
-    runs_fault _ (each pumped c.args.numbers.now) c.from_residual.result _ _ c.from_residual.ensures.0
-    (each_ends pumped c.args.numbers.now c.loop-number.number-index c.number-item.result _ _ _ c.loop-number-test.true c.number-item.is c.loop-number.invariant c.in_err-pump_one.ensures)
+    let left = each_left pumped c.args.numbers.now c.loop-number.number-index c.number-item.result c.loop-number-test.true c.number-item.is in
+    runs_fault c.from_residual.result c.from_residual.ensures.0 (step_stops _ left c.loop-number.invariant c.in_err-pump_one.ensures)
 
 pub loop-number-preserved : goal.loop-number-preserved
 loop-number-preserved g c =
-    each_next pumped c.args.numbers.now c.loop-number.number-index c.number-item.result _ _ _ c.loop-number-test.true c.number-item.is c.loop-number.invariant c.in_ok-pump_one.ensures
+    let left = each_left pumped c.args.numbers.now c.loop-number.number-index c.number-item.result c.loop-number-test.true c.number-item.is in
+    step_gives _ left c.loop-number.invariant c.in_ok-pump_one.ensures
 
 pub returns : goal.returns
-returns g c = each_done pumped c.args.numbers.now c.loop-number.number-index _ _ c.loop-number-test.false c.loop-number.invariant
+returns g c = rw (each_over pumped c.args.numbers.now c.loop-number.number-index c.loop-number-test.false) at c.loop-number.invariant
