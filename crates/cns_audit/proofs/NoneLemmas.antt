@@ -26,7 +26,7 @@ use Rattle.cns_system.specs.World.{World}
 use Rattle.cns_system.specs.declared.fault.StartFault.{StartFault}
 use Rattle.cns_system.specs.declared.fault.StartFault.TheVariants as start
 use Rattle.cns_audit.specs.Least.{HasRecords}
-use Rattle.cns_audit.specs.Opened.{IsRefusal, copy_of, unread, wants_memory}
+use Rattle.cns_audit.specs.Opened.{CannotOpen, copy_of, unread, wants_memory}
 
 -- a copy of a journal's file gives just its records
 given_is : (file : List ℕ) (given : List (List ℕ)) → IsReopened (kept_by (unread file)) given → given ≡ journal_of file
@@ -86,5 +86,5 @@ module _ (openings others : List Opening) (clear depot : List ℕ) (w : World) (
         (given_is depot _ (stocked.0.0.given refl)) records_are.spelled in
         differs (subst (λ (x : List ClearRecord). Agree x other_p.log.records) (sym same_c) (subst (λ (x : List DepRecord). Agree c x) (sym same_p) started.agree))
 
-    pub none_refused : IsRefusal openings clear depot → ⊥
+    pub none_refused : CannotOpen openings clear depot → ⊥
     none_refused (fault, rejected, clear', depot', why, is) = refuses_none fault rejected clear' depot' why is

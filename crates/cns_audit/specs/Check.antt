@@ -11,7 +11,7 @@ use Rattle.cns_depository.specs.RangesOf.{AreRangesOf}
 use Rattle.cns_depository.specs.declared.ranges.OpeningRanges.{OpeningRanges}
 use Rattle.cns_system.specs.Start.{IsStarted}
 use Rattle.cns_system.specs.World.{World}
-use Rattle.cns_audit.specs.Opened.{IsRefusal, copy_of}
+use Rattle.cns_audit.specs.Opened.{CannotOpen, copy_of}
 use Rattle.cns_audit.specs.Rows.{taken}
 use Rattle.cns_audit.specs.declared.check.Asked.{Asked}
 use Rattle.cns_audit.specs.declared.journal.Journals.{Journals}
@@ -34,13 +34,13 @@ is_refused (Agreed system) = false
 is_refused (Refused _ _) = true
 
 -- a fault was told, where there is one to tell; else as many as before
-abbrev pub TellsOf : Bool → ℕ → ℕ → Type 0
-TellsOf true old new = 0 < new
-TellsOf false old new = new ≡ old
+abbrev pub TellsFault : Bool → ℕ → ℕ → Type 0
+TellsFault true old new = 0 < new
+TellsFault false old new = new ≡ old
 
 -- these are the openings that are asked for: those of the rows that stand, or any where none are asked for
-abbrev pub IsOf : Asked → List Opening → Type 0
-IsOf asked openings = elim asked.openings [ None ↦ Unit {0} | Some rows ↦ openings ≡ (taken rows.now).0 ]
+abbrev pub AreAsked : Asked → List Opening → Type 0
+AreAsked asked openings = elim asked.openings [ None ↦ Unit {0} | Some rows ↦ openings ≡ (taken rows.now).0 ]
 
 -- a row of the openings that are asked for falls out
 abbrev pub has_fallen : Asked → Bool
@@ -51,10 +51,10 @@ abbrev pub HasNoOther : Asked → Type 0
 HasNoOther asked = (asked.openings ≡ None) ⊎ (asked.kept ≡ None)
 
 -- each row stands, no damage follows the records of either journal, and with the openings that are asked for both nodes are opened from them
-pub record IsClean (asked : Asked) (journals : Journals) : Type 0 where
+pub record IsAllSound (asked : Asked) (journals : Journals) : Type 0 where
   pub rows : has_fallen asked ≡ false
   pub undamaged : are_damaged journals ≡ false
-  pub opens : (openings : List Opening) × IsOf asked openings × ((w : World) × IsStarted openings (copy_of journals.clear.now) (copy_of journals.depot.now) w)
+  pub opens : (openings : List Opening) × AreAsked asked openings × ((w : World) × IsStarted openings (copy_of journals.clear.now) (copy_of journals.depot.now) w)
 
 -- with no openings, of which each stands behind those before it, the nodes are opened from journals
 abbrev pub NoneOpen : Journals → Type 0
@@ -64,7 +64,7 @@ NoneOpen journals = (list : List Opening) (w : World) → IsStarted (standing li
 -- none at all, where none are asked for
 abbrev pub IsFaulty : Asked → Journals → Type 0
 IsFaulty asked journals = (has_fallen asked ≡ true) ⊎ (are_damaged journals ≡ true)
-    ⊎ (((openings : List Opening) × IsOf asked openings × IsRefusal openings journals.clear.now journals.depot.now) × (asked.openings ≡ None → NoneOpen journals))
+    ⊎ (((openings : List Opening) × AreAsked asked openings × CannotOpen openings journals.clear.now journals.depot.now) × (asked.openings ≡ None → NoneOpen journals))
 
 -- openings of no account less than the records of these ranges need, and no more than any with which they may stand
 abbrev pub NeedsOf : OpeningRanges → List Opening → Type 0

@@ -27,15 +27,15 @@ abbrev pub wants_memory : StartFault → Bool
 wants_memory = elim [ start.Clear fault ↦ is_of_reading fault | start.Depot fault ↦ is_of_reading fault | start.Disagree ↦ false ]
 
 -- why both nodes are not opened with these openings, by what the journals say
-abbrev pub IsRefusal : List Opening → List ℕ → List ℕ → Type 0
-IsRefusal openings clear depot =
+abbrev pub CannotOpen : List Opening → List ℕ → List ℕ → Type 0
+CannotOpen openings clear depot =
     (fault : StartFault) × (rejected : List (List ℕ)) × (clear' depot' : KeeperState) × IsNotOpened openings fault rejected (copy_of clear) (copy_of depot) clear' depot'
     × (wants_memory fault ≡ false)
 
 -- the two nodes as their opening with these openings leaves them: as the opening of a system says, or it says why there is none
 abbrev pub IsOpening : List Opening → List ℕ → List ℕ → Opened → Type 0
 IsOpening openings clear depot (Agreed system) = IsStarted openings (copy_of clear) (copy_of depot) system
-IsOpening openings clear depot (Refused _ _) = IsRefusal openings clear depot
+IsOpening openings clear depot (Refused _ _) = CannotOpen openings clear depot
 
 abbrev pub IsRefused : Opened → Type 0
 IsRefused (Agreed system) = ⊥

@@ -1,7 +1,7 @@
 //! The check of both journals of a folder.
 
 ghost use Rattle.std.specs.Prelude.{◌≡◌, ◌<◌, ◌||◌, ℕ, IfOk, None, OnOk, vec_items};
-ghost use Rattle.cns_audit.specs.Check.{HasNoOther, IsClean, IsFaulty, IsOf, NeedsOf, TellsOf, are_damaged, has_fallen, is_damaged, is_refused};
+ghost use Rattle.cns_audit.specs.Check.{HasNoOther, IsAllSound, IsFaulty, AreAsked, NeedsOf, TellsFault, are_damaged, has_fallen, is_damaged, is_refused};
 ghost use Rattle.cns_audit.specs.Rows.{take_row, taken};
 ghost use Rattle.cns_depository.specs.Ranges.{standing, with_opening};
 ghost use Rattle.cns_audit.specs.Opened.{IsOpening};
@@ -66,7 +66,7 @@ fn take_row<W: Write + Drop>(
     requires same { taken.old.held ≡ vec_items taken.old.list }
     ensures same { OnOk result (taken.new.held ≡ vec_items taken.new.list) }
     ensures rows { OnOk result ((vec_items taken.new.list, taken.new.fell_out) ≡ take_row (vec_items taken.old.list, taken.old.fell_out) row.now) }
-    ensures tells { OnOk result ((from : ℕ) → TellsOf taken.old.fell_out from told.old.faults → TellsOf taken.new.fell_out from told.new.faults) }
+    ensures tells { OnOk result ((from : ℕ) → TellsFault taken.old.fell_out from told.old.faults → TellsFault taken.new.fell_out from told.new.faults) }
 {
     match taken.take(row)? {
         None => Ok(()),
@@ -81,7 +81,7 @@ fn take_rows<W: Write + Drop>(
     rows: &[OpeningRow],
 ) -> Result<Vec<Opening>, BatchFault>
     ensures list { IfOk result (λ list. vec_items list ≡ (taken rows.now).0) }
-    ensures tells { OnOk result (TellsOf (taken rows.now).1 told.old.faults told.new.faults) }
+    ensures tells { OnOk result (TellsFault (taken rows.now).1 told.old.faults told.new.faults) }
 {
     let mut taken = Taken::new(alloc);
     let mut number = 0u64;
@@ -111,7 +111,7 @@ fn tell_other_openings<W: Write + Drop>(
 
 // Tells how many records a journal has, and what follows the last one; damage is a fault.
 fn tell_file<W: Write + Drop>(told: &mut Told<W>, name: &str, file: &[u8]) -> Result<(), BatchFault>
-    ensures { OnOk result (TellsOf (is_damaged file.now) told.old.faults told.new.faults) }
+    ensures { OnOk result (TellsFault (is_damaged file.now) told.old.faults told.new.faults) }
 {
     let Extent {
         records,
@@ -164,7 +164,7 @@ fn tell_system<W: Write + Drop>(
     asked: &Asked<'_>,
     ranges: &OpeningRanges,
 ) -> Result<(), BatchFault>
-    ensures { OnOk result (TellsOf (are_damaged journals.now) told.old.faults told.new.faults) }
+    ensures { OnOk result (TellsFault (are_damaged journals.now) told.old.faults told.new.faults) }
 {
     let (clear, depot) = (system.clearing(), system.depository());
     tell_file(told, CLEAR, journals.clear)?;
@@ -233,7 +233,7 @@ fn tell_opened<W: Write + Drop>(
     asked: &Asked<'_>,
     ranges: &OpeningRanges,
 ) -> Result<(), BatchFault>
-    ensures { OnOk result (TellsOf (are_damaged journals.now || is_refused opened.now) told.old.faults told.new.faults) }
+    ensures { OnOk result (TellsFault (are_damaged journals.now || is_refused opened.now) told.old.faults told.new.faults) }
 {
     match opened {
         Opened::Agreed(system) => tell_system(alloc, told, journals, system, asked, ranges),
@@ -296,7 +296,7 @@ fn tell_with<W: Write + Drop>(
     ranges: &OpeningRanges,
 ) -> Result<(), BatchFault>
     ensures { OnOk result ((opened : Opened) × IsOpening (standing list.now) journals.now.clear.now journals.now.depot.now opened
-        × TellsOf (are_damaged journals.now || is_refused opened) told.old.faults told.new.faults) }
+        × TellsFault (are_damaged journals.now || is_refused opened) told.old.faults told.new.faults) }
 {
     let opened = open_with(alloc, journals, list)?;
     let ended = tell_opened(alloc, told, journals, &opened, asked, ranges);
@@ -312,8 +312,8 @@ fn take_openings<W: Write + Drop>(
     asked: &Asked<'_>,
     ranges: &OpeningRanges,
 ) -> Result<Vec<Opening>, BatchFault>
-    ensures list { IfOk result (λ list. IsOf asked.now (standing (vec_items list))) }
-    ensures tells { OnOk result (TellsOf (has_fallen asked.now) told.old.faults told.new.faults) }
+    ensures list { IfOk result (λ list. AreAsked asked.now (standing (vec_items list))) }
+    ensures tells { OnOk result (TellsFault (has_fallen asked.now) told.old.faults told.new.faults) }
     ensures least { IfOk result (λ list. asked.now.openings ≡ None → NeedsOf ranges.now (standing (vec_items list))) }
 {
     match asked.openings {
@@ -329,7 +329,7 @@ fn tell_all<W: Write + Drop>(
     journals: &Journals<'_>,
     asked: &Asked<'_>,
 ) -> Result<(), BatchFault>
-    ensures clean { OnOk result (told.new.faults ≡ 0 → IsClean asked.now journals.now) }
+    ensures clean { OnOk result (told.new.faults ≡ 0 → IsAllSound asked.now journals.now) }
     ensures faulty { OnOk result (0 < told.new.faults → told.old.faults ≡ 0 → HasNoOther asked.now → IsFaulty asked.now journals.now) }
 {
     tell_other_openings(alloc, told, asked)?;
@@ -370,7 +370,7 @@ pub fn check_journals<W: Write + Drop>(
     asked: &Asked<'_>,
     writer: W,
 ) -> Result<u64, BatchFault>
-    ensures clean { IfOk result (λ faults. faults ≡ 0 → IsClean asked.now journals.now) }
+    ensures clean { IfOk result (λ faults. faults ≡ 0 → IsAllSound asked.now journals.now) }
     ensures faulty { IfOk result (λ faults. 0 < faults → HasNoOther asked.now → IsFaulty asked.now journals.now) }
 {
     let mut told = Told::new(alloc, writer);

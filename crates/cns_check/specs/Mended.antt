@@ -15,17 +15,17 @@ abbrev pub letters_of : List ℕ → List ℕ
 letters_of line = map to_ascii_lowercase (filter (λ c. not (is_beside c)) line)
 
 -- whether a line is the name of a head, in whatever case, of one or of several
-abbrev pub is_named : Head → List ℕ → Bool
-is_named head.Openings line = bytes_eq (letters_of line) (codes "openings") || bytes_eq (letters_of line) (codes "opening")
-is_named head.Trades line = bytes_eq (letters_of line) (codes "trades") || bytes_eq (letters_of line) (codes "trade")
-is_named head.Script line = bytes_eq (letters_of line) (codes "script") || bytes_eq (letters_of line) (codes "scripts")
+abbrev pub is_head_name : Head → List ℕ → Bool
+is_head_name head.Openings line = bytes_eq (letters_of line) (codes "openings") || bytes_eq (letters_of line) (codes "opening")
+is_head_name head.Trades line = bytes_eq (letters_of line) (codes "trades") || bytes_eq (letters_of line) (codes "trade")
+is_head_name head.Script line = bytes_eq (letters_of line) (codes "script") || bytes_eq (letters_of line) (codes "scripts")
 
 -- a line, or the head that it names
 abbrev pub mended_line : List ℕ → List ℕ
 mended_line line =
-    if is_named head.Openings line then codes "[openings]\n"
-    else if is_named head.Trades line then codes "[trades]\n"
-    else if is_named head.Script line then codes "[script]\n"
+    if is_head_name head.Openings line then codes "[openings]\n"
+    else if is_head_name head.Trades line then codes "[trades]\n"
+    else if is_head_name head.Script line then codes "[script]\n"
     else line
 
 -- a text in which each line that names a head is that head: as many lines, in the same places

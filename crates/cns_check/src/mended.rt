@@ -1,7 +1,7 @@
 //! A text whose heads are mended, line by line.
 
 ghost use Rattle.std.specs.Prelude.{◌≡◌, IfOk, bytes_eq};
-ghost use Rattle.cns_check.specs.Mended.{is_beside as is_beside_of, is_named as is_named_of, letters_of, mended as mended_of, mended_line as mended_line_of};
+ghost use Rattle.cns_check.specs.Mended.{is_beside as is_beside_of, is_head_name, letters_of, mended as mended_of, mended_line as mended_line_of};
 
 use crate::finding::Head;
 use cns_input::line_size;
@@ -49,7 +49,7 @@ fn is_name(line: &[u8], name: &[u8]) -> bool
 
 /// Whether a line is the name of a head, of one or of several.
 pub(crate) fn is_named(head: Head, line: &[u8]) -> bool
-    ensures { result ≡ is_named_of head line.now }
+    ensures { result ≡ is_head_name head line.now }
 {
     match head {
         Head::Openings => is_name(line, b"openings") || is_name(line, b"opening"),

@@ -43,8 +43,8 @@ allocation_words a =
     ++ codes " sealed " ++ yes_or_no a.sealed ++ codes " tickets " ++ decimal (length a.drawn)
 
 -- ticket MEMBER start N asked SHARES, with LF
-unfoldable pub ticket_line : Drawn → List ℕ
-ticket_line t = codes "ticket " ++ member_text t.member ++ codes " start " ++ decimal t.start ++ codes " asked " ++ decimal t.asked ++ codes "\n"
+unfoldable pub drawn_line : Drawn → List ℕ
+drawn_line t = codes "ticket " ++ member_text t.member ++ codes " start " ++ decimal t.start ++ codes " asked " ++ decimal t.asked ++ codes "\n"
 
 unfoldable pub clear_words : ClearRecord → List ℕ
 clear_words (clear.Accept t) = trade_words t
@@ -56,12 +56,12 @@ clear_words (clear.Allocate a) = allocation_words a
 clear_words (clear.Confirm r) = codes "confirm " ++ moved_text r
 
 -- KIND MEMBER CUSIP SHARES, of what an order asks for, with cycle DATE KIND behind it where it has a cycle
-abbrev pub cycle_part : Option CycleId → List ℕ
-cycle_part None = []
-cycle_part (Some id) = codes " " ++ cycle_words id
+abbrev pub cycle_behind : Option CycleId → List ℕ
+cycle_behind None = []
+cycle_behind (Some id) = codes " " ++ cycle_words id
 
 unfoldable pub order_words : Order → List ℕ
-order_words o = move_text o.kind ++ codes " " ++ member_text o.member ++ codes " " ++ cusip_text o.issue ++ codes " " ++ decimal o.asked ++ cycle_part o.cycle
+order_words o = move_text o.kind ++ codes " " ++ member_text o.member ++ codes " " ++ cusip_text o.issue ++ codes " " ++ decimal o.asked ++ cycle_behind o.cycle
 
 unfoldable pub depot_words : DepRecord → List ℕ
 -- exec N KIND MEMBER CUSIP SHARES moved SHARES

@@ -2,7 +2,7 @@
 
 ghost use Rattle.std.specs.Prelude.{◌≡◌, ℕ, IfOk, IsErr, List};
 ghost use Rattle.cns_records.specs.Clear.{read_clear_of};
-ghost use Rattle.cns_dump.specs.Entry.{IsEntry, is_entry};
+ghost use Rattle.cns_dump.specs.Entry.{IsEntryOf, is_entry};
 
 use cns_journal::RecordFault;
 use cns_records::{ClearRecord, DepRecord};
@@ -21,7 +21,7 @@ pub enum Entry {
 
 // What a payload is that is no record of the clearing node.
 fn depot_entry(payload: &[u8]) -> Entry
-    ensures { IsErr (read_clear_of payload.now) → IsEntry payload.now result }
+    ensures { IsErr (read_clear_of payload.now) → IsEntryOf payload.now result }
 {
     match DepRecord::read(payload) {
         Ok(record) => Entry::Depot(record),
@@ -32,7 +32,7 @@ fn depot_entry(payload: &[u8]) -> Entry
 impl Entry {
     /// What a payload is. It takes memory for the tickets of an allocation only.
     pub fn read(alloc: Global, payload: &[u8]) -> Result<Entry, AllocError>
-        ensures { IfOk result (IsEntry payload.now) }
+        ensures { IfOk result (IsEntryOf payload.now) }
     {
         match ClearRecord::read(alloc, payload) {
             Ok(record) => Ok(Entry::Clear(record)),
@@ -42,7 +42,7 @@ impl Entry {
     }
     /// Whether it is a record of either node.
     pub fn is_read(&self) -> bool
-        ensures { (payload : List ℕ) → IsEntry payload self.now → result ≡ is_entry payload }
+        ensures { (payload : List ℕ) → IsEntryOf payload self.now → result ≡ is_entry payload }
     {
         !matches!(self, Entry::Unread(_))
     }

@@ -1,7 +1,7 @@
 //! The words in which records are told.
 
 ghost use Rattle.std.specs.Prelude.{◌≡◌};
-ghost use Rattle.cns_dump.specs.Words.{allocation_words, clear_words, cycle_part, cycle_words, depot_words, entry_words, on_or_off, order_words, set_words, ticket_line, trade_words};
+ghost use Rattle.cns_dump.specs.Words.{allocation_words, clear_words, cycle_behind, cycle_words, depot_words, entry_words, on_or_off, order_words, set_words, drawn_line, trade_words};
 
 use crate::entry::Entry;
 use cns_ids::{Cusip, CycleId, MemberNo};
@@ -98,9 +98,9 @@ impl Put for AllocationWords<'_> {
 pub(crate) struct TicketWords(pub(crate) Drawn);
 
 impl Put for TicketWords {
-    ghost text = { λ words. ticket_line words.0 };
+    ghost text = { λ words. drawn_line words.0 };
 
-    #[tactic(auto, unfolding(crate::specs::Words::ticket_line))]
+    #[tactic(auto, unfolding(crate::specs::Words::drawn_line))]
     fn put(&self, draft: &mut Draft) -> Result<(), AllocError> {
         let of = ("ticket ", self.0.member, " start ", self.0.start.count());
         (of, " asked ", self.0.asked.shares(), "\n").put(draft)
@@ -150,7 +150,7 @@ impl Put for ClearWords<'_> {
 struct CyclePart(Option<CycleId>);
 
 impl Put for CyclePart {
-    ghost text = { λ words. cycle_part words.0 };
+    ghost text = { λ words. cycle_behind words.0 };
 
     fn put(&self, draft: &mut Draft) -> Result<(), AllocError> {
         match self.0 {

@@ -2,4 +2,3 @@ pub mod BracketLemmas
 pub mod ReadLemmas
 pub mod SectionLemmas
 pub mod CommandLemmas
-pub mod WordLemmas

@@ -13,7 +13,8 @@ use Rattle.cns_system.specs.declared.event.Event.{Event}
 use Rattle.cns_system.specs.declared.event.Event.TheVariants as event
 use Rattle.cns_system.specs.declared.event.NodeName.{NodeName}
 use Rattle.cns_system.specs.declared.event.NodeName.TheVariants as node
-use Rattle.cns_input.specs.Words.{◌>>=◌, word_in, words_of}
+use Rattle.cns_words.specs.Words.{◌>>=◌, line_words}
+use Rattle.cns_input.specs.Words.{word_in}
 use Rattle.cns_input.specs.declared.command.Command.{Command}
 use Rattle.cns_input.specs.declared.command.Command.TheVariants as command
 
@@ -112,4 +113,4 @@ by_table table words = do form ← word_in table (get_or words 0 []); form (drop
 -- the command that a line is: blank lines and those that begin with # are passed over, and one that fits no form is bad
 unfoldable pub command_of : List ℕ → Command
 command_of line =
-    if (length line == 0) || (slice_index line 0 == 35) then command.Skip else unwrap_or (by_table commands (words_of line)) command.Bad
+    if (length line == 0) || (slice_index line 0 == 35) then command.Skip else unwrap_or (by_table commands (line_words line)) command.Bad

@@ -3,7 +3,7 @@ use Rattle.std.specs.Prelude.{◌≡◌, ℕ, ◌+◌, ◌<◌, ◌==◌, List, 
 use Rattle.std.specs.List.{concat, onto_first, position_from}
 use Rattle.std.specs.Io.BufRead.{ends_with_byte, strip_last}
 use Rattle.cns_trades.specs.Fields.{same_text}
-use Rattle.cns_input.specs.Words.{◌>>=◌}
+use Rattle.cns_words.specs.Words.{◌>>=◌}
 
 -- the lines of a text, each with the LF that ends it; a last one may have none
 unfoldable pub raw_lines : List ℕ → List (List ℕ)

@@ -1,13 +1,13 @@
-ghost use Rattle.std.specs.Prelude.{◌≡◌, ◌==◌, ◌<◌, ◌∷◌, [], true, false, drop, length, IfSome, MatchOption, Some, None, if◌then◌else◌};
-ghost use Rattle.std.specs.List.{position_from};
+ghost use Rattle.std.specs.Prelude.{◌≡◌, ◌==◌, ◌∷◌, [], true, false, drop, length, MatchOption, Some, None, if◌then◌else◌};
 ghost use Rattle.cns_trades.specs.Fields.{same_text};
-ghost use Rattle.cns_input.specs.Words.{words_after, words_of};
+ghost use Rattle.cns_words.specs.Words.{words_behind};
 ghost use Rattle.cns_input.specs.Script.{by_table, command_of as command_of_line, commands, events, none as none_of, own_in, issue_in, member_in, move_no_in, asked_in, node_in, place_in, take_in};
 
 use cns_ids::{Cusip, CycleId, CycleKind, Day, MemberNo, Shares, read_number};
 use cns_movements::{Asked, MoveNo};
 use cns_records::{Instruction, Sort};
 use cns_system::{Event, NodeName};
+use cns_words::{none_behind, split_word};
 
 /// A line of the script.
 #[derive(Clone, Copy)]
@@ -37,29 +37,6 @@ pub enum Command {
     Bad,
 }
 
-// The place of the first space.
-fn first_space(line: &[u8]) -> Option<usize>
-    ensures place { result ≡ position_from (λ c. c == 32) 0 line.now }
-    ensures within { IfSome result (λ i. i < length line.now) }
-{
-    for (place, byte) in line.iter().enumerate() {
-        if *byte == b' ' {
-            return Some(place);
-        }
-    }
-    None
-}
-
-// The first word, and the bytes behind its space where there is one.
-fn split_word(line: &[u8]) -> (&[u8], Option<&[u8]>)
-    ensures { words_of line.now ≡ result.0.now ∷ words_after result.1 }
-{
-    match first_space(line) {
-        Some(place) => (&line[..place], Some(&line[place + 1..])),
-        None => (line, None),
-    }
-}
-
 // Whether a word is this one, by a look at each byte: words are short.
 fn is_word(word: &[u8], this: &[u8]) -> bool
     ensures { result ≡ same_text word.now this.now }
@@ -75,16 +52,9 @@ fn is_word(word: &[u8], this: &[u8]) -> bool
     true
 }
 
-// Whether no word is behind the first.
-fn none(rest: Option<&[u8]>) -> bool
-    ensures { result ≡ (length (words_after rest.entry) == 0) }
-{
-    rest.is_none()
-}
-
 // The one word behind the first, where there is no other.
 fn one(rest: Option<&[u8]>) -> Option<&[u8]>
-    ensures { let words = words_after rest.entry in MatchOption result ((length words == 1) ≡ false) (λ a. words ≡ a.now ∷ []) }
+    ensures { let words = words_behind rest.entry in MatchOption result ((length words == 1) ≡ false) (λ a. words ≡ a.now ∷ []) }
 {
     match split_word(rest?) {
         (word, None) => Some(word),
@@ -94,7 +64,7 @@ fn one(rest: Option<&[u8]>) -> Option<&[u8]>
 
 // The two words behind the first, where there are no others.
 fn two(rest: Option<&[u8]>) -> Option<(&[u8], &[u8])>
-    ensures { let words = words_after rest.entry in MatchOption result ((length words == 2) ≡ false) (λ p. words ≡ p.0.now ∷ p.1.now ∷ []) }
+    ensures { let words = words_behind rest.entry in MatchOption result ((length words == 2) ≡ false) (λ p. words ≡ p.0.now ∷ p.1.now ∷ []) }
 {
     let (word, rest) = split_word(rest?);
     let next = one(rest)?;
@@ -103,7 +73,7 @@ fn two(rest: Option<&[u8]>) -> Option<(&[u8], &[u8])>
 
 // The three words behind the first, where there are no others.
 fn three(rest: Option<&[u8]>) -> Option<(&[u8], &[u8], &[u8])>
-    ensures { let words = words_after rest.entry in MatchOption result ((length words == 3) ≡ false) (λ t. words ≡ t.0.now ∷ t.1.now ∷ t.2.now ∷ []) }
+    ensures { let words = words_behind rest.entry in MatchOption result ((length words == 3) ≡ false) (λ t. words ≡ t.0.now ∷ t.1.now ∷ t.2.now ∷ []) }
 {
     let (word, rest) = split_word(rest?);
     let (next, last) = two(rest)?;
@@ -112,7 +82,7 @@ fn three(rest: Option<&[u8]>) -> Option<(&[u8], &[u8], &[u8])>
 
 // The four words behind the first, where there are no others.
 fn four(rest: Option<&[u8]>) -> Option<(&[u8], &[u8], &[u8], &[u8])>
-    ensures { let words = words_after rest.entry in MatchOption result ((length words == 4) ≡ false) (λ t. words ≡ t.0.now ∷ t.1.now ∷ t.2.now ∷ t.3.now ∷ []) }
+    ensures { let words = words_behind rest.entry in MatchOption result ((length words == 4) ≡ false) (λ t. words ≡ t.0.now ∷ t.1.now ∷ t.2.now ∷ t.3.now ∷ []) }
 {
     let (word, rest) = split_word(rest?);
     let (next, third, last) = three(rest)?;
@@ -185,7 +155,7 @@ fn read_take(text: &[u8]) -> Option<Command>
 
 // A member's own instruction of a sort.
 fn read_own(sort: Sort, rest: Option<&[u8]>) -> Option<Event>
-    ensures { result ≡ own_in sort (words_after rest.entry) }
+    ensures { result ≡ own_in sort (words_behind rest.entry) }
 {
     let (member, number, issue, shares) = four(rest)?;
     Some(Event::Own(Instruction {
@@ -202,7 +172,7 @@ fn read_own(sort: Sort, rest: Option<&[u8]>) -> Option<Event>
 // `EXEMPT member cusip shares`, `PRIORITY member cusip ON` or `OFF`, or `DEPOSIT member number cusip shares`
 // or `WITHDRAW ..`.
 fn read_event(word: &[u8], rest: Option<&[u8]>) -> Option<Event>
-    ensures { result ≡ by_table events (word.now ∷ words_after rest.entry) }
+    ensures { result ≡ by_table events (word.now ∷ words_behind rest.entry) }
 {
     if is_word(word, b"RESTART") {
         let node = read_node(one(rest)?)?;
@@ -257,7 +227,7 @@ fn read_event(word: &[u8], rest: Option<&[u8]>) -> Option<Event>
 // most often set no room aside for what it reads.
 #[inline(never)]
 fn read_longer(word: &[u8], rest: Option<&[u8]>) -> Option<Command>
-    ensures { result ≡ by_table (drop 5 commands) (word.now ∷ words_after rest.entry) }
+    ensures { result ≡ by_table (drop 5 commands) (word.now ∷ words_behind rest.entry) }
 {
     if is_word(word, b"TAKE") {
         read_take(one(rest)?)
@@ -286,7 +256,7 @@ fn read_longer(word: &[u8], rest: Option<&[u8]>) -> Option<Command>
 
 // The same, with no look at the table for a word that stands alone.
 fn read_with_others(word: &[u8], rest: Option<&[u8]>) -> Option<Command>
-    ensures { result ≡ by_table (drop 5 commands) (word.now ∷ words_after rest.entry) }
+    ensures { result ≡ by_table (drop 5 commands) (word.now ∷ words_behind rest.entry) }
 {
     match rest {
         Some(_) => read_longer(word, rest),
@@ -296,15 +266,19 @@ fn read_with_others(word: &[u8], rest: Option<&[u8]>) -> Option<Command>
 
 // A command, where no word is behind its own.
 fn alone(command: Command, rest: Option<&[u8]>) -> Option<Command>
-    ensures { result ≡ none_of command (words_after rest.entry) }
+    ensures { result ≡ none_of command (words_behind rest.entry) }
 {
-    if none(rest) { Some(command) } else { None }
+    if none_behind(rest) {
+        Some(command)
+    } else {
+        None
+    }
 }
 
 // The command that a word and those behind it are, where it is none of the link.
 #[inline(always)]
 fn read_other(word: &[u8], rest: Option<&[u8]>) -> Option<Command>
-    ensures { result ≡ by_table (drop 3 commands) (word.now ∷ words_after rest.entry) }
+    ensures { result ≡ by_table (drop 3 commands) (word.now ∷ words_behind rest.entry) }
 {
     if is_word(word, b"PUMP") {
         alone(Command::Pump, rest)
@@ -317,7 +291,7 @@ fn read_other(word: &[u8], rest: Option<&[u8]>) -> Option<Command>
 
 // The command that a word and those behind it are: `SEND n`, `ORDER k`, `REPLY k`, or another.
 fn read_command(word: &[u8], rest: Option<&[u8]>) -> Option<Command>
-    ensures { result ≡ by_table commands (word.now ∷ words_after rest.entry) }
+    ensures { result ≡ by_table commands (word.now ∷ words_behind rest.entry) }
 {
     if is_word(word, b"SEND") {
         let number = read_place(one(rest)?)?;

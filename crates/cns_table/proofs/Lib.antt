@@ -1,3 +1,2 @@
-pub mod WordLemmas
 pub mod RunLemmas
 pub mod RowLemmas

@@ -28,9 +28,9 @@ IsOfEnd fault.Memory = Unit {0}
 IsOfEnd fault.Write = Unit {0}
 
 -- the exit status of a fault: 2 for the input, 3 for the surroundings (this project's own rule)
-abbrev pub status_of : TableFault → ℕ
-status_of fault.Read = 2
-status_of (fault.Line n) = 2
-status_of fault.Cut = 2
-status_of fault.Memory = 3
-status_of fault.Write = 3
+abbrev pub exit_status : TableFault → ℕ
+exit_status fault.Read = 2
+exit_status (fault.Line n) = 2
+exit_status fault.Cut = 2
+exit_status fault.Memory = 3
+exit_status fault.Write = 3

@@ -18,8 +18,8 @@ abbrev pub quoted : List ℕ → List ℕ
 quoted text = if length text == 0 then [] else 34 ∷ text ++ 34 ∷ []
 
 -- the names of the columns
-abbrev pub header : List (List ℕ)
-header =
+abbrev pub column_names : List (List ℕ)
+column_names =
     codes "report" ∷ codes "date" ∷ codes "kind" ∷ codes "row" ∷ codes "cusip" ∷ codes "account" ∷ codes "free" ∷ codes "lent" ∷ codes "out" ∷ codes "shares" ∷ []
 
 -- the fields of a row, by the place that it stands in and what it has in its columns: the number of its report, the date and the kind of

@@ -1,9 +1,7 @@
 -- The texts of a report's fields (this project's own format).
 use Rattle.std.specs.Prelude.{ℕ, ◌==◌, ◌&&◌, ◌||◌, not, nat_le, Bool, List, [], ◌∷◌, drop, length, slice_index, if◌then◌else◌}
 use Rattle.std.specs.List.{list_all}
-
-abbrev pub is_digit : ℕ → Bool
-is_digit c = nat_le 48 c && nat_le c 57
+use Rattle.cns_ids.specs.Number.{is_digit}
 
 -- digits, capital letters, *, @ and #
 abbrev pub is_cusip_character : ℕ → Bool

@@ -35,11 +35,11 @@ impl From<AllocError> for TableFault {
 
 impl TableFault {
     ghost use Rattle.std.specs.Prelude.{◌≡◌};
-    ghost use Rattle.cns_table.specs.Faults.{status_of};
+    ghost use Rattle.cns_table.specs.Faults.{exit_status};
 
     /// The exit status: 2 for a fault of the input, 3 for one of the surroundings.
     pub fn status(self) -> u8
-        ensures { result ≡ status_of self }
+        ensures { result ≡ exit_status self }
     {
         match self {
             TableFault::Read | TableFault::Line(_) | TableFault::Cut => 2,

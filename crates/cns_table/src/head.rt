@@ -1,16 +1,10 @@
 //! The heads of reports.
 
 ghost use Rattle.std.specs.Prelude.{◌≡◌, option_map};
-ghost use Rattle.cns_table.specs.Head.{begins_with_date as begins_with_date_text, cycle_in, head_in, kind_in, kind_text};
+ghost use Rattle.cns_table.specs.Head.{begins_with_date as begins_with_date_text, head_cycle, head_in, kind_in};
 
 use crate::text::{is_date, is_text};
-
-/// The two kinds of cycles.
-#[derive(Clone, Copy, PartialEq, Eq, Debug)]
-pub(crate) enum CycleKind {
-    Night,
-    Day,
-}
+use cns_ids::CycleKind;
 
 /// A cycle, by its date in the form `dddd-dd-dd` and its kind.
 #[derive(Clone, Copy)]
@@ -23,18 +17,7 @@ pub(crate) struct Cycle {
 #[derive(Clone, Copy)]
 pub(crate) struct Head(pub(crate) Option<Cycle>);
 
-impl CycleKind {
-    /// Its name.
-    pub(crate) fn name(self) -> &'static [u8]
-        ensures { result.now ≡ kind_text self }
-    {
-        match self {
-            CycleKind::Night => b"NIGHT",
-            CycleKind::Day => b"DAY",
-        }
-    }
-}
-
+// The kind of cycle that a text names.
 fn kind_of(text: &[u8]) -> Option<CycleKind>
     ensures { result ≡ kind_in text.now }
 {
@@ -55,9 +38,9 @@ fn begins_with_date(text: &[u8]) -> bool
 }
 
 // The cycle of a text `DATE KIND`.
-#[tactic(auto, unfolding(crate::specs::Head::cycle_in))]
+#[tactic(auto, unfolding(crate::specs::Head::head_cycle))]
 fn cycle_of(text: &[u8]) -> Option<Cycle>
-    ensures { result ≡ cycle_in text.now }
+    ensures { result ≡ head_cycle text.now }
 {
     if !begins_with_date(text) {
         return None;

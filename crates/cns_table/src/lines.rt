@@ -5,8 +5,8 @@ ghost use Rattle.std.specs.Io.BufRead.{DropsThrough, first_piece, strip_last};
 ghost use Rattle.std.specs.Io.KnownBytes.{IsAtEnd};
 ghost use Rattle.std.specs.List.{position_from};
 ghost use Rattle.cns_table.specs.Faults.{IsOfInput};
-ghost use Rattle.cns_table.specs.Run.{lines_of};
-ghost use Rattle.cns_table.specs.Table.{is_lf};
+ghost use Rattle.cns_table.specs.Run.{text_lines};
+ghost use Rattle.cns_words.specs.Words.{is_lf};
 
 use crate::fault::TableFault;
 use std::io::{BufRead, Error, ErrorKind};
@@ -69,7 +69,7 @@ fn first_end(text: &[u8]) -> Option<usize>
 
 /// The first line of a text in memory, without its LF, and what stands behind it. None where no line is left.
 pub(crate) fn next_line(text: &[u8]) -> Option<(&[u8], &[u8])>
-    ensures lines { MatchOption result (lines_of text.now ≡ []) (λ p. lines_of text.now ≡ p.0.now ∷ lines_of p.1.now) }
+    ensures lines { MatchOption result (text_lines text.now ≡ []) (λ p. text_lines text.now ≡ p.0.now ∷ text_lines p.1.now) }
     ensures shorter { IfSome result (λ p. length p.1.now < length text.now) }
 {
     if text.is_empty() {

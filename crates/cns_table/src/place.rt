@@ -1,7 +1,7 @@
 //! Where in the text of a run a reading stands.
 
 ghost use Rattle.std.specs.Prelude.{◌≡◌, false, None, option_map};
-ghost use Rattle.cns_table.specs.Place.{behind, behind_inside, behind_outside, cycle_date, cycle_kind, told, told_by, told_inside, told_outside};
+ghost use Rattle.cns_table.specs.Place.{place_behind, behind_inside, behind_outside, cycle_date, cycle_kind, line_told, told_by, told_inside, told_outside};
 
 use crate::head::{Cycle, Head, head_of};
 use crate::row::{Row, row_of};
@@ -56,7 +56,7 @@ impl Place {
         ensures { result.now ≡ cycle_kind self.now.cycle }
     {
         match &self.cycle {
-            Some(cycle) => cycle.kind.name(),
+            Some(cycle) => cycle.kind.name().as_bytes(),
             None => &[],
         }
     }
@@ -93,8 +93,8 @@ impl Place {
 
     /// Passes the next line, without its LF. None where it may not stand here.
     pub(crate) fn pass<'a>(&mut self, line: &'a [u8]) -> Option<Step<'a>>
-        ensures place { self.new ≡ behind self.old line.now }
-        ensures told { option_map told_by result ≡ told self.old line.now }
+        ensures place { self.new ≡ place_behind self.old line.now }
+        ensures told { option_map told_by result ≡ line_told self.old line.now }
     {
         if self.inside {
             self.pass_inside(line)

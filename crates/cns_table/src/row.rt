@@ -2,10 +2,11 @@
 
 ghost use Rattle.std.specs.Prelude.{◌≡◌, ◌<◌, ◌==◌, length, not, true, option_map, IfSome};
 ghost use Rattle.std.specs.List.{position_from};
-ghost use Rattle.cns_table.specs.Row.{account_row as account_row_of, at_right as at_right_of, has_account_form as has_form_of_account, is_shares as is_shares_text, name_of, pool_row as pool_row_of, row_of as row_of_line, texts_of};
+ghost use Rattle.cns_table.specs.Row.{account_columns, at_right as at_right_of, has_account_form as has_form_of_account, is_shares_of, name_of, pool_columns, row_of as row_of_line, texts_of};
 
 use crate::text::{is_account, is_cusip, is_number, is_signed};
-use crate::words::{named, none};
+use crate::words::named;
+use cns_words::none_behind;
 
 /// What a row tells of.
 #[derive(Clone, Copy, PartialEq, Eq, Debug)]
@@ -65,7 +66,7 @@ fn at_right(text: &[u8]) -> Option<&[u8]>
 
 // Whether a text is the shares of a position, or of a balance.
 fn is_shares(kind: RowKind, text: &[u8]) -> bool
-    ensures { result ≡ is_shares_text kind text.now }
+    ensures { result ≡ is_shares_of kind text.now }
 {
     match kind {
         RowKind::Position => is_signed(text),
@@ -89,9 +90,9 @@ fn has_account_form(line: &[u8]) -> bool
 
 // The row of this kind that a line is: `POS CUSIP MEMBER Q` or `BAL CUSIP ACCOUNT Q`, the shares right in 20
 // places.
-#[tactic(auto, unfolding(crate::specs::Row::account_row))]
+#[tactic(auto, unfolding(crate::specs::Row::account_columns))]
 fn account_row(kind: RowKind, line: &[u8]) -> Option<Row<'_>>
-    ensures { option_map texts_of result ≡ account_row_of kind line.now }
+    ensures { option_map texts_of result ≡ account_columns kind line.now }
 {
     if !has_account_form(line) {
         return None;
@@ -112,15 +113,20 @@ fn account_row(kind: RowKind, line: &[u8]) -> Option<Row<'_>>
 }
 
 // The row that a line is: `POOL CUSIP free Q lent Q out Q`.
-#[tactic(auto, unfolding(crate::specs::Row::pool_row))]
+#[tactic(auto, unfolding(crate::specs::Row::pool_columns))]
 fn pool_row(line: &[u8]) -> Option<Row<'_>>
-    ensures { option_map texts_of result ≡ pool_row_of line.now }
+    ensures { option_map texts_of result ≡ pool_columns line.now }
 {
     let (cusip, rest) = named(Some(line), b"POOL")?;
     let (free, rest) = named(rest, b"free")?;
     let (lent, rest) = named(rest, b"lent")?;
     let (out, rest) = named(rest, b"out")?;
-    if none(rest) && is_cusip(cusip) && is_number(free) && is_number(lent) && is_number(out) {
+    if none_behind(rest)
+        && is_cusip(cusip)
+        && is_number(free)
+        && is_number(lent)
+        && is_number(out)
+    {
         Some(Row {
             kind: RowKind::Pool,
             cusip,

@@ -7,7 +7,7 @@ ghost use Rattle.csv.specs.Records.{fields_of};
 ghost use Rattle.csv.specs.Writing.{row_text, text_written, writer_pending, writer_under};
 ghost use Rattle.cns_table.specs.Faults.{IsOfOutput};
 ghost use Rattle.cns_table.specs.Row.{texts_of};
-ghost use Rattle.cns_table.specs.Sheet.{HasFields, StandsAtRow, bare_writer, cells, header, quoted};
+ghost use Rattle.cns_table.specs.Sheet.{HasFields, StandsAtRow, bare_writer, cells, column_names, quoted};
 
 use crate::fault::TableFault;
 use crate::place::Place;
@@ -130,7 +130,7 @@ impl<W: Write + Drop> Sheet<W> {
     /// Writes the names of the columns.
     pub(crate) fn write_header(&mut self) -> Result<(), TableFault>
         ensures row { OnOk result (StandsAtRow self.old.writer → StandsAtRow self.new.writer
-            × Appends (text_written W.contents self.old.writer) (text_written W.contents self.new.writer) (row_text bare_writer header)) }
+            × Appends (text_written W.contents self.old.writer) (text_written W.contents self.new.writer) (row_text bare_writer column_names)) }
         ensures kind { IfErr result IsOfOutput }
     {
         write_cells(

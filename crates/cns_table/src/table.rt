@@ -5,11 +5,11 @@ ghost use Rattle.std.specs.Io.KnownBytes.{Appends};
 ghost use Rattle.std.specs.List.{flat_map};
 ghost use Rattle.csv.specs.Writing.{row_text, text_written, writer_pending};
 ghost use Rattle.cns_table.specs.Faults.{IsOfEnd, IsOfOutput};
-ghost use Rattle.cns_table.specs.Place.{Tells, behind, told};
+ghost use Rattle.cns_table.specs.Place.{Tells, place_behind, line_told};
 ghost use Rattle.cns_table.specs.Row.{texts_of};
-ghost use Rattle.cns_table.specs.Run.{at_start, lines_of};
-ghost use Rattle.cns_table.specs.Sheet.{StandsAtRow, bare_writer, header};
-ghost use Rattle.cns_table.specs.Table.{IsOfLine, adds, holds, row_at};
+ghost use Rattle.cns_table.specs.Run.{at_start, text_lines};
+ghost use Rattle.cns_table.specs.Sheet.{StandsAtRow, bare_writer, column_names};
+ghost use Rattle.cns_table.specs.Table.{IsOfLine, adds, holds, row_line_at};
 
 use crate::fault::TableFault;
 use crate::lines::next_line;
@@ -46,7 +46,7 @@ fn write_lines<W: Write + Drop>(
     lines: &[u8],
 ) -> Result<(), TableFault>
     ensures rows { OnOk result (StandsAtRow sheet.old.writer → StandsAtRow sheet.new.writer
-        × Appends (text_written W.contents sheet.old.writer) (text_written W.contents sheet.new.writer) (flat_map (row_at place.now) (lines_of lines.now))) }
+        × Appends (text_written W.contents sheet.old.writer) (text_written W.contents sheet.new.writer) (flat_map (row_line_at place.now) (text_lines lines.now))) }
     ensures kind { IfErr result IsOfOutput }
 {
     let mut rest = lines;
@@ -66,7 +66,7 @@ impl<W: Write + Drop> Table<W> {
         ensures place { IfOk result (λ table. table.place ≡ at_start) }
         ensures held { IfOk result (λ table. table.held.items ≡ []) }
         ensures row { IfOk result (λ table. StandsAtRow table.sheet.writer) }
-        ensures header { IfOk result (λ table. Appends (W.contents writer) (text_written W.contents table.sheet.writer) (row_text bare_writer header)) }
+        ensures header { IfOk result (λ table. Appends (W.contents writer) (text_written W.contents table.sheet.writer) (row_text bare_writer column_names)) }
         ensures kind { IfErr result IsOfOutput }
     {
         let mut sheet = Sheet::new(alloc, writer);
@@ -95,12 +95,12 @@ impl<W: Write + Drop> Table<W> {
 
     /// Takes the next line of the text, without its LF, which has this number.
     pub(crate) fn take_line(&mut self, number: u64, line: &[u8]) -> Result<(), TableFault>
-        ensures place { OnOk result (self.new.place ≡ behind self.old.place line.now) }
+        ensures place { OnOk result (self.new.place ≡ place_behind self.old.place line.now) }
         ensures row { OnOk result (StandsAtRow self.old.sheet.writer → StandsAtRow self.new.sheet.writer
-            × Appends (text_written W.contents self.old.sheet.writer) (text_written W.contents self.new.sheet.writer) (adds (told self.old.place line.now) self.old.which (behind self.old.place line.now))) }
-        ensures held { OnOk result (self.new.held.items ≡ holds (told self.old.place line.now) self.old.which self.old.held.items line.now) }
+            × Appends (text_written W.contents self.old.sheet.writer) (text_written W.contents self.new.sheet.writer) (adds (line_told self.old.place line.now) self.old.which (place_behind self.old.place line.now))) }
+        ensures held { OnOk result (self.new.held.items ≡ holds (line_told self.old.place line.now) self.old.which self.old.held.items line.now) }
         ensures which { self.new.which ≡ self.old.which }
-        ensures refused { (result ≡ Err (TableFault.Line number)) ↔ (told self.old.place line.now ≡ None) }
+        ensures refused { (result ≡ Err (TableFault.Line number)) ↔ (line_told self.old.place line.now ≡ None) }
         ensures kind { IfErr result (IsOfLine number) }
     {
         match self.place.pass(line) {
@@ -117,7 +117,7 @@ impl<W: Write + Drop> Table<W> {
     /// Ends the table behind the last line: what is held is written, and all of it is flushed.
     pub(crate) fn finish(&mut self) -> Result<(), TableFault>
         ensures rows { OnOk result (StandsAtRow self.old.sheet.writer
-            → Appends (text_written W.contents self.old.sheet.writer) (text_written W.contents self.new.sheet.writer) (flat_map (row_at self.old.place) (lines_of self.old.held.items))) }
+            → Appends (text_written W.contents self.old.sheet.writer) (text_written W.contents self.new.sheet.writer) (flat_map (row_line_at self.old.place) (text_lines self.old.held.items))) }
         ensures cut { (result ≡ Err TableFault.Cut) ↔ (self.old.place.inside ≡ true) }
         ensures flushed { OnOk result (writer_pending self.new.sheet.writer ≡ []) }
         ensures kind { IfErr result IsOfEnd }

@@ -2,7 +2,8 @@
 
 ghost use Rattle.std.specs.Prelude.{◌≡◌, ◌==◌, bytes_eq};
 ghost use Rattle.std.specs.List.{list_all};
-ghost use Rattle.cns_table.specs.Text.{is_account as is_account_text, is_cusip as is_cusip_text, is_cusip_character as may_be_in_cusip, is_date as is_date_text, is_digit, is_number as is_number_text, is_signed as is_signed_text};
+ghost use Rattle.cns_ids.specs.Number.{is_digit};
+ghost use Rattle.cns_table.specs.Text.{is_account as is_account_text, is_cusip as is_cusip_text, is_cusip_character as may_be_in_cusip, is_date as is_date_text, is_number as is_number_text, is_signed as is_signed_text};
 
 /// Whether a text is this one.
 pub(crate) fn is_text(text: &[u8], this: &[u8]) -> bool

@@ -3,7 +3,7 @@ ghost use Rattle.std.specs.Io.Buffered.{reader_remaining};
 ghost use Rattle.std.specs.Io.KnownBytes.{Appends};
 ghost use Rattle.csv.specs.Writing.{text_written, writer_pending};
 ghost use Rattle.cns_table.specs.Faults.{IsOfInput};
-ghost use Rattle.cns_table.specs.Run.{IsAnswer, fault_from, fault_of, lines_of, rows_from, table_text};
+ghost use Rattle.cns_table.specs.Run.{IsAnswer, fault_from, text_fault, text_lines, rows_from, table_text};
 ghost use Rattle.cns_table.specs.Sheet.{StandsAtRow};
 
 use crate::fault::TableFault;
@@ -30,9 +30,9 @@ fn take_lines<R: BufRead, W: Write + Drop>(
     reader: &mut R,
     table: &mut Table<W>,
 ) -> Result<(), TableFault>
-    ensures fault { IfSome (R.remaining reader.old) (λ text. IsAnswer result (fault_from table.old.place 1 (lines_of text))) }
+    ensures fault { IfSome (R.remaining reader.old) (λ text. IsAnswer result (fault_from table.old.place 1 (text_lines text))) }
     ensures rows { OnOk result (StandsAtRow table.old.sheet.writer → IfSome (R.remaining reader.old) (λ text.
-        Appends (text_written W.contents table.old.sheet.writer) (text_written W.contents table.new.sheet.writer) (rows_from table.old.which table.old.place table.old.held.items (lines_of text)))) }
+        Appends (text_written W.contents table.old.sheet.writer) (text_written W.contents table.new.sheet.writer) (rows_from table.old.which table.old.place table.old.held.items (text_lines text)))) }
     ensures flushed { OnOk result (writer_pending table.new.sheet.writer ≡ []) }
 {
     let mut line = Vec::new(alloc);
@@ -54,7 +54,7 @@ fn table_of<R: Read + Drop, W: Write + Drop>(
     writer: W,
     which: Reports,
 ) -> Result<Table<W>, TableFault>
-    ensures fault { IfSome (R.remaining reader) (λ text. IsAnswer result (fault_of text)) }
+    ensures fault { IfSome (R.remaining reader) (λ text. IsAnswer result (text_fault text)) }
     ensures whole { IfOk result (λ table. IfSome (R.remaining reader) (λ text.
         Appends (W.contents writer) (text_written W.contents table.sheet.writer) (table_text which text))) }
     ensures flushed { IfOk result (λ table. writer_pending table.sheet.writer ≡ []) }
@@ -72,7 +72,7 @@ fn write_from<R: Read + Drop, W: Write + Drop>(
     writer: W,
     which: Reports,
 ) -> Result<(), TableFault>
-    ensures fault { IfSome (R.remaining reader) (λ text. IsAnswer result (fault_of text)) }
+    ensures fault { IfSome (R.remaining reader) (λ text. IsAnswer result (text_fault text)) }
 {
     let _table = table_of(alloc, reader, writer, which)?;
     Ok(())
@@ -93,7 +93,7 @@ pub fn write_table<R: Read + Drop, W: Write>(
     writer: &mut W,
     which: Reports,
 ) -> Result<(), TableFault>
-    ensures fault { IfSome (R.remaining reader) (λ text. IsAnswer result (fault_of text)) }
+    ensures fault { IfSome (R.remaining reader) (λ text. IsAnswer result (text_fault text)) }
 {
     write_from(alloc, reader, &mut *writer, which)
 }

@@ -5,7 +5,7 @@ use Rattle.std.specs.List.{cons_option, count_by}
 use Rattle.std.proofs.lemmas.List.Sums.{sum_by-append}
 use Rattle.std.proofs.lemmas.List.Elements.{filter_map-append}
 use Rattle.cns_tally.specs.Kinds.{kind_of}
-use Rattle.cns_tally.specs.Counts.{HasCounted, begun_of, counts_of_kinds, front_of, how_many, is_bad_line, is_device_failure, is_faulty_row, is_refused_event, is_refused_trade, kinds_of, lines_of}
+use Rattle.cns_tally.specs.Counts.{HasCounted, begun_of, counts_of_kinds, front_of, capped_count, is_bad_line, is_device_failure, is_faulty_row, is_refused_event, is_refused_trade, kinds_of, lines_of}
 use Rattle.cns_tally.specs.declared.kind.Kind.{Kind}
 use Rattle.cns_tally.specs.declared.kind.Kind.TheVariants.{FaultyRow, BadLine, DeviceFailure, RefusedTrade, RefusedEvent}
 use Rattle.cns_tally.specs.declared.lines.Lines.{Lines}
@@ -16,10 +16,10 @@ use Rattle.cns_tally.proofs.LineLemmas.{begun_of-lf, begun_of-other, lines_of-lf
 count_by-snoc : (test : Kind → Bool) (kinds : List Kind) (kind : Kind) → count_by test (kinds ++ kind ∷ []) ≡ count_by test kinds + cond (test kind) 1 0
 count_by-snoc test kinds kind = rw (sum_by-append (λ k. cond (test k) 1 0) kinds (kind ∷ [])) (omega arith)
 
-how_many_more : (test : Kind → Bool) (kinds : List Kind) (kind : Kind) → test kind ≡ true → how_many test (kinds ++ kind ∷ []) ≡ min (how_many test kinds + 1) (2 ^ 64 - 1)
+how_many_more : (test : Kind → Bool) (kinds : List Kind) (kind : Kind) → test kind ≡ true → capped_count test (kinds ++ kind ∷ []) ≡ min (capped_count test kinds + 1) (2 ^ 64 - 1)
 how_many_more test kinds kind is = rw (count_by-snoc test kinds kind, is) (omega arith)
 
-how_many_same : (test : Kind → Bool) (kinds : List Kind) (kind : Kind) → test kind ≡ false → how_many test (kinds ++ kind ∷ []) ≡ how_many test kinds
+how_many_same : (test : Kind → Bool) (kinds : List Kind) (kind : Kind) → test kind ≡ false → capped_count test (kinds ++ kind ∷ []) ≡ capped_count test kinds
 how_many_same test kinds kind is_not = rw (count_by-snoc test kinds kind, is_not) (omega arith)
 
 pub counts_of_kinds-faulty_row : (kinds : List Kind) → let counts = counts_of_kinds kinds in counts_of_kinds (kinds ++ FaultyRow ∷ []) ≡ record counts { faulty_rows = min (counts.faulty_rows + 1) (2 ^ 64 - 1) }

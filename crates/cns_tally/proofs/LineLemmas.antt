@@ -5,7 +5,8 @@ use Rattle.std.proofs.Math.Seq.{take-append-add}
 use Rattle.std.proofs.lemmas.List.{get_or-append-add}
 use Rattle.std.proofs.lemmas.List.Sums.{sum_by-append}
 use Rattle.std.proofs.lemmas.List.Splits.{length-slice_split}
-use Rattle.cns_tally.specs.Counts.{begun_of, is_lf, lines_of, pieces_of}
+use Rattle.cns_words.specs.Words.{is_lf}
+use Rattle.cns_tally.specs.Counts.{begun_of, lines_of, pieces_of}
 
 -- ---- the pieces
 

@@ -4,7 +4,7 @@ use Rattle.std.specs.Io.KnownBytes.{Appends}
 use Rattle.std.specs.Bool.{Decides}
 use Rattle.std.specs.Cmp.Lexicographic.{bytes_decides}
 use Rattle.std.proofs.lemmas.Bool.Decides.{Decides-and, Decides-eqb, Decides-like}
-use Rattle.cns_tally.specs.Counts.{HasCounted, begun_of, counts_of, front_of}
+use Rattle.cns_tally.specs.Counts.{HasCounted, begun_of, text_counts, front_of}
 use Rattle.cns_tally.specs.Tally.{has_counted, if_counted, same_counts}
 use Rattle.cns_tally.specs.declared.counts.Counts.{Counts}
 use Rattle.cns_tally.specs.declared.lines.Lines.{Lines}
@@ -29,7 +29,7 @@ same_counts_decides a b =
 has_counted_decides : (lines : Lines) (text : List ℕ) → Decides (has_counted lines text) (HasCounted lines text)
 has_counted_decides lines text =
     Decides-like (has_counted lines text) (λ e. record { counts = e.0; begun = e.1 }) (λ h. (h.counts, h.begun))
-    (Decides-and _ _ (same_counts_decides lines.counts (counts_of text)) (bytes_decides lines.begun.items (front_of (begun_of text))))
+    (Decides-and _ _ (same_counts_decides lines.counts (text_counts text)) (bytes_decides lines.begun.items (front_of (begun_of text))))
 
 appends_if : (before after : Bool) (xs ys bytes : List ℕ) → ys ≡ xs ++ bytes → (before ≡ true → after ≡ true) → Appends (if before then Some xs else None) (if after then Some ys else None) bytes
 appends_if false after xs ys bytes more e = tt

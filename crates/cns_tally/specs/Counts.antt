@@ -1,15 +1,12 @@
 -- How many lines of a text tell of what was not taken (this project's own rule).
 use Rattle.std.specs.Prelude.{◌≡◌, ℕ, ◌-◌, ◌^◌, ◌==◌, min, Bool, true, false, List, [], take, get_or}
 use Rattle.std.specs.List.{count_by, filter_map, slice_split}
+use Rattle.cns_words.specs.Words.{is_lf}
 use Rattle.cns_tally.specs.Kinds.{kind_of}
 use Rattle.cns_tally.specs.declared.kind.Kind.{Kind}
 use Rattle.cns_tally.specs.declared.kind.Kind.TheVariants.{FaultyRow, BadLine, DeviceFailure, RefusedTrade, RefusedEvent}
 use Rattle.cns_tally.specs.declared.counts.Counts.{Counts}
 use Rattle.cns_tally.specs.declared.lines.Lines.{Lines}
-
--- the end of a line
-abbrev pub is_lf : ℕ → Bool
-is_lf c = c == 10
 
 -- the pieces of a text that its LFs part, the last of which no LF ends
 abbrev pub pieces_of : List ℕ → List (List ℕ)
@@ -32,8 +29,8 @@ abbrev pub kinds_of : List ℕ → List Kind
 kinds_of text = filter_map (λ line. kind_of (front_of line)) (lines_of text)
 
 -- how many pass a test, or the greatest number of 64 bits where they are more
-abbrev pub how_many : (Kind → Bool) → List Kind → ℕ
-how_many test kinds = min (count_by test kinds) (2 ^ 64 - 1)
+abbrev pub capped_count : (Kind → Bool) → List Kind → ℕ
+capped_count test kinds = min (count_by test kinds) (2 ^ 64 - 1)
 
 abbrev pub is_faulty_row : Kind → Bool
 is_faulty_row = elim [ FaultyRow ↦ true | _ ↦ false ]
@@ -53,18 +50,18 @@ is_device_failure = elim [ DeviceFailure ↦ true | _ ↦ false ]
 -- how many there are of each kind
 abbrev pub counts_of_kinds : List Kind → Counts
 counts_of_kinds kinds = record {
-  faulty_rows = how_many is_faulty_row kinds;
-  refused_trades = how_many is_refused_trade kinds;
-  bad_lines = how_many is_bad_line kinds;
-  refused_events = how_many is_refused_event kinds;
-  device_failures = how_many is_device_failure kinds;
+  faulty_rows = capped_count is_faulty_row kinds;
+  refused_trades = capped_count is_refused_trade kinds;
+  bad_lines = capped_count is_bad_line kinds;
+  refused_events = capped_count is_refused_event kinds;
+  device_failures = capped_count is_device_failure kinds;
 }
 
 -- how many lines of a text tell of what was not taken, of each kind
-abbrev pub counts_of : List ℕ → Counts
-counts_of text = counts_of_kinds (kinds_of text)
+abbrev pub text_counts : List ℕ → Counts
+text_counts text = counts_of_kinds (kinds_of text)
 
 -- the counts are those of a text, and what was begun is the line that it has begun
 pub record HasCounted (lines : Lines) (text : List ℕ) : Type 0 where
-  pub counts : lines.counts ≡ counts_of text
+  pub counts : lines.counts ≡ text_counts text
   pub begun : lines.begun.items ≡ front_of (begun_of text)

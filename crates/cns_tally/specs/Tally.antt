@@ -1,6 +1,6 @@
 -- What a tally is known to hold.
 use Rattle.std.specs.Prelude.{ℕ, Bool, bytes_eq, ◌==◌, ◌&&◌, List, Option, Some, None, if◌then◌else◌}
-use Rattle.cns_tally.specs.Counts.{begun_of, counts_of, front_of}
+use Rattle.cns_tally.specs.Counts.{begun_of, text_counts, front_of}
 use Rattle.cns_tally.specs.declared.counts.Counts.{Counts}
 use Rattle.cns_tally.specs.declared.lines.Lines.{Lines}
 use Rattle.cns_tally.specs.declared.tally.Tally.{Tally}
@@ -12,7 +12,7 @@ same_counts a b =
 
 -- whether the counts are those of a text, and what was begun is the line that it has begun
 abbrev pub has_counted : Lines → List ℕ → Bool
-has_counted lines text = same_counts lines.counts (counts_of text) && bytes_eq lines.begun.items (front_of (begun_of text))
+has_counted lines text = same_counts lines.counts (text_counts text) && bytes_eq lines.begun.items (front_of (begun_of text))
 
 -- the text, where it is what the lines have counted
 abbrev pub if_counted : Lines → Option (List ℕ) → Option (List ℕ)

@@ -1,6 +1,7 @@
 ghost use Rattle.std.specs.Prelude.{◌≡◌, bytes_eq};
 ghost use Rattle.std.specs.List.{list_any};
-ghost use Rattle.cns_tally.specs.Kinds.{kind_of as kind_of_line, words_of};
+ghost use Rattle.cns_tally.specs.Kinds.{kind_of as kind_of_line};
+ghost use Rattle.cns_words.specs.Words.{line_words};
 
 /// What a line tells was not taken.
 #[derive(Clone, Copy, PartialEq, Eq, Debug)]
@@ -19,7 +20,7 @@ pub(crate) enum Kind {
 
 // Whether a word is among those of a line.
 fn has_word(line: &[u8], this: &[u8]) -> bool
-    ensures { result ≡ list_any (λ word. bytes_eq word this.now) (words_of line.now) }
+    ensures { result ≡ list_any (λ word. bytes_eq word this.now) (line_words line.now) }
 {
     line.split(|byte| *byte == b' ').any(|word| word == this)
 }

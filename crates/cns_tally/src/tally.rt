@@ -1,5 +1,5 @@
 ghost use Rattle.std.specs.Prelude.{◌≡◌, [], IfSome};
-ghost use Rattle.cns_tally.specs.Counts.{counts_of};
+ghost use Rattle.cns_tally.specs.Counts.{text_counts};
 ghost use Rattle.cns_tally.specs.Tally.{contents_of};
 
 use crate::counts::Counts;
@@ -32,7 +32,7 @@ impl<W: Write> Tally<W> {
     /// How many of the lines that were written tell of what was not taken (this project's own rule). A line
     /// counts once its LF is written, in whatever pieces it was.
     pub fn counts(&self) -> Counts
-        ensures { IfSome (contents_of W.contents self.now) (λ all. result ≡ counts_of all) }
+        ensures { IfSome (contents_of W.contents self.now) (λ all. result ≡ text_counts all) }
     {
         self.lines.counts()
     }

@@ -1,6 +1,6 @@
 use Rattle.std.proofs.Common.{arith}
 use Rattle.std.proofs.lemmas.Bool.{ne_eqb}
-use Rattle.cns_input.proofs.WordLemmas.{has_word}
+use Rattle.cns_words.proofs.WordLemmas.{has_word}
 use Rattle.cns_input.proofs.command.one.Goals as goal
 
 pub returns-in_default-Some : goal.returns-in_default-Some

@@ -1,5 +1,5 @@
 use Rattle.std.proofs.Common.{◌≡◌, drop}
-use Rattle.cns_table.specs.Table.{is_lf}
+use Rattle.cns_words.specs.Words.{is_lf}
 use Rattle.std.specs.List.{position_from}
 use Rattle.cns_table.proofs.lines.first_end.Given as goal
 
