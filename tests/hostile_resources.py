@@ -436,10 +436,12 @@ class Resources:
         self.check('a folder as the input', None if ended == (2, b'', INPUT) else repr(ended))
 
     def large_journals(self):
-        """Journals of many bytes, of which no record is one of a node; a file that has no record is one without records."""
+        """Journals of many bytes, of which no record is one of a node; a file that has no record is one without records. What would be cut off is
+        kept first, so the device has failed where that is more than there is memory for, and the file is as it was."""
         opened, refused = [(0, b'')], [(3, JOURNAL)]
         kinds = {'zeros': (b'', 2 ** 40, opened), 'a record of zeros': (b'\xa5\0\x10\0\0', 2 ** 40, refused),
-                 'a record that is too long': (b'\xa5\0\x10\0\1', 2 ** 40, opened),
+                 'a record that is too long': (b'\xa5\0\x10\0\1', 2 ** 24, opened),
+                 'a record that is too long, with more behind it than can be kept': (b'\xa5\0\x10\0\1', 2 ** 40, refused),
                  'empty records': (b'\xa5\0\0\0\0' * 3000000 + b'\0', 0, refused), 'gates': (b'\xa5' * 2 ** 24, 0, opened),
                  'any bytes': (random.Random(1).randbytes(2 ** 24), 0, opened)}
         for name, (begin, size, wanted) in kinds.items():
@@ -455,6 +457,8 @@ class Resources:
             wrong = None if (ended[0], ended[2]) == wanted[0] else 'it ended by %r, %r' % (ended[0], ended[2])
             if not wrong and ended[1] != (self.whole[1] if ended[0] == 0 else b''):
                 wrong = 'it writes something else'
+            if not wrong and ended[0] and os.path.getsize(self.path(folder, 'c')) != max(size, len(begin)):
+                wrong = 'it cuts the file that it refuses'
             if not wrong and ended[0] == 0:
                 again = self.asked(folder)
                 told = b'restart CLEAR records %d kept no\n' % len(self.held['c'])

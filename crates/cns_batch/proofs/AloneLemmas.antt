@@ -1,6 +1,5 @@
 -- Over honest keepers of which all is known, an act does what it does where nothing comes between, where no event is refused for want of memory.
 use Rattle.std.proofs.Common.{◌≡◌, ◌≢◌, ℕ, Bool, true, false, get_or, List, [], ◌∷◌, ◌++◌, drop, None, Result, Ok, inl, inr, refl, sym, ap, ◌∙◌}
-use Rattle.std.specs.Prelude.{if◌then◌else◌}
 use Rattle.std.proofs.lemmas.Bool.{cases_Bool}
 use Rattle.std.proofs.lemmas.List.Elements.{All-head, All-tail}
 use Rattle.cns_records.specs.declared.refusal.Refusal.TheVariants as refusal

@@ -1,5 +1,5 @@
 -- What the commands of a script do, by what their events came to.
-use Rattle.std.proofs.Common.{◌≡◌, ◌<◌, ◌≤◌, ℕ, suc, zero, ◌+◌, ◌-◌, get_or, List, [], ◌∷◌, length, drop, Option, Some, None, Result, Ok, Err, refl, sym, ap, ◌∙◌, subst, arith}
+use Rattle.std.proofs.Common.{◌≡◌, ◌<◌, ◌≤◌, ℕ, suc, ◌+◌, ◌-◌, get_or, List, [], ◌∷◌, length, drop, Option, Some, None, Result, Ok, Err, refl, ap, arith}
 use Rattle.std.proofs.Math.Seq.{drop-nil, take-nil}
 use Rattle.std.proofs.lemmas.List.{drop_all, take_all}
 use Rattle.cns_allocate.specs.declared.planned.Planned.{Planned}

@@ -5,12 +5,10 @@ use Rattle.std.proofs.lemmas.List.Elements.{All-nil}
 use Rattle.std.proofs.lemmas.Option.{none-some}
 use Rattle.cns_journal.specs.Keeper.{IsReopened, Succeeds, KeeperState}
 use Rattle.cns_journal.specs.RecordLog.{IsOpened, LogState}
-use Rattle.cns_journal.specs.Replay.{IsBadPlace, Reread}
+use Rattle.cns_journal.specs.Replay.{Reread}
 use Rattle.cns_journal.specs.declared.record_log.ReplayFault.TheVariants as replay
 use Rattle.cns_records.specs.Clear.{spelling, HasPayload}
 use Rattle.cns_records.specs.Dep.{dep_spelling, HasDepPayload}
-use Rattle.cns_records.specs.declared.clear_record.ClearRecord.{ClearRecord}
-use Rattle.cns_records.specs.declared.dep_record.DepRecord.{DepRecord}
 use Rattle.cns_trades.specs.declared.opening.Opening.{Opening}
 use Rattle.cns_clearing.specs.Books.{IsAllowed, books_of, orders_of}
 use Rattle.cns_depository.specs.Stock.{IsExecutable}

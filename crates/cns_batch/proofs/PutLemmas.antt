@@ -6,7 +6,7 @@ use Rattle.cns_batch.specs.declared.fault.OutputFault.{OutputFault}
 use Rattle.cns_batch.specs.declared.fault.OutputFault.TheVariants as fault
 use Rattle.std.specs.Result.{IfErr}
 use Rattle.cns_batch.specs.Runs.{HasNoRoom, Prints, Puts, Writes, output}
-use Rattle.cns_batch.proofs.PrintLemmas.{AreTold, all_told, breaks_front, breaks_here, lines_left, none_told, prints_after, prints_held, prints_nothing, row_told}
+use Rattle.cns_batch.proofs.PrintLemmas.{AreTold, all_told, breaks_front, breaks_here, lines_left, none_told, prints_after, prints_held, row_told}
 
 -- a page that told a first text had no room for both where it has none for the second
 no_room_after : (result : Result (Unit {0}) OutputFault) (p q : Written) (a b : Option (List ℕ)) (s t : List ℕ) → Writes s (output p a) (output q b) → p.room ≤ q.room

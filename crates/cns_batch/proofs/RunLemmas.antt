@@ -15,7 +15,7 @@ use Rattle.cns_batch.specs.Acts.{Act, Gives, ◌>>=◌, ◌>>◌}
 use Rattle.cns_batch.specs.Commands.{command_run, opened, plain_run, served_if_open}
 use Rattle.cns_batch.specs.Run.{Numbered, all_run, commands_of, first_run, numbered, ran_beside, run_beside, script_run}
 use Rattle.cns_batch.specs.Runs.{Continues, Exchange, Place, Runs, Stops, leaves}
-use Rattle.cns_batch.proofs.ActLemmas.{continues_more, followed_gives, runs_after, leaving_runs, stops_after, stops_followed}
+use Rattle.cns_batch.proofs.ActLemmas.{continues_more, followed_gives, stops_after, stops_followed}
 
 -- ---- the commands of lines
 

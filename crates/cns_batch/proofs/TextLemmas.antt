@@ -1,5 +1,5 @@
 -- What a run of a script writes of an input's text.
-use Rattle.std.proofs.Common.{◌≡◌, ◌≤◌, ◌<◌, ℕ, Bool, false, true, length, List, [], ◌++◌, take, Option, None, Some, Result, Ok, Err, refl, sym, ap, ◌∙◌, subst, inl, inr, arith, append_assoc, ◌+◌, length-append}
+use Rattle.std.proofs.Common.{◌≡◌, ◌≤◌, ◌<◌, ℕ, Bool, false, true, length, List, [], ◌++◌, take, Option, None, Some, Result, Ok, Err, refl, sym, ap, ◌∙◌, inl, inr, arith, append_assoc, length-append}
 use Rattle.std.specs.Prelude.{IfErr, OnOk, if◌then◌else◌}
 use Rattle.std.proofs.Math.Seq.{take-append_seam}
 use Rattle.std.proofs.lemmas.List.{append-nil}
@@ -17,7 +17,7 @@ use Rattle.cns_system.specs.declared.fault.StartFault.{StartFault}
 use Rattle.cns_batch.specs.declared.supply.Supply.{Supply}
 use Rattle.cns_batch.specs.Acts.{Gives}
 use Rattle.cns_batch.specs.Commands.{served_in_turn}
-use Rattle.cns_batch.specs.InTurn.{LeadsInTurn, Told, in_turn, scene_at}
+use Rattle.cns_batch.specs.InTurn.{LeadsInTurn, Told, in_turn}
 use Rattle.cns_batch.specs.Ending.{batch_result}
 use Rattle.cns_batch.specs.Runs.{Continues, Output, Place, Runs, Stops, Writes, leaves, output_at, text_said}
 use Rattle.cns_input.specs.Reading.{HasGiven, IsInput, IsReadFault}

@@ -1,10 +1,7 @@
 -- What a run whose lots workers serve writes of an input's text.
-use Rattle.std.proofs.Common.{◌≡◌, ◌≤◌, ℕ, Bool, true, false, length, List, [], ◌++◌, Option, Result, Ok, Err, refl, sym, ap, ◌∙◌, subst, inl, inr}
+use Rattle.std.proofs.Common.{◌≡◌, ℕ, Bool, true, false, List, [], Option, Result, Ok, Err, refl, inl, inr}
 use Rattle.std.specs.Prelude.{OnOk, if◌then◌else◌}
-use Rattle.std.proofs.lemmas.List.{append-nil}
-use Rattle.std.specs.Io.KnownBytes.{Appends}
 use Rattle.cns_batch.specs.declared.supply.Supply.{Supply}
-use Rattle.cns_system.specs.declared.fault.StartFault.{StartFault}
 use Rattle.cns_input.specs.Reading.{IsInput, IsReadFault}
 use Rattle.cns_input.specs.declared.fault.BatchFault.{BatchFault}
 use Rattle.cns_input.specs.declared.fault.BatchFault.TheVariants as fault
@@ -12,7 +9,7 @@ use Rattle.cns_batch.specs.Acts.{Gives}
 use Rattle.cns_batch.specs.ByWorkers.{LeadsAtDesk, served_by_workers}
 use Rattle.cns_batch.specs.Ending.{batch_result}
 use Rattle.cns_batch.specs.Runs.{Continues, Place, Runs, Stops, leaves, output_at, text_said}
-use Rattle.cns_batch.specs.Text.{Input, Tells, WritesByWorkers, WritesFront, WritesWhole, fault_of_start, input_of, is_short, parts_of, script_of}
+use Rattle.cns_batch.specs.Text.{Input, Tells, WritesByWorkers, WritesFront, WritesWhole, input_of, script_of}
 use Rattle.cns_batch.specs.declared.fault.OutputFault.{OutputFault}
 use Rattle.cns_batch.specs.declared.fault.OutputFault.TheVariants as output
 use Rattle.cns_batch.proofs.DeskLemmas.{all_pass}

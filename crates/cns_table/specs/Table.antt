@@ -1,5 +1,5 @@
 -- A table, line by line of the text.
-use Rattle.std.specs.Prelude.{◌≡◌, ℕ, ◌==◌, Bool, List, [], ◌∷◌, ◌++◌, Option, Some, None}
+use Rattle.std.specs.Prelude.{◌≡◌, ℕ, List, [], ◌∷◌, ◌++◌, Option, Some, None}
 use Rattle.csv.specs.Writing.{row_text}
 use Rattle.cns_table.specs.Place.{LineTold, Begins, Tells, Passes}
 use Rattle.cns_table.specs.Row.{row_of}

@@ -1,5 +1,5 @@
 -- How many lines of a text tell of what was not taken (this project's own rule).
-use Rattle.std.specs.Prelude.{◌≡◌, ℕ, ◌-◌, ◌^◌, ◌==◌, min, Bool, true, false, List, [], take, get_or}
+use Rattle.std.specs.Prelude.{◌≡◌, ℕ, ◌-◌, ◌^◌, min, Bool, true, false, List, [], take, get_or}
 use Rattle.std.specs.List.{count_by, filter_map, slice_split}
 use Rattle.cns_words.specs.Words.{is_lf}
 use Rattle.cns_tally.specs.Kinds.{kind_of}

@@ -1,5 +1,5 @@
 -- Which lines of the text of a run tell that something of its input was not taken (this project's own rule).
-use Rattle.std.specs.Prelude.{ℕ, Bool, bytes_eq, not, ◌==◌, ◌||◌, List, Option, Some, None, codes, if◌then◌else◌}
+use Rattle.std.specs.Prelude.{ℕ, bytes_eq, not, ◌==◌, ◌||◌, List, Option, Some, None, codes, if◌then◌else◌}
 use Rattle.std.specs.List.{ends_with, list_any}
 use Rattle.cns_words.specs.Words.{begins_with, line_words}
 use Rattle.cns_tally.specs.declared.kind.Kind.{Kind}

@@ -1,5 +1,5 @@
 use Rattle.cns_batch.proofs.ActLemmas.{continues_here, runs_after, runs_fault, step_gives, step_stops}
-use Rattle.cns_batch.proofs.CommandLemmas.{after_ticket, no_ticket, served_left, served_over}
+use Rattle.cns_batch.proofs.CommandLemmas.{no_ticket, served_left, served_over}
 use Rattle.cns_batch.proofs.in_turn.serve.Goals as goal
 
 pub loop-planned-init : goal.loop-planned-init
