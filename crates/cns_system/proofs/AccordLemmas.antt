@@ -1,10 +1,10 @@
 -- Each event keeps the two nodes and the link in accord.
-use Rattle.std.proofs.Common.{◌≡◌, ◌∙◌, ℕ, zero, suc, Bool, true, false, List, [], ◌∷◌, ◌++◌, Option, Some, None, ap, cond, refl, subst, sym}
+use Rattle.std.proofs.Common.{◌≡◌, ◌∙◌, ℕ, Bool, true, false, List, [], ◌∷◌, ◌++◌, Option, Some, None, ap, cond, refl, subst, sym}
 use Rattle.std.specs.Prelude.{◌==◌, All, IfSome, slice_get}
 use Rattle.std.specs.List.{cons_option}
 use Rattle.std.proofs.lemmas.Bool.{eqb-true}
-use Rattle.std.proofs.lemmas.List.Elements.{All-cons, All-head, All-nil, All-push, All-tail, All-weaker}
-use Rattle.std.proofs.lemmas.Option.{IfSome_then, none-some, same_Some}
+use Rattle.std.proofs.lemmas.List.Elements.{All-cons, All-nil, All-push, All-weaker}
+use Rattle.std.proofs.lemmas.Option.{IfSome_then, get_or_from_slice_get, none-some, slice_get_within}
 use Rattle.cns_movements.specs.Order.{order_of}
 use Rattle.cns_movements.specs.declared.order.Order.{Order}
 use Rattle.cns_movements.specs.declared.order.Reply.{Reply}
@@ -25,7 +25,7 @@ use Rattle.cns_system.specs.Agreement.{IsExecuted, IsOrdered}
 use Rattle.cns_system.specs.Start.{IsStarted}
 use Rattle.cns_system.specs.Happens.{with_reply_put}
 use Rattle.cns_system.specs.Lot.{LotState}
-use Rattle.cns_system.specs.Shown.{Shown, clear_failed, depot_added, depot_failed}
+use Rattle.cns_system.specs.Shown.{Shown, depot_added}
 use Rattle.cns_system.specs.World.{World}
 
 -- ---- what grows
@@ -33,12 +33,9 @@ use Rattle.cns_system.specs.World.{World}
 -- an order stays the order of its number as records are added
 pub order_stays : (u : ClearRecord) (c : List ClearRecord) (n : ℕ) (o : Order) → order_of (orders_of c).orders n ≡ Some o → order_of (orders_of (u ∷ c)).orders n ≡ Some o
 unfolding books_of
-order_stays (entry.Accept t) c n o found = found
-order_stays (entry.Exempt m i s) c n o found = found
-order_stays (entry.Priority m i on) c n o found = found
 order_stays (entry.Cycle id) c n o found = order_of-append (orders_of c).orders _ n o found
 order_stays (entry.Allocate a) c n o found = order_of-append (orders_of c).orders _ n o found
-order_stays (entry.Confirm r) c n o found = found
+order_stays _ c n o found = found
 
 -- a movement stays that of its order
 ordered_stays : (u : ClearRecord) (c : List ClearRecord) (m : Movement) → IsOrdered (orders_of c).orders m → IsOrdered (orders_of (u ∷ c)).orders m
@@ -52,16 +49,9 @@ orders_fit_stays : (u : ClearRecord) (c : List ClearRecord) (movements : List Mo
     → FitsOrders (orders_of (u ∷ c)).orders movements e
 orders_fit_stays u c movements e fits = IfSome_then (executed_in e) fits (λ m its. (known_stays u c m its.0, its.1))
 
--- what a record executes is known, and no movement of its number was executed before
-fits_known : (orders : List Order) (movements : List Movement) (e : DepRecord) → FitsOrders orders movements e → IfSome (executed_in e) (IsAsOrdered orders)
-fits_known orders movements e fits = IfSome_then (executed_in e) fits (λ m its. its.0)
-
 -- no movement of the number of this one was executed
 abbrev pub IsNew : List Movement → Option Movement → Type 0
 IsNew movements x = IfSome x (λ (m : Movement). movement_of movements m.order.number ≡ None)
-
-fits_new : (orders : List Order) (movements : List Movement) (e : DepRecord) → FitsOrders orders movements e → IsNew movements (executed_in e)
-fits_new orders movements e fits = IfSome_then (executed_in e) fits (λ m its. its.1)
 
 -- a movement stays executed as one of another number is executed, or none is
 pub executed_stays : (x : Option Movement) (movements : List Movement) (r : Reply) → IsNew movements x → IsExecuted movements r → IsExecuted (cons_option x movements) r
@@ -82,26 +72,16 @@ known_more orders (Some m) movements its all = All-cons (IsAsOrdered orders) m m
 pub replies_fit : (u : ClearRecord) (c : List ClearRecord) (movements : List Movement) → FitsStock movements u → All (IsExecuted movements) (orders_of c).replies
     → All (IsExecuted movements) (orders_of (u ∷ c)).replies
 unfolding books_of
-replies_fit (entry.Accept t) c movements fits all = all
-replies_fit (entry.Exempt m i s) c movements fits all = all
-replies_fit (entry.Priority m i on) c movements fits all = all
-replies_fit (entry.Cycle id) c movements fits all = all
-replies_fit (entry.Allocate a) c movements fits all = all
 replies_fit (entry.Confirm r) c movements fits all = All-cons (IsExecuted movements) r (orders_of c).replies fits all
+replies_fit _ c movements fits all = all
 
 fits_stays : (x : Option Movement) (movements : List Movement) (u : ClearRecord) → IsNew movements x → FitsStock movements u → FitsStock (cons_option x movements) u
-fits_stays x movements (entry.Accept t) fresh fits = tt
-fits_stays x movements (entry.Exempt m i s) fresh fits = tt
-fits_stays x movements (entry.Priority m i on) fresh fits = tt
-fits_stays x movements (entry.Cycle id) fresh fits = tt
-fits_stays x movements (entry.Allocate a) fresh fits = tt
 fits_stays x movements (entry.Confirm r) fresh fits = executed_stays x movements r fresh fits
+fits_stays x movements _ fresh fits = tt
 
 -- what is so of all is so of what is found in a place
 pub all_found : {A : Type 0} (P : A → Type 0) (xs : List A) (k : ℕ) (x : A) → All P xs → slice_get xs k ≡ Some x → P x
-all_found P [] k x all at = absurd (none-some x at)
-all_found P (y ∷ ys) zero x all at = subst P (same_Some y x at) (All-head P y ys all)
-all_found P (y ∷ ys) (suc k) x all at = all_found P ys k x (All-tail P y ys all) at
+all_found P xs k x all at = subst P (get_or_from_slice_get xs k x x at) (all k x (slice_get_within xs k x at))
 
 -- a packet stays one of an order as records are added, and one of a reply as a movement of another number is executed
 order_spelt_stays : (u : ClearRecord) (c : List ClearRecord) (packet : Option Order) → SpellsOrder (orders_of c).orders packet → SpellsOrder (orders_of (u ∷ c)).orders packet
@@ -129,18 +109,10 @@ module _ (w : Shown) (a : Accord w) where
         depot_up = a.depot_up;
       }
 
-  -- it has the records that it had, and one of which this is so whose commit failed
-  pub failed : (u : ClearRecord) → FitsStock (executed_of w.depot.records) u → Accord (clear_failed u w)
-  failed u fits = record {
-    executed = a.executed;
-    confirmed = a.confirmed;
-    sent = a.sent;
-    answered = a.answered;
-    clear_tried = λ v tried. subst (FitsStock (executed_of w.depot.records)) (same_Some u v tried) fits;
-    depot_tried = a.depot_tried;
-    clear_up = λ up. let no : true ≡ false = up in cc;
-    depot_up = a.depot_up;
-  }
+  -- it is up or down, and this record is undecided there
+  pub clear_stays : (tried : Option ClearRecord) (down : Bool) (open_lots : List Lot) (lots : List LotState) → ((u : ClearRecord) → tried ≡ Some u → FitsStock (executed_of w.depot.records) u)
+      → (down ≡ false → tried ≡ None) → Accord (record w { clear = record w.clear { tried = tried; down = down }; open_lots = open_lots; lots = lots })
+  clear_stays tried down open_lots lots fits up = assumption
 
   -- the depository likewise
   pub executed_more : (e : DepRecord) → FitsOrders (orders_of w.clear.records).orders (executed_of w.depot.records) e → w.depot.tried ≡ None → Accord (depot_added e w)
@@ -148,9 +120,9 @@ module _ (w : Shown) (a : Accord w) where
       let known_orders : List Order = (orders_of w.clear.records).orders in
       let movements : List Movement = executed_of w.depot.records in
       let x : Option Movement = executed_in e in
-      let fresh : IsNew movements x = fits_new known_orders movements e fits in
+      let fresh : IsNew movements x = IfSome_then x fits (λ m its. its.1) in
       record {
-        executed = known_more known_orders x movements (fits_known known_orders movements e fits) a.executed;
+        executed = known_more known_orders x movements (IfSome_then x fits (λ m its. its.0)) a.executed;
         confirmed = All-weaker (IsExecuted movements) (IsExecuted (cons_option x movements)) (λ r done. executed_stays x movements r fresh done) (orders_of w.clear.records).replies a.confirmed;
         sent = a.sent;
         answered = All-weaker (SpellsReply movements) (SpellsReply (cons_option x movements)) (λ packet is. reply_spelt_stays x movements packet fresh is) w.replies a.answered;
@@ -160,91 +132,16 @@ module _ (w : Shown) (a : Accord w) where
         depot_up = λ up. none;
       }
 
-  pub stock_failed : (e : DepRecord) → FitsOrders (orders_of w.clear.records).orders (executed_of w.depot.records) e → Accord (depot_failed e w)
-  stock_failed e fits = record {
-    executed = a.executed;
-    confirmed = a.confirmed;
-    sent = a.sent;
-    answered = a.answered;
-    clear_tried = a.clear_tried;
-    depot_tried = λ f tried. subst (FitsOrders (orders_of w.clear.records).orders (executed_of w.depot.records)) (same_Some e f tried) fits;
-    clear_up = a.clear_up;
-    depot_up = λ up. let no : true ≡ false = up in cc;
-  }
+  pub depot_stays : (tried : Option DepRecord) (down : Bool) → ((e : DepRecord) → tried ≡ Some e → FitsOrders (orders_of w.clear.records).orders (executed_of w.depot.records) e)
+      → (down ≡ false → tried ≡ None) → Accord (record w { depot = record w.depot { tried = tried; down = down } })
+  depot_stays tried down fits up = assumption
 
   -- a packet more on the link of orders, and one on that of replies
   pub order_put : (o : Order) → order_of (orders_of w.clear.records).orders o.number ≡ Some o → Accord (record w { orders = w.orders ++ Some o ∷ [] })
-  order_put o found = record {
-    executed = a.executed;
-    confirmed = a.confirmed;
-    sent = All-push (SpellsOrder (orders_of w.clear.records).orders) w.orders (Some o) a.sent found;
-    answered = a.answered;
-    clear_tried = a.clear_tried;
-    depot_tried = a.depot_tried;
-    clear_up = a.clear_up;
-    depot_up = a.depot_up;
-  }
+  order_put o found = let sent = All-push (SpellsOrder (orders_of w.clear.records).orders) w.orders (Some o) a.sent found in assumption
 
   pub reply_put : (r : Reply) → IsExecuted (executed_of w.depot.records) r → Accord (with_reply_put r w)
-  reply_put r done = record {
-    executed = a.executed;
-    confirmed = a.confirmed;
-    sent = a.sent;
-    answered = All-push (SpellsReply (executed_of w.depot.records)) w.replies (Some r) a.answered done;
-    clear_tried = a.clear_tried;
-    depot_tried = a.depot_tried;
-    clear_up = a.clear_up;
-    depot_up = a.depot_up;
-  }
-
-  -- a node that is put up has no undecided record; one that is put down keeps it
-  pub clear_read : (open_lots : List Lot) (lots : List LotState) → Accord (record w { clear = record w.clear { tried = None; down = false }; open_lots = open_lots; lots = lots })
-  clear_read open_lots lots = record {
-    executed = a.executed;
-    confirmed = a.confirmed;
-    sent = a.sent;
-    answered = a.answered;
-    clear_tried = λ u tried. absurd (none-some u tried);
-    depot_tried = a.depot_tried;
-    clear_up = λ up. refl;
-    depot_up = a.depot_up;
-  }
-
-  pub clear_unread : (open_lots : List Lot) (lots : List LotState) → Accord (record w { clear = record w.clear { down = true }; open_lots = open_lots; lots = lots })
-  clear_unread open_lots lots = record {
-    executed = a.executed;
-    confirmed = a.confirmed;
-    sent = a.sent;
-    answered = a.answered;
-    clear_tried = a.clear_tried;
-    depot_tried = a.depot_tried;
-    clear_up = λ up. let no : true ≡ false = up in cc;
-    depot_up = a.depot_up;
-  }
-
-  pub depot_read : Accord (record w { depot = record w.depot { tried = None; down = false } })
-  depot_read = record {
-    executed = a.executed;
-    confirmed = a.confirmed;
-    sent = a.sent;
-    answered = a.answered;
-    clear_tried = a.clear_tried;
-    depot_tried = λ e tried. absurd (none-some e tried);
-    clear_up = a.clear_up;
-    depot_up = λ up. refl;
-  }
-
-  pub depot_unread : Accord (record w { depot = record w.depot { down = true } })
-  depot_unread = record {
-    executed = a.executed;
-    confirmed = a.confirmed;
-    sent = a.sent;
-    answered = a.answered;
-    clear_tried = a.clear_tried;
-    depot_tried = a.depot_tried;
-    clear_up = a.clear_up;
-    depot_up = λ up. let no : true ≡ false = up in cc;
-  }
+  reply_put r done = let answered = All-push (SpellsReply (executed_of w.depot.records)) w.replies (Some r) a.answered done in assumption
 
 -- executed movements are known where each is that of the order of its number, and moved no more than that asks for
 known_all : (orders : List Order) (movements : List Movement) → All IsWithin movements → All (IsOrdered orders) movements → All (IsAsOrdered orders) movements

@@ -2,8 +2,9 @@
 use Rattle.std.proofs.Common.{◌≡◌, ◌<◌, ◌+◌, ◌∙◌, ℕ, List, [], ◌∷◌, Option, Some, None, ap, get_or, length, reverse, subst, sym, take}
 use Rattle.std.specs.Prelude.{All, IfSome}
 use Rattle.std.specs.List.{cons_option}
-use Rattle.std.proofs.lemmas.List.{reverse-append, reverse-reverse}
-use Rattle.std.proofs.lemmas.List.Elements.{All-append, All-cons, All-head, All-more, All-nil, All-tail}
+use Rattle.std.proofs.lemmas.List.{reverse-reverse}
+use Rattle.std.proofs.lemmas.List.Elements.{All-cons, All-head, All-more, All-nil, All-tail}
+use Rattle.std.proofs.lemmas.List.Sorted.{All-permutation, IsPermutation-reverse}
 use Rattle.cns_movements.specs.Book.{Orders}
 use Rattle.cns_movements.specs.declared.order.Reply.{Reply}
 use Rattle.cns_records.specs.declared.clear_record.ClearRecord.{ClearRecord}
@@ -24,10 +25,7 @@ module _ {X : Type 0} (P : X → Type 0) where
 
   -- the same in the other order
   pub all_turned : (xs : List X) → All P xs → All P (reverse xs)
-  all_turned [] all = All-nil P
-  all_turned (x ∷ xs) all =
-      subst (All P) (sym (reverse-append (x ∷ []) xs))
-      (All-append P (reverse xs) (x ∷ []) (all_turned xs (All-tail P x xs all)) (All-cons P x [] (All-head P x xs all) (All-nil P)))
+  all_turned xs all = All-permutation P xs (reverse xs) (IsPermutation-reverse xs) all
 
   pub all_turned_back : (xs : List X) → All P (reverse xs) → All P xs
   all_turned_back xs all = subst (All P) (reverse-reverse xs) (all_turned (reverse xs) all)

@@ -1,11 +1,11 @@
 -- An event comes to what it does by a chance, once it is known what it comes to by what there is.
 use Rattle.std.proofs.Common.{◌≡◌, ◌≢◌, ◌∙◌, Result, Ok, Err, refl, sym, ap, subst}
-use Rattle.cns_journal.specs.Keeper.{FailsTo, Forecast, Foresight, MaySucceed, Unforeseen, Succeeds, Fails}
+use Rattle.cns_journal.specs.Keeper.{FailsTo, Forecast, Foresight, MaySucceed, Succeeds, Fails}
 use Rattle.cns_journal.specs.RecordLog.{LogState}
 use Rattle.cns_records.specs.declared.refusal.Refusal.{Refusal}
 use Rattle.cns_records.specs.declared.refusal.Refusal.TheVariants as refusal
 use Rattle.cns_system.specs.Devices.{AreUntouched, DevicesLeave, IsUntouched, node_of}
-use Rattle.cns_system.specs.Happens.{Change, Leaves, Grows, Commits, Decision, Goes, NoMemory, DeviceFails, ClearReads, DepotReads, FindsBad, changed, happens, judged, decided}
+use Rattle.cns_system.specs.Happens.{Change, Leaves, Grows, Commits, Decision, Goes, NoMemory, DeviceFails, changed, happens, judged, decided}
 use Rattle.cns_system.specs.Scene.{Chance, Comes, Decides, Scene, after_commit, comes_to, event_decision, decision_at, known_after, known_of, scene_of, sight_of, with_known}
 use Rattle.cns_system.specs.Shown.{Shown, shown_of}
 use Rattle.cns_system.specs.World.{World}
@@ -17,11 +17,15 @@ use Rattle.cns_system.specs.declared.outcome.Outcome.TheVariants as outcomes
 
 -- ---- the devices
 
-untouched_refl : {R : Type 0} (log : LogState R) → IsUntouched log log
+pub untouched_refl : {R : Type 0} (log : LogState R) → IsUntouched log log
 untouched_refl log = record { failures = refl; rejected = refl }
 
-pub untouched_same : {R : Type 0} (old new : LogState R) → new ≡ old → IsUntouched old new
+untouched_same : {R : Type 0} (old new : LogState R) → new ≡ old → IsUntouched old new
 untouched_same old new same = subst (IsUntouched old) (sym same) (untouched_refl old)
+
+-- both keepers, where the logs of their nodes are the same
+logs_untouched : (old new : World) → new.clear.clear.log ≡ old.clear.clear.log → new.depot.log ≡ old.depot.log → AreUntouched old new
+logs_untouched old new clear depot = record { clear = untouched_same _ _ clear; depot = untouched_same _ _ depot }
 
 -- ---- what is known of the keepers
 
@@ -40,36 +44,28 @@ IsByCommit e w = (chance : Chance) → decision_at chance e (scene_of w) ≡ eve
 
 -- the decision where all is as foreseen
 goes_on : (next : Forecast) → MaySucceed next → event_decision next (Decides Goes) ≡ Goes
-goes_on Unforeseen may = refl
-goes_on Succeeds may = refl
 goes_on (Fails stands) may = absurd may
+goes_on _ may = refl
 
 has_room : (next : Forecast) → event_decision next (Decides Goes) ≢ NoMemory
-has_room Unforeseen = λ e. absurd (cc e)
-has_room Succeeds = λ e. absurd (cc e)
 has_room (Fails stands) = λ e. absurd (cc e)
+has_room _ = λ e. absurd (cc e)
 
 -- the device fails where that is foreseen, and where nothing is
 device_fails : (next : Forecast) (new : Foresight) → FailsTo next new → event_decision next (Decides DeviceFails) ≡ DeviceFails
-device_fails Unforeseen new failed = refl
 device_fails Succeeds new failed = absurd failed
-device_fails (Fails stands) new failed = refl
+device_fails _ new failed = refl
 
 known_after_failure : (old new : Foresight) → FailsTo old.next new → new ≡ after_commit DeviceFails old
 known_after_failure old new failed = by old.next failed
   where
     by : (next : Forecast) → FailsTo next new → new ≡ after_commit DeviceFails (record { next = next; stands = old.stands })
-    by Unforeseen failed = failed
     by Succeeds failed = absurd failed
-    by (Fails stands) failed = failed
+    by _ failed = failed
 
 grows_in : (d : Decision) (w left : Shown) (outcome : Outcome) → d ≢ NoMemory → changed d w (Grows outcome left) ≡ (outcome, left)
 grows_in NoMemory w left outcome room = absurd (room refl)
-grows_in Goes w left outcome room = refl
-grows_in DeviceFails w left outcome room = refl
-grows_in (ClearReads c) w left outcome room = refl
-grows_in (DepotReads p) w left outcome room = refl
-grows_in (FindsBad place) w left outcome room = refl
+grows_in _ w left outcome room = refl
 
 -- ---- what it comes to
 
@@ -86,27 +82,28 @@ module _ (e : Event) (old new : World) where
   )
 
   -- the scene where nothing that is known changed
-  same_scene : (shown : Shown) → shown_of new ≡ shown → sight_of new.clear.clear.log ≡ sight_of old.clear.clear.log → sight_of new.depot.log ≡ sight_of old.depot.log
+  same_scene : sight_of new.clear.clear.log ≡ sight_of old.clear.clear.log → sight_of new.depot.log ≡ sight_of old.depot.log
       → scene_of new ≡ scene_with e (foresight_at e old) (shown_of new) old
-  same_scene shown is clear depot = by (node_of e)
+  same_scene clear depot = by (node_of e)
     where
       by : (name : NodeName) → scene_of new ≡ with_known name (known_of name (scene_of old)) (record (scene_of old) { shown = shown_of new })
       by node.Clear = rw (clear, depot) refl
       by node.Depot = rw (clear, depot) refl
 
-  pub tells : (outcome : Outcome) (left : Shown) → judged e (shown_of old) ≡ Ok (Leaves outcome left) → shown_of new ≡ left → sight_of new.clear.clear.log ≡ sight_of old.clear.clear.log
-      → sight_of new.depot.log ≡ sight_of old.depot.log → AreUntouched old new → Comes e outcome old new
-  tells outcome left is shown clear depot same =
+  -- no record is committed, and the nodes' logs stay
+  pub tells : (outcome : Outcome) (left : Shown) → judged e (shown_of old) ≡ Ok (Leaves outcome left) → shown_of new ≡ left → new.clear.clear.log ≡ old.clear.clear.log
+      → new.depot.log ≡ old.depot.log → Comes e outcome old new
+  tells outcome left is shown clear depot =
       by_chance (Decides Goes) (decision_at (Decides Goes) e (scene_of old)) (Ok (Leaves outcome left)) outcome (foresight_at e old) refl is (ap (λ (w : Shown). (outcome, w)) (sym shown)) refl
-      (same_scene left shown clear depot) same
+      (same_scene (ap sight_of clear) (ap sight_of depot)) (logs_untouched old new clear depot)
 
   pub grows : IsByCommit e old → (outcome : Outcome) (left : Shown) → judged e (shown_of old) ≡ Ok (Grows outcome left) → shown_of new ≡ left
-      → sight_of new.clear.clear.log ≡ sight_of old.clear.clear.log → sight_of new.depot.log ≡ sight_of old.depot.log → AreUntouched old new → Comes e outcome old new
-  grows by_commit outcome left is shown clear depot same =
+      → new.clear.clear.log ≡ old.clear.clear.log → new.depot.log ≡ old.depot.log → Comes e outcome old new
+  grows by_commit outcome left is shown clear depot =
       let d = event_decision (foresight_at e old).next (Decides Goes) in
       by_chance (Decides Goes) d (Ok (Grows outcome left)) outcome (foresight_at e old) (by_commit (Decides Goes)) is
       (grows_in d (shown_of old) left outcome (has_room (foresight_at e old).next) ∙ ap (λ (w : Shown). (outcome, w)) (sym shown)) refl
-      (same_scene left shown clear depot) same
+      (same_scene (ap sight_of clear) (ap sight_of depot)) (logs_untouched old new clear depot)
 
   -- a record is acknowledged
   pub commits : IsByCommit e old → (outcome : Outcome) (left failed : Shown) → judged e (shown_of old) ≡ Ok (Commits outcome left failed) → shown_of new ≡ left
@@ -114,7 +111,7 @@ module _ (e : Event) (old new : World) where
       → DevicesLeave (Ok (Commits outcome left failed)) (node_of e) outcome old new → Comes e outcome old new
   commits by_commit outcome left failed is shown may clear depot devices =
       by_chance (Decides Goes) Goes (Ok (Commits outcome left failed)) outcome (foresight_at e old) (by_commit (Decides Goes) ∙ goes_on (foresight_at e old).next may) is
-      (ap (λ (w : Shown). (outcome, w)) (sym shown)) refl (same_scene left shown clear depot) devices
+      (ap (λ (w : Shown). (outcome, w)) (sym shown)) refl (same_scene clear depot) devices
 
   -- the device failed
   pub fails : IsByCommit e old → (outcome : Outcome) (left failed : Shown) (f : Foresight) → judged e (shown_of old) ≡ Ok (Commits outcome left failed) → shown_of new ≡ failed
@@ -126,26 +123,23 @@ module _ (e : Event) (old new : World) where
       (ap (λ (w : Shown). (outcomes.Refused refusal.Device, w)) (sym shown)) (sym (known_after_failure (foresight_at e old) f device)) scene devices
 
 module _ (e : Event) (w : World) where
-  all_untouched : AreUntouched w w
-  all_untouched = record { clear = untouched_refl w.clear.clear.log; depot = untouched_refl w.depot.log }
-
   -- it is refused by what there is
   pub refused : (r : Refusal) → judged e (shown_of w) ≡ Err r → Comes e (outcomes.Refused r) w w
   refused r is =
       by_chance e w w (Decides Goes) (decision_at (Decides Goes) e (scene_of w)) (Err r) (outcomes.Refused r) (foresight_at e w) refl is refl refl
-      (same_scene e w w (shown_of w) refl refl refl) all_untouched
+      (same_scene e w w refl refl) (logs_untouched w w refl refl)
 
   -- or there is no memory for it
   pub not_grown : IsByCommit e w → (outcome : Outcome) (left : Shown) → judged e (shown_of w) ≡ Ok (Grows outcome left) → Comes e (outcomes.Refused refusal.OutOfMemory) w w
   not_grown by_commit outcome left is =
       by_chance e w w (Decides NoMemory) NoMemory (Ok (Grows outcome left)) (outcomes.Refused refusal.OutOfMemory) (foresight_at e w) (by_commit (Decides NoMemory)) is refl refl
-      (same_scene e w w (shown_of w) refl refl refl) all_untouched
+      (same_scene e w w refl refl) (logs_untouched w w refl refl)
 
   pub not_committed : IsByCommit e w → (outcome : Outcome) (left failed : Shown) → judged e (shown_of w) ≡ Ok (Commits outcome left failed)
       → Comes e (outcomes.Refused refusal.OutOfMemory) w w
   not_committed by_commit outcome left failed is =
       by_chance e w w (Decides NoMemory) NoMemory (Ok (Commits outcome left failed)) (outcomes.Refused refusal.OutOfMemory) (foresight_at e w) (by_commit (Decides NoMemory)) is refl refl
-      (same_scene e w w (shown_of w) refl refl refl) (none_failed (node_of e))
+      (same_scene e w w refl refl) (none_failed (node_of e))
     where
       none_failed : (name : NodeName) → DevicesLeave (Ok (Commits outcome left failed)) name (outcomes.Refused refusal.OutOfMemory) w w
       none_failed node.Clear = (untouched_refl w.clear.clear.log, untouched_refl w.depot.log)

@@ -1,5 +1,5 @@
 -- A new delivery moves all that it asks for: what covers brought, which the depository executed, is enough for it.
-use Rattle.std.proofs.Common.{◌≡◌, ◌≤◌, ◌+◌, ◌∙◌, ℕ, Bool, true, false, List, [], ◌∷◌, Option, Some, None, ap, cond, refl, subst, sym, arith}
+use Rattle.std.proofs.Common.{◌≡◌, ◌≤◌, ◌+◌, ◌∙◌, ℕ, Bool, true, false, List, [], ◌∷◌, Option, Some, None, ap, refl, subst, sym, arith}
 use Rattle.std.proofs.Math.Nat.{min-le_left}
 use Rattle.std.specs.Prelude.{◌==◌, ◌&&◌, All, find, option_map, sum_by, unwrap_or, if◌then◌else◌}
 use Rattle.std.proofs.lemmas.Bool.{cond-false, cond-true, eq-eqb, eqb-true, ne_eqb}
@@ -7,6 +7,7 @@ use Rattle.std.proofs.lemmas.List.Elements.{All-cons, All-head, All-tail, All-we
 use Rattle.std.proofs.lemmas.List.Sums.{sum_by-cons}
 use Rattle.std.proofs.lemmas.Option.{none-some, same_Some}
 use Rattle.cns_movements.specs.Book.{Orders}
+use Rattle.cns_allocate.proofs.TurnLemmas.{find-All, find-passes}
 use Rattle.cns_movements.specs.Order.{AgreesWith, IsNumbered, is_cover, is_delivery, moved_of, moved_part, order_of}
 use Rattle.cns_movements.specs.declared.order.MoveKind.{MoveKind}
 use Rattle.cns_movements.specs.declared.order.MoveKind.TheVariants.{Cover, Delivery}
@@ -38,30 +39,24 @@ use Rattle.cns_system.proofs.AccordLemmas.{executed_stays}
 -- the movement of a number is of that number, and known
 pub movement_known : (orders : List Order) (movements : List Movement) (n : ℕ) (m : Movement) → All (IsAsOrdered orders) movements → movement_of movements n ≡ Some m
     → IsAsOrdered orders m × (m.order.number ≡ n)
-movement_known orders [] n m all found = absurd (none-some m found)
-movement_known orders (x ∷ xs) n m all found =
-    by (x.order.number == n) refl found (movement_known orders xs n m (All-tail (IsAsOrdered orders) x xs all))
-  where
-    by : (b : Bool) → (x.order.number == n) ≡ b → cond b (Some x) (movement_of xs n) ≡ Some m
-        → (movement_of xs n ≡ Some m → IsAsOrdered orders m × (m.order.number ≡ n)) → IsAsOrdered orders m × (m.order.number ≡ n)
-    by true same is rest =
-        let here = same_Some x m is in
-        subst (λ (y : Movement). IsAsOrdered orders y × (y.order.number ≡ n)) here (All-head (IsAsOrdered orders) x xs all, eqb-true x.order.number n same)
-    by false other is rest = rest is
+movement_known orders movements n m all found =
+    let of_number : Movement → Bool = λ x. x.order.number == n in
+    (find-All (IsAsOrdered orders) of_number movements m all found, eqb-true m.order.number n (find-passes of_number movements m found))
 
 -- what is confirmed of a movement is what was executed of it
 pub confirmed_as : (movements : List Movement) (replies : List Reply) (n moved : ℕ) → All (IsExecuted movements) replies → moved_of replies n ≡ Some moved
     → (m : Movement) × (movement_of movements n ≡ Some m) × (m.moved ≡ moved)
-confirmed_as movements [] n moved all found = absurd (none-some moved found)
-confirmed_as movements (r ∷ rs) n moved all found = by (r.number == n) refl found (confirmed_as movements rs n moved (All-tail (IsExecuted movements) r rs all))
+confirmed_as movements replies n moved all found = by (find of_number replies) refl found
   where
-    by : (b : Bool) → (r.number == n) ≡ b → option_map (λ (r : Reply). r.moved) (cond b (Some r) (find (λ (r : Reply). r.number == n) rs)) ≡ Some moved
-        → (moved_of rs n ≡ Some moved → (m : Movement) × (movement_of movements n ≡ Some m) × (m.moved ≡ moved))
-        → (m : Movement) × (movement_of movements n ≡ Some m) × (m.moved ≡ moved)
-    by true same is rest =
-        let here = All-head (IsExecuted movements) r rs all in
-        (here.0, subst (λ (k : ℕ). movement_of movements k ≡ Some here.0) (eqb-true r.number n same) here.1, here.2 ∙ same_Some r.moved moved is)
-    by false other is rest = rest is
+    of_number : Reply → Bool
+    of_number r = r.number == n
+
+    by : (o : Option Reply) → find of_number replies ≡ o → option_map (λ (r : Reply). r.moved) o ≡ Some moved → (m : Movement) × (movement_of movements n ≡ Some m) × (m.moved ≡ moved)
+    by None at is = absurd (none-some moved is)
+    by (Some r) at is =
+        let done = find-All (IsExecuted movements) of_number replies r all at in
+        let number : r.number ≡ n = eqb-true r.number n (find-passes of_number replies r at) in
+        (done.0, subst (λ (k : ℕ). movement_of movements k ≡ Some done.0) number done.1, done.2 ∙ same_Some r.moved moved is)
 
 -- the newest movement is found under its own number, and under another number the older ones decide
 pub movement_of_same : (m : Movement) (movements : List Movement) → movement_of (m ∷ movements) m.order.number ≡ Some m

@@ -1,39 +1,37 @@
 -- What entering the tickets of a busy lot leaves.
 use Rattle.std.proofs.Common.{◌≡◌, ◌∙◌, ◌<◌, ◌+◌, ℕ, zero, suc, Bool, true, false, not, cond, List, [], ◌∷◌, ◌++◌, length, take, drop, get_or, Option, Some, None, Result, Ok, Err, ap, sym, subst, refl, arith, inl, inr}
-use Rattle.std.specs.Prelude.{◌⊎◌, ◌==◌, ◌&&◌, ◌||◌, eqb, All, IfErr, IfOk, IsErr, IsErrAnd, OnErr, slice_get}
+use Rattle.std.specs.Prelude.{◌==◌, ◌&&◌, ◌||◌, eqb, All, IfErr, IfOk, IsErr, IsErrAnd, MatchResult, OnErr, slice_get}
 use Rattle.std.proofs.lemmas.Bool.{eq-eqb, eqb-true, false_from_ne_true}
-use Rattle.std.proofs.lemmas.List.Elements.{All-filter, All-head, All-tail, All-weaker, filter_passes}
+use Rattle.std.proofs.lemmas.List.Elements.{All-filter, All-weaker, filter_passes}
 use Rattle.std.proofs.lemmas.List.{drop_more, map-append, take-append-drop, take_more}
 use Rattle.std.proofs.lemmas.Option.{get_or_from_slice_get, same_Some, slice_get_within}
 use Rattle.cns_pool.specs.declared.ticket.Ticket.{Ticket}
+use Rattle.cns_allocate.proofs.TurnLemmas.{filter_whole}
 use Rattle.cns_records.specs.declared.refusal.Refusal.{Refusal}
 use Rattle.cns_records.specs.declared.refusal.Refusal.TheVariants as refusal
 use Rattle.cns_system.specs.Accord.{IsInAccord}
 use Rattle.cns_system.specs.Begin.{IsRefusal}
-use Rattle.cns_system.specs.Finish.{AreAllEntered, AreCutOff, AreEntered, FinishGives, IsClosed, IsEnded, IsFinished, IsNotEntered, IsReleased, IsSealedFirst, draws, is_sealed, reserves, sealed_at, without_busy}
-use Rattle.cns_system.specs.Floor.{AreBusy, AreInOrder, BusyLot, FloorState, IsBusy, IsPlaceOf, NumbersRise, busy_at}
-use Rattle.cns_system.specs.Headline.{AreStrict, IsAgreed}
-use Rattle.cns_system.specs.Lot.{LotState, with_seal, with_ticket}
+use Rattle.cns_system.specs.Finish.{AreAllEntered, AreCutOff, AreEntered, FinishGives, IsEnded, IsFinished, IsNotEntered, IsReleased, draws, is_sealed, reserves, sealed_at, without_busy}
+use Rattle.cns_system.specs.Floor.{AreBusy, AreInOrder, BusyLot, FloorState, IsBusy, IsPlaceOf, busy_at}
+use Rattle.cns_system.specs.Headline.{IsAgreed}
+use Rattle.cns_system.specs.Lot.{LotState, with_ticket}
 use Rattle.cns_ids.specs.Steps.{◌>>=◌}
 use Rattle.cns_system.specs.Lots.{going_lot, turn_ticket, reserve_call, ticket_call, with_lot}
 use Rattle.cns_system.specs.Happens.{Decision, happens, judged}
 use Rattle.cns_system.specs.Scene.{decision_at, scene_of}
 use Rattle.cns_system.specs.Shown.{Shown, shown_of}
 use Rattle.cns_system.specs.Numbered.{NumberedNode}
-use Rattle.cns_system.specs.Run.{Occurs, Run}
+use Rattle.cns_system.specs.Run.{Occurs}
 use Rattle.cns_system.specs.World.{AreFrames, World}
-use Rattle.cns_system.specs.declared.event.Event.{Event}
 use Rattle.cns_system.specs.declared.event.Event.TheVariants as event
 use Rattle.cns_system.specs.declared.outcome.Outcome.{Outcome}
 use Rattle.cns_system.specs.declared.outcome.Outcome.TheVariants as outcomes
 use Rattle.cns_system.proofs.BeginLemmas.{occurs_refused}
 use Rattle.cns_system.proofs.ComesLemmas.{refused}
-use Rattle.cns_system.proofs.HappensLemmas.{happened}
-use Rattle.cns_system.proofs.LotsLemmas.{IsGoing}
-use Rattle.cns_system.proofs.ToldLemmas.{Refuses, seals_by}
+use Rattle.cns_system.proofs.HappensLemmas.{OrRefused, happened}
+use Rattle.cns_system.proofs.ToldLemmas.{Seals, seals_by}
 use Rattle.cns_system.proofs.FloorLemmas.{busy_number, match_some, none_busy, none_found}
-use Rattle.cns_system.proofs.RunLemmas.{one_more}
-use Rattle.cns_system.proofs.SpareLemmas.{step_spares}
+use Rattle.cns_system.proofs.RunLemmas.{Goes, goes_on, goes_run, goes_same, goes_step, one_more}
 
 -- ---- the busy lots without one
 
@@ -44,11 +42,9 @@ remains : (n : ℕ) (b : BusyLot) → (b.lot ≡ n → ⊥) → not (b.lot == n)
 remains n b other = ap not (false_from_ne_true (b.lot == n) (λ e. other (eqb-true b.lot n e)))
 
 pub all_remain : (n : ℕ) (busy : List BusyLot) → All (λ (b : BusyLot). b.lot ≡ n → ⊥) busy → without_busy n busy ≡ busy
-all_remain n [] others = refl
-all_remain n (x ∷ busy) others =
-    let P : BusyLot → Type 0 = λ b. b.lot ≡ n → ⊥ in
-    ap (λ (t : Bool). cond t (x ∷ without_busy n busy) (without_busy n busy)) (remains n x (All-head P x busy others))
-    ∙ ap (λ (ys : List BusyLot). x ∷ ys) (all_remain n busy (All-tail P x busy others))
+all_remain n busy others =
+    let stays : BusyLot → Bool = λ b. not (b.lot == n) in
+    filter_whole stays busy (All-weaker (λ (b : BusyLot). b.lot ≡ n → ⊥) (λ (b : BusyLot). stays b ≡ true) (remains n) busy others)
 
 -- the one in a place is taken out
 taken_out : (n : ℕ) (busy : List BusyLot) (place : ℕ) (b : BusyLot) → AreInOrder busy → slice_get busy place ≡ Some b → b.lot ≡ n
@@ -136,26 +132,20 @@ passed_on P (Err s) r is same holds = subst (λ (t : Refusal). P (Err t)) (sym s
 abbrev drawing : ℕ → List LotState → LotState → Ticket → Result (Ticket × List LotState) Refusal
 drawing number lots lot ticket = Ok (ticket, with_lot number (with_ticket ticket lot) lots)
 
-would_refuse : (number member : ℕ) (r : Refusal) (lots : List LotState) → ticket_call number member lots ≡ Err r → reserve_call number member lots ≡ Err r
-would_refuse number member r lots is = by (going_lot lots number) is
+reserve_as : (number member : ℕ) (lots : List LotState)
+    → MatchResult (ticket_call number member lots) (λ (t : Ticket). (new : List LotState) × (reserve_call number member lots ≡ Ok (t, new))) (λ (r : Refusal). reserve_call number member lots ≡ Err r)
+reserve_as number member lots = by (going_lot lots number)
   where
-    of : (lot : LotState) (t : Result Ticket Refusal) → t ≡ Err r → (t >>= drawing number lots lot) ≡ Err r
-    of lot t is = rw is refl
+    of : (lot : LotState) (next : Result Ticket Refusal)
+        → MatchResult next (λ (t : Ticket). (new : List LotState) × ((next >>= drawing number lots lot) ≡ Ok (t, new))) (λ (r : Refusal). (next >>= drawing number lots lot) ≡ Err r)
+    of lot (Ok t) = (with_lot number (with_ticket t lot) lots, refl)
+    of lot (Err r) = refl
 
-    by : (g : Result LotState Refusal) → (g >>= λ lot. turn_ticket lot member) ≡ Err r → (g >>= λ lot. turn_ticket lot member >>= drawing number lots lot) ≡ Err r
-    by (Err f) is = let same : f ≡ r = cc in ap Err same
-    by (Ok lot) is = of lot (turn_ticket lot member) is
-
-would_draw : (number member : ℕ) (t : Ticket) (lots : List LotState) → ticket_call number member lots ≡ Ok t → (new : List LotState) × (reserve_call number member lots ≡ Ok (t, new))
-would_draw number member t lots is = by (going_lot lots number) is
-  where
-    of : (lot : LotState) (x : Result Ticket Refusal) → x ≡ Ok t → (x >>= drawing number lots lot) ≡ Ok (t, with_lot number (with_ticket t lot) lots)
-    of lot x is = rw is refl
-
-    by : (g : Result LotState Refusal) → (g >>= λ lot. turn_ticket lot member) ≡ Ok t
-        → (new : List LotState) × ((g >>= λ lot. turn_ticket lot member >>= drawing number lots lot) ≡ Ok (t, new))
-    by (Err f) is = absurd (cc is)
-    by (Ok lot) is = (with_lot number (with_ticket t lot) lots, of lot (turn_ticket lot member) is)
+    by : (g : Result LotState Refusal)
+        → MatchResult (g >>= λ lot. turn_ticket lot member) (λ (t : Ticket). (new : List LotState) × ((g >>= λ lot. turn_ticket lot member >>= drawing number lots lot) ≡ Ok (t, new)))
+        (λ (r : Refusal). (g >>= λ lot. turn_ticket lot member >>= drawing number lots lot) ≡ Err r)
+    by (Ok lot) = of lot (turn_ticket lot member)
+    by (Err r) = refl
 
 -- tickets as they are compared
 pub unlike : (s t : Ticket) → not (eqb s.member t.member && (eqb s.start t.start && eqb s.asked t.asked)) ≡ true → s ≡ t → ⊥
@@ -181,9 +171,10 @@ same_as s t so = by (eqb s.member t.member) (eqb s.start t.start) (eqb s.asked t
 happens_draws : (d : Decision) (lot member : ℕ) (t : Ticket) (w : Shown) → ticket_call lot member w.lots ≡ Ok t
     → (left : Shown) × (happens d (event.Reserve lot member) w ≡ (outcomes.Drawn t, left))
 unfolding happens judged
-happens_draws d lot member t w would =
-    let draws = would_draw lot member t w.lots would in
-    (record w { lots = draws.0 }, rw (draws.1) refl)
+happens_draws d lot member t w would = by (rw would at (reserve_as lot member w.lots))
+  where
+    by : ((new : List LotState) × (reserve_call lot member w.lots ≡ Ok (t, new))) → (left : Shown) × (happens d (event.Reserve lot member) w ≡ (outcomes.Drawn t, left))
+    by (new, draws) = (record w { lots = new }, rw draws refl)
 
 pub draws_it : (lot member : ℕ) (t : Ticket) (outcome : Outcome) (old new : World) → ticket_call lot member old.clear.lots ≡ Ok t
     → Occurs (event.Reserve lot member) outcome old new → Occurs (event.Reserve lot member) (outcomes.Drawn t) old new
@@ -198,8 +189,8 @@ draws_it lot member t outcome old new would occurs =
 pub stops : (lot : ℕ) (t : Ticket) (r : Refusal) (w : World) → ticket_call lot t.member w.clear.lots ≡ Err r → IsInAccord w → AreFrames w.orders w.replies → IsAgreed w → IsNotEntered lot t r w w
 unfolding judged
 stops lot t r w would accord frames agreed =
-    inl
-    (occurs_refused (event.Reserve lot t.member) r w (refused (event.Reserve lot t.member) w r (rw (would_refuse lot t.member r w.clear.lots would) refl)) (λ a b. tt) accord frames agreed)
+    let refuses : reserve_call lot t.member w.clear.lots ≡ Err r = rw would at (reserve_as lot t.member w.clear.lots) in
+    inl (occurs_refused (event.Reserve lot t.member) r w (refused (event.Reserve lot t.member) w r (rw refuses refl)) (λ a b. tt) accord frames agreed)
 
 pub differs : (lot : ℕ) (t next : Ticket) (w : World) → ticket_call lot t.member w.clear.lots ≡ Ok next → (next ≡ t → ⊥) → IsNotEntered lot t refusal.BadTickets w w
 differs lot t next w would other = inr (refl, refl, (next, other, would))
@@ -237,57 +228,30 @@ cut_off lot tickets i t r told old between new below is entered stopped = record
 pub seal_refused : (lot : ℕ) (outcome : Outcome) (old new : World) → Occurs (event.Seal lot) outcome old new → (outcome ≡ outcomes.Done → ⊥) → IsRefusal outcome
 seal_refused lot outcome old new occurs other = by (seals_by lot outcome old new occurs.comes)
   where
-    by : Refuses outcome ⊎ ((l : LotState) × IsGoing old.clear.lots lot l × (outcome ≡ outcomes.Done) × (new.clear.lots ≡ with_lot lot (with_seal l) old.clear.lots)) → IsRefusal outcome
-    by (inl refuses) = refuses
-    by (inr (l, at, is, left)) = absurd (other is)
+    by : OrRefused (Seals lot) (shown_of old) outcome (shown_of new) → IsRefusal outcome
+    by (inl refuses) = (refuses.refusal, refuses.is)
+    by (inr (l, at, is)) = absurd (other is)
 
 -- ---- what stays so over all of it
-
-pub record Goes (old new : World) : Type 0 where
-  pub strict : AreStrict old → AreStrict new
-  pub rises : NumbersRise old new
-
-goes_same : (old new : World) → new ≡ old → Goes old new
-goes_same old new same =
-    record { strict = λ s. subst AreStrict (sym same) s; rises = let len = ap (λ (w : World). length w.clear.lots) same in omega (arith, len) }
-
-goes_on : (old between new : World) → Goes old between → Goes between new → Goes old new
-goes_on old between new first then =
-    record { strict = λ s. then.strict (first.strict s); rises = let a = first.rises in let b = then.rises in omega (arith, a, b) }
-
-goes_step : (e : Event) (outcome : Outcome) (old new : World) → Occurs e outcome old new → Goes old new
-goes_step e outcome old new occurs = record { strict = occurs.strict; rises = (step_spares e outcome old new occurs.comes).longer }
-
-goes_run : (events : List Event) (told : List Outcome) (old new : World) → Run events told old new → Goes old new
-goes_run [] [] old new run = goes_same old new run
-goes_run [] (o ∷ told) old new run = absurd run
-goes_run (e ∷ events) [] old new run = absurd run
-goes_run (e ∷ events) (o ∷ told) old new run = goes_on old run.0 new (goes_step e o old run.0 run.1) (goes_run events told run.0 new run.2)
 
 goes_stop : (lot : ℕ) (t : Ticket) (r : Refusal) (old new : World) → IsNotEntered lot t r old new → Goes old new
 goes_stop lot t r old new (inl occurs) = goes_step (event.Reserve lot t.member) (outcomes.Refused r) old new occurs
 goes_stop lot t r old new (inr h) = goes_same old new h.1
 
-goes_close : (lot : ℕ) (told : List Outcome) (old new : World) → IsClosed lot told old new → Goes old new
-goes_close lot told old new h = goes_step (event.LotClose lot) h.0 old new h.2
-
-goes_seal : (lot : ℕ) (told : List Outcome) (old new : World) → IsSealedFirst lot told old new → Goes old new
-goes_seal lot told old new (inl h) = goes_step (event.Seal lot) h.0 old new h.3
-goes_seal lot told old new (inr h) = goes_on old h.1 new (goes_step (event.Seal lot) outcomes.Done old h.1 h.3) (goes_close lot h.0 h.1 new h.4)
-
+-- the end of the lot, be it sealed before or not
 goes_end : (lot : ℕ) (sealed : Bool) (told : List Outcome) (old new : World) → IsEnded lot sealed told old new → Goes old new
-goes_end lot true told old new h = goes_seal lot told old new h
-goes_end lot false told old new h = goes_close lot told old new h
-
-goes_all : (lot : ℕ) (tickets : List Ticket) (sealed : Bool) (told : List Outcome) (old new : World) → AreAllEntered lot tickets sealed told old new → Goes old new
-goes_all lot tickets sealed told old new (inl h) =
-    goes_on old h.2 new (goes_run (reserves lot tickets) (draws tickets) old h.2 h.4.drawn) (goes_end lot sealed h.1 h.2 new h.5)
-goes_all lot tickets sealed told old new (inr h) =
-    let cut = h.3 in
-    goes_on old cut.between new (goes_run (reserves lot cut.first) (draws cut.first) old cut.between cut.entered.drawn) (goes_stop lot cut.ticket h.1 cut.between new cut.stopped)
+goes_end lot false told old new h = goes_step (event.LotClose lot) h.0 old new h.2
+goes_end lot true told old new (inl h) = goes_step (event.Seal lot) h.0 old new h.3
+goes_end lot true told old new (inr h) = goes_on old h.1 new (goes_step (event.Seal lot) outcomes.Done old h.1 h.3) (goes_step (event.LotClose lot) h.4.0 h.1 new h.4.2)
 
 pub goes_finished : (lot : ℕ) (handed : List Ticket) (sealed : Bool) (told : List Outcome) (old new : World) → IsFinished lot handed sealed told old new → Goes old new
-goes_finished lot handed sealed told old new is = goes_all lot is.sorted sealed told old new is.entered
+goes_finished lot handed sealed told old new is = by is.entered
+  where
+    by : AreAllEntered lot is.sorted sealed told old new → Goes old new
+    by (inl h) = goes_on old h.2 new (goes_run (reserves lot is.sorted) (draws is.sorted) old h.2 h.4.drawn) (goes_end lot sealed h.1 h.2 new h.5)
+    by (inr h) =
+        let cut = h.3 in
+        goes_on old cut.between new (goes_run (reserves lot cut.first) (draws cut.first) old cut.between cut.entered.drawn) (goes_stop lot cut.ticket h.1 cut.between new cut.stopped)
 
 -- ---- the answers
 

@@ -1,35 +1,29 @@
 -- Busy lots by number, and what an event leaves of them.
-use Rattle.std.proofs.Common.{◌≡◌, ◌∙◌, ◌≤◌, ◌<◌, ◌+◌, ℕ, zero, suc, Bool, true, false, cond, List, [], ◌∷◌, take, get_or, length, Option, Some, None, Result, Ok, Err, ap, sym, subst, refl, arith, inl, inr}
-use Rattle.std.specs.Prelude.{◌⊎◌, ◌==◌, ◌-◌, All, IfErr, IfOk, MatchOption, option_map, slice_get, slice_set, unwrap_or, if◌then◌else◌}
+use Rattle.std.proofs.Common.{◌≡◌, ◌∙◌, ◌≤◌, ◌<◌, ◌+◌, ℕ, zero, suc, Bool, true, false, cond, List, [], ◌∷◌, take, get_or, length, Option, Some, None, Result, ap, sym, subst, refl, arith, inl, inr}
+use Rattle.std.specs.Prelude.{◌==◌, ◌-◌, All, MatchOption, option_map, slice_get, slice_set, unwrap_or, if◌then◌else◌}
 use Rattle.std.proofs.lemmas.Bool.{eq-eqb, eqb-false, eqb-true, false_from_ne_true}
-use Rattle.std.proofs.lemmas.List.Elements.{All-cons, All-head, All-map, All-nil, All-tail, All-weaker}
+use Rattle.std.proofs.lemmas.List.Elements.{All-head, All-map, All-tail, All-weaker}
 use Rattle.std.proofs.lemmas.List.{set-get_or}
+use Rattle.std.proofs.lemmas.List.Folds.{map_fixed}
 use Rattle.std.proofs.lemmas.Option.{get_or_from_slice_get, same_Some, slice_get_within}
-use Rattle.cns_allocate.proofs.TurnLemmas.{find-passes}
-use Rattle.cns_ids.specs.Steps.{◌>>=◌}
+use Rattle.cns_allocate.proofs.TurnLemmas.{count_none, find-none, find-passes}
 use Rattle.cns_records.specs.Clear.{AreWritable}
-use Rattle.cns_clearing.specs.Answers.{IsPoured, up}
+use Rattle.cns_clearing.specs.Answers.{IsPoured}
 use Rattle.cns_clearing.specs.Books.{IsLawful, orders_of}
+use Rattle.cns_clearing.proofs.LotLemmas.{found_issue}
 use Rattle.cns_clearing.proofs.PouredLemmas.{pour_adds}
 use Rattle.cns_clearing.specs.Lots.{AreLots, avail_in, lots_poured, refilled}
 use Rattle.cns_clearing.specs.Pools.{free_of, lent_of, lot_of}
 use Rattle.cns_clearing.specs.declared.lot.Lot.{Lot}
 use Rattle.cns_records.specs.declared.clear_record.ClearRecord.{ClearRecord}
-use Rattle.cns_records.specs.declared.refusal.Refusal.{Refusal}
 use Rattle.cns_records.specs.declared.refusal.Refusal.TheVariants as refusal
-use Rattle.cns_system.specs.Floor.{AreBusy, AreInOrder, BusyLot, BySystem, FloorState, FloorStep, IsBusy, IsFed, IsPlaceOf, LooksAsked, NamesLot, NumbersRise, PourFits, SparesBusy, busy_after_pour, busy_at, busy_with_look, busy_with_pour, busy_with_seal, changed_at, is_open, lot_changed, served_at, with_busy}
-use Rattle.cns_system.specs.Headline.{AreStrict}
+use Rattle.cns_system.specs.Floor.{AreBusy, AreInOrder, BusyLot, BySystem, FloorState, FloorStep, IsBusy, IsFed, IsPlaceOf, LooksAsked, NamesLot, PourFits, SparesBusy, busy_after_pour, busy_at, busy_with_look, busy_with_pour, busy_with_seal, changed_at, is_open, lot_changed, served_at, with_busy}
 use Rattle.cns_system.specs.Lot.{LotState}
 use Rattle.cns_wire.specs.Packet.{at_number}
-use Rattle.cns_system.specs.Numbered.{AreTied, NumberedNode, numbered_pour}
+use Rattle.cns_system.specs.Numbered.{AreTied, NumberedNode}
 use Rattle.cns_system.specs.Readers.{PlanStep}
-use Rattle.cns_system.specs.Run.{Occurs}
-use Rattle.cns_system.specs.Happens.{Change, Decision, Leaves, judged}
-use Rattle.cns_system.specs.Scene.{Comes, decision_at, scene_of}
+use Rattle.cns_system.specs.Scene.{Comes}
 use Rattle.cns_system.specs.Shown.{Shown, shown_of}
-use Rattle.cns_system.specs.Lots.{going_lot}
-use Rattle.cns_system.proofs.HappensLemmas.{Holds, checked_keeps, happened}
-use Rattle.cns_system.proofs.StepLemmas.{ok_then}
 use Rattle.cns_system.specs.World.{World}
 use Rattle.cns_system.specs.declared.event.Event.{Event}
 use Rattle.cns_system.specs.declared.event.Event.TheVariants as event
@@ -38,24 +32,22 @@ use Rattle.cns_system.specs.declared.event.NodeName.TheVariants as node
 use Rattle.cns_journal.specs.declared.keeper.NotPlanned.{NotPlanned}
 use Rattle.cns_system.specs.declared.outcome.Outcome.{Outcome}
 use Rattle.cns_system.specs.declared.outcome.Outcome.TheVariants as outcomes
-use Rattle.cns_system.proofs.LotsLemmas.{going_parts}
-use Rattle.cns_system.proofs.SpareLemmas.{KeepsTwins, Spares, spares_same, step_spares, step_twins, steps_by, twins_same}
-use Rattle.cns_system.proofs.TiedLemmas.{found_of, found_poured}
+use Rattle.cns_system.proofs.EventHolds.{pour_holds}
+use Rattle.cns_system.proofs.EventKeeps.{step_keeps_lots}
+use Rattle.cns_system.proofs.HappensLemmas.{OrRefused, comes_told}
+use Rattle.cns_system.proofs.LotsLemmas.{IsGoing}
+use Rattle.cns_system.proofs.RunLemmas.{Goes, goes_same, goes_step}
+use Rattle.cns_system.proofs.SpareLemmas.{KeepsRest, rest_same}
+use Rattle.cns_system.proofs.TiedLemmas.{found_poured}
 
 -- ---- the busy lot of a number
 
-apart : (a b : ℕ) → a < b → (a == b) ≡ false
-apart a b below = false_from_ne_true (a == b) (λ e. let same = eqb-true a b e in absurd (omega (arith, below, same)))
-
 -- where none is found, none has the number
 pub none_busy : (busy : List BusyLot) (n : ℕ) → busy_at busy n ≡ None → All (λ (b : BusyLot). b.lot ≡ n → ⊥) busy
-none_busy [] n none = All-nil (λ (b : BusyLot). b.lot ≡ n → ⊥)
-none_busy (x ∷ busy) n none = by (x.lot == n) refl none (none_busy busy n)
-  where
-    by : (b : Bool) → (x.lot == n) ≡ b → cond b (Some x) (busy_at busy n) ≡ None → (busy_at busy n ≡ None → All (λ (c : BusyLot). c.lot ≡ n → ⊥) busy)
-        → All (λ (c : BusyLot). c.lot ≡ n → ⊥) (x ∷ busy)
-    by true e found rest = cc
-    by false e found rest = All-cons (λ (c : BusyLot). c.lot ≡ n → ⊥) x busy (eqb-false x.lot n e) (rest found)
+none_busy busy n none =
+    let of_number : BusyLot → Bool = λ b. b.lot == n in
+    All-weaker (λ (b : BusyLot). of_number b ≡ false) (λ (b : BusyLot). b.lot ≡ n → ⊥) (λ b other. eqb-false b.lot n other) busy
+    (count_none of_number busy (find-none of_number busy none))
 
 -- what is found has the number
 pub busy_number : (busy : List BusyLot) (n : ℕ) (b : BusyLot) → busy_at busy n ≡ Some b → b.lot ≡ n
@@ -122,11 +114,8 @@ changes : (change : BusyLot → BusyLot) (n : ℕ) (b : BusyLot) → b.lot ≡ n
 changes change n b is = ap (λ (t : Bool). if t then change b else b) (eq-eqb b.lot n is)
 
 pub all_stay : (change : BusyLot → BusyLot) (n : ℕ) (busy : List BusyLot) → All (λ (b : BusyLot). b.lot ≡ n → ⊥) busy → with_busy change n busy ≡ busy
-all_stay change n [] others = refl
-all_stay change n (x ∷ busy) others =
-    let P : BusyLot → Type 0 = λ b. b.lot ≡ n → ⊥ in
-    ap (λ (y : BusyLot). y ∷ with_busy change n busy) (stays change n x (All-head P x busy others))
-    ∙ ap (λ (ys : List BusyLot). x ∷ ys) (all_stay change n busy (All-tail P x busy others))
+all_stay change n busy others =
+    map_fixed (changed_at change n) busy (All-weaker (λ (b : BusyLot). b.lot ≡ n → ⊥) (λ (b : BusyLot). changed_at change n b ≡ b) (stays change n) busy others)
 
 -- it is a change in its place
 pub change_in_place : (change : BusyLot → BusyLot) (n : ℕ) (busy : List BusyLot) (place : ℕ) (b : BusyLot) → AreInOrder busy → slice_get busy place ≡ Some b → b.lot ≡ n
@@ -152,7 +141,7 @@ number_stays change n same b = by (b.lot == n)
     by true = same b
     by false = refl
 
-pub order_stays : (change : BusyLot → BusyLot) (n : ℕ) → ((b : BusyLot) → (change b).lot ≡ b.lot) → (busy : List BusyLot) → AreInOrder busy → AreInOrder (with_busy change n busy)
+order_stays : (change : BusyLot → BusyLot) (n : ℕ) → ((b : BusyLot) → (change b).lot ≡ b.lot) → (busy : List BusyLot) → AreInOrder busy → AreInOrder (with_busy change n busy)
 order_stays change n same [] order = tt
 order_stays change n same (x ∷ busy) order = (
   All-map (λ (c : BusyLot). (changed_at change n x).lot < c.lot) (changed_at change n) busy
@@ -161,37 +150,51 @@ order_stays change n same (x ∷ busy) order = (
   order_stays change n same busy order.1,
 )
 
+-- busy lots stay busy, where each does with that change
+busy_changed : (change : BusyLot → BusyLot) (n : ℕ) (old new : NumberedNode) → ((b : BusyLot) → (change b).lot ≡ b.lot) → ((b : BusyLot) → IsBusy old b → IsBusy new (changed_at change n b))
+    → (busy : List BusyLot) → AreBusy old busy → AreBusy new (with_busy change n busy)
+busy_changed change n old new same each busy are = record {
+  each = All-map (IsBusy new) (changed_at change n) busy (All-weaker (IsBusy old) (λ (b : BusyLot). IsBusy new (changed_at change n b)) each busy are.each);
+  order = order_stays change n same busy are.order;
+}
+
 -- ---- what an event leaves
 
-pub busy_kept : (changed : Option ℕ) (old new : NumberedNode) (b : BusyLot) → IsBusy old b → Spares changed old.lots new.lots → KeepsTwins changed old new
-    → (changed ≡ Some b.lot → is_open old.lots b.lot ≡ false) → IsBusy new b
-busy_kept changed old new b is spares twins spared = record {
-  given = let a = is.given in let l = spares.longer in omega arith;
+-- a busy lot stays busy, and so do all
+busy_kept : (changed : Option ℕ) (old new : World) (b : BusyLot) → IsBusy old.clear b → length old.clear.lots ≤ length new.clear.lots → KeepsRest changed (shown_of old) (shown_of new)
+    → (changed ≡ Some b.lot → is_open old.clear.lots b.lot ≡ false) → IsBusy new.clear b
+busy_kept changed old new b is longer rest spared = record {
+  given = let a = is.given in omega arith;
   fed = λ lot found going.
-      let before = spares.same b.lot lot spared is.given found going in
-      let fed = is.fed lot before going in
-      record { poured = fed.poured ∙ ap lent_by (sym (twins b.lot lot spared before found going)); tickets = fed.tickets; unsealed = fed.unsealed };
+      let before = rest b.lot lot spared is.given found going in
+      let fed = is.fed lot before.0 going in
+      record { poured = fed.poured ∙ ap lent_by (sym before.1); tickets = fed.tickets; unsealed = fed.unsealed };
 }
 
-pub all_kept : (changed : Option ℕ) (old new : NumberedNode) (busy : List BusyLot) → AreBusy old busy → Spares changed old.lots new.lots → KeepsTwins changed old new
-    → All (λ (b : BusyLot). changed ≡ Some b.lot → is_open old.lots b.lot ≡ false) busy → AreBusy new busy
-all_kept changed old new busy are spares twins spared = record {
-  each = λ k d below. busy_kept changed old new _ (are.each k d below) spares twins (spared k d below);
+pub all_kept : (changed : Option ℕ) (old new : World) (busy : List BusyLot) → AreBusy old.clear busy → length old.clear.lots ≤ length new.clear.lots
+    → KeepsRest changed (shown_of old) (shown_of new) → All (λ (b : BusyLot). changed ≡ Some b.lot → is_open old.clear.lots b.lot ≡ false) busy → AreBusy new.clear busy
+all_kept changed old new busy are longer rest spared = record {
+  each = λ k d below. busy_kept changed old new _ (are.each k d below) longer rest (spared k d below);
   order = are.order;
 }
+
+-- where no lot changes, all are kept
+all_same : (old new : World) (busy : List BusyLot) → AreBusy old.clear busy → new.clear.lots ≡ old.clear.lots → new.clear.clear.lots ≡ old.clear.clear.lots → AreBusy new.clear busy
+all_same old new busy are lots open_lots =
+    all_kept None old new busy are (omega (arith, ap length lots)) (rest_same None (shown_of old) (shown_of new) lots open_lots) (λ k d below some. let no = some in cc)
 
 -- an event that changes no busy lot, but one that has ended
 pub step_kept : (e : Event) (outcome : Outcome) (old new : World) (f : FloorState) → f.system ≡ old → AreTied old.clear.clear.lots old.clear.lots → Comes e outcome old new
     → AreBusy old.clear f.busy → SparesBusy e f → AreBusy new.clear f.busy
-step_kept e outcome old new f is tied step are spared =
-    all_kept (lot_changed e) old.clear new.clear f.busy are (step_spares e outcome old new step) (step_twins e outcome old new tied step)
+step_kept e outcome old new f is tied comes are spared =
+    let kept = step_keeps_lots e outcome old new comes in
+    all_kept (lot_changed e) old new f.busy are kept.longer (kept.rest tied)
     (subst (λ (w : World). All (λ (b : BusyLot). lot_changed e ≡ Some b.lot → is_open w.clear.lots b.lot ≡ false) f.busy) is spared)
 
 -- a plan of a failure changes no lot
 pub plan_kept : (name : NodeName) (stands : Bool) (result : Result (Unit {0}) NotPlanned) (old new : World) (busy : List BusyLot) → PlanStep name stands result old new
     → AreBusy old.clear busy → AreBusy new.clear busy
-plan_kept node.Clear stands result old new busy h are =
-    all_kept None old.clear new.clear busy are (spares_same None old.clear.lots new.clear.lots h.1) (twins_same None old.clear new.clear h.0.1) (λ k d below some. let no = some in cc)
+plan_kept node.Clear stands result old new busy h are = all_same old new busy are h.1 h.0.1
 plan_kept node.Depot stands result old new busy h are = subst (λ (n : NumberedNode). AreBusy n busy) (sym h.1) are
 
 -- what the clearing node's records and open lots are, whatever the keepers are
@@ -206,70 +209,38 @@ pub record AreBacked (w : World) : Type 0 where
 lent_poured : (c : List ClearRecord) (issue : ℕ) (lots : List Lot) (lot : Lot) → lot_of lots issue ≡ Some lot → lent_of (lots_poured c issue lots) issue ≡ avail_in c issue
 lent_poured c issue lots lot found =
     ap lent_by (found_poured c issue issue lots ∙ ap (option_map (refilled issue (length c) (avail_in c issue))) found)
-    ∙ ap (λ (b : Bool). (if b then record lot { upto = length c; poured = avail_in c issue } else lot).poured) (eq-eqb lot.issue issue (found_of lots issue lot found))
+    ∙ ap (λ (b : Bool). (if b then record lot { upto = length c; poured = avail_in c issue } else lot).poured) (eq-eqb lot.issue issue (found_issue lots issue lot found))
 
 pub not_poured : (outcome : Outcome) (n : ℕ) (busy : List BusyLot) → ((shares : ℕ) → outcome ≡ outcomes.Poured shares → ⊥) → busy_after_pour outcome n busy ≡ busy
 not_poured (outcomes.Poured shares) n busy other = absurd (other shares refl)
 not_poured _ n busy other = refl
 
 -- what a pour into the lot of a number comes to, and leaves
-record PoursInto (n : ℕ) (outcome : Outcome) (w left : Shown) : Type 0 where
+record PoursInto (n : ℕ) (w : Shown) (outcome : Outcome) (left : Shown) : Type 0 where
   pub lot : LotState
-  pub going : going_lot w.lots n ≡ Ok lot
+  pub at : IsGoing w.lots n lot
   pub told : outcome ≡ outcomes.Poured (free_of (orders_of w.clear.records) w.open_lots lot.issue)
   pub lots : left.lots ≡ w.lots
   pub open_lots : left.open_lots ≡ lots_poured w.clear.records lot.issue w.open_lots
 
--- or it is refused, and all lots stay
-record PoursNone (outcome : Outcome) (w left : Shown) : Type 0 where
-  pub lots : left.lots ≡ w.lots
-  pub open_lots : left.open_lots ≡ w.open_lots
-  pub none : (shares : ℕ) → outcome ≡ outcomes.Poured shares → ⊥
-
-abbrev Pours : ℕ → Shown → Outcome → Shown → Type 0
-Pours n w outcome left = PoursInto n outcome w left ⊎ PoursNone outcome w left
-
-pours_none : (n : ℕ) (w : Shown) (r : Refusal) → Pours n w (outcomes.Refused r) w
-pours_none n w r = inr (record { lots = refl; open_lots = refl; none = λ shares e. cc e })
-
-pours_hold : (n : ℕ) (d : Decision) (w : Shown) → IfOk (judged (event.LotPour n) w) (Holds (Pours n w) d w)
-unfolding judged numbered_pour
-pours_hold n d w =
-    let told : ℕ × List Lot → Result Change Refusal = λ poured. Ok (Leaves (outcomes.Poured poured.0) (record w { open_lots = poured.1 })) in
-    let pours : LotState → Result (ℕ × List Lot) Refusal =
-    λ lot. up w.clear.down >>= λ _. Ok (free_of (orders_of w.clear.records) w.open_lots lot.issue, lots_poured w.clear.records lot.issue w.open_lots) in
-    steps_by (Holds (Pours n w) d w) (going_lot w.lots n) pours told
-    (λ lot going.
-    ok_then (λ (p : ℕ × List Lot). IfOk (told p) (Holds (Pours n w) d w)) (up w.clear.down)
-    (λ _. Ok (free_of (orders_of w.clear.records) w.open_lots lot.issue, lots_poured w.clear.records lot.issue w.open_lots))
-    (λ u is. inl (record { lot = lot; going = going; told = refl; lots = refl; open_lots = refl })))
-
-pours_by : (n : ℕ) (outcome : Outcome) (old new : World) → Comes (event.LotPour n) outcome old new → Pours n (shown_of old) outcome (shown_of new)
+-- a pour comes to it, or is refused
+pours_by : (n : ℕ) (outcome : Outcome) (old new : World) → Comes (event.LotPour n) outcome old new → OrRefused (PoursInto n) (shown_of old) outcome (shown_of new)
 pours_by n outcome old new comes =
-    let e : Event = event.LotPour n in
-    let w : Shown = shown_of old in
-    let h = happened e outcome old new comes in
-    let d : Decision = decision_at h.chance e (scene_of old) in
-    let kept = checked_keeps (Pours n w) d w e (all_refused (judged e w)) (pours_none n w refusal.OutOfMemory) (pours_hold n d w) in
-    subst (λ (p : Outcome × Shown). Pours n w p.0 p.1) h.is kept
-  where
-    all_refused : (j : Result Change Refusal) → IfErr j (λ r. Pours n (shown_of old) (outcomes.Refused r) (shown_of old))
-    all_refused (Ok change) = tt
-    all_refused (Err r) = pours_none n (shown_of old) r
+    comes_told (PoursInto n) (event.LotPour n) outcome old new comes
+    (λ d. pour_holds (OrRefused (PoursInto n) (shown_of old)) d (shown_of old) n (λ lot at. inr (record { lot = lot; at = at; told = refl; lots = refl; open_lots = refl })))
 
 -- a pour of these shares adds them to what the lot of the issue had, to all that are there
-added_by : (n : ℕ) (outcome : Outcome) (old new : World) → AreBacked old → (p : PoursInto n outcome (shown_of old) (shown_of new)) → AreTied old.clear.clear.lots old.clear.lots
+added_by : (n : ℕ) (outcome : Outcome) (old new : World) → AreBacked old → (p : PoursInto n (shown_of old) outcome (shown_of new)) → AreTied old.clear.clear.lots old.clear.lots
     → IsPoured old.clear.clear p.lot.issue (free_of (orders_of old.clear.clear.log.records) old.clear.clear.lots p.lot.issue)
 added_by n outcome old new backed p tied =
-    let at = going_parts old.clear.lots n p.lot p.going in
-    let twin = tied.each n p.lot at.found at.going in
+    let twin = tied.each n p.lot p.at.found p.at.going in
     let lent : lent_of old.clear.clear.lots p.lot.issue ≡ twin.twin.poured = ap lent_by twin.found in
     pour_adds old.clear.clear p.lot.issue (free_of (orders_of old.clear.clear.log.records) old.clear.clear.lots p.lot.issue) twin.twin backed.lawful backed.fits backed.lots twin.found
     (ap (λ (x : ℕ). avail_in old.clear.clear.log.records p.lot.issue - x) lent)
 
 -- what is poured into the lot of a number is poured into its cell
 poured_busy : (n : ℕ) (outcome : Outcome) (old new : World) (b : BusyLot) → AreBacked old → AreTied old.clear.clear.lots old.clear.lots → Comes (event.LotPour n) outcome old new
-    → (p : PoursInto n outcome (shown_of old) (shown_of new)) → IsBusy old.clear b
+    → (p : PoursInto n (shown_of old) outcome (shown_of new)) → IsBusy old.clear b
     → IsBusy new.clear (changed_at (busy_with_pour (free_of (orders_of old.clear.clear.log.records) old.clear.clear.lots p.lot.issue)) n b)
 poured_busy n outcome old new b backed tied comes p busy = by (b.lot == n) refl
   where
@@ -279,9 +250,8 @@ poured_busy n outcome old new b backed tied comes p busy = by (b.lot == n) refl
     more : b.lot ≡ n → (l : LotState) → at_number old.clear.lots b.lot ≡ Some l → IsFed new.clear.clear.lots (busy_with_pour shares b) l
     more same l found =
         let pour = added_by n outcome old new backed p tied in
-        let at = going_parts old.clear.lots n p.lot p.going in
-        let one : p.lot ≡ l = same_Some p.lot l (sym at.found ∙ ap (at_number old.clear.lots) (sym same) ∙ found) in
-        let fed = busy.fed p.lot (ap (at_number old.clear.lots) same ∙ at.found) at.going in
+        let one : p.lot ≡ l = same_Some p.lot l (sym p.at.found ∙ ap (at_number old.clear.lots) (sym same) ∙ found) in
+        let fed = busy.fed p.lot (ap (at_number old.clear.lots) same ∙ p.at.found) p.at.going in
         let before : b.poured ≡ pour.lot.poured = fed.poured ∙ ap lent_by pour.found in
         let after : lent_of new.clear.clear.lots p.lot.issue ≡ avail_in old.clear.clear.log.records p.lot.issue =
         ap (λ (ls : List Lot). lent_of ls p.lot.issue) p.open_lots ∙ lent_poured old.clear.clear.log.records p.lot.issue old.clear.clear.lots pour.lot pour.found in
@@ -294,44 +264,32 @@ poured_busy n outcome old new b backed tied comes p busy = by (b.lot == n) refl
       fed = λ l here up. more (eqb-true b.lot n e) l (ap (λ (lots : List LotState). at_number lots b.lot) (sym p.lots) ∙ here);
     }
     by false e =
-        busy_kept (Some n) old.clear new.clear b busy (step_spares (event.LotPour n) outcome old new comes) (step_twins (event.LotPour n) outcome old new tied comes)
-        (λ some. absurd (eqb-false b.lot n e (sym (same_Some n b.lot some))))
+        let kept = step_keeps_lots (event.LotPour n) outcome old new comes in
+        busy_kept (Some n) old new b busy kept.longer (kept.rest tied) (λ some. absurd (eqb-false b.lot n e (sym (same_Some n b.lot some))))
 
 pub pour_kept : (n : ℕ) (outcome : Outcome) (old new : World) (busy : List BusyLot) → AreBacked old → AreTied old.clear.clear.lots old.clear.lots → Comes (event.LotPour n) outcome old new
     → AreBusy old.clear busy → AreBusy new.clear (busy_after_pour outcome n busy)
 pour_kept n outcome old new busy backed tied comes are = by (pours_by n outcome old new comes)
   where
-    by : Pours n (shown_of old) outcome (shown_of new) → AreBusy new.clear (busy_after_pour outcome n busy)
-    by (inr none) =
-        subst (AreBusy new.clear) (sym (not_poured outcome n busy none.none))
-        (all_kept None old.clear new.clear busy are (spares_same None old.clear.lots new.clear.lots none.lots) (twins_same None old.clear new.clear none.open_lots)
-        (λ k d below some. let no = some in cc))
-    by (inl p) =
+    by : OrRefused (PoursInto n) (shown_of old) outcome (shown_of new) → AreBusy new.clear (busy_after_pour outcome n busy)
+    by (inl refuses) = rw (refuses.is) (all_same old new busy are refuses.lots refuses.open_lots)
+    by (inr p) =
         let shares = free_of (orders_of old.clear.clear.log.records) old.clear.clear.lots p.lot.issue in
         subst (λ (o : Outcome). AreBusy new.clear (busy_after_pour o n busy)) (sym p.told)
-        (record {
-          each =
-              All-map (IsBusy new.clear) (changed_at (busy_with_pour shares) n) busy
-              (All-weaker (IsBusy old.clear) (λ (b : BusyLot). IsBusy new.clear (changed_at (busy_with_pour shares) n b)) (λ b is. poured_busy n outcome old new b backed tied comes p is) busy are.each);
-          order = order_stays (busy_with_pour shares) n (λ b. refl) busy are.order;
-        })
+        (busy_changed (busy_with_pour shares) n old.clear new.clear (λ b. refl) (λ b is. poured_busy n outcome old new b backed tied comes p is) busy are)
 
 -- the cell takes what was poured into the lot
 pub pour_fits : (n shares : ℕ) (outcome : Outcome) (old new : World) (busy : List BusyLot) → AreBacked old → AreTied old.clear.clear.lots old.clear.lots
     → Comes (event.LotPour n) outcome old new → outcome ≡ outcomes.Poured shares → AreBusy old.clear busy → PourFits n shares busy
 pour_fits n shares outcome old new busy backed tied comes told are = by (pours_by n outcome old new comes)
   where
-    poured_same : (a b : ℕ) → outcomes.Poured a ≡ outcomes.Poured b → a ≡ b
-    poured_same a b is = cc is
-
-    by : Pours n (shown_of old) outcome (shown_of new) → PourFits n shares busy
-    by (inr none) = absurd (none.none shares told)
-    by (inl p) =
+    by : OrRefused (PoursInto n) (shown_of old) outcome (shown_of new) → PourFits n shares busy
+    by (inl refuses) = absurd (cc (told, refuses.is))
+    by (inr p) =
         let pour = added_by n outcome old new backed p tied in
-        let at = going_parts old.clear.lots n p.lot p.going in
-        let same : shares ≡ free_of (orders_of old.clear.clear.log.records) old.clear.clear.lots p.lot.issue = poured_same shares _ (sym told ∙ p.told) in
+        let same : shares ≡ free_of (orders_of old.clear.clear.log.records) old.clear.clear.lots p.lot.issue = cc (told, p.told) in
         λ k d below number.
-        let fed = (are.each k d below).fed p.lot (ap (at_number old.clear.lots) number ∙ at.found) at.going in
+        let fed = (are.each k d below).fed p.lot (ap (at_number old.clear.lots) number ∙ p.at.found) p.at.going in
         let poured = fed.poured ∙ ap lent_by pour.found in
         let few = pour.few in omega (arith, same, few, poured)
 
@@ -341,20 +299,17 @@ pub match_some : (found : Option BusyLot) (P : Type 0) (A : BusyLot → Type 0) 
 match_some found P A b is a = subst (λ (o : Option BusyLot). MatchOption o P A) (sym is) a
 
 -- both nodes and the link change by an event, or stay
-abbrev Goes : Outcome → FloorState → FloorState → Type 0
-Goes o old new = ((e : Event) × Occurs e o old.system new.system) ⊎ (new.system ≡ old.system)
-
 goes_by : (found : Option BusyLot) (A : BusyLot → Type 0) (e : Event) (o : Outcome) (old new : FloorState) → ((b : BusyLot) → A b → new.system ≡ old.system)
-    → MatchOption found (BySystem e o old new) A → Goes o old new
-goes_by None A e o old new same h = inl (e, h.0)
-goes_by (Some b) A e o old new same h = inr (same b h)
+    → MatchOption found (BySystem e o old new) A → Goes old.system new.system
+goes_by None A e o old new same h = goes_step e o old.system new.system h.0
+goes_by (Some b) A e o old new same h = goes_same old.system new.system (same b h)
 
-floor_goes : (e : Event) (o : Outcome) (old new : FloorState) → FloorStep e o old new → Goes o old new
+pub floor_goes : (e : Event) (o : Outcome) (old new : FloorState) → FloorStep e o old new → Goes old.system new.system
 floor_goes (event.Reserve lot member) o old new h =
     goes_by (busy_at old.busy lot) (λ (b : BusyLot). (o ≡ outcomes.Refused refusal.LotBusy) × (new ≡ old)) (event.Reserve lot member) o old new (λ b a. ap (λ (f : FloorState). f.system) a.1) h
 floor_goes (event.LotClose lot) o old new h =
     goes_by (busy_at old.busy lot) (λ (b : BusyLot). (o ≡ outcomes.Refused refusal.LotBusy) × (new ≡ old)) (event.LotClose lot) o old new (λ b a. ap (λ (f : FloorState). f.system) a.1) h
-floor_goes (event.LotPour lot) o old new h = inl (event.LotPour lot, h.0)
+floor_goes (event.LotPour lot) o old new h = goes_step (event.LotPour lot) o old.system new.system h.0
 floor_goes (event.LookPoured lot) o old new h =
     goes_by (served_at old lot) (λ (b : BusyLot). (o ≡ outcomes.LookedPoured b.poured) × (new ≡ old)) (event.LookPoured lot) o old new (λ b a. ap (λ (f : FloorState). f.system) a.1) h
 floor_goes (event.LookAsked lot) o old new h =
@@ -362,21 +317,7 @@ floor_goes (event.LookAsked lot) o old new h =
 floor_goes (event.Seal lot) o old new h =
     goes_by (served_at old lot) (λ (b : BusyLot). (o ≡ outcomes.Done) × (new ≡ record old { busy = with_busy busy_with_seal lot old.busy })) (event.Seal lot) o old new
     (λ b a. ap (λ (f : FloorState). f.system) a.1) h
-floor_goes e o old new h = inl (e, h.0)
-
-pub floor_strict : (e : Event) (o : Outcome) (old new : FloorState) → FloorStep e o old new → AreStrict old.system → AreStrict new.system
-floor_strict e o old new h strict = by (floor_goes e o old new h)
-  where
-    by : Goes o old new → AreStrict new.system
-    by (inl g) = g.1.strict strict
-    by (inr same) = subst AreStrict (sym same) strict
-
-pub floor_rises : (e : Event) (o : Outcome) (old new : FloorState) → FloorStep e o old new → NumbersRise old.system new.system
-floor_rises e o old new h = by (floor_goes e o old new h)
-  where
-    by : Goes o old new → NumbersRise old.system new.system
-    by (inl g) = (step_spares g.0 o old.system new.system g.1.comes).longer
-    by (inr same) = (spares_same None old.system.clear.lots new.system.clear.lots (ap (λ (w : World). w.clear.lots) same)).longer
+floor_goes e o old new h = goes_step e o old.system new.system h.0
 
 -- ---- the cell's own events
 
@@ -432,12 +373,7 @@ changed_busy change leaves node n b is = by (b.lot == n)
     by false = is
 
 all_changed : (change : BusyLot → BusyLot) → LeavesPours change → (node : NumberedNode) (n : ℕ) (busy : List BusyLot) → AreBusy node busy → AreBusy node (with_busy change n busy)
-all_changed change leaves node n busy are = record {
-  each =
-      All-map (IsBusy node) (changed_at change n) busy
-      (All-weaker (IsBusy node) (λ (b : BusyLot). IsBusy node (changed_at change n b)) (λ b is. changed_busy change leaves node n b is) busy are.each);
-  order = order_stays change n leaves.lot busy are.order;
-}
+all_changed change leaves node n busy are = busy_changed change n node node leaves.lot (changed_busy change leaves node n) busy are
 
 -- such a change of the one that is served, in its place: it is found, and the floor is the one with that change
 pub record ChangesAt (change : BusyLot → BusyLot) (f now : FloorState) (n place : ℕ) (x new : BusyLot) : Type 0 where

@@ -1,29 +1,19 @@
 -- What is so of what is shown and of an accepted change is so of whatever happens at an event.
-use Rattle.std.proofs.Common.{◌≡◌, ◌∙◌, List, Result, Ok, Err, refl, sym, ap, Bool, true, false}
+use Rattle.std.proofs.Common.{◌≡◌, ◌∙◌, Result, Ok, Err, refl, sym, ap, subst, inl}
 use Rattle.cns_journal.specs.Keeper.{Foresight}
-use Rattle.std.specs.Prelude.{IfErr, IfOk}
-use Rattle.cns_ids.specs.Steps.{◌>>=◌}
-use Rattle.cns_pool.specs.Pool.{asked_sum}
-use Rattle.cns_records.specs.Call.{Deed}
-use Rattle.cns_records.specs.Call as call
-use Rattle.cns_records.specs.declared.clear_record.ClearRecord.{ClearRecord}
+use Rattle.std.specs.Prelude.{◌⊎◌, IfErr, IfOk}
 use Rattle.cns_records.specs.declared.refusal.Refusal.{Refusal}
 use Rattle.cns_records.specs.declared.refusal.Refusal.TheVariants as refusal
-use Rattle.cns_clearing.specs.Pools.{lent_of}
 use Rattle.cns_system.specs.Devices.{node_of}
-use Rattle.cns_system.specs.Happens.{Change, Leaves, Grows, Commits, Restarts, Decision, Goes, NoMemory, DeviceFails, ClearReads, DepotReads, FindsBad, clear_deed, happens, judged, restarts, decided}
-use Rattle.cns_system.specs.Lot.{LotState}
-use Rattle.cns_system.specs.Lots.{going_lot}
+use Rattle.cns_system.specs.Happens.{Change, Leaves, Grows, Commits, Restarts, Decision, NoMemory, DeviceFails, happens, judged, restarts, decided}
 use Rattle.cns_system.specs.Scene.{Chance, Comes, Scene, comes_to, decision_at, known_after, known_of, scene_of, with_known}
-use Rattle.cns_system.specs.Shown.{Shown, clear_added, clear_failed, shown_of}
+use Rattle.cns_system.specs.Shown.{Shown, shown_of}
 use Rattle.cns_system.specs.World.{World}
 use Rattle.cns_system.specs.declared.event.Event.{Event}
-use Rattle.cns_system.specs.declared.event.Event.TheVariants as event
 use Rattle.cns_system.specs.declared.event.NodeName.{NodeName}
 use Rattle.cns_system.specs.declared.event.NodeName.TheVariants as node
 use Rattle.cns_system.specs.declared.outcome.Outcome.{Outcome}
 use Rattle.cns_system.specs.declared.outcome.Outcome.TheVariants as outcomes
-use Rattle.cns_system.proofs.StepLemmas.{ok_then}
 
 module _ (P : Outcome → Shown → Type 0) (d : Decision) (w : Shown) where
   -- this is so of what a change may leave, whatever is decided but at a restart
@@ -39,53 +29,17 @@ module _ (P : Outcome → Shown → Type 0) (d : Decision) (w : Shown) where
   checked_keeps e refused short next = by (judged e w) refused next
     where
       of : (d' : Decision) (c : Change) → d ≡ d' → Holds c → P (decided d w (Ok c)).0 (decided d w (Ok c)).1
-      of d' (Leaves outcome left) is holds = holds
       of NoMemory (Grows outcome left) is holds = rw is short
-      of Goes (Grows outcome left) is holds = rw is holds
-      of DeviceFails (Grows outcome left) is holds = rw is holds
-      of (ClearReads c) (Grows outcome left) is holds = rw is holds
-      of (DepotReads p) (Grows outcome left) is holds = rw is holds
-      of (FindsBad place) (Grows outcome left) is holds = rw is holds
+      of _ (Grows outcome left) is holds = rw is holds
       of NoMemory (Commits outcome left failed) is holds = rw is short
       of DeviceFails (Commits outcome left failed) is holds = rw is holds.1
-      of Goes (Commits outcome left failed) is holds = rw is holds.0
-      of (ClearReads c) (Commits outcome left failed) is holds = rw is holds.0
-      of (DepotReads p) (Commits outcome left failed) is holds = rw is holds.0
-      of (FindsBad place) (Commits outcome left failed) is holds = rw is holds.0
+      of _ (Commits outcome left failed) is holds = rw is holds.0
+      of d' (Leaves outcome left) is holds = holds
       of d' (Restarts name) is holds = holds
 
       by : (j : Result Change Refusal) → IfErr j (λ r. P (outcomes.Refused r) w) → IfOk j Holds → P (decided d w j).0 (decided d w j).1
       by (Err r) refused next = refused
       by (Ok c) refused next = of d c refl next
-
-  -- what holds of a call of the clearing node
-  pub clear_holds : {X : Type 0} (told : X → Outcome) (lots_after : List LotState → List LotState) (deed : Result (Deed ClearRecord X) Refusal)
-      → ((x : X) → deed ≡ Ok (call.Tells x) → P (told x) w)
-      → ((r : ClearRecord) (x : X) → deed ≡ Ok (call.Commits r x)
-      → P (told x) (record (clear_added r w) { lots = lots_after w.lots }) × P (outcomes.Refused refusal.Device) (clear_failed r w))
-      → IfOk (deed >>= λ d'. Ok (clear_deed told lots_after w d')) Holds
-  clear_holds told lots_after (Err r) tells commits = tt
-  clear_holds told lots_after (Ok (call.Tells x)) tells commits = tells x refl
-  clear_holds told lots_after (Ok (call.Commits r x)) tells commits = commits r x refl
-
--- ---- an event that only tells
-
--- a look changes nothing
-abbrev only_tells : Event → Bool
-only_tells (event.LookPoured number) = true
-only_tells (event.LookAsked number) = true
-only_tells _ = false
-
--- what holds of what there is, whatever is told, holds of what such an event comes to
-pub tells_holds : (Q : Change → Type 0) (w : Shown) (e : Event) → only_tells e ≡ true → ((outcome : Outcome) → Q (Leaves outcome w)) → IfOk (judged e w) Q
-unfolding judged
-tells_holds Q w (event.LookPoured number) is here =
-    ok_then Q (going_lot w.lots number) (λ (lot : LotState). Ok (Leaves (outcomes.LookedPoured (lent_of w.open_lots lot.issue)) w))
-    (λ lot going. here (outcomes.LookedPoured (lent_of w.open_lots lot.issue)))
-tells_holds Q w (event.LookAsked number) is here =
-    ok_then Q (going_lot w.lots number) (λ (lot : LotState). Ok (Leaves (outcomes.LookedAsked (asked_sum lot.tickets) lot.sealed) w))
-    (λ lot going. here (outcomes.LookedAsked (asked_sum lot.tickets) lot.sealed))
-tells_holds Q w e is here = absurd (cc is)
 
 -- ---- what an event that comes tells of the function
 
@@ -124,3 +78,38 @@ happened e outcome old new (chance, devices, is) =
   where
     pair_is : (p : Outcome × Shown) (o : Outcome) (w : Shown) → p.0 ≡ o → p.1 ≡ w → p ≡ (o, w)
     pair_is p o w first second = rw (← first, ← second) refl
+
+-- what is so of each refusal by what there is, of a want of memory, and of what an accepted event may leave, is so of what comes
+pub comes_keeps : (P : Outcome → Shown → Type 0) (e : Event) (outcome : Outcome) (old new : World) → Comes e outcome old new → IfErr (judged e (shown_of old)) (λ r. P (outcomes.Refused r) (shown_of old))
+    → P (outcomes.Refused refusal.OutOfMemory) (shown_of old) → ((chance : Chance) → IfOk (judged e (shown_of old)) (Holds P (decision_at chance e (scene_of old)) (shown_of old)))
+    → P outcome (shown_of new)
+comes_keeps P e outcome old new comes refused short accepted =
+    let h = happened e outcome old new comes in
+    subst (λ (p : Outcome × Shown). P p.0 p.1) h.is (checked_keeps P (decision_at h.chance e (scene_of old)) (shown_of old) e refused short (accepted h.chance))
+
+-- what is so of each refusal is so of those by what there is
+pub refused_keeps : {A : Type 0} (P : Refusal → Type 0) (j : Result A Refusal) → ((r : Refusal) → P r) → IfErr j P
+refused_keeps P (Ok a) all = tt
+refused_keeps P (Err r) all = all r
+
+-- an event is refused, and leaves the lots
+pub record IsRefused (w : Shown) (outcome : Outcome) (left : Shown) : Type 0 where
+  pub refusal : Refusal
+  pub is : outcome ≡ outcomes.Refused refusal
+  pub lots : left.lots ≡ w.lots
+  pub open_lots : left.open_lots ≡ w.open_lots
+
+-- so it is of an event that comes, or this is so of it, where one of both is so of what an accepted event may leave
+abbrev pub OrRefused : (Shown → Outcome → Shown → Type 0) → Shown → Outcome → Shown → Type 0
+OrRefused P w outcome left = IsRefused w outcome left ⊎ P w outcome left
+
+pub comes_told : (P : Shown → Outcome → Shown → Type 0) (e : Event) (outcome : Outcome) (old new : World) → Comes e outcome old new
+    → ((d : Decision) → IfOk (judged e (shown_of old)) (Holds (OrRefused P (shown_of old)) d (shown_of old))) → OrRefused P (shown_of old) outcome (shown_of new)
+comes_told P e outcome old new comes accepted =
+    comes_keeps (OrRefused P w) e outcome old new comes (refused_keeps (λ r. OrRefused P w (outcomes.Refused r) w) (judged e w) refuses) (refuses refusal.OutOfMemory) (λ chance. accepted (decision_at chance e (scene_of old)))
+  where
+    w : Shown
+    w = shown_of old
+
+    refuses : (r : Refusal) → OrRefused P w (outcomes.Refused r) w
+    refuses r = inl (record { refusal = r; is = refl; lots = refl; open_lots = refl })

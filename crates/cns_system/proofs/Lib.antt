@@ -22,6 +22,8 @@ pub mod EventComes
 pub mod LinkComes
 pub mod RestartComes
 pub mod HappensLemmas
+pub mod EventHolds
+pub mod EventKeeps
 pub mod SpareLemmas
 pub mod ToldLemmas
 pub mod FloorLemmas

@@ -29,6 +29,8 @@ use Rattle.cns_clearing.specs.declared.answer.Taken.{Taken}
 use Rattle.cns_clearing.specs.declared.answer.Taken.TheVariants as taken
 use Rattle.cns_depository.specs.Answers.{InstructLeaves, OrderLeaves, dep_fault, dep_refusal, own_fault, instruct_call, order_call, own_fault_refusal}
 use Rattle.cns_depository.specs.Node as depot
+use Rattle.cns_depository.specs.Node.{DepNode}
+use Rattle.cns_depository.specs.declared.fault.Answer.TheVariants as answer
 use Rattle.cns_depository.specs.Stock.{executed_of, movement_of}
 use Rattle.cns_depository.specs.declared.movement.Movement.{Movement}
 use Rattle.cns_depository.specs.declared.fault.Answer.{Answer}
@@ -38,17 +40,17 @@ use Rattle.cns_depository.specs.declared.fault.Own.TheVariants as own
 use Rattle.cns_depository.specs.declared.fault.OwnFault.{OwnFault}
 use Rattle.cns_system.specs.Devices.{node_of}
 use Rattle.cns_system.specs.Happens.{Commits, Grows, NoMemory, answer_told, answer_reply, by_order, by_own, judged, outcome_of, own_told, decided, taken_told}
-use Rattle.cns_system.specs.Scene.{Comes}
-use Rattle.cns_system.specs.Shown.{Shown, depot_failed, shown_of}
+use Rattle.cns_system.specs.Numbered.{NumberedNode}
+use Rattle.cns_system.specs.Scene.{Comes, Sight, scene_of, sight_of}
+use Rattle.cns_system.specs.Shown.{LogShown, Shown, depot_failed, log_shown, shown_of}
 use Rattle.cns_system.specs.World.{AreFrames, IsOrderFrame, World, order_in_packet, order_spelt, reply_in_packet, reply_spelt}
 use Rattle.cns_system.specs.declared.event.Event.{Event}
 use Rattle.cns_system.specs.declared.event.Event.TheVariants as event
 use Rattle.cns_system.specs.declared.event.NodeName.TheVariants as node
 use Rattle.cns_system.specs.declared.outcome.Outcome.{Outcome}
 use Rattle.cns_system.specs.declared.outcome.Outcome.TheVariants as outcomes
-use Rattle.cns_system.proofs.CallComes.{IsAtClear, IsTold, clear_comes, told_leaves}
-use Rattle.cns_system.proofs.ComesLemmas.{IsByCommit, by_same, commits, fails, grows, not_committed, not_grown, refused, tells, untouched_same}
-use Rattle.cns_system.proofs.EventComes.{logs_untouched, with_lots}
+use Rattle.cns_system.proofs.CallComes.{IsTold, node_comes, told_leaves}
+use Rattle.cns_system.proofs.ComesLemmas.{IsByCommit, by_same, commits, fails, grows, not_committed, not_grown, refused, tells, untouched_refl}
 use Rattle.cns_system.proofs.TiedLemmas.{get_more}
 
 -- ---- packets
@@ -99,8 +101,7 @@ module _ (number : ℕ) where
       let next : length (map order_spelt w.orders) + 1 ≡ packet = sym (place ∙ rw (are, length-append w.orders (order_frame o ∷ []), length-map w.orders order_spelt) refl) in
       subst (λ (n : ℕ). Comes (event.Send number) (outcomes.Sent n) w (record w { orders = orders })) next
       (grows (event.Send number) w (record w { orders = orders }) (λ c. refl) (outcomes.Sent (length (map order_spelt w.orders) + 1))
-      (record (shown_of w) { orders = map order_spelt w.orders ++ Some o ∷ [] }) (send_found o (shown_of w) up found) (rw spelt refl) refl refl
-      (logs_untouched w (record w { orders = orders }) refl refl))
+      (record (shown_of w) { orders = map order_spelt w.orders ++ Some o ∷ [] }) (send_found o (shown_of w) up found) (rw spelt refl) refl refl)
 
 -- no packets are none that is no frame
 no_packet : (none : List (List ℕ)) → none ≡ [] → (k : ℕ) (bytes : List ℕ) → slice_get none k ≡ Some bytes → ⊥
@@ -130,14 +131,13 @@ module _ (packet : ℕ) where
   unfolding judged
   no_reply w none = refused (event.ReplyIn packet) w refusal.NoPacket (rw (spelt_at reply_spelt w.replies packet ∙ none) refl)
 
-  pub reply_comes : (r : Reply) (result : Result Taken Refusal) (old new : World) → IsAtClear old new → reply_in_packet (at_number old.replies packet) ≡ Some r → new.clear.lots ≡ old.clear.lots
-      → Leaves (reply_call r old.clear.clear.log.down old.clear.clear.log.records) result old.clear.clear new.clear.clear
-      → Comes (event.ReplyIn packet) (outcome_of (taken_told r) result) old new
+  pub reply_comes : (r : Reply) (result : Result Taken Refusal) (old : World) (n : NumberedNode) → reply_in_packet (at_number old.replies packet) ≡ Some r → n.lots ≡ old.clear.lots
+      → Leaves (reply_call r old.clear.clear.log.down old.clear.clear.log.records) result old.clear.clear n.clear
+      → Comes (event.ReplyIn packet) (outcome_of (taken_told r) result) old (record old { clear = n })
   unfolding judged
-  reply_comes r result old new at held lots left =
-      let deed = reply_call r old.clear.clear.log.down old.clear.clear.log.records in
-      clear_comes (event.ReplyIn packet) (taken_told r) (λ ls. ls) old new at (λ c. refl) refl quiet deed result (rw (spelt_at reply_spelt old.replies packet ∙ held) refl)
-      (with_lots deed result old.clear new.clear lots left)
+  reply_comes r result old n held lots left =
+      node_comes (event.ReplyIn packet) (taken_told r) (reply_call r old.clear.clear.log.down old.clear.clear.log.records) result old n (λ c. refl) refl quiet
+      (rw (spelt_at reply_spelt old.replies packet ∙ held) refl) lots left
     where
       quiet : (t : Taken) → IsTold (taken_told r t)
       quiet taken.Done = tt
@@ -203,103 +203,81 @@ none_found (Some m) is = absurd (cc is)
 
 -- ---- a call of the depository
 
-module _ (e : Event) (by_commit : (w : World) → IsByCommit e w) (node_is : node_of e ≡ node.Depot) (outcome : Outcome) (r : DepRecord) (left : Shown) (old new : World)
+-- it leaves this of the depository, and maybe one more packet on the link of replies
+module _ (e : Event) (by_commit : (w : World) → IsByCommit e w) (node_is : node_of e ≡ node.Depot) (outcome : Outcome) (r : DepRecord) (left : Shown) (old : World) (d : DepNode)
     (judge : judged e (shown_of old) ≡ Ok (Commits outcome left (depot_failed r (shown_of old)))) where
   -- its record is acknowledged
-  pub depot_goes : IsTold outcome → shown_of new ≡ left → LogCommits r (Ok tt) old.depot.log new.depot.log → new.clear ≡ old.clear → Comes e outcome old new
-  depot_goes quiet shown (log, may) clear =
-      commits e old new (by_commit old) outcome left (depot_failed r (shown_of old)) judge shown (rw node_is may) (rw clear refl) (rw log refl)
-      (rw node_is
-      (told_leaves outcome quiet old.depot.log new.depot.log (record { failures = rw log refl; rejected = rw log refl }), untouched_same _ _ (rw clear refl)))
+  pub depot_goes : (replies : List (List ℕ)) → IsTold outcome → shown_of (record old { depot = d; replies = replies }) ≡ left → LogCommits r (Ok tt) old.depot.log d.log
+      → Comes e outcome old (record old { depot = d; replies = replies })
+  depot_goes replies quiet shown (log, may) =
+      commits e old (record old { depot = d; replies = replies }) (by_commit old) outcome left (depot_failed r (shown_of old)) judge shown (rw node_is may) refl (ap sight_of log)
+      (rw node_is (told_leaves outcome quiet old.depot.log d.log (record { failures = rw log refl; rejected = rw log refl }), untouched_refl old.clear.clear.log))
 
   -- or it is not
-  pub depot_fails : (fault : CommitFault) → depot.IsCommitted r (Err fault) old.depot new.depot → new ≡ record old { depot = new.depot }
-      → Comes e (outcomes.Refused (commit_refusal fault)) old new
-  depot_fails commit.OutOfMemory (up, log, openings) same =
-      by_same e (outcomes.Refused refusal.OutOfMemory) old new (same ∙ rw (log, openings) refl) (not_committed e old (by_commit old) outcome left (depot_failed r (shown_of old)) judge)
-  depot_fails commit.Device (up, (log, risen, failed), openings) same =
-      let records = ap (λ (l : LogState DepRecord). l.records) log in
-      let tried = ap (λ (l : LogState DepRecord). l.tried) log in
-      let down = ap (λ (l : LogState DepRecord). l.down) log in
-      let honest = ap (λ (l : LogState DepRecord). l.honest) log in
-      let clear : new.clear ≡ old.clear = ap (λ (w : World). w.clear) same in
-      let orders : new.orders ≡ old.orders = ap (λ (w : World). w.orders) same in
-      let replies : new.replies ≡ old.replies = ap (λ (w : World). w.replies) same in
-      let shown : shown_of new ≡ depot_failed r (shown_of old) = rw (records, tried, down, openings, clear, orders, replies) refl in
-      fails e old new (by_commit old) outcome left (depot_failed r (shown_of old)) new.depot.log.foresight judge shown (rw node_is failed)
-      (rw node_is (rw (honest, clear) refl))
-      (rw node_is ((risen, ap (λ (l : LogState DepRecord). l.rejected) log), untouched_same _ _ (rw clear refl)))
+  pub depot_fails : (fault : CommitFault) → depot.IsCommitted r (Err fault) old.depot d → Comes e (outcomes.Refused (commit_refusal fault)) old (record old { depot = d })
+  depot_fails commit.OutOfMemory (up, log, openings) =
+      by_same e (outcomes.Refused refusal.OutOfMemory) old (record old { depot = d }) (rw (log, openings) refl)
+      (not_committed e old (by_commit old) outcome left (depot_failed r (shown_of old)) judge)
+  depot_fails commit.Device (up, (log, risen, failed), openings) =
+      let new : World = record old { depot = d } in
+      let shown : shown_of new ≡ depot_failed r (shown_of old) = rw openings (ap (λ (l : LogShown DepRecord). record (shown_of old) { depot = l }) (ap log_shown log)) in
+      fails e old new (by_commit old) outcome left (depot_failed r (shown_of old)) d.log.foresight judge shown (rw node_is failed)
+      (rw node_is (ap (λ (s : Sight). record (scene_of new) { depot = s }) (ap sight_of log)))
+      (rw node_is ((risen, ap (λ (l : LogState DepRecord). l.rejected) log), untouched_refl old.clear.clear.log))
 
-module _ (packet : ℕ) (o : Order) (old : World) where
-  -- an order is answered, and its reply put on the link, in room that was there
-  pub order_comes : (a : Answer) (depot : depot.DepNode) (replies : List (List ℕ)) → order_in_packet (at_number old.orders packet) ≡ Some o
-      → OrderLeaves (order_call o old.depot.log.down old.depot.openings old.depot.log.records) (Ok a) old.depot depot → replies ≡ old.replies ++ reply_frame (answer_reply a) ∷ []
-      → reply_spelt (reply_frame (answer_reply a)) ≡ Some (answer_reply a) → IsTold (answer_told (length old.replies + 1) a)
-      → Comes (event.OrderIn packet) (answer_told (length old.replies + 1) a) old (record old { depot = depot; replies = replies })
-  order_comes a depot replies held left are spells quiet =
-      by (order_call o old.depot.log.down old.depot.openings old.depot.log.records) (order_is packet o old held) left
-    where
-      new : World
-      new = record old { depot = depot; replies = replies }
+-- what is told of an order that was answered, and what is put on the link of replies
+abbrev pub order_told : World → Result Answer DepFault → Outcome
+order_told old (Ok a) = answer_told (length old.replies + 1) a
+order_told old (Err f) = outcomes.Refused (dep_refusal f)
 
-      next : length (map reply_spelt old.replies) ≡ length old.replies
-      next = length-map old.replies reply_spelt
+abbrev pub PutsReply : World → List (List ℕ) → Result Answer DepFault → Type 0
+PutsReply old replies (Ok a) = (replies ≡ old.replies ++ reply_frame (answer_reply a) ∷ []) × (reply_spelt (reply_frame (answer_reply a)) ≡ Some (answer_reply a))
+PutsReply old replies (Err f) = replies ≡ old.replies
 
-      spelt : map reply_spelt replies ≡ map reply_spelt old.replies ++ Some (answer_reply a) ∷ []
-      spelt = rw (are, map-append reply_spelt old.replies (reply_frame (answer_reply a) ∷ []), spells) refl
+-- an order is answered, and its reply put on the link, in room that was there; or it is refused
+pub order_comes : (packet : ℕ) (o : Order) (old : World) (result : Result Answer DepFault) (d : DepNode) (replies : List (List ℕ)) → order_in_packet (at_number old.orders packet) ≡ Some o
+    → OrderLeaves (order_call o old.depot.log.down old.depot.openings old.depot.log.records) result old.depot d → PutsReply old replies result
+    → Comes (event.OrderIn packet) (order_told old result) old (record old { depot = d; replies = replies })
+order_comes packet o old result d replies held left puts =
+    by (order_call o old.depot.log.down old.depot.openings old.depot.log.records) (order_is packet o old held) left
+  where
+    e : Event
+    e = event.OrderIn packet
 
-      by : (d : Result (Deed DepRecord Answer) DepFault) → judged (event.OrderIn packet) (shown_of old) ≡ by_order (shown_of old) d → OrderLeaves d (Ok a) old.depot depot
-          → Comes (event.OrderIn packet) (answer_told (length old.replies + 1) a) old new
-      by (Err f) judge (answer, same) = absurd (cc answer)
-      by (Ok (call.Tells x)) judge (answer, same) =
-          let one : x ≡ a = cc answer in
-          grows (event.OrderIn packet) old new (λ c. refl) (answer_told (length old.replies + 1) a) _ (rw (one, next) at judge) (rw (spelt, same) refl) refl (rw same refl)
-          (logs_untouched old new refl (rw same refl))
-      by (Ok (call.Commits e x)) judge (Ok u, answer, (up, (log, may), openings)) =
-          let one : x ≡ a = cc answer in
-          depot_goes (event.OrderIn packet) (λ w c. refl) refl (answer_told (length old.replies + 1) a) e _ old new (rw (one, next) at judge) quiet (rw (spelt, log, openings) refl)
-          (log, may) refl
-      by (Ok (call.Commits e x)) judge (Err f, answer, failed) = absurd (cc answer)
+    told : (a : Answer) → IsTold (answer_told (length old.replies + 1) a)
+    told (answer.Done r) = tt
+    told (answer.Again r) = tt
 
-  -- or it is refused
-  pub order_refused : (f : DepFault) (depot : depot.DepNode) → order_in_packet (at_number old.orders packet) ≡ Some o
-      → OrderLeaves (order_call o old.depot.log.down old.depot.openings old.depot.log.records) (Err f) old.depot depot
-      → Comes (event.OrderIn packet) (outcomes.Refused (dep_refusal f)) old (record old { depot = depot })
-  order_refused f depot held left =
-      by (order_call o old.depot.log.down old.depot.openings old.depot.log.records) (order_is packet o old held) left
-    where
-      new : World
-      new = record old { depot = depot }
+    refused_by : (fault : CommitFault) → dep_refusal (dep_fault fault) ≡ commit_refusal fault
+    refused_by commit.OutOfMemory = refl
+    refused_by commit.Device = refl
 
-      refused_by : (fault : CommitFault) → dep_refusal (dep_fault fault) ≡ commit_refusal fault
-      refused_by commit.OutOfMemory = refl
-      refused_by commit.Device = refl
+    next : length (map reply_spelt old.replies) ≡ length old.replies
+    next = length-map old.replies reply_spelt
 
-      by : (d : Result (Deed DepRecord Answer) DepFault) → judged (event.OrderIn packet) (shown_of old) ≡ by_order (shown_of old) d → OrderLeaves d (Err f) old.depot depot
-          → Comes (event.OrderIn packet) (outcomes.Refused (dep_refusal f)) old new
-      by (Err k) judge (answer, same) =
-          let one : k ≡ f = cc answer in
-          by_same (event.OrderIn packet) (outcomes.Refused (dep_refusal f)) old new (rw same refl) (refused (event.OrderIn packet) old (dep_refusal f) (rw one at judge))
-      by (Ok (call.Tells x)) judge (answer, same) = absurd (cc answer)
-      by (Ok (call.Commits e x)) judge (Ok u, answer, added) = absurd (cc answer)
-      by (Ok (call.Commits e x)) judge (Err fault, answer, failed) =
-          let one : f ≡ dep_fault fault = cc answer in
-          rw (one, refused_by fault) (depot_fails (event.OrderIn packet) (λ w c. refl) refl _ e _ old new judge fault failed refl)
+    spelt : (a : Answer) → PutsReply old replies (Ok a) → map reply_spelt replies ≡ map reply_spelt old.replies ++ Some (answer_reply a) ∷ []
+    spelt a (are, spells) = rw (are, map-append reply_spelt old.replies (reply_frame (answer_reply a) ∷ []), spells) refl
+
+    by : (deed : Result (Deed DepRecord Answer) DepFault) → judged e (shown_of old) ≡ by_order (shown_of old) deed → OrderLeaves deed result old.depot d
+        → Comes e (order_told old result) old (record old { depot = d; replies = replies })
+    by (Err f) judge (answer, same) = rw (answer, same, rw answer at puts) (refused e old (dep_refusal f) judge)
+    by (Ok (call.Tells a)) judge (answer, same) =
+        rw (answer, same)
+        (grows e old (record old { replies = replies }) (λ c. refl) (answer_told (length old.replies + 1) a) _ (rw next at judge) (rw (spelt a (rw answer at puts)) refl) refl refl)
+    by (Ok (call.Commits r a)) judge (Ok u, answer, (up, (log, may), openings)) =
+        rw answer
+        (depot_goes e (λ w c. refl) refl (answer_told (length old.replies + 1) a) r _ old d (rw next at judge) replies (told a) (rw (spelt a (rw answer at puts), log, openings) refl) (log, may))
+    by (Ok (call.Commits r a)) judge (Err fault, answer, failed) =
+        rw (answer, refused_by fault, rw answer at puts) (depot_fails e (λ w c. refl) refl _ r _ old d judge fault failed)
 
 -- ---- a member's own instruction
 
-pub own_comes : (i : Instruction) (result : Result Own OwnFault) (old : World) (depot : depot.DepNode)
-    → InstructLeaves (instruct_call i old.depot.log.down old.depot.openings old.depot.log.records) result old.depot depot
-    → Comes (event.Own i) (elim result [ Ok done ↦ own_told i done | Err fault ↦ outcomes.Refused (own_fault_refusal fault) ]) old (record old { depot = depot })
+pub own_comes : (i : Instruction) (result : Result Own OwnFault) (old : World) (d : DepNode)
+    → InstructLeaves (instruct_call i old.depot.log.down old.depot.openings old.depot.log.records) result old.depot d
+    → Comes (event.Own i) (elim result [ Ok done ↦ own_told i done | Err fault ↦ outcomes.Refused (own_fault_refusal fault) ]) old (record old { depot = d })
 unfolding judged
-own_comes i result old depot left = by (instruct_call i old.depot.log.down old.depot.openings old.depot.log.records) refl left
+own_comes i result old d left = by (instruct_call i old.depot.log.down old.depot.openings old.depot.log.records) refl left
   where
-    new : World
-    new = record old { depot = depot }
-
-    told : Result Own OwnFault → Outcome
-    told r = elim r [ Ok done ↦ own_told i done | Err fault ↦ outcomes.Refused (own_fault_refusal fault) ]
-
     quiet : (x : Own) → IsTold (own_told i x)
     quiet own.Done = tt
     quiet own.Again = tt
@@ -308,13 +286,11 @@ own_comes i result old depot left = by (instruct_call i old.depot.log.down old.d
     refused_by commit.OutOfMemory = refl
     refused_by commit.Device = refl
 
-    by : (d : Result (Deed DepRecord Own) OwnFault) → judged (event.Own i) (shown_of old) ≡ by_own i (shown_of old) d → InstructLeaves d result old.depot depot
-        → Comes (event.Own i) (told result) old new
-    by (Err k) judge (answer, same) = rw answer (by_same (event.Own i) (outcomes.Refused (own_fault_refusal k)) old new (rw same refl) (refused (event.Own i) old (own_fault_refusal k) judge))
-    by (Ok (call.Tells x)) judge (answer, same) =
-        rw answer
-        (tells (event.Own i) old new (own_told i x) (shown_of old) judge (rw same refl) refl (rw same refl) (logs_untouched old new refl (rw same refl)))
-    by (Ok (call.Commits e x)) judge (Ok u, answer, (up, (log, may), openings)) =
-        rw answer (depot_goes (event.Own i) (λ w c. refl) refl (own_told i x) e _ old new judge (quiet x) (rw (log, openings) refl) (log, may) refl)
-    by (Ok (call.Commits e x)) judge (Err fault, answer, failed) =
-        rw (answer, refused_by fault) (depot_fails (event.Own i) (λ w c. refl) refl _ e _ old new judge fault failed refl)
+    by : (deed : Result (Deed DepRecord Own) OwnFault) → judged (event.Own i) (shown_of old) ≡ by_own i (shown_of old) deed → InstructLeaves deed result old.depot d
+        → Comes (event.Own i) (elim result [ Ok done ↦ own_told i done | Err fault ↦ outcomes.Refused (own_fault_refusal fault) ]) old (record old { depot = d })
+    by (Err k) judge (answer, same) = rw (answer, same) (refused (event.Own i) old (own_fault_refusal k) judge)
+    by (Ok (call.Tells x)) judge (answer, same) = rw (answer, same) (tells (event.Own i) old old (own_told i x) (shown_of old) judge refl refl refl)
+    by (Ok (call.Commits r x)) judge (Ok u, answer, (up, (log, may), openings)) =
+        rw answer (depot_goes (event.Own i) (λ w c. refl) refl (own_told i x) r _ old d judge old.replies (quiet x) (rw (log, openings) refl) (log, may))
+    by (Ok (call.Commits r x)) judge (Err fault, answer, failed) =
+        rw (answer, refused_by fault) (depot_fails (event.Own i) (λ w c. refl) refl _ r _ old d judge fault failed)

@@ -1,28 +1,20 @@
 -- The lots by number: which one a number finds, and what a change of it leaves.
-use Rattle.std.proofs.Common.{◌≡◌, ◌<◌, ◌-◌, ◌+◌, ℕ, zero, suc, List, [], ◌∷◌, ◌++◌, length, map, take, drop, get_or, Some, None, Result, Ok, Err, Bool, true, false, not, ap, subst, sym, refl, arith, ◌∙◌}
+use Rattle.std.proofs.Common.{◌≡◌, ◌-◌, ℕ, List, get_or, Option, Some, None, Result, Ok, Err, Bool, true, false, not, ap, subst, sym, refl, ◌∙◌}
 use Rattle.std.specs.Prelude.{◌==◌, slice_get, slice_set, if◌then◌else◌}
 use Rattle.std.specs.Option.{ok_or}
 use Rattle.std.proofs.lemmas.List.{set-get_or}
-use Rattle.cns_ids.specs.Steps.{◌>>◌, need}
+use Rattle.cns_ids.specs.Steps.{◌>>=◌, ◌>>◌, need}
 use Rattle.std.proofs.lemmas.Option.{get_or_from_slice_get}
 use Rattle.cns_pool.specs.declared.ticket.Ticket.{Ticket}
 use Rattle.cns_records.specs.Call.{Changes}
 use Rattle.cns_records.specs.declared.refusal.Refusal.{Refusal}
 use Rattle.cns_records.specs.declared.refusal.Refusal.TheVariants as refusal
 use Rattle.cns_records.proofs.CallLemmas.{changed, unchanged}
-use Rattle.cns_system.specs.Lot.{LotState, with_end, with_ticket}
+use Rattle.cns_system.specs.Lot.{LotState, with_ticket}
 use Rattle.cns_wire.specs.Packet.{at_number}
 use Rattle.cns_system.specs.Lots.{HasLot, HasNone, change_call, draw_call, going_lot, turn_ticket, reserve_call, with_lot}
-use Rattle.cns_system.proofs.StepLemmas.{found_some, needed, steps}
 
 -- ---- the lot of a number, which has not ended
-
-same_ok : (a b : LotState) → ◌≡◌ {A = Result LotState Refusal} (Ok a) (Ok b) → a ≡ b
-same_ok a b is = cc
-
-not_true : (b : Bool) → not b ≡ true → b ≡ false
-not_true true e = absurd (cc e)
-not_true false e = refl
 
 -- it was opened with the number, and has not ended
 pub record IsGoing (lots : List LotState) (number : ℕ) (lot : LotState) : Type 0 where
@@ -30,14 +22,15 @@ pub record IsGoing (lots : List LotState) (number : ℕ) (lot : LotState) : Type
   pub going : lot.ended ≡ false
 
 pub going_parts : (lots : List LotState) (number : ℕ) (lot : LotState) → going_lot lots number ≡ Ok lot → IsGoing lots number lot
-going_parts lots number lot is =
-    let first = steps (ok_or (at_number lots number) refusal.NoLot) (λ (l : LotState). need (not l.ended) refusal.StaleLot >> Ok l) lot is in
-    let l : LotState = first.value in
-    let there = found_some (at_number lots number) refusal.NoLot l first.first_is in
-    let second = steps (need (not l.ended) refusal.StaleLot) (λ u. Ok l) lot first.next_is in
-    let same : l ≡ lot = same_ok l lot second.next_is in
-    let going : l.ended ≡ false = not_true l.ended (needed (not l.ended) refusal.StaleLot second.value second.first_is) in
-    subst (IsGoing lots number) same (record { found = there; going = going })
+going_parts lots number lot is = by (at_number lots number) refl is
+  where
+    of : (l : LotState) (ended : Bool) → at_number lots number ≡ Some l → l.ended ≡ ended → (need (not ended) refusal.StaleLot >> Ok l) ≡ Ok lot → IsGoing lots number lot
+    of l true found going is = absurd (cc is)
+    of l false found going is = let same : l ≡ lot = cc is in subst (IsGoing lots number) same (record { found = found; going = going })
+
+    by : (o : Option LotState) → at_number lots number ≡ o → (ok_or o refusal.NoLot >>= λ l. need (not l.ended) refusal.StaleLot >> Ok l) ≡ Ok lot → IsGoing lots number lot
+    by None found is = absurd (cc is)
+    by (Some l) found is = of l l.ended found refl is
 
 -- the lot of a number is the one in its place
 pub in_place : (lots : List LotState) (number : ℕ) (l d : LotState) → at_number lots number ≡ Some l → get_or lots (number - 1) d ≡ l
@@ -99,16 +92,3 @@ reserve_leaves lots items number place member result l new read draws = by (turn
         let left : (result ≡ Ok t) × (new ≡ with_ticket t l) = rw is at h in
         changed (reserve_call number member lots) t (with_lot number (with_ticket t l) lots) result lots (slice_set items place new) (rw (read.is, is) refl) left.0
         (read.changes new ∙ ap (λ (k : LotState). with_lot number k lots) left.1)
-
-ended_next : (lots : List LotState) (i : ℕ) (l new : LotState) → i < length lots → l ≡ get_or (map with_end (take i lots) ++ drop i lots) i l → new ≡ with_end l
-    → slice_set (map with_end (take i lots) ++ drop i lots) i new ≡ map with_end (take (suc i) lots) ++ drop (suc i) lots
-ended_next [] i l new below read ended = absurd (omega (arith, below))
-ended_next (x ∷ lots) zero l new below read ended = ap (λ y. y ∷ lots) (ended ∙ ap with_end read)
-ended_next (x ∷ lots) (suc i) l new below read ended = ap (λ ys. with_end x ∷ ys) (ended_next lots i l new (omega (arith, below)) read ended)
-
--- where the first i of some lots have ended, one more ends
-pub ended_more : (lots items : List LotState) (i : ℕ) (l new : LotState) → items ≡ map with_end (take i lots) ++ drop i lots → i < length lots → l ≡ get_or items i l
-    → new ≡ with_end l → slice_set items i new ≡ map with_end (take (i + 1) lots) ++ drop (i + 1) lots
-ended_more lots items i l new first below read ended =
-    let next : suc i ≡ i + 1 = omega arith in
-    rw (first, ← next) (ended_next lots i l new below (rw first at read) ended)

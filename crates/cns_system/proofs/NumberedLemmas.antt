@@ -19,7 +19,7 @@ use Rattle.cns_allocate.specs.declared.turns.Turn.TheVariants as turn
 use Rattle.cns_allocate.proofs.PlanLemmas.{IsPlan-plan_of, bounded_longs}
 use Rattle.cns_allocate.proofs.ServedLemmas.{served_more, served_none, served_whole, waiting-none, waiting_more}
 use Rattle.cns_allocate.proofs.TotalLemmas.{plan_of-total}
-use Rattle.cns_records.specs.Call.{CallLeaves, Changes, Deed, Grows}
+use Rattle.cns_records.specs.Call.{CallLeaves, Changes, Deed}
 use Rattle.cns_records.specs.Call as call
 use Rattle.cns_records.specs.Refusals.{commit_refusal}
 use Rattle.cns_records.specs.declared.clear_record.ClearRecord.{ClearRecord}
@@ -34,6 +34,7 @@ use Rattle.cns_clearing.specs.Node.{ClearNode}
 use Rattle.cns_clearing.specs.Pools.{free_of, lent_of, lot_of}
 use Rattle.cns_clearing.proofs.BooksLemmas.{lawful_bounded}
 use Rattle.cns_clearing.proofs.CallsLemmas.{pours}
+use Rattle.cns_clearing.proofs.LotLemmas.{found_issue}
 use Rattle.cns_clearing.specs.declared.answer.Closed.{Closed}
 use Rattle.cns_records.specs.declared.refusal.Refusal.{Refusal}
 use Rattle.cns_records.specs.declared.refusal.Refusal.TheVariants as refusal
@@ -43,9 +44,9 @@ use Rattle.cns_wire.specs.Packet.{at_number}
 use Rattle.cns_system.specs.Lots.{change_call, going_lot, turn_ticket, reserve_call, with_lot}
 use Rattle.cns_system.specs.Numbered.{AreTied, IsNumberedCommit, NumberedNode, numbered_close, lots_ended, numbered_open, opening_call, numbered_pour, with_opened}
 use Rattle.cns_system.proofs.LotsLemmas.{IsGoing, going_parts}
-use Rattle.cns_system.proofs.RecordedLemmas.{Recorded}
+use Rattle.cns_system.proofs.RecordedLemmas.{IsMet, Recorded, is_met}
 use Rattle.cns_system.proofs.StepLemmas.{ok_then}
-use Rattle.cns_system.proofs.TiedLemmas.{found_of, found_poured, found_without, poured_keeps, tied_changed, tied_more}
+use Rattle.cns_system.proofs.TiedLemmas.{ended_lots, found_poured, found_without, poured_keeps, tied_changed, tied_more}
 
 -- ---- changes of the lots by number alone
 
@@ -121,18 +122,19 @@ reserve_tied open_lots n member r lots after are h =
 -- ---- calls of the node alone
 
 -- a call whose record is no allocation leaves the node's open lots
-pub call_lots : {X : Type 0} (deed : Result (Deed ClearRecord X) Refusal) (Q : ClearRecord → Type 0) (result : Result X Refusal) (old new : ClearNode)
-    → ((r : ClearRecord) → Q r → (lots : List Lot) → lots_after r lots ≡ lots) → IfOk deed (Recorded old.log.down Q) → Leaves deed result old new → new.lots ≡ old.lots
-call_lots (Err r) Q result old new quiet records (answer, same) = ap (λ (n : ClearNode). n.lots) same
-call_lots (Ok (call.Tells x)) Q result old new quiet records (answer, same) = ap (λ (n : ClearNode). n.lots) same
-call_lots (Ok (call.Commits r x)) Q result old new quiet records (Ok u, answer, added) = added.2 ∙ quiet r records.1 old.lots
-call_lots (Ok (call.Commits r x)) Q result old new quiet records (Err commit.OutOfMemory, answer, same) = ap (λ (n : ClearNode). n.lots) same
-call_lots (Ok (call.Commits r x)) Q result old new quiet records (Err commit.Device, answer, failed) = failed.2
+pub call_lots : {X : Type 0} (deed : Result (Deed ClearRecord X) Refusal) (T : X → Type 0) (Q : ClearRecord → X → Type 0) (result : Result X Refusal) (old new : ClearNode)
+    → ((r : ClearRecord) (x : X) → Q r x → (lots : List Lot) → lots_after r lots ≡ lots) → IfOk deed (Recorded old.log.down T Q) → Leaves deed result old new → new.lots ≡ old.lots
+call_lots (Err r) T Q result old new quiet records (answer, same) = ap (λ (n : ClearNode). n.lots) same
+call_lots (Ok (call.Tells x)) T Q result old new quiet records (answer, same) = ap (λ (n : ClearNode). n.lots) same
+call_lots (Ok (call.Commits r x)) T Q result old new quiet records (Ok u, answer, added) = added.2 ∙ quiet r x records.1 old.lots
+call_lots (Ok (call.Commits r x)) T Q result old new quiet records (Err commit.OutOfMemory, answer, same) = ap (λ (n : ClearNode). n.lots) same
+call_lots (Ok (call.Commits r x)) T Q result old new quiet records (Err commit.Device, answer, failed) = failed.2
 
 -- and so those by number stay tied to them
-pub call_tied : {X : Type 0} (deed : Result (Deed ClearRecord X) Refusal) (Q : ClearRecord → Type 0) (result : Result X Refusal) (old new : ClearNode) (lots : List LotState)
-    → ((r : ClearRecord) → Q r → (ls : List Lot) → lots_after r ls ≡ ls) → IfOk deed (Recorded old.log.down Q) → AreTied old.lots lots → Leaves deed result old new → AreTied new.lots lots
-call_tied deed Q result old new lots quiet records are left = subst (λ (ls : List Lot). AreTied ls lots) (sym (call_lots deed Q result old new quiet records left)) are
+pub call_tied : {X : Type 0} (deed : Result (Deed ClearRecord X) Refusal) (T : X → Type 0) (Q : ClearRecord → X → Type 0) (result : Result X Refusal) (old new : ClearNode)
+    (lots : List LotState) → ((r : ClearRecord) (x : X) → Q r x → (ls : List Lot) → lots_after r ls ≡ ls) → IfOk deed (Recorded old.log.down T Q) → AreTied old.lots lots
+    → Leaves deed result old new → AreTied new.lots lots
+call_tied deed T Q result old new lots quiet records are left = subst (λ (ls : List Lot). AreTied ls lots) (sym (call_lots deed T Q result old new quiet records left)) are
 
 -- ---- an opening
 
@@ -192,8 +194,6 @@ pub opening_goes : (issue : ℕ) (n : NumberedNode) → n.clear.log.down ≡ fal
 unfolding numbered_open
 opening_goes issue n up none room = let few : nat_lt (length n.lots) 1000000 ≡ true = grind (arith, nat_tests, room) in rw (up, none, few) refl
 
--- ---- a lot that is open
-
 -- ---- a pour
 
 poured_other : (c : List ClearRecord) (issue : ℕ) (l : Lot) → (l.issue ≡ issue → ⊥) → refilled issue (length c) (avail_in c issue) l ≡ l
@@ -205,7 +205,7 @@ others_poured c issue other lots differ = found_poured c issue other lots ∙ by
   where
     by : (o : Option Lot) → lot_of lots other ≡ o → option_map (refilled issue (length c) (avail_in c issue)) o ≡ o
     by None e = refl
-    by (Some l) e = ap Some (poured_other c issue l (λ is. differ (sym (found_of lots other l e) ∙ is)))
+    by (Some l) e = ap Some (poured_other c issue l (λ is. differ (sym (found_issue lots other l e) ∙ is)))
 
 -- the lot of a number is poured into, as the node pours into its lot of the issue
 pub poured_of : (number : ℕ) (node : ClearNode) (lots : List LotState) (l : LotState) (new : List Lot) (shares : ℕ) → AreTied node.lots lots → going_lot lots number ≡ Ok l
@@ -258,11 +258,7 @@ pour_tied c open_lots after lots issue are poured =
 
 -- ---- a close
 
--- a lot is sealed, or nobody waits for a ticket of it
-abbrev pub IsMet : LotState → Type 0
-IsMet lot = (lot.sealed ≡ true) ⊎ (lot.turns ≡ [])
-
-pub met_told : (l : LotState) → IsMet l → (l.sealed || (length l.turns == 0)) ≡ true
+met_told : (l : LotState) → IsMet l → (l.sealed || (length l.turns == 0)) ≡ true
 met_told l met = by l.sealed refl met
   where
     by : (b : Bool) → l.sealed ≡ b → IsMet l → (b || (length l.turns == 0)) ≡ true
@@ -270,16 +266,8 @@ met_told l met = by l.sealed refl met
     by false e (inl sealed) = let no : false ≡ true = sym e ∙ sealed in cc
     by false e (inr nobody) = rw nobody refl
 
-pub not_met : (l : LotState) → (IsMet l → ⊥) → (l.sealed || (length l.turns == 0)) ≡ false
-not_met l waits = by l.sealed refl
-  where
-    none : (ts : List Planned) → l.turns ≡ ts → (length ts == 0) ≡ false
-    none [] e = absurd (waits (inr e))
-    none (t ∷ ts) e = grind (arith, nat_tests)
-
-    by : (b : Bool) → l.sealed ≡ b → (b || (length l.turns == 0)) ≡ false
-    by true e = absurd (waits (inl e))
-    by false e = none l.turns refl
+not_met : (l : LotState) → (IsMet l → ⊥) → (l.sealed || (length l.turns == 0)) ≡ false
+not_met l waits = false_from_ne_true (l.sealed || (length l.turns == 0)) (λ told. waits (is_met l told))
 
 -- the tickets of a lot that is sealed, or in which nobody waits, serve its plan
 pub met_served : (plan : List Planned) (l : LotState) → IsOfPlan plan l → IsMet l → IsServed plan l.tickets l.sealed
@@ -291,10 +279,9 @@ met_served plan l is met = by l.sealed refl met
     by false e (inr nobody) = served_whole plan l.tickets is.is is.served (sym is.turns ∙ nobody)
 
 -- so they serve that of the node's lot
-pub served_by : (number : ℕ) (open_lots : List Lot) (lots : List LotState) (l : LotState) → AreTied open_lots lots → going_lot lots number ≡ Ok l → IsMet l
+pub served_by : (number : ℕ) (open_lots : List Lot) (lots : List LotState) (l : LotState) → AreTied open_lots lots → IsGoing lots number l → IsMet l
     → AreServed open_lots l.issue l.tickets l.sealed
-served_by number open_lots lots l are going met = λ twin found.
-    let at = going_parts lots number l going in
+served_by number open_lots lots l are at met = λ twin found.
     let tied = are.each number l at.found at.going in
     let same : tied.twin ≡ twin = same_Some tied.twin twin (sym tied.found ∙ found) in
     subst (λ (k : Lot). IsServed k.plan l.tickets l.sealed) same (met_served tied.twin.plan l tied.is met)
@@ -329,18 +316,17 @@ pub record IsCloseOf (issue : ℕ) (tickets : List Ticket) (sealed : Bool) (c : 
 pub close_record : (issue : ℕ) (tickets : List Ticket) (sealed down : Bool) (c : List ClearRecord) (lots : List Lot)
     → IfOk (clear.close_call issue tickets sealed down c lots) (IsCloseOf issue tickets sealed c lots)
 unfolding clear.close_call
-close_record issue tickets sealed down c lots = by down (lot_of lots issue) refl
+close_record issue tickets sealed true c lots = tt
+close_record issue tickets sealed false c lots = by (lot_of lots issue) refl
   where
     numbers : (lot : Lot) (spent : Bool) → lot_of lots issue ≡ Some lot
         → IfOk (need (not spent) refusal.NumbersSpent >> Ok (call.Commits (entry.Allocate (allocation_of lot tickets sealed)) (closed_of lot tickets sealed c))) (IsCloseOf issue tickets sealed c lots)
     numbers lot true found = tt
     numbers lot false found = record { lot = lot; found = found; is = refl }
 
-    by : (b : Bool) (o : Option Lot) → lot_of lots issue ≡ o
-        → IfOk (clear.up b >> ok_or o refusal.NoLot >>= close_deed tickets sealed c) (IsCloseOf issue tickets sealed c lots)
-    by true o found = tt
-    by false None found = tt
-    by false (Some lot) found = numbers lot _ found
+    by : (o : Option Lot) → lot_of lots issue ≡ o → IfOk (ok_or o refusal.NoLot >>= close_deed tickets sealed c) (IsCloseOf issue tickets sealed c lots)
+    by None found = tt
+    by (Some lot) found = numbers lot _ found
 
 -- the end of a lot that has not ended
 pub end_is : (lots after : List LotState) (number : ℕ) (l : LotState) (r : Result (Unit {0}) Refusal) → going_lot lots number ≡ Ok l → Changes (change_call with_end number lots) r lots after
@@ -348,7 +334,7 @@ pub end_is : (lots after : List LotState) (number : ℕ) (l : LotState) (r : Res
 end_is lots after number l r going h =
     let at = going_parts lots number l going in
     let left : (r ≡ Ok tt) × (after ≡ with_lot number (with_end l) lots) = rw going at h in
-    left.1 ∙ sym (ap (λ (o : Option LotState). elim o [ None ↦ lots | Some k ↦ with_lot number (with_end k) lots ]) at.found)
+    left.1 ∙ sym (ended_lots lots number l at.found)
 
 -- what the node's close leaves is what that of the lot's number does, where the lot ends just where the close is not refused
 pub closed_by : (number : ℕ) (old : NumberedNode) (l : LotState) (result : Result Closed Refusal) (new : ClearNode) (after : List LotState) → going_lot old.lots number ≡ Ok l
@@ -368,43 +354,30 @@ closed_by number old l result new after going up met left ended kept =
     by (Ok (call.Commits r x)) is (Ok u, answer, left) = (Ok u, answer, (left, rw answer at ended))
     by (Ok (call.Commits r x)) is (Err fault, answer, left) = (Err fault, answer, (left, rw answer at kept))
 
--- a close that is refused leaves the node's open lots
-pub close_keeps : (old new : ClearNode) (l : LotState) (r : Refusal) → Leaves (clear.close_call l.issue l.tickets l.sealed old.log.down old.log.records old.lots) (Err r) old new
-    → new.lots ≡ old.lots
-close_keeps old new l r left = by (clear.close_call l.issue l.tickets l.sealed old.log.down old.log.records old.lots) left
-  where
-    by : (d : Result (Deed ClearRecord Closed) Refusal) → Leaves d (Err r) old new → new.lots ≡ old.lots
-    by (Err f) (answer, same) = ap (λ (n : ClearNode). n.lots) same
-    by (Ok (call.Tells x)) (answer, same) = absurd (cc answer)
-    by (Ok (call.Commits e x)) (Ok u, answer, left) = absurd (cc answer)
-    by (Ok (call.Commits e x)) (Err commit.OutOfMemory, answer, same) = ap (λ (n : ClearNode). n.lots) same
-    by (Ok (call.Commits e x)) (Err commit.Device, answer, failed) = failed.2
-
--- one that is not takes the lot of its issue from them
-pub close_takes : (old new : ClearNode) (l : LotState) (done : Closed) → Leaves (clear.close_call l.issue l.tickets l.sealed old.log.down old.log.records old.lots) (Ok done) old new
-    → new.lots ≡ without_lot l.issue old.lots
-close_takes old new l done left =
+-- a close that is refused leaves the node's open lots, and one that is not takes the lot of its issue from them
+pub close_lots : (old new : ClearNode) (l : LotState) (result : Result Closed Refusal)
+    → Leaves (clear.close_call l.issue l.tickets l.sealed old.log.down old.log.records old.lots) result old new
+    → new.lots ≡ elim result [ Ok done ↦ without_lot l.issue old.lots | Err r ↦ old.lots ]
+close_lots old new l result left =
     by (clear.close_call l.issue l.tickets l.sealed old.log.down old.log.records old.lots)
     (close_record l.issue l.tickets l.sealed old.log.down old.log.records old.lots) left
   where
-    by : (d : Result (Deed ClearRecord Closed) Refusal) → IfOk d (IsCloseOf l.issue l.tickets l.sealed old.log.records old.lots) → Leaves d (Ok done) old new
-        → new.lots ≡ without_lot l.issue old.lots
-    by (Err f) is (answer, same) = absurd (cc answer)
+    by : (d : Result (Deed ClearRecord Closed) Refusal) → IfOk d (IsCloseOf l.issue l.tickets l.sealed old.log.records old.lots) → Leaves d result old new
+        → new.lots ≡ elim result [ Ok done ↦ without_lot l.issue old.lots | Err r ↦ old.lots ]
+    by (Err f) is (answer, same) = rw answer (ap (λ (n : ClearNode). n.lots) same)
     by (Ok (call.Tells x)) is left = absurd (cc is.is)
     by (Ok (call.Commits r x)) is (Ok u, answer, added) =
         let record_is : r ≡ entry.Allocate (allocation_of is.lot l.tickets l.sealed) = cc is.is in
-        added.2 ∙ rw record_is (ap (λ (i : ℕ). without_lot i old.lots) (found_of old.lots l.issue is.lot is.found))
-    by (Ok (call.Commits r x)) is (Err commit.OutOfMemory, answer, same) = absurd (cc answer)
-    by (Ok (call.Commits r x)) is (Err commit.Device, answer, failed) = absurd (cc answer)
+        rw answer (added.2 ∙ rw record_is (ap (λ (i : ℕ). without_lot i old.lots) (found_issue old.lots l.issue is.lot is.found)))
+    by (Ok (call.Commits r x)) is (Err commit.OutOfMemory, answer, same) = rw answer (ap (λ (n : ClearNode). n.lots) same)
+    by (Ok (call.Commits r x)) is (Err commit.Device, answer, failed) = rw answer failed.2
 
 -- and the lots by number stay tied to them
 pub close_tied : (old new : ClearNode) (lots after : List LotState) (number : ℕ) (l : LotState) → AreTied old.lots lots → going_lot lots number ≡ Ok l
     → new.lots ≡ without_lot l.issue old.lots → after ≡ lots_ended number lots → AreTied new.lots after
 close_tied old new lots after number l are going taken ended =
     let at = going_parts lots number l going in
-    let after_is : after ≡ with_lot number (with_end l) lots =
-    ended ∙ ap (λ (o : Option LotState). elim o [ None ↦ lots | Some k ↦ with_lot number (with_end k) lots ]) at.found in
     subst (λ (ls : List Lot). AreTied ls after) (sym taken)
-    (subst (AreTied (without_lot l.issue old.lots)) (sym after_is)
+    (subst (AreTied (without_lot l.issue old.lots)) (sym (ended ∙ ended_lots lots number l at.found))
     (tied_changed old.lots (without_lot l.issue old.lots) lots number l (with_end l) are at.found at.going refl (λ up. absurd (let no : true ≡ false = up in cc))
     (λ other differ. found_without l.issue other old.lots differ)))

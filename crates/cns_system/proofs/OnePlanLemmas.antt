@@ -1,6 +1,6 @@
 -- The tickets that are entered of a lot that was busy are of its plan.
-use Rattle.std.proofs.Common.{◌≡◌, ◌∙◌, ◌-◌, ℕ, Bool, true, false, List, [], ◌∷◌, ◌++◌, Some, Ok, ap, sym, subst, refl, inl, inr}
-use Rattle.std.specs.Prelude.{◌==◌, ◌⊎◌, slice_set}
+use Rattle.std.proofs.Common.{◌≡◌, ◌∙◌, ℕ, Bool, true, false, List, [], ◌∷◌, ◌++◌, Some, ap, sym, subst, refl, inl, inr}
+use Rattle.std.specs.Prelude.{◌==◌}
 use Rattle.std.specs.List.{list_any}
 use Rattle.std.proofs.lemmas.List.{append_assoc, append-nil}
 use Rattle.std.proofs.lemmas.Option.{same_Some}
@@ -9,37 +9,33 @@ use Rattle.cns_allocate.specs.Served.{IsServed, waiting}
 use Rattle.cns_allocate.specs.declared.planned.Planned.{Planned}
 use Rattle.cns_allocate.proofs.ServedLemmas.{waiting-none}
 use Rattle.cns_allocate.proofs.TurnLemmas.{find-All}
-use Rattle.cns_clearing.specs.declared.answer.Closed.{Closed}
 use Rattle.cns_records.specs.declared.refusal.Refusal.{Refusal}
-use Rattle.cns_system.specs.Finish.{AreCutOff, AreEntered, AreOfLot, AreOfOnePlan, HasPlan, IsClosed, IsEnded, IsSealedFirst, IsUnserved, drawn_in, draws, is_close, is_done, reserves}
+use Rattle.cns_system.specs.Finish.{AreCutOff, AreEntered, AreOfLot, AreOfOnePlan, HasPlan, IsClosed, IsEnded, IsUnserved, drawn_in, draws, is_close, is_done, reserves}
 use Rattle.cns_system.specs.Floor.{AreBusy, BusyLot, FloorState, IsBusy, busy_at}
-use Rattle.cns_system.specs.Lot.{IsOfPlan, LotState, with_seal, with_ticket}
+use Rattle.cns_system.specs.Lot.{IsOfPlan, LotState, with_ticket}
 use Rattle.cns_wire.specs.Packet.{at_number}
-use Rattle.cns_records.specs.declared.clear_record.ClearRecord.{ClearRecord}
-use Rattle.cns_system.specs.Lots.{ArePlanned, reserve_call, with_lot}
+use Rattle.cns_system.specs.Lots.{ArePlanned}
 use Rattle.cns_system.specs.Numbered.{AreTied}
 use Rattle.cns_system.specs.Scene.{Comes}
+use Rattle.cns_system.specs.Shown.{shown_of}
 use Rattle.cns_system.specs.declared.event.Event.TheVariants as event
 use Rattle.cns_system.specs.Run.{Run}
 use Rattle.cns_system.specs.World.{World}
 use Rattle.cns_system.specs.declared.outcome.Outcome.{Outcome}
 use Rattle.cns_system.specs.declared.outcome.Outcome.TheVariants as outcomes
 use Rattle.cns_system.proofs.FloorLemmas.{busy_number}
-use Rattle.cns_system.proofs.LotsLemmas as lots
-use Rattle.cns_system.proofs.LotsLemmas.{going_parts}
-use Rattle.cns_system.proofs.RecordedLemmas.{IsClose}
-use Rattle.cns_system.proofs.StrictLemmas.{is_met}
-use Rattle.cns_system.proofs.ToldLemmas.{Refuses, closes_by, draw_parts, drawn_of, seals_by}
-use Rattle.cns_system.proofs.NumberedLemmas.{IsMet, drawn_stays, met_served}
-use Rattle.cns_system.proofs.TiedLemmas.{at_place, from_place, get_set_same}
+use Rattle.cns_system.proofs.RecordedLemmas.{IsMet}
+use Rattle.cns_system.proofs.HappensLemmas.{OrRefused}
+use Rattle.cns_system.proofs.LotsLemmas.{IsGoing}
+use Rattle.cns_system.proofs.NumberedLemmas.{drawn_stays, met_served}
+use Rattle.cns_system.proofs.TiedLemmas.{at_same}
+use Rattle.cns_system.proofs.ToldLemmas.{Closes, IsDraw, Seals, closes_by, drawn_of, seals_by}
 
 -- ---- the lot while tickets are entered
 
 -- the lot of a number has not ended
-record IsGoing (n : ℕ) (lots : List LotState) : Type 0 where
-  lot : LotState
-  found : at_number lots n ≡ Some lot
-  going : lot.ended ≡ false
+abbrev Ongoing : ℕ → List LotState → Type 0
+Ongoing n lots = (lot : LotState) × IsGoing lots n lot
 
 -- the lot of a number is of a plan, has these tickets, and is not sealed
 record Has (plan : List Planned) (n : ℕ) (lots : List LotState) (tickets : List Ticket) : Type 0 where
@@ -49,18 +45,13 @@ record Has (plan : List Planned) (n : ℕ) (lots : List LotState) (tickets : Lis
   tickets_are : lot.tickets ≡ tickets
   unsealed : lot.sealed ≡ false
 
-found_updated : (lots : List LotState) (n : ℕ) (l x : LotState) → at_number lots n ≡ Some l → at_number (slice_set lots (n - 1) x) n ≡ Some x
-found_updated lots n l x found =
-    let at = at_place lots n l found in from_place (slice_set lots (n - 1) x) n x at.0 (get_set_same lots (n - 1) l x at.1)
-
 has_more : (plan : List Planned) (n member : ℕ) (t : Ticket) (lots new : List LotState) (tickets : List Ticket) → Has plan n lots tickets
-    → reserve_call n member lots ≡ Ok (t, new) → Has plan n new (tickets ++ t ∷ [])
-has_more plan n member t lots new tickets has leaves =
-    let at = draw_parts n member t lots new leaves in
+    → IsDraw n member t lots new → Has plan n new (tickets ++ t ∷ [])
+has_more plan n member t lots new tickets has at =
     let one : at.lot ≡ has.lot = same_Some at.lot has.lot (sym at.at.found ∙ has.found) in
     record {
       lot = with_ticket t at.lot;
-      found = ap (λ (ls : List LotState). at_number ls n) at.new_is ∙ found_updated lots n at.lot (with_ticket t at.lot) at.at.found;
+      found = ap (λ (ls : List LotState). at_number ls n) at.new_is ∙ at_same lots n at.lot (with_ticket t at.lot) at.at.found;
       of = drawn_stays plan at.lot member t at.drawn (subst (IsOfPlan plan) (sym one) has.of);
       tickets_are = ap (λ (l : LotState). l.tickets ++ t ∷ []) one ∙ ap (λ (ts : List Ticket). ts ++ t ∷ []) has.tickets_are;
       unsealed = ap (λ (l : LotState). l.sealed) one ∙ has.unsealed;
@@ -71,15 +62,13 @@ has_all : (plan : List Planned) (n : ℕ) (ts us : List Ticket) (old new : World
 has_all plan n [] us old new run has =
     subst (λ (l : List Ticket). Has plan n new.clear.lots l) (sym (append-nil us)) (subst (λ (w : World). Has plan n w.clear.lots us) (sym run) has)
 has_all plan n (t ∷ ts) us old new run has =
-    let leaves = drawn_of n t.member t old run.0 run.1.comes in
-    let more = has_more plan n t.member t old.clear.lots run.0.clear.lots us has leaves in
+    let more = has_more plan n t.member t old.clear.lots run.0.clear.lots us has (drawn_of n t.member t old run.0 run.1.comes) in
     subst (λ (l : List Ticket). Has plan n new.clear.lots l) (append_assoc us (t ∷ []) ts) (has_all plan n ts (us ++ t ∷ []) run.0 new run.2 more)
 
 -- a ticket was drawn of a lot that had not ended
-drawn_going : (n : ℕ) (t : Ticket) (ts : List Ticket) (old mid : World) → Run (reserves n (t ∷ ts)) (draws (t ∷ ts)) old mid → IsGoing n old.clear.lots
+drawn_going : (n : ℕ) (t : Ticket) (ts : List Ticket) (old mid : World) → Run (reserves n (t ∷ ts)) (draws (t ∷ ts)) old mid → Ongoing n old.clear.lots
 drawn_going n t ts old mid run =
-    let at = draw_parts n t.member t old.clear.lots run.0.clear.lots (drawn_of n t.member t old run.0 run.1.comes) in
-    record { lot = at.lot; found = at.at.found; going = at.at.going }
+    let drawn = drawn_of n t.member t old run.0 run.1.comes in (drawn.lot, drawn.at)
 
 -- ---- the lot before that
 
@@ -100,17 +89,17 @@ record Begins (n : ℕ) (w : World) : Type 0 where
   of : HasPlan n w issue plan
   has : Has plan n w.clear.lots []
 
-begins : (n : ℕ) (w : World) → Unserved n w → IsGoing n w.clear.lots → Begins n w
-begins n w before at =
-    let free = before.free at.lot at.found at.going in
-    let one = before.planned n at.lot at.found at.going in
-    let tied = before.tied.each n at.lot at.found at.going in
-    let same : tied.twin.plan ≡ one.plan = sym (all_wait tied.twin.plan at.lot tied.is free.0) ∙ all_wait one.plan at.lot one.is free.0 in
+begins : (n : ℕ) (w : World) → Unserved n w → Ongoing n w.clear.lots → Begins n w
+begins n w before (lot, at) =
+    let free = before.free lot at.found at.going in
+    let one = before.planned n lot at.found at.going in
+    let tied = before.tied.each n lot at.found at.going in
+    let same : tied.twin.plan ≡ one.plan = sym (all_wait tied.twin.plan lot tied.is free.0) ∙ all_wait one.plan lot one.is free.0 in
     record {
-      issue = at.lot.issue;
+      issue = lot.issue;
       plan = one.plan;
-      of = record { lot = at.lot; found = at.found; going = at.going; issue_is = refl; twin = tied.twin; twin_is = tied.found; plan_is = same; of = one.of };
-      has = record { lot = at.lot; found = at.found; of = one.is; tickets_are = free.0; unsealed = free.1 };
+      of = record { lot = lot; found = at.found; going = at.going; issue_is = refl; twin = tied.twin; twin_is = tied.found; plan_is = same; of = one.of };
+      has = record { lot = lot; found = at.found; of = one.is; tickets_are = free.0; unsealed = free.1 };
     }
 
 -- ---- the tickets among the outcomes
@@ -119,19 +108,15 @@ drawn_of_draws : (ts : List Ticket) (last : List Outcome) → drawn_in last ≡ 
 drawn_of_draws [] last none = none
 drawn_of_draws (t ∷ ts) last none = ap (λ (us : List Ticket). t ∷ us) (drawn_of_draws ts last none)
 
-close_of_draws : (ts : List Ticket) (last : List Outcome) → list_any is_close (draws ts ++ last) ≡ list_any is_close last
-close_of_draws [] last = refl
-close_of_draws (t ∷ ts) last = close_of_draws ts last
-
-done_of_draws : (ts : List Ticket) (last : List Outcome) → list_any is_done (draws ts ++ last) ≡ list_any is_done last
-done_of_draws [] last = refl
-done_of_draws (t ∷ ts) last = done_of_draws ts last
+any_of_draws : (test : Outcome → Bool) → ((t : Ticket) → test (outcomes.Drawn t) ≡ false) → (ts : List Ticket) (last : List Outcome) → list_any test (draws ts ++ last) ≡ list_any test last
+any_of_draws test none [] last = refl
+any_of_draws test none (t ∷ ts) last = rw (none t) (any_of_draws test none ts last)
 
 -- what comes after the tickets: no ticket; a lot that was closed had not ended; and one that was closed and not sealed had a ticket
 -- for each member of its plan
 record Ends (n : ℕ) (lots : List LotState) (last : List Outcome) : Type 0 where
   none : drawn_in last ≡ []
-  going : list_any is_close last ≡ true → IsGoing n lots
+  going : list_any is_close last ≡ true → Ongoing n lots
   met : list_any is_close last ≡ true → list_any is_done last ≡ false → (l : LotState) → at_number lots n ≡ Some l → IsMet l
 
 refused_ends : (n : ℕ) (lots : List LotState) (r : Refusal) → Ends n lots (outcomes.Refused r ∷ [])
@@ -140,41 +125,33 @@ refused_ends n lots r = record { none = refl; going = λ closed. cc; met = λ cl
 close_ends : (n : ℕ) (outcome : Outcome) (old new : World) → Comes (event.LotClose n) outcome old new → Ends n old.clear.lots (outcome ∷ [])
 close_ends n outcome old new comes = by (closes_by n outcome old new comes)
   where
-    by : Refuses outcome ⊎ ((done : Closed) × (outcome ≡ outcomes.Closed done) × (r : ClearRecord) × IsClose n old.clear.clear.lots old.clear.lots r) → Ends n old.clear.lots (outcome ∷ [])
-    by (inl (r, is)) = rw is (refused_ends n old.clear.lots r)
-    by (inr (done, is, r, close)) =
-        let at = going_parts old.clear.lots n close.lot close.going in
+    by : OrRefused (Closes n) (shown_of old) outcome (shown_of new) → Ends n old.clear.lots (outcome ∷ [])
+    by (inl refuses) = rw (refuses.is) (refused_ends n old.clear.lots refuses.refusal)
+    by (inr (done, is, close)) =
         rw is (record {
           none = refl;
-          going = λ closed. record { lot = close.lot; found = at.found; going = at.going };
-          met = λ closed unsealed l found. subst IsMet (same_Some close.lot l (sym at.found ∙ found)) (is_met close.lot close.met);
+          going = λ closed. (close.lot, close.at);
+          met = λ closed unsealed l found. subst IsMet (same_Some close.lot l (sym close.at.found ∙ found)) close.met;
         })
 
 closed_ends : (n : ℕ) (last : List Outcome) (old new : World) → IsClosed n last old new → Ends n old.clear.lots last
-closed_ends n last old new h = subst (Ends n old.clear.lots) (sym h.1) (close_ends n h.0 old new h.2.comes)
+closed_ends n last old new h = rw (h.1) (close_ends n h.0 old new h.2.comes)
 
 -- a lot was sealed that had not ended
-sealed_going : (n : ℕ) (old new : World) → Comes (event.Seal n) outcomes.Done old new → IsGoing n old.clear.lots
+sealed_going : (n : ℕ) (old new : World) → Comes (event.Seal n) outcomes.Done old new → Ongoing n old.clear.lots
 sealed_going n old new comes = by (seals_by n outcomes.Done old new comes)
   where
-    by : Refuses outcomes.Done ⊎ ((lot : LotState) × lots.IsGoing old.clear.lots n lot × (outcomes.Done ≡ outcomes.Done) × (new.clear.lots ≡ with_lot n (with_seal lot) old.clear.lots)) → IsGoing n old.clear.lots
-    by (inl (r, is)) = absurd (cc is)
-    by (inr (lot, at, is, left)) = record { lot = lot; found = at.found; going = at.going }
+    by : OrRefused (Seals n) (shown_of old) outcomes.Done (shown_of new) → Ongoing n old.clear.lots
+    by (inl refuses) = absurd (cc (refuses.is))
+    by (inr (lot, at, is)) = (lot, at)
 
-seal_ends : (n : ℕ) (last : List Outcome) (old new : World) → IsSealedFirst n last old new → Ends n old.clear.lots last
-seal_ends n last old new (inl h) =
-    subst (Ends n old.clear.lots) (sym (h.1 ∙ ap (λ (o : Outcome). o ∷ []) h.2.1)) (refused_ends n old.clear.lots h.2.0)
-seal_ends n last old new (inr h) =
-    let rest = closed_ends n h.0 h.1 new h.4 in
-    subst (Ends n old.clear.lots) (sym h.2) (record {
-      none = rest.none;
-      going = λ closed. sealed_going n old h.1 h.3.comes;
-      met = λ closed unsealed l found. cc;
-    })
-
+-- so it is where the lot ends, be it sealed before or not
 ended_ends : (n : ℕ) (sealed : Bool) (last : List Outcome) (old new : World) → IsEnded n sealed last old new → Ends n old.clear.lots last
-ended_ends n true last old new h = seal_ends n last old new h
 ended_ends n false last old new h = closed_ends n last old new h
+ended_ends n true last old new (inl h) = rw (h.1, h.2.1) (refused_ends n old.clear.lots h.2.0)
+ended_ends n true last old new (inr h) =
+    let rest = closed_ends n h.0 h.1 new h.4 in
+    rw (h.2) (record { none = rest.none; going = λ closed. sealed_going n old h.1 h.3.comes; met = λ closed unsealed l found. cc })
 
 -- ---- all of it
 
@@ -189,7 +166,7 @@ of_plan n old lots ts last lot has ends =
       is = has.of.is;
       served = subst (λ (us : List Ticket). IsServed lot.plan us true) (has.tickets_are ∙ sym drawn) has.of.served;
       whole = λ closed unsealed.
-          let met = ends.met (sym (close_of_draws ts last) ∙ closed) (sym (done_of_draws ts last) ∙ unsealed) has.lot has.found in
+          let met = ends.met (sym (any_of_draws is_close (λ t. refl) ts last) ∙ closed) (sym (any_of_draws is_done (λ t. refl) ts last) ∙ unsealed) has.lot has.found in
           let served = subst (λ (b : Bool). IsServed lot.plan has.lot.tickets b) has.unsealed (met_served lot.plan has.lot has.of met) in
           subst (λ (us : List Ticket). IsServed lot.plan us false) (has.tickets_are ∙ sym drawn) served;
     }

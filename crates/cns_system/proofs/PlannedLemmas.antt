@@ -1,15 +1,12 @@
 -- What a planned failure leaves.
 use Rattle.std.proofs.Common.{◌≡◌, ◌≢◌, ◌∙◌, Bool, true, Result, Ok, Err, ap, refl, sym, subst}
-use Rattle.cns_journal.specs.Keeper.{Fails, Forecast, Foresight, Succeeds, Unforeseen}
-use Rattle.cns_journal.specs.RecordLog.{LogState}
+use Rattle.cns_journal.specs.Keeper.{Forecast, Foresight, Unforeseen}
 use Rattle.cns_journal.specs.declared.keeper.NotPlanned.{NotPlanned}
-use Rattle.cns_records.specs.declared.clear_record.ClearRecord.{ClearRecord}
-use Rattle.cns_records.specs.declared.dep_record.DepRecord.{DepRecord}
 use Rattle.cns_system.specs.Accord.{Accord, IsInAccord}
 use Rattle.cns_system.specs.Headline.{AreStrict}
 use Rattle.cns_system.specs.Readers.{PlanStep}
 use Rattle.cns_system.specs.Scene.{Plans, Scene, is_foreseen, scene_of, sight_of}
-use Rattle.cns_system.specs.Shown.{Shown, shown_of}
+use Rattle.cns_system.specs.Shown.{Shown, log_shown, shown_of}
 use Rattle.cns_system.specs.World.{World}
 use Rattle.cns_system.specs.declared.event.NodeName.{NodeName}
 use Rattle.cns_system.specs.declared.event.NodeName.TheVariants as node
@@ -19,31 +16,20 @@ use Rattle.cns_system.proofs.StrictLemmas.{IsStrict, log_strict, shown_strict}
 
 foreseen_when : (next : Forecast) → next ≢ Unforeseen → is_foreseen next ≡ true
 foreseen_when Unforeseen known = absurd (known refl)
-foreseen_when Succeeds known = refl
-foreseen_when (Fails stands) known = refl
+foreseen_when _ known = refl
 
 -- only what is known of one node's keeper has changed
 clear_planned : (f : Foresight) (old new : World) → new.clear.clear.log ≡ record old.clear.clear.log { foresight = new.clear.clear.log.foresight }
     → new.clear.clear.log.foresight ≡ f → new.clear.clear.lots ≡ old.clear.clear.lots → new.clear.lots ≡ old.clear.lots → new.depot ≡ old.depot
     → new.orders ≡ old.orders → new.replies ≡ old.replies
     → scene_of new ≡ record (scene_of old) { clear = record (sight_of old.clear.clear.log) { foresight = f } }
-clear_planned f old new log foresight open_lots lots depot orders replies =
-    let records = ap (λ (l : LogState ClearRecord). l.records) log in
-    let tried = ap (λ (l : LogState ClearRecord). l.tried) log in
-    let down = ap (λ (l : LogState ClearRecord). l.down) log in
-    let honest = ap (λ (l : LogState ClearRecord). l.honest) log in
-    rw (records, tried, down, honest, foresight, open_lots, lots, depot, orders, replies) refl
+clear_planned f old new log foresight open_lots lots depot orders replies = cc (ap log_shown log, ap sight_of log)
 
 depot_planned : (f : Foresight) (old new : World) → new.depot.log ≡ record old.depot.log { foresight = new.depot.log.foresight }
     → new.depot.log.foresight ≡ f
     → new.depot.openings ≡ old.depot.openings → new.clear ≡ old.clear → new.orders ≡ old.orders → new.replies ≡ old.replies
     → scene_of new ≡ record (scene_of old) { depot = record (sight_of old.depot.log) { foresight = f } }
-depot_planned f old new log foresight openings clear orders replies =
-    let records = ap (λ (l : LogState DepRecord). l.records) log in
-    let tried = ap (λ (l : LogState DepRecord). l.tried) log in
-    let down = ap (λ (l : LogState DepRecord). l.down) log in
-    let honest = ap (λ (l : LogState DepRecord). l.honest) log in
-    rw (records, tried, down, honest, foresight, openings, clear, orders, replies) refl
+depot_planned f old new log foresight openings clear orders replies = cc (ap log_shown log, ap sight_of log)
 
 -- a plan leaves so much of both nodes, the link and what is known of the keepers
 pub plan_leaves : (name : NodeName) (stands : Bool) (result : Result (Unit {0}) NotPlanned) (old new : World) → PlanStep name stands result old new

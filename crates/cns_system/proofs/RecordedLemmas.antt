@@ -1,6 +1,7 @@
 -- Which records the calls commit.
-use Rattle.std.proofs.Common.{◌≡◌, ◌==◌, ◌||◌, ℕ, Bool, length, true, false, List, Some, Result, Ok, Err, not, refl}
-use Rattle.std.specs.Prelude.{IfOk}
+use Rattle.std.proofs.Common.{◌≡◌, ◌==◌, ◌||◌, ℕ, Bool, length, true, false, List, Some, Result, Ok, Err, [], ◌∷◌, arith, inl, inr, not, refl}
+use Rattle.std.specs.Prelude.{◌⊎◌, IfOk}
+use Rattle.std.proofs.lemmas.Bool.Decides.{nat_tests}
 use Rattle.std.specs.Option.{ok_or}
 use Rattle.cns_ids.specs.Steps.{◌>>=◌, ◌>>◌, need}
 use Rattle.cns_ids.specs.declared.cycle.CycleId.{CycleId}
@@ -16,6 +17,7 @@ use Rattle.cns_records.specs.declared.clear_record.ClearRecord.{ClearRecord}
 use Rattle.cns_records.specs.declared.clear_record.ClearRecord.TheVariants as entry
 use Rattle.cns_records.specs.declared.refusal.Refusal.{Refusal}
 use Rattle.cns_records.specs.declared.refusal.Refusal.TheVariants as refusal
+use Rattle.cns_allocate.specs.declared.planned.Planned.{Planned}
 use Rattle.cns_clearing.specs.Answers.{allocation_of, answer_in, close_deed, closed_of, covers_in, cycle_call, cycled_of, deliveries_by, reply_call, setting_call, trade_call, up, verdict_in}
 use Rattle.cns_clearing.specs.Books.{are_spent, is_later, latest_of, orders_of}
 use Rattle.cns_clearing.specs.Pools.{lot_of}
@@ -27,116 +29,110 @@ use Rattle.cns_clearing.specs.declared.lot.Lot.{Lot}
 use Rattle.cns_system.specs.Lot.{LotState}
 use Rattle.cns_system.specs.Lots.{going_lot}
 use Rattle.cns_system.specs.Numbered.{numbered_close}
-use Rattle.cns_system.proofs.StepLemmas.{found_some, needed, ok_then}
+use Rattle.cns_system.proofs.LotsLemmas.{IsGoing, going_parts}
+use Rattle.cns_system.proofs.StepLemmas.{ok_found, ok_needed, ok_then}
 
--- where a call commits a record the node is up, and this is so of the record
-abbrev pub Recorded : {R X : Type 0} → Bool → (R → Type 0) → Deed R X → Type 0
-Recorded down Q (call.Tells x) = Unit {0}
-Recorded down Q (call.Commits r x) = (down ≡ false) × Q r
+-- what a call comes to where it is not refused: where it commits no record this is so of what is told, and else the node is up, and this is so of the
+-- record and of what is told
+abbrev pub Recorded : {R X : Type 0} → Bool → (X → Type 0) → (R → X → Type 0) → Deed R X → Type 0
+Recorded down T Q (call.Tells x) = T x
+Recorded down T Q (call.Commits r x) = (down ≡ false) × Q r x
 
--- what is given is what a fact of all that is given is of
-pub given : {A E : Type 0} (P : A → Type 0) (r : Result A E) (a : A) → r ≡ Ok a → IfOk r P → P a
-given P r a is all = rw is at all
+-- it commits just this record
+abbrev pub Commits : {X : Type 0} → Bool → ClearRecord → Deed ClearRecord X → Type 0
+Commits down r d = Recorded down (λ x. ⊥) (λ k x. k ≡ r) d
 
-up_is : (down : Bool) (u : Unit {0}) → up down ≡ Ok u → down ≡ false
-up_is true u is = absurd (cc is)
-up_is false u is = refl
+-- what a node answers that is up is what comes after that
+pub ok_up : {B : Type 0} (P : B → Type 0) (down : Bool) (next : Result B Refusal) → (down ≡ false → IfOk next P) → IfOk (up down >> next) P
+ok_up P true next rest = tt
+ok_up P false next rest = rest refl
 
-pub trade_records : (t : Trade) (down : Bool) (c : List ClearRecord) → IfOk (trade_call t down c) (Recorded down (λ r. r ≡ entry.Accept t))
+pub trade_records : (t : Trade) (down : Bool) (c : List ClearRecord) → IfOk (trade_call t down c) (Commits down (entry.Accept t))
 unfolding trade_call
-trade_records t down c =
-    ok_then (Recorded down (λ r. r ≡ entry.Accept t)) (up down) (λ u. elim (verdict_in c t) [ verdicts.New ↦ Ok (call.Commits (entry.Accept t) (tt {0})) | verdict ↦ Err (refusal.Trade verdict) ])
-    (λ u is. by (verdict_in c t) (up_is down u is))
+trade_records t true c = tt
+trade_records t false c = by (verdict_in c t)
   where
-    by : (v : Verdict) → down ≡ false
-        → IfOk (elim v [ verdicts.New ↦ Ok (call.Commits (entry.Accept t) (tt {0})) | verdict ↦ Err (refusal.Trade verdict) ]) (Recorded down (λ r. r ≡ entry.Accept t))
-    by verdicts.New is = (is, refl)
-    by verdicts.Same is = tt
-    by verdicts.Conflict is = tt
-    by verdicts.SameMember is = tt
-    by verdicts.Full is = tt
+    by : (v : Verdict) → IfOk (elim v [ verdicts.New ↦ Ok (call.Commits (entry.Accept t) (tt {0})) | verdict ↦ Err (refusal.Trade verdict) ]) (Commits false (entry.Accept t))
+    by verdicts.New = (refl, refl)
+    by _ = tt
 
-pub setting_records : (r : ClearRecord) (down : Bool) → IfOk (setting_call r down) (Recorded down (λ k. k ≡ r))
+pub setting_records : (r : ClearRecord) (down : Bool) → IfOk (setting_call r down) (Commits down r)
 unfolding setting_call
-setting_records r down = ok_then (Recorded down (λ k. k ≡ r)) (up down) (λ u. Ok (call.Commits r tt)) (λ u is. (up_is down u is, refl))
+setting_records r down = ok_up (Commits down r) down (Ok (call.Commits r tt)) (λ up. (up, refl))
 
-pub cycle_records : (id : CycleId) (down : Bool) (c : List ClearRecord) (lots : List Lot) → IfOk (cycle_call id down c lots) (Recorded down (λ r. r ≡ entry.Cycle id))
+pub cycle_records : (id : CycleId) (down : Bool) (c : List ClearRecord) (lots : List Lot) → IfOk (cycle_call id down c lots) (Commits down (entry.Cycle id))
 unfolding cycle_call
 cycle_records id down c lots =
-    let Q = Recorded down (λ r. r ≡ entry.Cycle id) in
-    let later : Result (Unit {0}) Refusal = need (is_later (latest_of c) id) refusal.CycleOrder in
-    let closed : Result (Unit {0}) Refusal = need (length lots == 0) refusal.LotsOpen in
-    let room : Result (Unit {0}) Refusal = need (not (are_spent (orders_of c) (length (covers_in c id.day)))) refusal.NumbersSpent in
+    let Q = Commits down (entry.Cycle id) in
+    let later : Bool = is_later (latest_of c) id in
+    let few : Bool = not (are_spent (orders_of c) (length (covers_in c id.day))) in
     let deed : Result (Deed ClearRecord Cycled) Refusal = Ok (call.Commits (entry.Cycle id) (cycled_of c id)) in
-    ok_then Q (up down) (λ _. later >> (closed >> (room >> deed))) (λ u is.
-    ok_then Q later (λ _. closed >> (room >> deed)) (λ u1 is1.
-    ok_then Q closed (λ _. room >> deed) (λ u2 is2.
-    ok_then Q room (λ _. deed) (λ u3 is3. (up_is down u is, refl)))))
+    let room : Result (Deed ClearRecord Cycled) Refusal = need few refusal.NumbersSpent >> deed in
+    let closed : Result (Deed ClearRecord Cycled) Refusal = need (length lots == 0) refusal.LotsOpen >> room in
+    ok_up Q down (need later refusal.CycleOrder >> closed) (λ up.
+    ok_needed Q later refusal.CycleOrder closed (λ is. ok_needed Q (length lots == 0) refusal.LotsOpen room (λ none. ok_needed Q few refusal.NumbersSpent deed (λ spare. (up, refl)))))
 
-pub reply_records : (reply : Reply) (down : Bool) (c : List ClearRecord) → IfOk (reply_call reply down c) (Recorded down (λ r. r ≡ entry.Confirm reply))
+-- a reply is confirmed, or was before
+abbrev pub Confirms : Bool → Reply → Deed ClearRecord Taken → Type 0
+Confirms down reply d = Recorded down (λ x. x ≡ taken.Again) (λ r x. (r ≡ entry.Confirm reply) × (x ≡ taken.Done)) d
+
+pub reply_records : (reply : Reply) (down : Bool) (c : List ClearRecord) → IfOk (reply_call reply down c) (Confirms down reply)
 unfolding reply_call
-reply_records reply down c =
-    ok_then (Recorded down (λ r. r ≡ entry.Confirm reply)) (up down) (λ _. told (answer_in c reply)) (λ u is. by (answer_in c reply) (up_is down u is))
+reply_records reply true c = tt
+reply_records reply false c = by (answer_in c reply)
   where
-    told : Confirm → Result (Deed ClearRecord Taken) Refusal
-    told a = elim a [
+    by : (a : Confirm) → IfOk (elim a [
       | answers.Done ↦ Ok (call.Commits (entry.Confirm reply) taken.Done)
       | answers.Again ↦ Ok (call.Tells taken.Again)
       | answers.UnknownMove ↦ Err refusal.UnknownMove
       | answers.Conflict ↦ Err refusal.Conflict
       | answers.TooMuch ↦ Err refusal.TooMuch
-    ]
+    ]) (Confirms false reply)
+    by answers.Done = (refl, (refl, refl))
+    by answers.Again = refl
+    by _ = tt
 
-    by : (a : Confirm) → down ≡ false → IfOk (told a) (Recorded down (λ r. r ≡ entry.Confirm reply))
-    by answers.Done is = (is, refl)
-    by answers.Again is = tt
-    by answers.UnknownMove is = tt
-    by answers.Conflict is = tt
-    by answers.TooMuch is = tt
+-- ---- a close
 
--- the allocation of a close: of which lot it is
-pub record IsClose (number : ℕ) (open_lots : List Lot) (lots : List LotState) (r : ClearRecord) : Type 0 where
+-- a lot is sealed, or nobody waits for a ticket of it
+abbrev pub IsMet : LotState → Type 0
+IsMet lot = (lot.sealed ≡ true) ⊎ (lot.turns ≡ [])
+
+pub is_met : (l : LotState) → (l.sealed || (length l.turns == 0)) ≡ true → IsMet l
+is_met l met = by l.sealed l.turns refl refl met
+  where
+    by : (sealed : Bool) (turns : List Planned) → l.sealed ≡ sealed → l.turns ≡ turns → (sealed || (length turns == 0)) ≡ true → IsMet l
+    by true turns is waits met = inl is
+    by false [] is waits met = inr waits
+    by false (t ∷ ts) is waits met = let some : (length (t ∷ ts) == 0) ≡ false = grind (arith, nat_tests) in absurd (cc (some, met))
+
+-- the lot of a number closes, and which lot of the node it is
+pub record IsClose (number : ℕ) (open_lots : List Lot) (lots : List LotState) : Type 0 where
   pub lot : LotState
-  pub going : going_lot lots number ≡ Ok lot
-  pub met : (lot.sealed || (length lot.turns == 0)) ≡ true
+  pub at : IsGoing lots number lot
+  pub met : IsMet lot
   pub twin : Lot
   pub found : lot_of open_lots lot.issue ≡ Some twin
-  pub is : r ≡ entry.Allocate (allocation_of twin lot.tickets lot.sealed)
+
+-- its allocation
+abbrev pub allocated : {number : ℕ} {open_lots : List Lot} {lots : List LotState} → IsClose number open_lots lots → ClearRecord
+allocated close = entry.Allocate (allocation_of close.twin close.lot.tickets close.lot.sealed)
+
+abbrev pub Closes : ℕ → Bool → List Lot → List LotState → Deed ClearRecord Closed → Type 0
+Closes number down open_lots lots d = Recorded down (λ x. ⊥) (λ r x. (close : IsClose number open_lots lots) × (r ≡ allocated close)) d
 
 pub close_records : (number : ℕ) (down : Bool) (c : List ClearRecord) (open_lots : List Lot) (lots : List LotState)
-    → IfOk (numbered_close number down c open_lots lots) (Recorded down (IsClose number open_lots lots))
+    → IfOk (numbered_close number down c open_lots lots) (Closes number down open_lots lots)
 unfolding numbered_close
 close_records number down c open_lots lots =
-    let Q = Recorded down (IsClose number open_lots lots) in
+    let Q = Closes number down open_lots lots in
     let deed : LotState → Lot → Result (Deed ClearRecord Closed) Refusal = λ lot twin. close_deed lot.tickets lot.sealed c twin in
     let twin : LotState → Result (Deed ClearRecord Closed) Refusal = λ lot. ok_or (lot_of open_lots lot.issue) refusal.NoLot >>= deed lot in
-    let met : LotState → Result (Unit {0}) Refusal = λ lot. need (lot.sealed || (length lot.turns == 0)) refusal.Unserved in
-    ok_then Q (going_lot lots number) (λ lot. up down >> (met lot >> twin lot)) (λ lot going.
-    ok_then Q (up down) (λ _. met lot >> twin lot) (λ u is.
-    ok_then Q (met lot) (λ _. twin lot) (λ u1 is1.
-    ok_then Q (ok_or (lot_of open_lots lot.issue) refusal.NoLot) (deed lot) (λ k there.
-    ok_then Q (need (not (are_spent (orders_of c) (length (deliveries_by k lot.tickets lot.sealed)))) refusal.NumbersSpent)
-    (λ _. Ok (call.Commits (entry.Allocate (allocation_of k lot.tickets lot.sealed)) (closed_of k lot.tickets lot.sealed c))) (λ u2 is2.
-    (up_is down u is, record { lot = lot; going = going; met = needed (lot.sealed || (length lot.turns == 0)) refusal.Unserved u1 is1; twin = k; found = found_some (lot_of open_lots lot.issue) refusal.NoLot k there; is = refl }))))))
-
--- a close that is not refused commits a record
-abbrev IsCommit : Deed ClearRecord Closed → Type 0
-IsCommit d = elim d [ call.Tells x ↦ ⊥ | call.Commits r x ↦ Unit {0} ]
-
-all_commit : (number : ℕ) (down : Bool) (c : List ClearRecord) (open_lots : List Lot) (lots : List LotState) → IfOk (numbered_close number down c open_lots lots) IsCommit
-unfolding numbered_close
-all_commit number down c open_lots lots =
-    let deed : LotState → Lot → Result (Deed ClearRecord Closed) Refusal = λ lot twin. close_deed lot.tickets lot.sealed c twin in
-    let twin : LotState → Result (Deed ClearRecord Closed) Refusal = λ lot. ok_or (lot_of open_lots lot.issue) refusal.NoLot >>= deed lot in
-    let met : LotState → Result (Unit {0}) Refusal = λ lot. need (lot.sealed || (length lot.turns == 0)) refusal.Unserved in
-    ok_then IsCommit (going_lot lots number) (λ lot. up down >> (met lot >> twin lot)) (λ lot going.
-    ok_then IsCommit (up down) (λ _. met lot >> twin lot) (λ u is.
-    ok_then IsCommit (met lot) (λ _. twin lot) (λ u1 is1.
-    ok_then IsCommit (ok_or (lot_of open_lots lot.issue) refusal.NoLot) (deed lot) (λ k there.
-    ok_then IsCommit (need (not (are_spent (orders_of c) (length (deliveries_by k lot.tickets lot.sealed)))) refusal.NumbersSpent)
-    (λ _. Ok (call.Commits (entry.Allocate (allocation_of k lot.tickets lot.sealed)) (closed_of k lot.tickets lot.sealed c))) (λ u2 is2. tt)))))
-
-pub close_commits : (number : ℕ) (down : Bool) (c : List ClearRecord) (open_lots : List Lot) (lots : List LotState) (x : Closed)
-    → numbered_close number down c open_lots lots ≡ Ok (call.Tells x) → ⊥
-close_commits number down c open_lots lots x is =
-    given IsCommit (numbered_close number down c open_lots lots) (call.Tells x) is (all_commit number down c open_lots lots)
+    let served : LotState → Bool = λ lot. lot.sealed || (length lot.turns == 0) in
+    ok_then Q (going_lot lots number) (λ lot. up down >> (need (served lot) refusal.Unserved >> twin lot)) (λ lot going.
+    ok_up Q down (need (served lot) refusal.Unserved >> twin lot) (λ up.
+    ok_needed Q (served lot) refusal.Unserved (twin lot) (λ met.
+    ok_found Q (lot_of open_lots lot.issue) refusal.NoLot (deed lot) (λ k found.
+    ok_needed Q (not (are_spent (orders_of c) (length (deliveries_by k lot.tickets lot.sealed)))) refusal.NumbersSpent
+    (Ok (call.Commits (entry.Allocate (allocation_of k lot.tickets lot.sealed)) (closed_of k lot.tickets lot.sealed c))) (λ few.
+    let close : IsClose number open_lots lots = record { lot = lot; at = going_parts lots number lot going; met = is_met lot met; twin = k; found = found } in (up, (close, refl)))))))

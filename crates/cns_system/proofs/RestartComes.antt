@@ -24,7 +24,7 @@ use Rattle.cns_system.specs.declared.event.Event.TheVariants as event
 use Rattle.cns_system.specs.declared.event.NodeName.TheVariants as node
 use Rattle.cns_system.specs.declared.outcome.Outcome.{Outcome}
 use Rattle.cns_system.specs.declared.outcome.Outcome.TheVariants as outcomes
-use Rattle.cns_system.proofs.ComesLemmas.{by_chance, untouched_same}
+use Rattle.cns_system.proofs.ComesLemmas.{by_chance, untouched_refl}
 
 -- what a restart tells
 abbrev pub restart_told : Result Restarted ReplayFault → Outcome
@@ -93,63 +93,47 @@ module _ {R : Type 0} (spelling : R → List ℕ) (allows : List R → R → Typ
     (goes : (c : List R) (log : LogShown R) (left : LogShown R → Shown) → restarted (reads c) log c left
     ≡ (outcomes.Restarted (length c) (length c == length log.records + 1), left (record { records = c; tried = None; down = false })))
     (old new : LogState R) where
+  -- what is told, and what is left of the log
+  abbrev leaves : Result Restarted ReplayFault → LogShown R → (LogShown R → Shown) → Outcome × Shown
+  leaves result log left = (restart_told result, left log)
+
+  -- so it is of each restart
   rereads : (result : Result Restarted ReplayFault) → LogRestarts spelling allows fits result old new → Rereads spelling allows fits reads read_by result old new
   rereads (Ok r) left =
       let by = reread reads r.kept old new left.4 left.5 in
-      let tried = ap (λ (l : LogState R). l.tried) left.0 in
-      let down = ap (λ (l : LogState R). l.down) left.0 in
-      let honest = ap (λ (l : LogState R). l.honest) left.0 in
-      let foresight = ap (λ (l : LogState R). l.foresight) left.0 in
       record {
         chance = by.0;
         decision = reads new.records;
         decided = by.1;
-        settles = λ l. rw (found new.records) (goes new.records (log_shown old) l ∙ rw (left.1, left.2, tried, down) refl);
-        sight = rw (honest, foresight) refl;
+        settles = λ l. rw (found new.records) (goes new.records (log_shown old) l ∙ rw (left.1, left.2)
+            (ap (λ (log : LogShown R). (outcomes.Restarted (length new.records) (length new.records == length old.records + 1), l log)) (sym (ap log_shown left.0))));
+        sight = ap sight_of left.0;
         devices = (ap (λ (l : LogState R). l.failures) left.0, ap (λ (l : LogState R). l.rejected) left.0, left.3);
       }
-  rereads (Err replay.OutOfMemory) left =
-      let records = ap (λ (l : LogState R). l.records) left.0 in
-      let tried = ap (λ (l : LogState R). l.tried) left.0 in
-      let down = ap (λ (l : LogState R). l.down) left.0 in
-      let honest = ap (λ (l : LogState R). l.honest) left.0 in
-      record {
-        chance = Forgets new.foresight.stands;
-        decision = NoMemory;
-        decided = refl;
-        settles = λ l. rw (records, tried, down) refl;
-        sight = rw (honest, ← left.1) refl;
-        devices = record { failures = ap (λ (l : LogState R). l.failures) left.0; rejected = ap (λ (l : LogState R). l.rejected) left.0 };
-      }
-  rereads (Err (replay.BadJournal place)) left =
-      let dishonest = false_from_ne_true old.honest left.2 in
-      let records = ap (λ (l : LogState R). l.records) left.0 in
-      let tried = ap (λ (l : LogState R). l.tried) left.0 in
-      let down = ap (λ (l : LogState R). l.down) left.0 in
-      let honest = ap (λ (l : LogState R). l.honest) left.0 in
-      let foresight = ap (λ (l : LogState R). l.foresight) left.0 in
-      record {
-        chance = Decides (FindsBad place);
-        decision = FindsBad place;
-        decided = decides reads (FindsBad place) (sight_of old) old.tried old.records dishonest;
-        settles = λ l. rw (records, tried, down) refl;
-        sight = rw (honest, foresight) refl;
-        devices = (ap (λ (l : LogState R). l.failures) left.0, left.1);
-      }
-  rereads (Err replay.Device) left =
-      let records = ap (λ (l : LogState R). l.records) left.0 in
-      let tried = ap (λ (l : LogState R). l.tried) left.0 in
-      let down = ap (λ (l : LogState R). l.down) left.0 in
-      let honest = ap (λ (l : LogState R). l.honest) left.0 in
-      let foresight = ap (λ (l : LogState R). l.foresight) left.0 in
-      record {
-        chance = Decides DeviceFails;
-        decision = DeviceFails;
-        decided = fails_unknown reads (sight_of old) old.tried old.records left.2;
-        settles = λ l. rw (records, tried, down) refl;
-        sight = rw (honest, foresight) refl;
-        devices = (left.1, ap (λ (l : LogState R). l.rejected) left.0, left.2);
-      }
+  rereads (Err replay.OutOfMemory) left = record {
+    chance = Forgets new.foresight.stands;
+    decision = NoMemory;
+    decided = refl;
+    settles = λ l. ap (λ (log : LogShown R). leaves (Err replay.OutOfMemory) log l) (sym (ap log_shown left.0));
+    sight = rw (← left.1) (ap sight_of left.0);
+    devices = record { failures = ap (λ (l : LogState R). l.failures) left.0; rejected = ap (λ (l : LogState R). l.rejected) left.0 };
+  }
+  rereads (Err (replay.BadJournal place)) left = record {
+    chance = Decides (FindsBad place);
+    decision = FindsBad place;
+    decided = decides reads (FindsBad place) (sight_of old) old.tried old.records (false_from_ne_true old.honest left.2);
+    settles = λ l. ap (λ (log : LogShown R). leaves (Err (replay.BadJournal place)) log l) (sym (ap log_shown left.0));
+    sight = ap sight_of left.0;
+    devices = (ap (λ (l : LogState R). l.failures) left.0, left.1);
+  }
+  rereads (Err replay.Device) left = record {
+    chance = Decides DeviceFails;
+    decision = DeviceFails;
+    decided = fails_unknown reads (sight_of old) old.tried old.records left.2;
+    settles = λ l. ap (λ (log : LogShown R). leaves (Err replay.Device) log l) (sym (ap log_shown left.0));
+    sight = ap sight_of left.0;
+    devices = (left.1, ap (λ (l : LogState R). l.rejected) left.0, left.2);
+  }
 
 pub clear_restarts : (result : Result Restarted ReplayFault) (old : World) (left_node : clear.ClearNode) (lots : List LotState) → clear.RestartLeaves result old.clear.clear left_node
     → lots ≡ map with_end old.clear.lots → Comes (event.Restart node.Clear) (restart_told result) old (record old { clear = record { clear = left_node; lots = lots } })
@@ -161,7 +145,7 @@ clear_restarts result old left_node lots (left, none) ended =
     old.clear.clear.log left_node.log result left in
     by_chance (event.Restart node.Clear) old new by.chance by.decision (Ok (RestartsOf node.Clear)) (restart_told result) _ by.decided refl
     (by.settles (λ log. record (shown_of old) { clear = log; open_lots = []; lots = map with_end old.clear.lots }) ∙ rw (none, ended) refl) refl
-    (rw (by.sight) refl) (by.devices, untouched_same old.depot.log old.depot.log refl)
+    (rw (by.sight) refl) (by.devices, untouched_refl old.depot.log)
 
 pub depot_restarts : (result : Result Restarted ReplayFault) (old : World) (left_node : depot.DepNode) → depot.RestartLeaves result old.depot left_node
     → Comes (event.Restart node.Depot) (restart_told result) old (record old { depot = left_node })
@@ -173,4 +157,4 @@ depot_restarts result old left_node (left, openings) =
     (λ c log l. refl) old.depot.log left_node.log result left in
     by_chance (event.Restart node.Depot) old new by.chance by.decision (Ok (RestartsOf node.Depot)) (restart_told result) _ by.decided refl
     (by.settles (λ log. record (shown_of old) { depot = log }) ∙ rw openings refl) refl
-    (rw (by.sight) refl) (by.devices, untouched_same old.clear.clear.log old.clear.clear.log refl)
+    (rw (by.sight) refl) (by.devices, untouched_refl old.clear.clear.log)

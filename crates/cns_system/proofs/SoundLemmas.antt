@@ -1,28 +1,16 @@
 -- What no event comes to while both nodes and the link are in accord.
-use Rattle.std.proofs.Common.{◌≡◌, ◌≤◌, ◌∙◌, ◌+◌, ◌⊎◌, inl, inr, ℕ, Bool, true, false, List, length, Option, Some, None, Result, Ok, Err, ap, refl, subst, sym, arith}
-use Rattle.std.specs.Prelude.{◌≢◌, All, IfErr, IfOk, not, nat_lt, if◌then◌else◌}
-use Rattle.std.specs.Option.{ok_or, option_flatten}
+use Rattle.std.proofs.Common.{◌≡◌, ◌≤◌, ◌∙◌, ◌⊎◌, inl, inr, ℕ, Bool, true, false, List, Option, Some, None, Result, Ok, Err, ap, refl, subst, sym, arith}
+use Rattle.std.specs.Prelude.{All, IfErr, IfOk, not, nat_lt, if◌then◌else◌}
+use Rattle.std.specs.Option.{option_flatten}
 use Rattle.std.proofs.lemmas.Option.{same_Some}
 use Rattle.cns_ids.specs.Steps.{◌>>◌, need}
-use Rattle.cns_trades.specs.declared.opening.Opening.{Opening}
 use Rattle.cns_movements.specs.Order.{AgreesWith, moved_of, order_of}
 use Rattle.cns_movements.proofs.AgreeLemmas.{agree_fields, agrees_with-holds}
-use Rattle.cns_records.specs.Call.{Deed}
 use Rattle.cns_records.specs.Call as call
 use Rattle.cns_records.specs.declared.clear_record.ClearRecord.TheVariants as entry
-use Rattle.cns_records.specs.declared.dep_record.DepRecord.{DepRecord}
 use Rattle.cns_clearing.specs.Answers.{reply_call, up}
-use Rattle.cns_depository.specs.Answers.{dep_refusal, executes, known_call, order_call}
 use Rattle.cns_depository.specs.Stock.{executed_of, movement, movement_of}
-use Rattle.cns_system.specs.Accord.{Accord, IsInAccord, IsAsOrdered, IsSound, SpellsOrder, SpellsReply, StaysSound}
-use Rattle.cns_system.specs.Happens.{Change, ClearReads, Decision, DepotReads, DeviceFails, FindsBad, Goes, NoMemory, answer_told, by_clear, by_order, judged, restarted, taken_told}
-use Rattle.cns_system.specs.Scene.{Chance, Comes, decision_at, scene_of, sight_of}
-use Rattle.cns_system.specs.Shown.{LogShown, Shown, shown_of}
 use Rattle.cns_system.specs.World.{World}
-use Rattle.cns_system.proofs.HappensLemmas.{Holds, checked_keeps, clear_holds, happened}
-use Rattle.cns_system.proofs.HonestLemmas.{IsHonestly, honestly}
-use Rattle.cns_system.proofs.KeepsLemmas.{spelt_in}
-use Rattle.cns_system.proofs.StepLemmas.{err_after, err_found, found_some, ok_then}
 use Rattle.std.proofs.lemmas.Bool.{eq-eqb, ltb-true}
 use Rattle.cns_movements.specs.Book.{Orders}
 use Rattle.cns_movements.specs.Confirm.{answer_by, confirm_answer}
@@ -32,11 +20,7 @@ use Rattle.cns_movements.specs.declared.order.Order.{Order}
 use Rattle.cns_movements.specs.declared.order.Reply.{Reply}
 use Rattle.cns_depository.specs.declared.movement.Movement.{Movement}
 use Rattle.cns_clearing.specs.Books.{orders_of}
-use Rattle.cns_clearing.specs.declared.answer.Taken.{Taken}
 use Rattle.cns_clearing.specs.declared.answer.Taken.TheVariants as taken
-use Rattle.cns_depository.specs.declared.fault.Answer.{Answer}
-use Rattle.cns_depository.specs.declared.fault.Answer.TheVariants as answer
-use Rattle.cns_depository.specs.declared.fault.DepFault.{DepFault}
 use Rattle.cns_depository.specs.declared.fault.DepFault.TheVariants as fault
 use Rattle.cns_wire.specs.Packet.{at_number}
 use Rattle.cns_system.specs.declared.event.Event.{Event}
@@ -48,6 +32,16 @@ use Rattle.cns_system.specs.declared.outcome.Outcome.TheVariants as outcomes
 use Rattle.cns_records.specs.declared.refusal.Refusal.{Refusal}
 use Rattle.cns_records.specs.declared.refusal.Refusal.TheVariants as refusal
 use Rattle.cns_system.specs.Agreement.{IsExecuted}
+use Rattle.cns_depository.specs.Answers.{executes, known_call, order_call}
+use Rattle.cns_system.specs.Accord.{Accord, IsInAccord, IsAsOrdered, IsSound, StaysSound}
+use Rattle.cns_system.specs.Happens.{Change, Commits, Decision, FindsBad, Grows, Leaves, Restarts, by_clear, by_order, judged, restarts, taken_told}
+use Rattle.cns_system.specs.Scene.{Chance, Comes, Scene, decision_at, scene_of}
+use Rattle.cns_system.specs.Shown.{Shown}
+use Rattle.cns_system.proofs.EventHolds.{Arrives, order_holds, reply_holds}
+use Rattle.cns_system.proofs.HappensLemmas.{Holds, comes_keeps, refused_keeps}
+use Rattle.cns_system.proofs.HonestLemmas.{GivesClear, GivesDepot, clear_gives, depot_gives}
+use Rattle.cns_system.proofs.KeepsLemmas.{ordered, replied}
+use Rattle.cns_system.proofs.StepLemmas.{err_found}
 
 -- an executed order of a number agrees with the order of that number
 pub executed_agrees : (orders : List Order) (movements : List Movement) (o : Order) (m : Movement) → All (IsAsOrdered orders) movements → order_of orders o.number ≡ Some o
@@ -83,145 +77,104 @@ answer_known book movements r known executed done =
 
 -- ---- events
 
-abbrev Sound : Event → Outcome → Shown → Type 0
-Sound e outcome w = IsSound e outcome
+-- an outcome that is sound at each event
+abbrev IsFine : Outcome → Type 0
+IsFine (outcomes.Refused refusal.UnknownMove) = ⊥
+IsFine (outcomes.Refused refusal.Conflict) = ⊥
+IsFine (outcomes.Refused refusal.TooMuch) = ⊥
+IsFine (outcomes.Refused (refusal.BadJournal place)) = ⊥
+IsFine _ = Unit {0}
 
--- an order that came agrees with what was executed under its number
-order_unrefused : (o : Order) (down : Bool) (openings : List Opening) (p : List DepRecord)
-    → ((known : Movement) → movement_of (executed_of p) o.number ≡ Some known → AgreesWith known.order o) → IfErr (order_call o down openings p) (λ f. f ≢ fault.Conflict)
-unfolding order_call
-order_unrefused o down openings p agrees = by down (movement_of (executed_of p) o.number) refl
-  where
-    by : (b : Bool) (found : Option Movement) → movement_of (executed_of p) o.number ≡ found
-        → IfErr (need (not b) fault.Down >> elim found [ None ↦ Ok (executes (movement openings p o)) | Some known ↦ known_call o known ]) (λ f. f ≢ fault.Conflict)
-    by true found is = λ e. cc e
-    by false None is = tt
-    by false (Some known) is = rw (agrees_with-holds known.order o (agrees known is)) tt
+fine : (e : Event) (o : Outcome) → IsFine o → IsSound e o
+fine (event.OrderIn packet) o is = λ e. subst IsFine e is
+fine (event.ReplyIn packet) o is = (λ e. subst IsFine e is, λ e. subst IsFine e is, λ e. subst IsFine e is)
+fine (event.Restart name) o is = λ place e. subst IsFine e is
+fine _ o is = tt
 
-same_refusal : (f : DepFault) → f ≢ fault.Conflict → outcomes.Refused (dep_refusal f) ≢ outcomes.Refused refusal.Conflict
-same_refusal fault.Down isnt e = cc e
-same_refusal fault.Conflict isnt e = isnt refl
-same_refusal fault.OutOfMemory isnt e = cc e
-same_refusal fault.Device isnt e = cc e
-
-module _ (d : Decision) (w : Shown) (a : Accord w) where
-  -- an order that came is of the orders, so that it meets no other one under its number
-  order_err : (packet : ℕ) (o : Order) → order_of (orders_of w.clear.records).orders o.number ≡ Some o
-      → IfErr (by_order w (order_call o w.depot.down w.openings w.depot.records)) (λ r. outcomes.Refused r ≢ outcomes.Refused refusal.Conflict)
-  order_err packet o found =
-      by (order_call o w.depot.down w.openings w.depot.records)
-      (order_unrefused o w.depot.down w.openings w.depot.records
-      (λ known at. executed_agrees (orders_of w.clear.records).orders (executed_of w.depot.records) o known a.executed found at))
+module _ (s : Scene) (a : Accord s.shown) where
+  -- an order that came is of the orders, so that it agrees with what was executed under its number, and meets no other one
+  order_refused : (packet : ℕ) (o : Order) → Arrives s.shown.orders packet o
+      → IfErr (by_order s.shown (order_call o s.shown.depot.down s.shown.openings s.shown.depot.records)) (λ r. IsSound (event.OrderIn packet) (outcomes.Refused r))
+  unfolding order_call
+  order_refused packet o at = by s.shown.depot.down (movement_of (executed_of s.shown.depot.records) o.number) refl
     where
-      by : (deed : Result (Deed DepRecord Answer) DepFault) → IfErr deed (λ f. f ≢ fault.Conflict) → IfErr (by_order w deed) (λ r. outcomes.Refused r ≢ outcomes.Refused refusal.Conflict)
-      by (Ok deed) unrefused = tt
-      by (Err f) unrefused = same_refusal f unrefused
-
-  order_told : (packet : ℕ) (o : Order) → IfOk (by_order w (order_call o w.depot.down w.openings w.depot.records)) (Holds (Sound (event.OrderIn packet)) d w)
-  order_told packet o = by (order_call o w.depot.down w.openings w.depot.records)
-    where
-      told : (place : ℕ) (x : Answer) → answer_told place x ≢ outcomes.Refused refusal.Conflict
-      told place (answer.Done r) e = cc e
-      told place (answer.Again r) e = cc e
-
-      by : (deed : Result (Deed DepRecord Answer) DepFault) → IfOk (by_order w deed) (Holds (Sound (event.OrderIn packet)) d w)
-      by (Err f) = tt
-      by (Ok (call.Tells x)) = told (length w.replies + 1) x
-      by (Ok (call.Commits e x)) = (told (length w.replies + 1) x, λ e. cc e)
+      by : (down : Bool) (found : Option Movement) → movement_of (executed_of s.shown.depot.records) o.number ≡ found
+          → IfErr (by_order s.shown (need (not down) fault.Down >> elim found [ None ↦ Ok (executes (movement s.shown.openings s.shown.depot.records o)) | Some known ↦ known_call o known ]))
+          (λ r. IsSound (event.OrderIn packet) (outcomes.Refused r))
+      by true found is = fine (event.OrderIn packet) (outcomes.Refused refusal.Down) tt
+      by false None is = tt
+      by false (Some known) is =
+          let agrees = executed_agrees (orders_of s.shown.clear.records).orders (executed_of s.shown.depot.records) o known a.executed (ordered s.shown a packet o at) is in
+          rw (agrees_with-holds known.order o agrees) tt
 
   -- a reply that came is of a movement that was executed, so that it is a first or a repeated confirmation
-  reply_err : (packet : ℕ) (r : Reply) → IsExecuted (executed_of w.depot.records) r
-      → IfErr (by_clear (taken_told r) w (reply_call r w.clear.down w.clear.records)) (λ f. IsSound (event.ReplyIn packet) (outcomes.Refused f))
+  reply_refused : (packet : ℕ) (r : Reply) → Arrives s.shown.replies packet r
+      → IfErr (by_clear (taken_told r) s.shown (reply_call r s.shown.clear.down s.shown.clear.records)) (λ f. IsSound (event.ReplyIn packet) (outcomes.Refused f))
   unfolding reply_call
-  reply_err packet r executed =
-      by w.clear.down (confirm_answer (orders_of w.clear.records) r) (answer_known (orders_of w.clear.records) (executed_of w.depot.records) r a.executed a.confirmed executed)
+  reply_refused packet r at =
+      by s.shown.clear.down (confirm_answer (orders_of s.shown.clear.records) r)
+      (answer_known (orders_of s.shown.clear.records) (executed_of s.shown.depot.records) r a.executed a.confirmed (replied s.shown a packet r at))
     where
       by : (down : Bool) (answer : Confirm) → (answer ≡ confirm.Done) ⊎ (answer ≡ confirm.Again)
-          → IfErr (by_clear (taken_told r) w (up down >> elim answer [
+          → IfErr (by_clear (taken_told r) s.shown (up down >> elim answer [
             | confirm.Done ↦ Ok (call.Commits (entry.Confirm r) taken.Done)
             | confirm.Again ↦ Ok (call.Tells taken.Again)
             | confirm.UnknownMove ↦ Err refusal.UnknownMove
             | confirm.Conflict ↦ Err refusal.Conflict
             | confirm.TooMuch ↦ Err refusal.TooMuch
           ])) (λ f. IsSound (event.ReplyIn packet) (outcomes.Refused f))
-      by true answer is = (λ e. cc e, λ e. cc e, λ e. cc e)
+      by true answer is = fine (event.ReplyIn packet) (outcomes.Refused refusal.Down) tt
       by false answer (inl is) = rw is tt
       by false answer (inr is) = rw is tt
 
-  reply_holds : (packet : ℕ) (r : Reply) → IfOk (by_clear (taken_told r) w (reply_call r w.clear.down w.clear.records)) (Holds (Sound (event.ReplyIn packet)) d w)
-  reply_holds packet r =
-      clear_holds (Sound (event.ReplyIn packet)) d w (taken_told r) (λ ls. ls) (reply_call r w.clear.down w.clear.records) (λ x is. told x) (λ k x is. (told x, (λ e. cc e, λ e. cc e, λ e. cc e)))
-    where
-      told : (x : Taken) → IsSound (event.ReplyIn packet) (taken_told r x)
-      told taken.Done = (λ e. cc e, λ e. cc e, λ e. cc e)
-      told taken.Again = (λ e. cc e, λ e. cc e, λ e. cc e)
+  -- what there is refuses no event otherwise
+  refused_sound : (e : Event) → IfErr (judged e s.shown) (λ r. IsSound e (outcomes.Refused r))
+  unfolding judged
+  refused_sound (event.OrderIn packet) =
+      let held = option_flatten (at_number s.shown.orders packet) in
+      let next : Order → Result Change Refusal = λ o. by_order s.shown (order_call o s.shown.depot.down s.shown.openings s.shown.depot.records) in
+      err_found (λ r. IsSound (event.OrderIn packet) (outcomes.Refused r)) held refusal.NoPacket next (fine (event.OrderIn packet) (outcomes.Refused refusal.NoPacket) tt) (order_refused packet)
+  refused_sound (event.ReplyIn packet) =
+      let held = option_flatten (at_number s.shown.replies packet) in
+      let next : Reply → Result Change Refusal = λ r. by_clear (taken_told r) s.shown (reply_call r s.shown.clear.down s.shown.clear.records) in
+      err_found (λ r. IsSound (event.ReplyIn packet) (outcomes.Refused r)) held refusal.NoPacket next (fine (event.ReplyIn packet) (outcomes.Refused refusal.NoPacket) tt) (reply_refused packet)
+  refused_sound (event.Restart name) = tt
+  refused_sound e = refused_keeps (λ r. Unit {0}) (judged e s.shown) (λ r. tt)
+
+-- what is so of anything is so of each change
+holds_always : (P : Outcome → Shown → Type 0) (d : Decision) (w : Shown) (j : Result Change Refusal) → ((o : Outcome) (left : Shown) → P o left) → IfOk j (Holds P d w)
+holds_always P d w (Err r) all = tt
+holds_always P d w (Ok (Leaves o left)) all = all o left
+holds_always P d w (Ok (Grows o left)) all = all o left
+holds_always P d w (Ok (Commits o left failed)) all = (all o left, all (outcomes.Refused refusal.Device) failed)
+holds_always P d w (Ok (Restarts name)) all = all (restarts d name w).0 (restarts d name w).1
 
 -- no journal of an honest keeper is bad
-restart_told : {R : Type 0} (d : Decision) (reads : List R → Decision) (tried : Option R) (records : List R) (log : LogShown R) (read : List R) (left : LogShown R → Shown)
-    → ((c : List R) (place : ℕ) → reads c ≢ FindsBad place) → IsHonestly reads tried records d → (place : ℕ) → (restarted d log read left).0 ≢ outcomes.Refused (refusal.BadJournal place)
-restart_told NoMemory reads tried records log read left never is place e = cc e
-restart_told DeviceFails reads tried records log read left never is place e = cc e
-restart_told Goes reads tried records log read left never is place e = cc e
-restart_told (ClearReads c) reads tried records log read left never is place e = cc e
-restart_told (DepotReads p) reads tried records log read left never is place e = cc e
-restart_told (FindsBad at) reads tried records log read left never (inl is) place e = cc is
-restart_told (FindsBad at) reads tried records log read left never (inr (inl is)) place e = cc is
-restart_told (FindsBad at) reads tried records log read left never (inr (inr (c, is, are))) place e = never c at (sym is)
+clear_told : (d : Decision) (w : Shown) → GivesClear w d → IsSound (event.Restart node.Clear) (restarts d node.Clear w).0
+clear_told (FindsBad place) w gives = absurd gives
+clear_told _ w gives = λ place e. cc e
 
-module _ (e : Event) (outcome : Outcome) (old new : World) (comes : Comes e outcome old new) (accord : IsInAccord old) (clear_honest : old.clear.clear.log.honest ≡ true)
-    (depot_honest : old.depot.log.honest ≡ true) where
-  by_judgement : ((chance : Chance) → let d = decision_at chance e (scene_of old) in Accord (shown_of old)
-      → IfErr (judged e (shown_of old)) (λ r. IsSound e (outcomes.Refused r)) × IsSound e (outcomes.Refused refusal.OutOfMemory) × IfOk (judged e (shown_of old)) (Holds (Sound e) d (shown_of old)))
-      → IsSound e outcome
-  by_judgement by =
-      let h = happened e outcome old new comes in
-      let d : Decision = decision_at h.chance e (scene_of old) in
-      let parts = by h.chance (accord clear_honest depot_honest) in
-      let sound = checked_keeps (Sound e) d (shown_of old) e parts.0 parts.1 parts.2 in
-      subst (IsSound e) (ap (λ (p : Outcome × Shown). p.0) h.is) sound
+depot_told : (d : Decision) (w : Shown) → GivesDepot w d → IsSound (event.Restart node.Depot) (restarts d node.Depot w).0
+depot_told (FindsBad place) w gives = absurd gives
+depot_told _ w gives = λ place e. cc e
+
+-- an accepted event comes to nothing else that is not sound
+accepted_sound : (s : Scene) (chance : Chance) (e : Event) → s.clear.honest ≡ true → s.depot.honest ≡ true
+    → IfOk (judged e s.shown) (Holds (λ (o : Outcome) (left : Shown). IsSound e o) (decision_at chance e s) s.shown)
+unfolding judged
+accepted_sound s chance (event.OrderIn packet) clear depot =
+    order_holds (λ (o : Outcome) (left : Shown). IsSound (event.OrderIn packet) o) _ s.shown packet (λ place known at. λ e. cc e) (λ place o at up fresh. (λ e. cc e, λ e. cc e))
+accepted_sound s chance (event.ReplyIn packet) clear depot =
+    let told = fine (event.ReplyIn packet) in
+    reply_holds (λ (o : Outcome) (left : Shown). IsSound (event.ReplyIn packet) o) _ s.shown packet (λ r. told (outcomes.ConfirmedAgain r) tt)
+    (λ r at up. (told (outcomes.Confirmed r) tt, told (outcomes.Refused refusal.Device) tt))
+accepted_sound s chance (event.Restart node.Clear) clear depot = clear_told (decision_at chance (event.Restart node.Clear) s) s.shown (clear_gives s chance clear)
+accepted_sound s chance (event.Restart node.Depot) clear depot = depot_told (decision_at chance (event.Restart node.Depot) s) s.shown (depot_gives s chance depot)
+accepted_sound s chance e clear depot = holds_always (λ (o : Outcome) (left : Shown). Unit {0}) (decision_at chance e s) s.shown (judged e s.shown) (λ o left. tt)
 
 -- what no event comes to
 pub step_sound : (e : Event) (outcome : Outcome) (old new : World) → Comes e outcome old new → IsInAccord old → StaysSound old e outcome
-unfolding judged
-step_sound (event.OrderIn packet) outcome old new comes accord = λ c d.
-    let w : Shown = shown_of old in
-    let held : Result Order Refusal = ok_or (option_flatten (at_number w.orders packet)) refusal.NoPacket in
-    let next : Order → Result Change Refusal = λ o. by_order w (order_call o w.depot.down w.openings w.depot.records) in
-    by_judgement (event.OrderIn packet) outcome old new comes accord c d (λ chance a.
-    let found = λ (o : Order) (there : held ≡ Ok o).
-    spelt_in (SpellsOrder (orders_of w.clear.records).orders) w.orders packet o a.sent (found_some (option_flatten (at_number w.orders packet)) refusal.NoPacket o there) in (
-      err_after (λ r. outcomes.Refused r ≢ outcomes.Refused refusal.Conflict) held next (err_found (λ r. outcomes.Refused r ≢ outcomes.Refused refusal.Conflict) (option_flatten (at_number w.orders packet)) refusal.NoPacket (λ e. cc e))
-          (λ o there. order_err (decision_at chance (event.OrderIn packet) (scene_of old)) w a packet o (found o there)),
-      (λ e. cc e),
-      ok_then (Holds (Sound (event.OrderIn packet)) (decision_at chance (event.OrderIn packet) (scene_of old)) w) held next
-          (λ o there. order_told (decision_at chance (event.OrderIn packet) (scene_of old)) w a packet o),
-    ))
-step_sound (event.ReplyIn packet) outcome old new comes accord = λ c d.
-    let w : Shown = shown_of old in
-    let held : Result Reply Refusal = ok_or (option_flatten (at_number w.replies packet)) refusal.NoPacket in
-    let next : Reply → Result Change Refusal = λ r. by_clear (taken_told r) w (reply_call r w.clear.down w.clear.records) in
-    by_judgement (event.ReplyIn packet) outcome old new comes accord c d (λ chance a.
-    let found = λ (r : Reply) (there : held ≡ Ok r).
-    spelt_in (SpellsReply (executed_of w.depot.records)) w.replies packet r a.answered (found_some (option_flatten (at_number w.replies packet)) refusal.NoPacket r there) in (
-      err_after (λ f. IsSound (event.ReplyIn packet) (outcomes.Refused f)) held next
-          (err_found (λ f. IsSound (event.ReplyIn packet) (outcomes.Refused f)) (option_flatten (at_number w.replies packet)) refusal.NoPacket (λ e. cc e, λ e. cc e, λ e. cc e))
-          (λ r there. reply_err (decision_at chance (event.ReplyIn packet) (scene_of old)) w a packet r (found r there)),
-      (λ e. cc e, λ e. cc e, λ e. cc e),
-      ok_then (Holds (Sound (event.ReplyIn packet)) (decision_at chance (event.ReplyIn packet) (scene_of old)) w) held next
-          (λ r there. reply_holds (decision_at chance (event.ReplyIn packet) (scene_of old)) w a packet r),
-    ))
-step_sound (event.Restart node.Clear) outcome old new comes accord = λ c d.
-    by_judgement (event.Restart node.Clear) outcome old new comes accord c d (λ chance a. (
-      tt,
-      (λ place e. cc e),
-      restart_told (decision_at chance (event.Restart node.Clear) (scene_of old)) ClearReads old.clear.clear.log.tried old.clear.clear.log.records (shown_of old).clear _ _ (λ x place e. cc e)
-          (honestly ClearReads (sight_of old.clear.clear.log) old.clear.clear.log.tried old.clear.clear.log.records c chance),
-    ))
-step_sound (event.Restart node.Depot) outcome old new comes accord = λ c d.
-    by_judgement (event.Restart node.Depot) outcome old new comes accord c d (λ chance a. (
-      tt,
-      (λ place e. cc e),
-      restart_told (decision_at chance (event.Restart node.Depot) (scene_of old)) DepotReads old.depot.log.tried old.depot.log.records (shown_of old).depot _ _ (λ x place e. cc e)
-          (honestly DepotReads (sight_of old.depot.log) old.depot.log.tried old.depot.log.records d chance),
-    ))
-step_sound e outcome old new comes accord = λ c d. tt
+step_sound e outcome old new comes accord clear_honest depot_honest =
+    let s : Scene = scene_of old in
+    comes_keeps (λ (o : Outcome) (left : Shown). IsSound e o) e outcome old new comes (refused_sound s (accord clear_honest depot_honest) e)
+    (fine e (outcomes.Refused refusal.OutOfMemory) tt) (λ chance. accepted_sound s chance e clear_honest depot_honest)

@@ -1,21 +1,8 @@
--- Values in steps: which faults they have, and what their steps give.
-use Rattle.std.proofs.Common.{◌≡◌, Bool, true, false, Option, Some, None, Result, Ok, Err, refl, ap}
+-- Values in steps: what their steps give, and which faults they have.
+use Rattle.std.proofs.Common.{◌≡◌, Bool, true, false, Option, Some, None, Result, Ok, Err, refl}
 use Rattle.std.specs.Prelude.{IfErr, IfOk}
 use Rattle.std.specs.Option.{ok_or}
-use Rattle.cns_ids.specs.Steps.{◌>>=◌, need}
-
--- ---- values in steps
-
-module _ {A B E : Type 0} (P : E → Type 0) where
-  -- a fault is that of the first step, or of what comes after what it gives
-  pub err_after : (first : Result A E) (next : A → Result B E) → IfErr first P → ((a : A) → first ≡ Ok a → IfErr (next a) P) → IfErr (first >>= next) P
-  err_after (Ok a) next here rest = rest a refl
-  err_after (Err e) next here rest = here
-
-module _ {E : Type 0} (P : E → Type 0) where
-  pub err_found : {A : Type 0} (value : Option A) (e : E) → P e → IfErr (ok_or value e) P
-  err_found None e p = p
-  err_found (Some a) e p = tt
+use Rattle.cns_ids.specs.Steps.{◌>>=◌, ◌>>◌, need}
 
 module _ {A B E : Type 0} (P : B → Type 0) where
   -- what is given is what comes after the first step gives
@@ -23,20 +10,27 @@ module _ {A B E : Type 0} (P : B → Type 0) where
   ok_then (Ok a) next rest = rest a refl
   ok_then (Err e) next rest = tt
 
--- the steps of what is given
-pub record Stepped {A B E : Type 0} (first : Result A E) (next : A → Result B E) (b : B) : Type 0 where
-  pub value : A
-  pub first_is : first ≡ Ok value
-  pub next_is : next value ≡ Ok b
+-- what is given in steps of which the first two are a call
+pub steps_by : {A B C E : Type 0} (P : C → Type 0) (first : Result A E) (second : A → Result B E) (third : B → Result C E)
+    → ((a : A) → first ≡ Ok a → IfOk (second a) (λ (b : B). IfOk (third b) P)) → IfOk ((first >>= second) >>= third) P
+steps_by {B} {C} {E} P (Ok a) second third rest = after (second a) (rest a refl)
+  where
+    after : (r : Result B E) → IfOk r (λ (b : B). IfOk (third b) P) → IfOk (r >>= third) P
+    after (Ok b) h = h
+    after (Err e) h = tt
+steps_by P (Err e) second third rest = tt
 
-pub steps : {A B E : Type 0} (first : Result A E) (next : A → Result B E) (b : B) → (first >>= next) ≡ Ok b → Stepped first next b
-steps (Ok a) next b is = record { value = a; first_is = refl; next_is = is }
-steps (Err e) next b is = absurd (cc is)
+-- where the first step is to find a value, a fault is that there is none, or is of what comes after
+module _ {A B E : Type 0} where
+  pub ok_found : (P : B → Type 0) (value : Option A) (e : E) (next : A → Result B E) → ((a : A) → value ≡ Some a → IfOk (next a) P) → IfOk (ok_or value e >>= next) P
+  ok_found P None e next rest = tt
+  ok_found P (Some a) e next rest = rest a refl
 
-pub needed : {E : Type 0} (holds : Bool) (e : E) (u : Unit {0}) → need holds e ≡ Ok u → holds ≡ true
-needed true e u is = refl
-needed false e u is = absurd (cc is)
+  pub err_found : (P : E → Type 0) (value : Option A) (e : E) (next : A → Result B E) → P e → ((a : A) → value ≡ Some a → IfErr (next a) P) → IfErr (ok_or value e >>= next) P
+  err_found P None e next here rest = here
+  err_found P (Some a) e next here rest = rest a refl
 
-pub found_some : {A E : Type 0} (value : Option A) (e : E) (a : A) → ok_or value e ≡ Ok a → value ≡ Some a
-found_some None e a is = absurd (cc is)
-found_some (Some x) e a is = let same : x ≡ a = cc in ap Some same
+-- and where it is that something holds
+pub ok_needed : {B E : Type 0} (P : B → Type 0) (holds : Bool) (e : E) (next : Result B E) → (holds ≡ true → IfOk next P) → IfOk (need holds e >> next) P
+ok_needed P true e next rest = rest refl
+ok_needed P false e next rest = tt

@@ -6,21 +6,17 @@ use Rattle.std.proofs.lemmas.Bool.{cases_eq, eq-eqb, eqb-false, eqb-true, false_
 use Rattle.std.proofs.lemmas.List.{append_assoc}
 use Rattle.std.proofs.lemmas.List.Folds.{find-append}
 use Rattle.std.proofs.lemmas.Option.{same_Some, slice_get-map}
-use Rattle.cns_allocate.proofs.TurnLemmas.{find-All, find-passes}
-use Rattle.cns_clearing.specs.Lots.{AreLots, IsLot, avail_in, lots_poured, plan_in, refilled, without_lot}
+use Rattle.cns_clearing.specs.Lots.{AreLots, avail_in, lots_poured, plan_in, refilled, without_lot}
+use Rattle.cns_clearing.proofs.LotLemmas.{lot_found}
 use Rattle.cns_clearing.specs.Pools.{lot_of}
 use Rattle.cns_clearing.specs.declared.lot.Lot.{Lot}
 use Rattle.cns_records.specs.declared.clear_record.ClearRecord.{ClearRecord}
 use Rattle.cns_system.specs.Lot.{LotState, IsOfPlan, with_end}
 use Rattle.cns_wire.specs.Packet.{at_number}
-use Rattle.cns_system.specs.Lots.{ArePlanned}
-use Rattle.cns_system.specs.Numbered.{AreTied, IsTied}
+use Rattle.cns_system.specs.Lots.{ArePlanned, with_lot}
+use Rattle.cns_system.specs.Numbered.{AreTied, IsTied, lots_ended}
 
 -- ---- the node's lot of an issue
-
--- a lot that is found is of the issue
-pub found_of : (open_lots : List Lot) (issue : ℕ) (lot : Lot) → lot_of open_lots issue ≡ Some lot → lot.issue ≡ issue
-found_of open_lots issue lot found = eqb-true lot.issue issue (find-passes (λ (l : Lot). l.issue == issue) open_lots lot found)
 
 -- a change that keeps what a test says of each
 found_mapped : (p : Lot → Bool) (f : Lot → Lot) → ((l : Lot) → p (f l) ≡ p l) → (lots : List Lot) → find p (map f lots) ≡ option_map f (find p lots)
@@ -110,6 +106,16 @@ from_place lots n l some found =
     let given : (n == 0) ≡ false = false_from_ne_true (n == 0) (λ e. absurd (omega (arith, some, eqb-true n 0 e))) in
     ap (λ b. if b then None else slice_get lots (n - 1)) given ∙ found
 
+-- one lot more has the next number
+pub at_more : (lots : List LotState) (x : LotState) (m : ℕ) (k : LotState) → at_number (lots ++ x ∷ []) m ≡ Some k → (at_number lots m ≡ Some k) ⊎ ((m ≡ length lots + 1) × (x ≡ k))
+at_more lots x m k at =
+    let here = at_place (lots ++ x ∷ []) m k at in
+    by here.0 (get_more lots (m - 1) x k here.1)
+  where
+    by : 1 ≤ m → (slice_get lots (m - 1) ≡ Some k) ⊎ ((m - 1 ≡ length lots) × (x ≡ k)) → (at_number lots m ≡ Some k) ⊎ ((m ≡ length lots + 1) × (x ≡ k))
+    by some (inl h) = inl (from_place lots m k some h)
+    by some (inr h) = inr (omega (arith, some, h.0), h.1)
+
 -- ---- after a change
 
 -- where a number's lot took the place of one of the same issue
@@ -119,25 +125,26 @@ record IsFrom (lots : List LotState) (m : ℕ) (k : LotState) : Type 0 where
   going : before.ended ≡ false
   issue : before.issue ≡ k.issue
 
-pub at_changed : (lots : List LotState) (n m : ℕ) (l x k : LotState) → at_number lots n ≡ Some l → at_number (slice_set lots (n - 1) x) m ≡ Some k
+-- the lots of other numbers stay where one takes another state
+pub at_other : (lots : List LotState) (n m : ℕ) (l x k : LotState) → at_number lots n ≡ Some l → (m ≡ n → ⊥) → at_number (slice_set lots (n - 1) x) m ≡ Some k → at_number lots m ≡ Some k
+at_other lots n m l x k found differ changed =
+    let here = at_place lots n l found in
+    let there = at_place (slice_set lots (n - 1) x) m k changed in
+    let apart : m - 1 ≡ n - 1 → ⊥ = λ e. differ (omega (arith, e, here.0, there.0)) in
+    from_place lots m k there.0 (sym (get_set_other lots (n - 1) (m - 1) x apart) ∙ there.1)
+
+-- and that of its own number is then just this
+pub at_same : (lots : List LotState) (n : ℕ) (l x : LotState) → at_number lots n ≡ Some l → at_number (slice_set lots (n - 1) x) n ≡ Some x
+at_same lots n l x found =
+    let at = at_place lots n l found in from_place (slice_set lots (n - 1) x) n x at.0 (get_set_same lots (n - 1) l x at.1)
+
+at_changed : (lots : List LotState) (n m : ℕ) (l x k : LotState) → at_number lots n ≡ Some l → at_number (slice_set lots (n - 1) x) m ≡ Some k
     → ((m ≡ n) × (x ≡ k)) ⊎ ((m ≡ n → ⊥) × (at_number lots m ≡ Some k))
 at_changed lots n m l x k found changed = by (cases_eq m n)
   where
-    here : (1 ≤ n) × (slice_get lots (n - 1) ≡ Some l)
-    here = at_place lots n l found
-
-    there : (1 ≤ m) × (slice_get (slice_set lots (n - 1) x) (m - 1) ≡ Some k)
-    there = at_place (slice_set lots (n - 1) x) m k changed
-
     by : (m ≡ n) ⊎ (m ≡ n → ⊥) → ((m ≡ n) × (x ≡ k)) ⊎ ((m ≡ n → ⊥) × (at_number lots m ≡ Some k))
-    by (inl e) =
-        inl (
-          e,
-          same_Some x k (sym (get_set_same lots (n - 1) l x here.1) ∙ ap (λ (i : ℕ). slice_get (slice_set lots (n - 1) x) (i - 1)) (sym e) ∙ there.1),
-        )
-    by (inr differ) =
-        let apart : m - 1 ≡ n - 1 → ⊥ = λ e. differ (omega (arith, e, here.0, there.0)) in
-        inr (differ, from_place lots m k there.0 (sym (get_set_other lots (n - 1) (m - 1) x apart) ∙ there.1))
+    by (inl e) = inl (e, same_Some x k (sym (at_same lots n l x found) ∙ ap (at_number (slice_set lots (n - 1) x)) (sym e) ∙ changed))
+    by (inr differ) = inr (differ, at_other lots n m l x k found differ changed)
 
 -- a lot of a number that has not ended changes, and stays of its issue; the lots of other issues stay
 pub tied_changed : (open_lots after : List Lot) (lots : List LotState) (n : ℕ) (l x : LotState) → AreTied open_lots lots → at_number lots n ≡ Some l → l.ended ≡ false
@@ -173,19 +180,10 @@ tied_changed open_lots after lots n l x are found going issue one others = recor
 pub tied_more : (open_lots : List Lot) (lots : List LotState) (new : Lot) (x : LotState) → AreTied open_lots lots → lot_of open_lots x.issue ≡ None
     → new.issue ≡ x.issue → IsOfPlan new.plan x → AreTied (open_lots ++ new ∷ []) (lots ++ x ∷ [])
 tied_more open_lots lots new x are none issue is = record {
-  each = λ m k at up. each m k up (place m k at);
-  once = λ m p k j at_m at_p up_k up_j same. once m p k j up_k up_j same (place m k at_m) (place p j at_p);
+  each = λ m k at up. each m k up (at_more lots x m k at);
+  once = λ m p k j at_m at_p up_k up_j same. once m p k j up_k up_j same (at_more lots x m k at_m) (at_more lots x p j at_p);
 }
   where
-    place : (m : ℕ) (k : LotState) → at_number (lots ++ x ∷ []) m ≡ Some k → (at_number lots m ≡ Some k) ⊎ ((m ≡ length lots + 1) × (x ≡ k))
-    place m k at =
-        let here = at_place (lots ++ x ∷ []) m k at in
-        by here.0 (get_more lots (m - 1) x k here.1)
-      where
-        by : 1 ≤ m → (slice_get lots (m - 1) ≡ Some k) ⊎ ((m - 1 ≡ length lots) × (x ≡ k)) → (at_number lots m ≡ Some k) ⊎ ((m ≡ length lots + 1) × (x ≡ k))
-        by some (inl h) = inl (from_place lots m k some h)
-        by some (inr h) = inr (omega (arith, some, h.0), h.1)
-
     each : (m : ℕ) (k : LotState) → k.ended ≡ false → (at_number lots m ≡ Some k) ⊎ ((m ≡ length lots + 1) × (x ≡ k)) → IsTied (open_lots ++ new ∷ []) k
     each m k up (inl h) =
         let tied = are.each m k h up in
@@ -204,6 +202,10 @@ tied_more open_lots lots new x are none issue is = record {
     once m p k j up_k up_j same (inl h) (inr g) = absurd (apart m k h up_k (same ∙ ap (λ (y : LotState). y.issue) (sym g.1)))
     once m p k j up_k up_j same (inr h) (inl g) = absurd (apart p j g up_j (sym same ∙ ap (λ (y : LotState). y.issue) (sym h.1)))
     once m p k j up_k up_j same (inr h) (inr g) = h.0 ∙ sym g.0
+
+-- the lots once that of a number has ended, where it is found
+pub ended_lots : (lots : List LotState) (number : ℕ) (l : LotState) → at_number lots number ≡ Some l → lots_ended number lots ≡ with_lot number (with_end l) lots
+ended_lots lots number l found = ap (λ (o : Option LotState). elim o [ None ↦ lots | Some k ↦ with_lot number (with_end k) lots ]) found
 
 -- lots that have all ended
 pub ended_at : (lots : List LotState) (n : ℕ) (k : LotState) → at_number (map with_end lots) n ≡ Some k → k.ended ≡ true
@@ -227,14 +229,14 @@ tied_ended lots = record {
 pub planned_from : (c : List ClearRecord) (open_lots : List Lot) (lots : List LotState) → AreTied open_lots lots → AreLots c open_lots → ArePlanned c lots
 planned_from c open_lots lots tied are n lot found going =
     let twin = tied.each n lot found going in
-    let is : IsLot c twin.twin = find-All (IsLot c) (λ (l : Lot). l.issue == lot.issue) open_lots twin.twin are.each twin.found in
+    let is = lot_found c open_lots lot.issue twin.twin are twin.found in
     record {
       plan = twin.twin.plan;
       of = record {
-        later = is.later ++ is.middle;
-        before = is.before;
-        split = is.split ∙ sym (append_assoc is.later is.middle is.before);
-        is = is.plan ∙ ap (plan_in is.before) (found_of open_lots lot.issue twin.twin twin.found);
+        later = is.0.later ++ is.0.middle;
+        before = is.0.before;
+        split = is.0.split ∙ sym (append_assoc is.0.later is.0.middle is.0.before);
+        is = is.0.plan ∙ ap (plan_in is.0.before) is.1;
       };
       is = twin.is;
     }

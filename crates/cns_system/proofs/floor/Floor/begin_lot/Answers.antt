@@ -2,14 +2,14 @@ use Rattle.std.proofs.Common.{List, [], ◌∷◌, ◌++◌, ◌∙◌, ap, subs
 use Rattle.cns_system.specs.Floor.{AreBusy}
 use Rattle.cns_allocate.specs.declared.planned.Planned.{Planned}
 use Rattle.cns_system.specs.Begin.{IsNewCell, new_busy}
-use Rattle.cns_system.proofs.BeginLemmas.{begun_busy, newest, open_kept, open_small}
+use Rattle.cns_system.proofs.BeginLemmas.{begun_busy, newest, open_kept}
 use Rattle.cns_system.proofs.FloorLemmas.{AreBacked}
 use Rattle.cns_system.proofs.floor.Floor.begin_lot.Goals as goal
 
 pub hand_out-requires-clause-poured : goal.hand_out-requires-clause-poured
 hand_out-requires-clause-poured g c =
     let backed : AreBacked c.self.inside.system = record { lawful = c.agreed.ensures.lawful.0; fits = c.agreed.ensures.fits; lots = c.agreed.ensures.lots } in
-    open_small c.args.issue c.in-Ok-open_lot.opened c.self.inside.system c.open_lot.new.system backed c.in-Ok-open_lot.ensures.ok.comes
+    (newest c.args.issue c.in-Ok-open_lot.opened c.self.inside.system c.open_lot.new.system backed c.in-Ok-open_lot.ensures.ok.comes).few
 
 pub invariant_of-self-in-Ok-open_lot : goal.invariant_of-self-in-Ok-open_lot
 invariant_of-self-in-Ok-open_lot g c =

@@ -1,14 +1,12 @@
-use Rattle.std.proofs.Common.{◌≡◌, Err, ap, rules}
+use Rattle.std.proofs.Common.{ap, rules}
 use Rattle.cns_system.specs.Lot.{with_end}
-use Rattle.cns_system.specs.Lots.{HasNone, LotsRoom}
+use Rattle.cns_system.specs.Lots.{LotsRoom}
 use Rattle.cns_system.proofs.LotsLemmas.{change_leaves, lot-read, none_changed}
 use Rattle.cns_system.proofs.lots.LotBook.end.Goals as goal
 
 pub returns-in_err-index : goal.returns-in_err-index
 returns-in_err-index c =
-    let none : HasNone c.args.self.now.lots c.args.number c.in_err-index.field-0.0 = search rules in
-    let answer : c.from_residual.result ≡ Err c.in_err-index.field-0.0 = search rules in
-    none_changed with_end c.args.self.now.lots c.args.number c.in_err-index.field-0.0 _ none answer
+    none_changed with_end c.args.self.now.lots c.args.number c.in_err-index.field-0.0 _ (search rules) (search rules)
 
 pub returns : goal.returns
 returns c =

@@ -1,13 +1,11 @@
-use Rattle.std.proofs.Common.{◌≡◌, Err, ap, rules}
-use Rattle.cns_system.specs.Lots.{HasNone, LotsRoom}
+use Rattle.std.proofs.Common.{ap, rules}
+use Rattle.cns_system.specs.Lots.{LotsRoom}
 use Rattle.cns_system.proofs.LotsLemmas.{lot-read, none_reserved, reserve_leaves}
 use Rattle.cns_system.proofs.lots.LotBook.reserve.Goals as goal
 
 pub returns-in_err-index : goal.returns-in_err-index
 returns-in_err-index c =
-    let none : HasNone c.args.self.now.lots c.args.number c.in_err-index.field-0.0 = search rules in
-    let answer : c.from_residual.result ≡ Err c.in_err-index.field-0.0 = search rules in
-    none_reserved c.args.self.now.lots c.args.number c.args.member c.in_err-index.field-0.0 _ none answer
+    none_reserved c.args.self.now.lots c.args.number c.args.member c.in_err-index.field-0.0 _ (search rules) (search rules)
 
 pub returns : goal.returns
 returns c =

@@ -7,5 +7,5 @@ use Rattle.cns_system.proofs.numbered.NumberedClearing.cycle.Goals as goal
 
 pub invariant_of-self : goal.invariant_of-self
 invariant_of-self g c =
-    call_tied (cycle_call c.args.id c.self.inside.node.log.down c.self.inside.node.log.records c.self.inside.node.lots) (λ r. r ≡ Cycle c.args.id) c.cycle.result c.self.inside.node c.cycle.new.self c.self.inside.lots.lots
-    (λ r is ls. rw is refl) (cycle_records c.args.id c.self.inside.node.log.down c.self.inside.node.log.records c.self.inside.node.lots) c.self.invariant c.cycle.ensures
+    call_tied (cycle_call c.args.id c.self.inside.node.log.down c.self.inside.node.log.records c.self.inside.node.lots) (λ x. ⊥) (λ r x. r ≡ Cycle c.args.id) c.cycle.result c.self.inside.node c.cycle.new.self
+    c.self.inside.lots.lots (λ r x is ls. rw is refl) (cycle_records c.args.id c.self.inside.node.log.down c.self.inside.node.log.records c.self.inside.node.lots) c.self.invariant c.cycle.ensures

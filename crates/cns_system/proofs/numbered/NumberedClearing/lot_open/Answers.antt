@@ -1,5 +1,4 @@
-use Rattle.std.proofs.Common.{◌≡◌, ◌≤◌, ◌<◌, ◌+◌, true, false, None, Err, length, length-append, refl, rules}
-use Rattle.std.specs.Prelude.{IsSome}
+use Rattle.std.proofs.Common.{◌≡◌, ◌+◌, None, length, length-append, refl, rules}
 use Rattle.cns_records.specs.declared.refusal.Refusal.TheVariants as refusal
 use Rattle.cns_records.proofs.CallLemmas.{grown, no_room, not_grown}
 use Rattle.cns_clearing.specs.Lots.{avail_in, plan_in}
@@ -10,14 +9,12 @@ use Rattle.cns_system.proofs.numbered.NumberedClearing.lot_open.Goals as goal
 
 pub returns-then-is_down : goal.returns-then-is_down
 returns-then-is_down g c =
-    let down : c.args.self.now.clear.log.down ≡ true = search rules in
-    not_grown refusal.OutOfMemory (opening_call c.args.issue c.args.self.now) refusal.Down _ c.args.self.now c.args.self.now (opening_down c.args.issue c.args.self.now down) refl refl
+    not_grown refusal.OutOfMemory (opening_call c.args.issue c.args.self.now) refusal.Down _ c.args.self.now c.args.self.now (opening_down c.args.issue c.args.self.now (search rules)) refl refl
 
 pub returns-then-is_some : goal.returns-then-is_some
 returns-then-is_some g c =
-    let up : c.args.self.now.clear.log.down ≡ false = search rules in
-    let some : IsSome (lot_of c.args.self.now.clear.lots c.args.issue) = search rules in
-    not_grown refusal.OutOfMemory (opening_call c.args.issue c.args.self.now) refusal.LotAlready _ c.args.self.now c.args.self.now (opening_again c.args.issue c.args.self.now up some) refl refl
+    not_grown refusal.OutOfMemory (opening_call c.args.issue c.args.self.now) refusal.LotAlready _ c.args.self.now c.args.self.now
+    (opening_again c.args.issue c.args.self.now (search rules) (search rules)) refl refl
 
 pub invariant_of-self-2 : goal.invariant_of-self-2
 invariant_of-self-2 g c =
@@ -27,49 +24,33 @@ invariant_of-self-2 g c =
 
 pub returns-then-len-ge-MAX_LOTS : goal.returns-then-len-ge-MAX_LOTS
 returns-then-len-ge-MAX_LOTS g c =
-    let up : c.args.self.now.clear.log.down ≡ false = search rules in
-    let none : lot_of c.args.self.now.clear.lots c.args.issue ≡ None = search rules in
-    let spent : 1000000 ≤ length c.args.self.now.lots = search rules in
-    not_grown refusal.OutOfMemory (opening_call c.args.issue c.args.self.now) refusal.LotsSpent _ c.args.self.now c.args.self.now (opening_spent c.args.issue c.args.self.now up none spent) refl refl
+    not_grown refusal.OutOfMemory (opening_call c.args.issue c.args.self.now) refusal.LotsSpent _ c.args.self.now c.args.self.now
+    (opening_spent c.args.issue c.args.self.now (search rules) (search rules) (search rules)) refl refl
 
 pub returns-in_err-plan : goal.returns-in_err-plan
 returns-in_err-plan g c =
-    let up : c.args.self.now.clear.log.down ≡ false = search rules in
-    let none : lot_of c.args.self.now.clear.lots c.args.issue ≡ None = search rules in
-    let room : length c.args.self.now.lots < 1000000 = search rules in
-    let answer : c.from_residual.result ≡ Err refusal.OutOfMemory = search rules in
-    no_room refusal.OutOfMemory (opening_call c.args.issue c.args.self.now) _ _ _ c.args.self.now _ (opening_goes c.args.issue c.args.self.now up none room) answer (search rules)
+    no_room refusal.OutOfMemory (opening_call c.args.issue c.args.self.now) _ _ _ c.args.self.now _
+    (opening_goes c.args.issue c.args.self.now (search rules) (search rules) (search rules)) (search rules) (search rules)
 
 pub returns-in_err-answer : goal.returns-in_err-answer
 returns-in_err-answer g c =
-    let up : c.args.self.now.clear.log.down ≡ false = search rules in
-    let none : lot_of c.args.self.now.clear.lots c.args.issue ≡ None = search rules in
-    let room : length c.args.self.now.lots < 1000000 = search rules in
-    let answer : c.from_residual-in_err-answer.result ≡ Err refusal.OutOfMemory = search rules in
-    no_room refusal.OutOfMemory (opening_call c.args.issue c.args.self.now) _ _ _ c.args.self.now _ (opening_goes c.args.issue c.args.self.now up none room) answer (search rules)
+    no_room refusal.OutOfMemory (opening_call c.args.issue c.args.self.now) _ _ _ c.args.self.now _
+    (opening_goes c.args.issue c.args.self.now (search rules) (search rules) (search rules)) (search rules) (search rules)
 
 pub returns-in_err-lot : goal.returns-in_err-lot
 returns-in_err-lot g c =
-    let up : c.args.self.now.clear.log.down ≡ false = search rules in
-    let none : lot_of c.args.self.now.clear.lots c.args.issue ≡ None = search rules in
-    let room : length c.args.self.now.lots < 1000000 = search rules in
-    let answer : c.from_residual-in_err-lot.result ≡ Err refusal.OutOfMemory = search rules in
-    no_room refusal.OutOfMemory (opening_call c.args.issue c.args.self.now) _ _ _ c.args.self.now _ (opening_goes c.args.issue c.args.self.now up none room) answer (search rules)
+    no_room refusal.OutOfMemory (opening_call c.args.issue c.args.self.now) _ _ _ c.args.self.now _
+    (opening_goes c.args.issue c.args.self.now (search rules) (search rules) (search rules)) (search rules) (search rules)
 
 pub returns-in_err-lot_open_with : goal.returns-in_err-lot_open_with
 returns-in_err-lot_open_with g c =
-    let up : c.args.self.now.clear.log.down ≡ false = search rules in
-    let none : lot_of c.args.self.now.clear.lots c.args.issue ≡ None = search rules in
-    let room : length c.args.self.now.lots < 1000000 = search rules in
-    let answer : c.from_residual-in_err-lot_open_with.result ≡ Err refusal.OutOfMemory = search rules in
-    no_room refusal.OutOfMemory (opening_call c.args.issue c.args.self.now) _ _ _ c.args.self.now _ (opening_goes c.args.issue c.args.self.now up none room) answer (search rules)
+    no_room refusal.OutOfMemory (opening_call c.args.issue c.args.self.now) _ _ _ c.args.self.now _
+    (opening_goes c.args.issue c.args.self.now (search rules) (search rules) (search rules)) (search rules) (search rules)
 
 pub returns : goal.returns
 returns g c =
-    let up : c.args.self.now.clear.log.down ≡ false = search rules in
-    let none : lot_of c.args.self.now.clear.lots c.args.issue ≡ None = search rules in
-    let room : length c.args.self.now.lots < 1000000 = search rules in
     let number : c.add.result ≡ length c.args.self.now.lots + 1 = search (rules, length-append) in
     let poured : c.free-poured.result ≡ avail_in c.args.self.now.clear.log.records c.args.issue = search (rules, all_free) in
     let plan : c.in_ok-answer.answer ≡ plan_in c.args.self.now.clear.log.records c.args.issue = search rules in
-    grown refusal.OutOfMemory (opening_call c.args.issue c.args.self.now) _ _ _ c.args.self.now _ (opening_goes c.args.issue c.args.self.now up none room) (rw (number, poured, plan) refl) (search rules)
+    grown refusal.OutOfMemory (opening_call c.args.issue c.args.self.now) _ _ _ c.args.self.now _
+    (opening_goes c.args.issue c.args.self.now (search rules) (search rules) (search rules)) (rw (number, poured, plan) refl) (search rules)

@@ -1,17 +1,15 @@
-use Rattle.std.proofs.Common.{◌≡◌, true, Ok, ◌∙◌, Err, sym, subst, refl, rules}
+use Rattle.std.proofs.Common.{◌≡◌, true, Ok, ◌∙◌, sym, subst, refl, rules}
 use Rattle.cns_records.specs.declared.refusal.Refusal.TheVariants as refusal
 use Rattle.cns_records.proofs.CallLemmas.{unchanged}
-use Rattle.cns_system.specs.Lots.{HasNone, going_lot}
+use Rattle.cns_system.specs.Lots.{going_lot}
 use Rattle.cns_system.specs.Numbered.{NumberedNode, numbered_pour}
 use Rattle.cns_system.proofs.NumberedLemmas.{pour_down, pour_never, pour_none, pour_tied, poured_of}
 use Rattle.cns_system.proofs.numbered.NumberedClearing.lot_pour.Goals as goal
 
 pub returns-in_err-issue-clause-pour : goal.returns-in_err-issue-clause-pour
 returns-in_err-issue-clause-pour g c =
-    let none : HasNone c.args.self.now.lots c.args.number c.in_err-issue.field-0.0 = search rules in
-    let answer : c.from_residual.result ≡ Err c.in_err-issue.field-0.0 = search rules in
     unchanged (numbered_pour c.args.number c.args.self.now.clear.log.down c.args.self.now.clear.log.records c.args.self.now.clear.lots c.args.self.now.lots) c.in_err-issue.field-0.0 _ c.args.self.now.clear.lots _
-    (pour_none c.args.number _ _ _ c.args.self.now.lots c.in_err-issue.field-0.0 none) answer (search rules)
+    (pour_none c.args.number _ _ _ c.args.self.now.lots c.in_err-issue.field-0.0 (search rules)) (search rules) (search rules)
 
 pub returns-then-is_down-clause-pour : goal.returns-then-is_down-clause-pour
 returns-then-is_down-clause-pour g c =

@@ -1,4 +1,4 @@
-use Rattle.std.proofs.Common.{◌≡◌, true, false, rules, subst, sym}
+use Rattle.std.proofs.Common.{◌≡◌, false, rules, subst, sym}
 use Rattle.cns_movements.specs.Order.{AgreesWith}
 use Rattle.cns_depository.specs.Stock.{executed_of, movement_of}
 use Rattle.cns_system.proofs.LinkComes.{movement_found, none_found, short_down, short_known, short_new, short_other}
@@ -6,8 +6,7 @@ use Rattle.cns_system.proofs.pair.Pair.refusal_without_room.Goals as goal
 
 pub returns-then-is_down : goal.returns-then-is_down
 returns-then-is_down g c =
-    let down : c.args.self.now.depot.log.down ≡ true = search rules in
-    short_down c.args.order.now c.args.self.now down
+    short_down c.args.order.now c.args.self.now (search rules)
 
 pub returns-in-Some : goal.returns-in-Some
 returns-in-Some g c =
@@ -25,5 +24,4 @@ returns-in_default g c =
 
 pub returns-in_default-2 : goal.returns-in_default-2
 returns-in_default-2 g c =
-    let up : c.args.self.now.depot.log.down ≡ false = search rules in
-    short_new c.args.order.now c.args.self.now up (none_found (movement_of (executed_of c.args.self.now.depot.log.records) c.args.order.now.number) (search rules))
+    short_new c.args.order.now c.args.self.now (search rules) (none_found (movement_of (executed_of c.args.self.now.depot.log.records) c.args.order.now.number) (search rules))

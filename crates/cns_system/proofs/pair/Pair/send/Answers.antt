@@ -1,4 +1,4 @@
-use Rattle.std.proofs.Common.{◌≡◌, ◌++◌, ◌∷◌, [], true, false, Some, None, rules}
+use Rattle.std.proofs.Common.{◌≡◌, ◌++◌, ◌∷◌, [], false, Some, rules}
 use Rattle.cns_movements.specs.Order.{order_of}
 use Rattle.cns_wire.specs.Frame.{order_frame}
 use Rattle.cns_clearing.specs.Books.{orders_of}
@@ -9,14 +9,11 @@ use Rattle.cns_system.proofs.pair.Pair.send.Goals.{in-Ok, in-Err}
 
 pub returns-then-is_down : goal.returns-then-is_down
 returns-then-is_down g c =
-    let down : c.args.self.now.clear.clear.log.down ≡ true = search rules in
-    send_down c.args.number c.args.self.now down
+    send_down c.args.number c.args.self.now (search rules)
 
 pub returns-in_default : goal.returns-in_default
 returns-in_default g c =
-    let up : c.args.self.now.clear.clear.log.down ≡ false = search rules in
-    let none : order_of (orders_of c.args.self.now.clear.clear.log.records).orders c.args.number ≡ None = search rules in
-    send_unknown c.args.number c.args.self.now up none
+    send_unknown c.args.number c.args.self.now (search rules) (search rules)
 
 pub invariant_of-self : goal.invariant_of-self
 invariant_of-self g c = elim c.match-put.branch [

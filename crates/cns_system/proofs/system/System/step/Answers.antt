@@ -1,10 +1,9 @@
 use Rattle.std.proofs.Common.{subst}
 use Rattle.cns_system.specs.Accord.{StaysSound}
 use Rattle.cns_system.specs.Headline.{AreStrict}
+use Rattle.cns_system.proofs.EventKeeps.{step_keeps, step_strict}
 use Rattle.cns_system.proofs.HeadlineLemmas.{agreed}
-use Rattle.cns_system.proofs.KeepsLemmas.{step_keeps}
 use Rattle.cns_system.proofs.SoundLemmas.{step_sound}
-use Rattle.cns_system.proofs.StrictLemmas.{step_strict}
 use Rattle.cns_system.proofs.system.System.step.Goals as goal
 
 pub invariant_of-self : goal.invariant_of-self

@@ -1,0 +1,194 @@
+-- What is so of whatever an accepted event may leave: a lemma of each call, over any property of what is told and left.
+use Rattle.std.proofs.Common.{◌≡◌, ◌∙◌, ◌+◌, ◌++◌, [], ◌∷◌, ℕ, Bool, true, false, List, length, Option, Some, None, Result, Ok, Err, ap, refl}
+use Rattle.std.specs.Prelude.{IfOk, nat_lt}
+use Rattle.std.specs.Option.{is_none, ok_or, option_flatten}
+use Rattle.cns_ids.specs.Steps.{◌>>=◌, ◌>>◌, need}
+use Rattle.cns_movements.specs.Order.{order_of}
+use Rattle.cns_movements.specs.declared.order.Order.{Order}
+use Rattle.cns_movements.specs.declared.order.Reply.{Reply}
+use Rattle.cns_movements.proofs.AgreeLemmas.{agree_fields}
+use Rattle.cns_pool.specs.declared.ticket.Ticket.{Ticket}
+use Rattle.cns_wire.specs.Packet.{at_number}
+use Rattle.cns_records.specs.Call.{Deed}
+use Rattle.cns_records.specs.Call as call
+use Rattle.cns_records.specs.declared.clear_record.ClearRecord.{ClearRecord}
+use Rattle.cns_records.specs.declared.clear_record.ClearRecord.TheVariants as entry
+use Rattle.cns_records.specs.declared.dep_record.DepRecord.{DepRecord}
+use Rattle.cns_records.specs.declared.dep_record.DepRecord.TheVariants as dep
+use Rattle.cns_records.specs.declared.instruction.Instruction.{Instruction}
+use Rattle.cns_records.specs.declared.refusal.Refusal.{Refusal}
+use Rattle.cns_records.specs.declared.refusal.Refusal.TheVariants as refusal
+use Rattle.cns_clearing.specs.Answers.{reply_call, up}
+use Rattle.cns_clearing.specs.Books.{orders_of}
+use Rattle.cns_clearing.specs.Lots.{lots_poured, new_lot}
+use Rattle.cns_clearing.specs.Pools.{free_of, lot_of}
+use Rattle.cns_clearing.specs.declared.answer.Closed.{Closed}
+use Rattle.cns_clearing.specs.declared.answer.Taken.{Taken}
+use Rattle.cns_clearing.specs.declared.lot.Lot.{Lot}
+use Rattle.cns_depository.specs.Answers.{instruct_call, order_call, reply_to}
+use Rattle.cns_depository.specs.Stock.{executed_of, execution, movement, movement_of}
+use Rattle.cns_depository.specs.declared.fault.Answer.{Answer}
+use Rattle.cns_depository.specs.declared.fault.DepFault.{DepFault}
+use Rattle.cns_depository.specs.declared.fault.Own.{Own}
+use Rattle.cns_depository.specs.declared.fault.OwnFault.{OwnFault}
+use Rattle.cns_depository.specs.declared.movement.Movement.{Movement}
+use Rattle.cns_system.specs.Happens.{Change, Decision, Grows, Leaves, by_clear, by_order, by_own, clear_deed, judged, taken_told, with_reply_put}
+use Rattle.cns_system.specs.Lot.{LotState, with_seal, with_ticket}
+use Rattle.cns_system.specs.Lots.{going_lot, turn_ticket, with_lot}
+use Rattle.cns_system.specs.Numbered.{lots_ended, numbered_close, numbered_open, numbered_pour}
+use Rattle.cns_system.specs.Shown.{Shown, clear_added, clear_failed, depot_added, depot_failed, with_new_lot}
+use Rattle.cns_system.specs.declared.event.Event.TheVariants as event
+use Rattle.cns_system.specs.declared.numbered.Opened.{Opened}
+use Rattle.cns_system.specs.declared.outcome.Outcome.{Outcome}
+use Rattle.cns_system.specs.declared.outcome.Outcome.TheVariants as outcomes
+use Rattle.cns_system.proofs.HappensLemmas.{Holds}
+use Rattle.cns_system.proofs.LotsLemmas.{IsGoing, going_parts}
+use Rattle.cns_system.proofs.NumberedLemmas.{IsDrawn, ticket_parts}
+use Rattle.cns_system.proofs.OrderDeeds.{IsOrderDeed, IsOwnDeed, order_deeds, own_deeds}
+use Rattle.cns_system.proofs.RecordedLemmas.{Commits, IsClose, Recorded, allocated, close_records, ok_up, reply_records}
+use Rattle.cns_system.proofs.StepLemmas.{ok_found, ok_then, steps_by}
+
+-- the packet of a number spells this order, or this reply
+abbrev pub Arrives : {A : Type 0} → List (Option A) → ℕ → A → Type 0
+Arrives packets number a = option_flatten (at_number packets number) ≡ Some a
+
+-- the movement that a new order comes to
+abbrev pub next_movement : Shown → Order → Movement
+next_movement w o = movement w.openings w.depot.records o
+
+module _ (P : Outcome → Shown → Type 0) (d : Decision) (w : Shown) where
+  -- what holds of each change that is not refused
+  abbrev Holding : Result Change Refusal → Type 0
+  Holding j = IfOk j (Holds P d w)
+
+  -- what holds of a record of the clearing node that is added, and of one whose commit failed
+  abbrev pub Added : Outcome → ClearRecord → List LotState → Type 0
+  Added told r lots = P told (record (clear_added r w) { lots = lots }) × P (outcomes.Refused refusal.Device) (clear_failed r w)
+
+  -- a call of the clearing node
+  by_record : {X : Type 0} (told : X → Outcome) (ends : List LotState → List LotState) (deed : Result (Deed ClearRecord X) Refusal) (T : X → Type 0) (Q : ClearRecord → X → Type 0)
+      → IfOk deed (Recorded w.clear.down T Q) → ((x : X) → T x → P (told x) w) → ((r : ClearRecord) (x : X) → w.clear.down ≡ false → Q r x → Added (told x) r (ends w.lots))
+      → Holding (deed >>= λ k. Ok (clear_deed told ends w k))
+  by_record told ends (Err r) T Q is tells commits = tt
+  by_record told ends (Ok (call.Tells x)) T Q is tells commits = tells x is
+  by_record told ends (Ok (call.Commits r x)) T Q (up, is) tells commits = commits r x up is
+
+  -- one that comes to nothing but the commit of this record
+  pub commit_holds : {X : Type 0} (told : X → Outcome) (r : ClearRecord) (deed : Result (Deed ClearRecord X) Refusal) → IfOk deed (Commits w.clear.down r)
+      → ((x : X) → w.clear.down ≡ false → Added (told x) r w.lots) → Holding (by_clear told w deed)
+  commit_holds told r deed is adds = by_record told (λ lots. lots) deed (λ x. ⊥) (λ k x. k ≡ r) is (λ x no. absurd no) (λ k x up same. rw same (adds x up))
+
+  -- an opening, where no lot of the issue is open
+  pub open_holds : (issue : ℕ)
+      → (lot_of w.open_lots issue ≡ None → let lot = new_lot w.clear.records issue in
+      P (outcomes.LotOpened (record { number = length w.lots + 1; poured = lot.poured; plan = lot.plan })) (with_new_lot lot w))
+      → Holding (judged (event.LotOpen issue) w)
+  unfolding judged numbered_open
+  open_holds issue opens = by w.clear.down (lot_of w.open_lots issue) refl (nat_lt (length w.lots) 1000000)
+    where
+      lot : Lot
+      lot = new_lot w.clear.records issue
+
+      opened : Result (Opened × Lot) Refusal
+      opened = Ok (record { number = length w.lots + 1; poured = lot.poured; plan = lot.plan }, lot)
+
+      by : (down : Bool) (found : Option Lot) → lot_of w.open_lots issue ≡ found → (few : Bool)
+          → Holding (up down >> (need (is_none found) refusal.LotAlready >> (need few refusal.LotsSpent >> opened)) >>= λ o. Ok (Grows (outcomes.LotOpened o.0) (with_new_lot o.1 w)))
+      by true found is few = tt
+      by false None is false = tt
+      by false None is true = opens is
+      by false (Some l) is few = tt
+
+  -- the calls of a lot that has not ended
+  pub pour_holds : (number : ℕ)
+      → ((lot : LotState) → IsGoing w.lots number lot
+      → P (outcomes.Poured (free_of (orders_of w.clear.records) w.open_lots lot.issue)) (record w { open_lots = lots_poured w.clear.records lot.issue w.open_lots }))
+      → Holding (judged (event.LotPour number) w)
+  unfolding judged numbered_pour
+  pour_holds number pours =
+      let told : ℕ × List Lot → Result Change Refusal = λ poured. Ok (Leaves (outcomes.Poured poured.0) (record w { open_lots = poured.1 })) in
+      let poured : LotState → Result (ℕ × List Lot) Refusal = λ lot. Ok (free_of (orders_of w.clear.records) w.open_lots lot.issue, lots_poured w.clear.records lot.issue w.open_lots) in
+      steps_by (Holds P d w) (going_lot w.lots number) (λ lot. up w.clear.down >> poured lot) told
+      (λ lot going. ok_up (λ (p : ℕ × List Lot). IfOk (told p) (Holds P d w)) w.clear.down (poured lot) (λ up. pours lot (going_parts w.lots number lot going)))
+
+  pub reserve_holds : (number member : ℕ)
+      → ((lot : LotState) (t : Ticket) → IsGoing w.lots number lot → IsDrawn lot member t
+      → P (outcomes.Drawn t) (record w { lots = with_lot number (with_ticket t lot) w.lots }))
+      → Holding (judged (event.Reserve number member) w)
+  unfolding judged
+  reserve_holds number member draws =
+      let told : Ticket × List LotState → Result Change Refusal = λ drawn. Ok (Leaves (outcomes.Drawn drawn.0) (record w { lots = drawn.1 })) in
+      let drawn : LotState → Ticket → Result (Ticket × List LotState) Refusal = λ lot t. Ok (t, with_lot number (with_ticket t lot) w.lots) in
+      steps_by (Holds P d w) (going_lot w.lots number) (λ lot. turn_ticket lot member >>= drawn lot) told
+      (λ lot going. ok_then (λ (p : Ticket × List LotState). IfOk (told p) (Holds P d w)) (turn_ticket lot member) (drawn lot)
+      (λ t is. draws lot t (going_parts w.lots number lot going) (ticket_parts lot member t is)))
+
+  pub seal_holds : (number : ℕ) → ((lot : LotState) → IsGoing w.lots number lot → P outcomes.Done (record w { lots = with_lot number (with_seal lot) w.lots }))
+      → Holding (judged (event.Seal number) w)
+  unfolding judged
+  seal_holds number seals =
+      let told : Unit {0} × List LotState → Result Change Refusal = λ sealed. Ok (Leaves outcomes.Done (record w { lots = sealed.1 })) in
+      steps_by (Holds P d w) (going_lot w.lots number) (λ lot. Ok (tt {0}, with_lot number (with_seal lot) w.lots)) told
+      (λ lot going. seals lot (going_parts w.lots number lot going))
+
+  pub close_holds : (number : ℕ)
+      → ((done : Closed) (close : IsClose number w.open_lots w.lots) → w.clear.down ≡ false → Added (outcomes.Closed done) (allocated close) (lots_ended number w.lots))
+      → Holding (judged (event.LotClose number) w)
+  unfolding judged
+  close_holds number closes =
+      by_record (λ (done : Closed). outcomes.Closed done) (lots_ended number) (numbered_close number w.clear.down w.clear.records w.open_lots w.lots) _ _
+      (close_records number w.clear.down w.clear.records w.open_lots w.lots) (λ done no. absurd no) (λ r done up is. rw (is.1) (closes done is.0 up))
+
+  -- a look at such a lot, which tells of it, changes nothing
+  pub look_holds : (number : ℕ) (told : LotState → Outcome) → ((outcome : Outcome) → P outcome w) → Holding (going_lot w.lots number >>= λ lot. Ok (Leaves (told lot) w))
+  look_holds number told looks = ok_then (Holds P d w) (going_lot w.lots number) (λ lot. Ok (Leaves (told lot) w)) (λ lot is. looks (told lot))
+
+  -- an order is put on the link
+  pub send_holds : (number : ℕ)
+      → ((packet : ℕ) (o : Order) → order_of (orders_of w.clear.records).orders number ≡ Some o → P (outcomes.Sent packet) (record w { orders = w.orders ++ Some o ∷ [] }))
+      → Holding (judged (event.Send number) w)
+  unfolding judged
+  send_holds number sends =
+      let order : Option Order = order_of (orders_of w.clear.records).orders number in
+      let put : Order → Result Change Refusal = λ o. Ok (Grows (outcomes.Sent (length w.orders + 1)) (record w { orders = w.orders ++ Some o ∷ [] })) in
+      ok_up (Holds P d w) w.clear.down (ok_or order refusal.UnknownMove >>= put) (λ up. ok_found (Holds P d w) order refusal.UnknownMove put (λ o found. sends (length w.orders + 1) o found))
+
+  -- an order that arrives was executed before; or it is executed, or the commit fails at the device
+  pub order_holds : (packet : ℕ)
+      → ((place : ℕ) (known : Movement) → movement_of (executed_of w.depot.records) known.order.number ≡ Some known → P (outcomes.ExecutedAgain (reply_to known) place) (with_reply_put (reply_to known) w))
+      → ((place : ℕ) (o : Order) → Arrives w.orders packet o → w.depot.down ≡ false → movement_of (executed_of w.depot.records) o.number ≡ None
+      → let m = next_movement w o in
+      P (outcomes.Executed (reply_to m) place) (with_reply_put (reply_to m) (depot_added (execution m) w)) × P (outcomes.Refused refusal.Device) (depot_failed (execution m) w))
+      → Holding (judged (event.OrderIn packet) w)
+  unfolding judged
+  order_holds packet again executes =
+      let call : Order → Result (Deed DepRecord Answer) DepFault = λ o. order_call o w.depot.down w.openings w.depot.records in
+      ok_found (Holds P d w) (option_flatten (at_number w.orders packet)) refusal.NoPacket (λ o. by_order w (call o))
+      (λ o at. by o at (call o) (order_deeds o w.depot.down w.openings w.depot.records))
+    where
+      by : (o : Order) → Arrives w.orders packet o → (deed : Result (Deed DepRecord Answer) DepFault) → IfOk deed (IsOrderDeed o w.depot.down w.openings w.depot.records) → Holding (by_order w deed)
+      by o at (Err fault) is = tt
+      by o at (Ok (call.Tells a)) (known, found, agrees, is) = rw is (again _ known (ap (movement_of (executed_of w.depot.records)) (agree_fields known.order o agrees).number ∙ found))
+      by o at (Ok (call.Commits e a)) (up, none, e_is, a_is) = rw (e_is, a_is) (executes _ o at up none)
+
+  -- a member's own instruction likewise
+  pub own_holds : (i : Instruction) → P (outcomes.InstructedAgain i) w
+      → (w.depot.down ≡ false → P (outcomes.Instructed i) (depot_added (dep.Own i) w) × P (outcomes.Refused refusal.Device) (depot_failed (dep.Own i) w)) → Holding (judged (event.Own i) w)
+  unfolding judged
+  own_holds i again instructs = by (instruct_call i w.depot.down w.openings w.depot.records) (own_deeds i w.depot.down w.openings w.depot.records)
+    where
+      by : (deed : Result (Deed DepRecord Own) OwnFault) → IfOk deed (IsOwnDeed i w.depot.down) → Holding (by_own i w deed)
+      by (Err fault) is = tt
+      by (Ok (call.Tells o)) is = rw is again
+      by (Ok (call.Commits e o)) (up, e_is, o_is) = rw (e_is, o_is) (instructs up)
+
+  -- a reply that arrives was confirmed before, or it is recorded
+  pub reply_holds : (packet : ℕ) → ((r : Reply) → P (outcomes.ConfirmedAgain r) w)
+      → ((r : Reply) → Arrives w.replies packet r → w.clear.down ≡ false → Added (outcomes.Confirmed r) (entry.Confirm r) w.lots) → Holding (judged (event.ReplyIn packet) w)
+  unfolding judged
+  reply_holds packet again confirms =
+      let call : Reply → Result (Deed ClearRecord Taken) Refusal = λ r. reply_call r w.clear.down w.clear.records in
+      ok_found (Holds P d w) (option_flatten (at_number w.replies packet)) refusal.NoPacket (λ r. by_clear (taken_told r) w (call r))
+      (λ r at.
+      by_record (taken_told r) (λ lots. lots) (call r) _ _ (reply_records r w.clear.down w.clear.records) (λ x is. rw is (again r))
+      (λ k x up is. rw (is.0, is.1) (confirms r at up)))
