@@ -8,7 +8,7 @@ use Rattle.cns_trades.specs.declared.opening.OpeningRow.TheVariants as row
 use Rattle.cns_depository.specs.Openings.{opening_fault}
 use Rattle.cns_depository.specs.declared.openings.OpeningFault.{OpeningFault}
 use Rattle.cns_depository.specs.Ranges.{standing, with_opening}
-use Rattle.cns_audit.specs.Rows.{take_row, taken}
+use Rattle.cns_audit.specs.Rows.{take_row, openings_taken}
 
 -- each opening of a list stands behind those before it
 abbrev AllStand : List Opening → List Opening → Type 0
@@ -39,5 +39,5 @@ again held [] stand = sym (append-nil held)
 again held (o ∷ os) stand =
     ap (λ (f : Option OpeningFault). fold with_opening (elim f [ None ↦ held ++ o ∷ [] | Some _ ↦ held ]) os) stand.0 ∙ again (held ++ o ∷ []) os stand.1 ∙ append_assoc held (o ∷ []) os
 
-pub stands-again : (rows : List OpeningRow) → standing (taken rows).0 ≡ (taken rows).0
-stands-again rows = again [] (taken rows).0 (stand-rows rows ([], false) tt)
+pub stands-again : (rows : List OpeningRow) → standing (openings_taken rows).0 ≡ (openings_taken rows).0
+stands-again rows = again [] (openings_taken rows).0 (stand-rows rows ([], false) tt)

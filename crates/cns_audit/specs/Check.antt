@@ -12,7 +12,7 @@ use Rattle.cns_depository.specs.declared.ranges.OpeningRanges.{OpeningRanges}
 use Rattle.cns_system.specs.Start.{IsStarted}
 use Rattle.cns_system.specs.World.{World}
 use Rattle.cns_audit.specs.Opened.{CannotOpen, copy_of}
-use Rattle.cns_audit.specs.Rows.{taken}
+use Rattle.cns_audit.specs.Rows.{openings_taken}
 use Rattle.cns_audit.specs.declared.check.Asked.{Asked}
 use Rattle.cns_audit.specs.declared.journal.Journals.{Journals}
 use Rattle.cns_audit.specs.declared.opened.Opened.{Opened}
@@ -40,11 +40,11 @@ TellsFault false old new = new ≡ old
 
 -- these are the openings that are asked for: those of the rows that stand, or any where none are asked for
 abbrev pub AreAsked : Asked → List Opening → Type 0
-AreAsked asked openings = elim asked.openings [ None ↦ Unit {0} | Some rows ↦ openings ≡ (taken rows.now).0 ]
+AreAsked asked openings = elim asked.openings [ None ↦ Unit {0} | Some rows ↦ openings ≡ (openings_taken rows.now).0 ]
 
 -- a row of the openings that are asked for falls out
 abbrev pub has_fallen : Asked → Bool
-has_fallen asked = elim asked.openings [ None ↦ false | Some rows ↦ (taken rows.now).1 ]
+has_fallen asked = elim asked.openings [ None ↦ false | Some rows ↦ (openings_taken rows.now).1 ]
 
 -- no openings are asked for, or the folder keeps none
 abbrev pub HasNoOther : Asked → Type 0

@@ -11,5 +11,5 @@ abbrev pub take_row : List Opening × Bool → OpeningRow → List Opening × Bo
 take_row (held, fell_out) (row.Fault number fault) = (held, true)
 take_row (held, fell_out) (row.Opening o) = elim (opening_fault held o) [ None ↦ (held ++ o ∷ [], fell_out) | Some _ ↦ (held, true) ]
 
-abbrev pub taken : List OpeningRow → List Opening × Bool
-taken rows = fold take_row ([], false) rows
+abbrev pub openings_taken : List OpeningRow → List Opening × Bool
+openings_taken rows = fold take_row ([], false) rows

@@ -2,7 +2,7 @@
 
 ghost use Rattle.std.specs.Prelude.{◌≡◌, ◌<◌, ◌||◌, ℕ, IfOk, None, OnOk, vec_items};
 ghost use Rattle.cns_audit.specs.Check.{HasNoOther, IsAllSound, IsFaulty, AreAsked, NeedsOf, TellsFault, are_damaged, has_fallen, is_damaged, is_refused};
-ghost use Rattle.cns_audit.specs.Rows.{take_row, taken};
+ghost use Rattle.cns_audit.specs.Rows.{take_row, openings_taken};
 ghost use Rattle.cns_depository.specs.Ranges.{standing, with_opening};
 ghost use Rattle.cns_audit.specs.Opened.{IsOpening};
 ghost use Rattle.cns_audit.specs.declared.opened.Opened.{Opened};
@@ -80,8 +80,8 @@ fn take_rows<W: Write + Drop>(
     told: &mut Told<W>,
     rows: &[OpeningRow],
 ) -> Result<Vec<Opening>, BatchFault>
-    ensures list { IfOk result (λ list. vec_items list ≡ (taken rows.now).0) }
-    ensures tells { OnOk result (TellsFault (taken rows.now).1 told.old.faults told.new.faults) }
+    ensures list { IfOk result (λ list. vec_items list ≡ (openings_taken rows.now).0) }
+    ensures tells { OnOk result (TellsFault (openings_taken rows.now).1 told.old.faults told.new.faults) }
 {
     let mut taken = Taken::new(alloc);
     let mut number = 0u64;

@@ -1,7 +1,7 @@
 //! The openings of rows, and those that a folder of journals keeps.
 
 ghost use Rattle.std.specs.Prelude.{◌≡◌, ◌||◌, [], false, is_some, IfOk, OnOk, vec_items};
-ghost use Rattle.cns_audit.specs.Rows.{take_row, taken};
+ghost use Rattle.cns_audit.specs.Rows.{take_row, openings_taken};
 
 use cns_depository::{OpeningFault, Openings};
 use cns_ids::{Cusip, MemberNo};
@@ -83,7 +83,7 @@ impl Taken {
 
 /// The openings of rows, without those that a run tells as faulty, or that do not hold.
 pub fn held_openings(alloc: Global, rows: &[OpeningRow]) -> Result<Vec<Opening>, AllocError>
-    ensures { IfOk result (λ list. vec_items list ≡ (taken rows.now).0) }
+    ensures { IfOk result (λ list. vec_items list ≡ (openings_taken rows.now).0) }
 {
     let mut taken = Taken::new(alloc);
     for row in rows {

@@ -6,7 +6,7 @@ use Rattle.cns_system.specs.declared.event.Event.{Event}
 use Rattle.cns_system.specs.declared.outcome.Outcome.{Outcome}
 use Rattle.cns_report.specs.Outcomes.{outcome_line}
 use Rattle.cns_batch.specs.Acts.{Act, Draws, Gives, Lets, Looks, Plans, Tells, ◌>>=◌, ◌>>◌, done, each, happened, single, tells}
-use Rattle.cns_batch.specs.Runs.{BreaksOff, Came, Continues, Exchange, Follows, IsLed, IsNext, Leads, Place, Prints, Runs, Stops, Told, Writes, leaves, output_at, text_in, text_said}
+use Rattle.cns_batch.specs.Runs.{BreaksOff, Came, Continues, Exchange, ActLeaves, IsLed, IsNextExchange, Leads, Place, Prints, Runs, Stops, Told, Writes, leaves, output_at, text_in, text_said}
 use Rattle.cns_batch.proofs.PrintLemmas.{breaks_after, breaks_here, first_left, prints_nothing, writes_more}
 
 -- ---- exchanges
@@ -15,7 +15,7 @@ pub text_more : (said more : List Exchange) → text_said (said ++ more) ≡ tex
 text_more [] more = refl
 text_more (x ∷ said) more = ap (λ l. text_in x ++ l) (text_more said more) ∙ sym (append_assoc (text_in x) (text_said said) (text_said more))
 
-pub follows_more : {A : Type 0} (a b d : Act A) (said more : List Exchange) → Follows a said b → Follows b more d → Follows a (said ++ more) d
+pub follows_more : {A : Type 0} (a b d : Act A) (said more : List Exchange) → ActLeaves a said b → ActLeaves b more d → ActLeaves a (said ++ more) d
 follows_more a b d [] more one two = rw one at two
 follows_more a b d (x ∷ said) more (next, is, one) two = (next, is, follows_more next b d said more one two)
 
@@ -24,7 +24,7 @@ led_more leads p q r [] more one two = rw one at two
 led_more leads p q r (x ∷ said) more (between, is, one) two = (between, is, led_more leads between q r said more one two)
 
 -- an act, and then another one
-next_followed : {A B : Type 0} (x : Exchange) (a left : Act A) (next : A → Act B) → IsNext x a left → IsNext x (a >>= next) (left >>= next)
+next_followed : {A B : Type 0} (x : Exchange) (a left : Act A) (next : A → Act B) → IsNextExchange x a left → IsNextExchange x (a >>= next) (left >>= next)
 unfolding ◌>>=◌
 next_followed x (Gives v) left next is = absurd is
 next_followed x (Tells text a) left next (is, same) = (is, ap (λ l. l >>= next) same)
@@ -33,7 +33,7 @@ next_followed x (Plans name stands a) left next (planned, is, same) = (planned, 
 next_followed x (Looks a) left next (w, is, same) = (w, is, ap (λ l. l >>= next) same)
 next_followed x (Draws lot a) left next (haul, is, same) = (haul, is, ap (λ l. l >>= next) same)
 
-pub bind_follows : {A B : Type 0} (a left : Act A) (next : A → Act B) (said : List Exchange) → Follows a said left → Follows (a >>= next) said (left >>= next)
+pub bind_follows : {A B : Type 0} (a left : Act A) (next : A → Act B) (said : List Exchange) → ActLeaves a said left → ActLeaves (a >>= next) said (left >>= next)
 bind_follows a left next [] same = ap (λ l. l >>= next) same
 bind_follows a left next (x ∷ said) (first, is, rest) = (first >>= next, next_followed x a first next is, bind_follows first left next said rest)
 
@@ -111,7 +111,7 @@ leaving_runs leads act a (Err e) p q stop = stops_followed (λ _. Gives a) stop
 -- ---- single exchanges
 
 -- an exchange that tells nothing comes next
-pub asks : {A N : Type 0} {leads : Exchange → N → N → Type 0} {act left : Act A} {p : Place N} {new : N} (x : Exchange) → IsNext x act left → text_in x ≡ [] → Leads leads x p.nodes new
+pub asks : {A N : Type 0} {leads : Exchange → N → N → Type 0} {act left : Act A} {p : Place N} {new : N} (x : Exchange) → IsNextExchange x act left → text_in x ≡ [] → Leads leads x p.nodes new
     → Continues leads act left p (record p { nodes = new })
 asks {left = left} {p = p} {new = new} x next none leads =
     record { said = x ∷ []; follows = (left, next, refl); led = (new, leads, refl); writes = rw none (prints_nothing (output_at p)) }

@@ -5,7 +5,7 @@ use Rattle.std.proofs.lemmas.List.Elements.{All-head, All-tail}
 use Rattle.cns_records.specs.declared.refusal.Refusal.TheVariants as refusal
 use Rattle.cns_trades.specs.declared.opening.Opening.{Opening}
 use Rattle.cns_system.specs.Happens.{Goes}
-use Rattle.cns_system.specs.Scene.{Decides, Scene, comes_to, is_planner, planned}
+use Rattle.cns_system.specs.Scene.{Decides, Scene, comes_to, is_planner, with_failure_planned}
 use Rattle.cns_system.specs.declared.event.Event.{Event}
 use Rattle.cns_system.specs.declared.event.NodeName.{NodeName}
 use Rattle.cns_system.specs.declared.event.NodeName.TheVariants as node
@@ -33,7 +33,7 @@ GoesAlone act c = HadMemory (in_turn act c).occurred → in_turn act (alone c) �
 not_short : (e : Event) (o : Outcome) (s : Scene) → was_short (Came e o s) ≡ false → o ≢ outcomes.Refused refusal.OutOfMemory
 not_short e o s had is = absurd (cc (sym had ∙ ap (λ (o : Outcome). was_short (Came e o s)) is))
 
-planned_known : (name : NodeName) (stands : Bool) (s : Scene) → AreKnown s → AreKnown (planned name stands s)
+planned_known : (name : NodeName) (stands : Bool) (s : Scene) → AreKnown s → AreKnown (with_failure_planned name stands s)
 planned_known node.Clear stands s known = (record { honest = known.0.honest; foreseen = refl; stands = known.0.stands }, known.1)
 planned_known node.Depot stands s known = (known.0, record { honest = known.1.honest; foreseen = refl; stands = known.1.stands })
 
@@ -51,7 +51,7 @@ act_alone {A} (Lets e next) c known had =
     ap (λ (came : Outcome × Scene). after_all [] (Came e came.0 came.1 ∷ []) (in_turn (next came.0) (record { scene = came.1; chances = [] }))) (sym same.0)
     ∙ ap (after_all [] (Came e came.0 came.1 ∷ [])) later
 act_alone (Plans name stands next) c known had =
-    let scene = planned name stands c.scene in
+    let scene = with_failure_planned name stands c.scene in
     let after : Course = record c { scene = scene } in
     elim (cases_Bool (is_planner name c.scene)) [
       | inl is ↦

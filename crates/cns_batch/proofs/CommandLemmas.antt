@@ -16,7 +16,7 @@ use Rattle.cns_shake.specs.Shake.{Lcg, event_of, pcg32}
 use Rattle.cns_system.specs.Readers.{counts_of}
 use Rattle.cns_system.specs.Shown.{Shown}
 use Rattle.cns_batch.specs.Acts.{Act, Gives, Looks, ◌>>=◌, done, happened, single}
-use Rattle.cns_batch.specs.Commands.{all_taken, drawn, link_shaken, row_taken, rows_taken, served, shaken, taken}
+use Rattle.cns_batch.specs.Commands.{all_taken, drawn, link_shaken, row_taken, rows_taken, served, shaken, first_taken}
 use Rattle.cns_batch.specs.Runs.{Continues, Exchange, Place, Runs, Showed, leaves}
 use Rattle.cns_batch.specs.declared.supply.Supply.{Supply}
 use Rattle.cns_batch.proofs.PrintLemmas.{first_left}
@@ -28,22 +28,22 @@ abbrev pub with_rows : Supply → List Row → Supply
 with_rows s rows = record s { trades = rows }
 
 -- what is left to take begins with the first of the rows
-pub taken_first : (n i : ℕ) (r : Row) (s : Supply) (new : List Row) → i < n → s.trades ≡ r ∷ new → taken (n - i) s ≡ row_taken r >>= λ _. taken (n - (i + 1)) (with_rows s new)
+pub taken_first : (n i : ℕ) (r : Row) (s : Supply) (new : List Row) → i < n → s.trades ≡ r ∷ new → first_taken (n - i) s ≡ row_taken r >>= λ _. first_taken (n - (i + 1)) (with_rows s new)
 unfolding rows_taken
 taken_first n i r s new lt is = let one : n - i ≡ suc (n - (i + 1)) = omega (arith, lt) in rw (is, one) refl
 
 -- where no row is left, nothing is left to take
-pub taken_none : (n : ℕ) (s : Supply) → s.trades ≡ [] → taken n s ≡ Gives s
+pub taken_none : (n : ℕ) (s : Supply) → s.trades ≡ [] → first_taken n s ≡ Gives s
 unfolding rows_taken
 taken_none n s none = rw (none, take-nil n, drop-nil n) refl
 
 -- nor where so many were taken
-pub taken_all : (n i : ℕ) (s : Supply) → n ≤ i → taken (n - i) s ≡ Gives s
+pub taken_all : (n i : ℕ) (s : Supply) → n ≤ i → first_taken (n - i) s ≡ Gives s
 unfolding rows_taken
-taken_all n i s le = let none : n - i ≡ 0 = omega (arith, le) in ap (λ k. taken k s) none
+taken_all n i s le = let none : n - i ≡ 0 = omega (arith, le) in ap (λ k. first_taken k s) none
 
 -- all that are left
-pub all_are : (s : Supply) → taken (length s.trades) s ≡ all_taken s
+pub all_are : (s : Supply) → first_taken (length s.trades) s ≡ all_taken s
 all_are s = let n = length s.trades in let all : n ≤ n = omega arith in rw (take_all n s.trades all, drop_all n s.trades all) refl
 
 -- ---- draws

@@ -28,9 +28,9 @@ use Rattle.cns_system.specs.declared.outcome.Outcome.{Outcome}
 use Rattle.cns_system.specs.declared.outcome.Outcome.TheVariants as outcomes
 use Rattle.cns_report.specs.Outcomes.{event_line, outcome_line}
 use Rattle.cns_batch.specs.Acts.{Act, Draws, Gives, Haul, Lets, Tells, ◌>>=◌, ◌>>◌, done, happened, single, tells}
-use Rattle.cns_batch.specs.ByWorkers.{ComesToPass, HasCome, LeadsAtDesk, after_seal, closed_by, closed_text, cut_text, cut_told, end_text, entered, hauled, lot_line, not_drawn, refusal_of, ticket_line}
+use Rattle.cns_batch.specs.ByWorkers.{ComesToPass, HasCome, LeadsAtDesk, closed_after_seal, closed_by, closed_text, cut_text, cut_told, end_text, entered, hauled, lot_line, not_drawn, refusal_of, ticket_line}
 use Rattle.cns_batch.specs.Commands.{opened}
-use Rattle.cns_batch.specs.Runs.{BreaksOff, Came, Continues, Drew, Exchange, Follows, IsLed, Leads, Place, Prints, Runs, Stops, Told, Writes, output_at, text_said}
+use Rattle.cns_batch.specs.Runs.{BreaksOff, Came, Continues, Drew, Exchange, ActLeaves, IsLed, Leads, Place, Prints, Runs, Stops, Told, Writes, output_at, text_said}
 use Rattle.cns_batch.specs.Runs as x
 use Rattle.cns_batch.proofs.CommandLemmas.{after_open}
 use Rattle.cns_batch.proofs.ActLemmas.{bind_follows, follows_more, text_more}
@@ -57,7 +57,7 @@ all_pass (e ∷ said) old new (between, leads, led) = All-cons ComesToPass e sai
 
 pub record Way {A : Type 0} (act left : Act A) (text : List ℕ) : Type 0 where
   said : List Exchange
-  follows : Follows act said left
+  follows : ActLeaves act said left
   passes : All ComesToPass said
   text_is : text_said said ≡ text
 
@@ -177,10 +177,10 @@ way_ended : (lot : ℕ) (sealed : Bool) (last : List Outcome) (old new : World) 
 way_ended lot false last old new sound (o, is, occurs) = rw is (way_single (event.LotClose lot) o (occurred sound occurs))
 way_ended lot true last old new sound (inl (o, is, (r, refused), occurs)) =
     let line = outcome_line (event.Seal lot) (outcomes.Refused r) in
-    rw (is, refused) (way_more (way_lets (event.Seal lot) (outcomes.Refused r) (after_seal lot) (occurred sound (rw refused at occurs))) (way_tells line))
+    rw (is, refused) (way_more (way_lets (event.Seal lot) (outcomes.Refused r) (closed_after_seal lot) (occurred sound (rw refused at occurs))) (way_tells line))
 way_ended lot true last old new sound (inr (rest, between, is, sealed, (closed, is_closed, occurs))) =
     rw (is, is_closed)
-    (way_more (way_lets (event.Seal lot) outcomes.Done (after_seal lot) (occurred sound sealed)) (way_single (event.LotClose lot) closed (occurred (sealed.accord, sealed.agreed) occurs)))
+    (way_more (way_lets (event.Seal lot) outcomes.Done (closed_after_seal lot) (occurred sound sealed)) (way_single (event.LotClose lot) closed (occurred (sealed.accord, sealed.agreed) occurs)))
 
 some_ended : (lot : ℕ) (sealed : Bool) (last : List Outcome) (old new : World) → IsEnded lot sealed last old new → 0 < length last
 some_ended lot false last old new (o, is, occurs) = rw is (omega arith)

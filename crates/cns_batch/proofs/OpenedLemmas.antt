@@ -43,8 +43,8 @@ started_first openings w started =
       started.lots,
       first dep_spelling (IsExecutable openings) HasDepPayload w.depot.log started.depot_opens.0,
       started.depot_opens.1,
-      started.orders,
-      started.replies,
+      started.order_packets,
+      started.reply_packets,
     ) refl
 
 -- ---- no opening is refused but for want of memory

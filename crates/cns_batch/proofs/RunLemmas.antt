@@ -13,7 +13,7 @@ use Rattle.cns_input.specs.declared.command.Command.TheVariants as command
 use Rattle.cns_input.proofs.SectionLemmas.{lines_step}
 use Rattle.cns_batch.specs.Acts.{Act, Gives, ◌>>=◌, ◌>>◌}
 use Rattle.cns_batch.specs.Commands.{command_run, opened, plain_run, served_if_open}
-use Rattle.cns_batch.specs.Run.{Numbered, all_run, commands_of, first_run, numbered, ran_beside, run_beside, script_run}
+use Rattle.cns_batch.specs.Run.{Numbered, all_run, commands_of, first_run, numbered_command, ran_beside, run_beside, script_run}
 use Rattle.cns_batch.specs.Runs.{Continues, Exchange, Place, Runs, Stops, leaves}
 use Rattle.cns_batch.proofs.ActLemmas.{continues_more, followed_gives, stops_after, stops_followed}
 
@@ -21,13 +21,13 @@ use Rattle.cns_batch.proofs.ActLemmas.{continues_more, followed_gives, stops_aft
 
 -- those of lines that are not empty, by the first
 pub line_read : (n size : ℕ) (xs line rest : List ℕ) (c : Command) → (length xs == 0) ≡ false → size ≡ line_size xs → line ≡ take size xs → rest ≡ drop size xs → c ≡ command_of (line_text line)
-    → commands_of n (raw_lines xs) ≡ numbered n c (commands_of (n + 1) (raw_lines rest))
+    → commands_of n (raw_lines xs) ≡ numbered_command n c (commands_of (n + 1) (raw_lines rest))
 unfolding commands_of
 line_read n size [] line rest c some is front back text = absurd (cc some)
 line_read n size (x ∷ xs) line rest c some is front back text = ap (commands_of n) (lines_step x xs) ∙ rw (text, front, back, is) refl
 
 -- a line that is not passed over is the next command
-pub line_held : (n : ℕ) (c : Command) (rest : List Numbered) → (c ≡ command.Skip → ⊥) → numbered n c rest ≡ (n, c) ∷ rest
+pub line_held : (n : ℕ) (c : Command) (rest : List Numbered) → (c ≡ command.Skip → ⊥) → numbered_command n c rest ≡ (n, c) ∷ rest
 line_held n command.Skip rest not = absurd (not refl)
 line_held n _ rest not = refl
 

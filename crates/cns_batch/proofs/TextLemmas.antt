@@ -21,7 +21,7 @@ use Rattle.cns_batch.specs.InTurn.{LeadsInTurn, Told, in_turn}
 use Rattle.cns_batch.specs.Ending.{batch_result}
 use Rattle.cns_batch.specs.Runs.{Continues, Output, Place, Runs, Stops, Writes, leaves, output_at, text_said}
 use Rattle.cns_input.specs.Reading.{HasGiven, IsInput, IsReadFault}
-use Rattle.cns_batch.specs.Text.{BatchLeaves, Input, KeptLeaves, OpensBoth, RunsInput, SaysOf, Tells, WritesAll, WritesNothing, WritesPart, WritesTextPart, fault_of_start, input_of, is_short, new_keeper, first_scene, parts_of, run_from, script_of, text_by, text_from}
+use Rattle.cns_batch.specs.Text.{BatchLeaves, Input, KeptLeaves, OpensBoth, RunsInput, SaysOf, Tells, WritesAll, WritesNothing, WritesPart, WritesTextPart, fault_of_start, input_of, lacks_memory, new_keeper, first_scene, parts_of, run_from, script_of, text_by, text_from}
 use Rattle.cns_input.specs.declared.fault.BatchFault.{BatchFault}
 use Rattle.cns_input.specs.declared.fault.BatchFault.TheVariants as fault
 use Rattle.cns_batch.specs.declared.fault.OutputFault.{OutputFault}
@@ -171,7 +171,7 @@ batch_leaves known result c d c' d' old new is_c is_d (bytes, all, kept) = (byte
 
 -- ---- what an answer says of the input, whatever was written
 
-said_unopened : (short : Bool) (bytes : List ℕ) (input : Input) (why : StartFault) (rejected : List (List ℕ)) (c d c' d' : KeeperState) → is_short why ≡ short → input_of bytes ≡ Ok input
+said_unopened : (short : Bool) (bytes : List ℕ) (input : Input) (why : StartFault) (rejected : List (List ℕ)) (c d c' d' : KeeperState) → lacks_memory why ≡ short → input_of bytes ≡ Ok input
     → IsNotOpened input.openings why rejected c d c' d' → SaysOf (Err (if short then fault.Memory else fault.Journal)) bytes c d
 said_unopened true bytes input why rejected c d c' d' short is unopened = tt
 said_unopened false bytes input why rejected c d c' d' short is unopened = (input, is, (c', d', (why, rejected, short, unopened)))
@@ -179,7 +179,7 @@ said_unopened false bytes input why rejected c d c' d' short is unopened = (inpu
 pub says_unopened : (known : Option (List ℕ)) (bytes : List ℕ) (input : Input) (why : StartFault) (rejected : List (List ℕ)) (c d c' d' : KeeperState) → IsInput known bytes → length bytes ≤ 67108864
     → parts_of bytes ≡ Ok input → IsNotOpened input.openings why rejected c d c' d' → (bytes : List ℕ) × IsInput known bytes × SaysOf (Err (fault_of_start why)) bytes c d
 says_unopened known bytes input why rejected c d c' d' all le is unopened =
-    (bytes, all, said_unopened (is_short why) bytes input why rejected c d c' d' refl (within bytes le ∙ is) unopened)
+    (bytes, all, said_unopened (lacks_memory why) bytes input why rejected c d c' d' refl (within bytes le ∙ is) unopened)
 
 -- both nodes were opened, and a run ended
 pub said_ran : (ran : Result (Unit {0}) OutputFault) (bytes : List ℕ) (c d : KeeperState) → OpensBoth bytes c d → SaysOf (batch_result ran) bytes c d

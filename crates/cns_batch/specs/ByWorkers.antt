@@ -47,12 +47,12 @@ cut_told None = done
 cut_told (Some r) = tells (not_drawn r)
 
 -- a lot is sealed and then closed; the line of the seal is told where it is refused, and then the lot is not closed
-abbrev pub after_seal : ℕ → Outcome → Act (Unit {0})
-after_seal lot outcomes.Done = single (event.LotClose lot)
-after_seal lot o = tells (outcome_line (event.Seal lot) o)
+abbrev pub closed_after_seal : ℕ → Outcome → Act (Unit {0})
+closed_after_seal lot outcomes.Done = single (event.LotClose lot)
+closed_after_seal lot o = tells (outcome_line (event.Seal lot) o)
 
 abbrev pub sealed_and_closed : ℕ → Act (Unit {0})
-sealed_and_closed lot = Lets (event.Seal lot) (after_seal lot)
+sealed_and_closed lot = Lets (event.Seal lot) (closed_after_seal lot)
 
 -- a lot is closed, sealed before that where it is to be
 abbrev pub closed_by : ℕ → Bool → Act (Unit {0})

@@ -7,7 +7,7 @@ use Rattle.cns_netting.specs.Rows.{rows_of}
 use Rattle.cns_allocate.specs.declared.planned.Planned.{Planned}
 use Rattle.cns_records.specs.declared.refusal.Refusal.TheVariants as refusal
 use Rattle.cns_clearing.specs.Books.{books_of}
-use Rattle.cns_clearing.specs.Pools.{rows_of as pools_of}
+use Rattle.cns_clearing.specs.Pools.{rows_of_pools}
 use Rattle.cns_depository.specs.Balances.{balance_rows}
 use Rattle.cns_shake.specs.Shake.{Lcg, event_of, pcg32}
 use Rattle.cns_shake.specs.declared.shaker.TheConstants.{DRAWS}
@@ -18,7 +18,7 @@ use Rattle.cns_system.specs.declared.event.Event.TheVariants as event
 use Rattle.cns_system.specs.declared.event.NodeName.{NodeName}
 use Rattle.cns_system.specs.declared.numbered.Opened.{Opened}
 use Rattle.cns_system.specs.declared.outcome.Outcome.TheVariants as outcomes
-use Rattle.cns_report.specs.Lines.{line_text}
+use Rattle.cns_report.specs.Lines.{bytes_of_line}
 use Rattle.cns_report.specs.Outcomes.{outcome_line}
 use Rattle.cns_report.specs.Report.{balance_line, cycle_report_text}
 use Rattle.cns_report.specs.declared.line.Line.TheVariants as line
@@ -30,7 +30,7 @@ use Rattle.cns_batch.specs.Acts.{Act, Gives, Plans, Looks, ◌>>=◌, ◌>>◌, 
 -- a row is taken: a good one is a trade, and a faulty one is told
 abbrev pub row_taken : Row → Act (Unit {0})
 row_taken (row.Trade t) = single (event.Trade t)
-row_taken (row.Fault number fault) = tells (line_text (line.RowFault number fault))
+row_taken (row.Fault number fault) = tells (bytes_of_line (line.RowFault number fault))
 
 -- the two looks at a lot; the second ends the line of the first, where that is not refused
 unfoldable pub looked : ℕ → Act (Unit {0})
@@ -87,11 +87,11 @@ event_run busy e = if names_busy busy e then tells (outcome_line e (outcomes.Ref
 
 -- the next commit of a node is planned to fail, where its keeper plans failures
 abbrev pub failed : NodeName → Bool → Act (Unit {0})
-failed name stands = Plans name stands (λ planned. tells (line_text (if planned then line.FailurePlanned else line.FailureNotPlanned)))
+failed name stands = Plans name stands (λ planned. tells (bytes_of_line (if planned then line.FailurePlanned else line.FailureNotPlanned)))
 
 abbrev pub report_text : Shown → List ℕ
 report_text w =
-    let book = books_of w.clear.records in cycle_report_text book.latest (rows_of book.history) (pools_of book.orders w.open_lots)
+    let book = books_of w.clear.records in cycle_report_text book.latest (rows_of book.history) (rows_of_pools book.orders w.open_lots)
     ++ flat_map balance_line (balance_rows w.openings w.depot.records) ++ codes "END\n"
 
 -- the report of what both nodes show
@@ -104,8 +104,8 @@ rows_taken [] left = Gives left
 rows_taken (r ∷ rows) left = row_taken r >> rows_taken rows left
 
 -- so many of the rows are taken, or all where fewer are left
-abbrev pub taken : ℕ → Supply → Act Supply
-taken n s = rows_taken (take n s.trades) (record s { trades = drop n s.trades })
+abbrev pub first_taken : ℕ → Supply → Act Supply
+first_taken n s = rows_taken (take n s.trades) (record s { trades = drop n s.trades })
 
 abbrev pub all_taken : Supply → Act Supply
 all_taken s = rows_taken s.trades (record s { trades = [] })
@@ -141,13 +141,13 @@ pumped_shaken s = link_shaken s >>= pumped_after
 -- left. TAKE takes so many rows; a line that opens another lot beside lines is bad here
 abbrev pub plain_run : Option ℕ → ℕ → Command → Supply → Act Supply
 plain_run busy n command.TakeAll s = all_taken s
-plain_run busy n (command.Take many) s = taken many s
+plain_run busy n (command.Take many) s = first_taken many s
 plain_run busy n (command.Single e) s = leaving s (event_run busy e)
 plain_run busy n (command.Look lot) s = leaving s (looked lot)
 plain_run busy n (command.Fail name stands) s = leaving s (failed name stands)
 plain_run busy n command.Pump s = pumped_shaken s
 plain_run busy n command.Report s = leaving s reported
-plain_run busy n _ s = leaving s (tells (line_text (line.BadCommand n)))
+plain_run busy n _ s = leaving s (tells (bytes_of_line (line.BadCommand n)))
 
 -- a command; ALLOCATE opens a lot and serves it
 abbrev pub command_run : (Opened → Act (Unit {0})) → Option ℕ → ℕ → Command → Supply → Act Supply

@@ -2,7 +2,7 @@
 use Rattle.std.specs.Prelude.{◌≡◌, Bool, true, false, List, [], ◌∷◌, ◌++◌, ℕ, None, drop, get_or, if◌then◌else◌}
 use Rattle.std.specs.List.{fold}
 use Rattle.cns_system.specs.Happens.{Goes}
-use Rattle.cns_system.specs.Scene.{Chance, Comes, Decides, Scene, comes_to, is_planner, planned, scene_of}
+use Rattle.cns_system.specs.Scene.{Chance, Comes, Decides, Scene, comes_to, is_planner, with_failure_planned, scene_of}
 use Rattle.cns_system.specs.Shown.{shown_of}
 use Rattle.cns_system.specs.World.{World}
 use Rattle.cns_system.specs.declared.event.Event.{Event}
@@ -50,7 +50,7 @@ in_turn (Lets e next) c =
     let (outcome, scene) = comes_to (get_or c.chances 0 (Decides Goes)) e c.scene in
     after_all [] (Came e outcome scene ∷ []) (in_turn (next outcome) (record { scene = scene; chances = drop 1 c.chances }))
 in_turn (Plans name stands next) c =
-    let scene = planned name stands c.scene in
+    let scene = with_failure_planned name stands c.scene in
     if is_planner name c.scene then after_all [] (WasPlanned name stands scene ∷ []) (in_turn (next true) (record c { scene = scene })) else in_turn (next false) c
 in_turn (Looks next) c = in_turn (next c.scene.shown) c
 in_turn (Draws lot next) c = in_turn (next None) c
@@ -58,7 +58,7 @@ in_turn (Draws lot next) c = in_turn (next None) c
 -- an exchange with both nodes leads from the one to the other so
 abbrev pub LeadsInTurn : Exchange → World → World → Type 0
 LeadsInTurn (x.Came e outcome) old new = Comes e outcome old new
-LeadsInTurn (x.Planned name stands true) old new = (is_planner name (scene_of old) ≡ true) × (scene_of new ≡ planned name stands (scene_of old))
+LeadsInTurn (x.Planned name stands true) old new = (is_planner name (scene_of old) ≡ true) × (scene_of new ≡ with_failure_planned name stands (scene_of old))
 LeadsInTurn (x.Planned name stands false) old new = (is_planner name (scene_of old) ≡ false) × (scene_of new ≡ scene_of old)
 LeadsInTurn (x.Showed w) old new = (w ≡ shown_of old) × (new ≡ old)
 LeadsInTurn _ old new = ⊥

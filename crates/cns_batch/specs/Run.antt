@@ -15,17 +15,17 @@ abbrev pub Numbered : Type 0
 Numbered = ℕ × Command
 
 -- the commands of lines, which are numbered from n on; a line that holds none is passed over
-abbrev pub numbered : ℕ → Command → List Numbered → List Numbered
-numbered n command.Skip rest = rest
-numbered n c rest = (n, c) ∷ rest
+abbrev pub numbered_command : ℕ → Command → List Numbered → List Numbered
+numbered_command n command.Skip rest = rest
+numbered_command n c rest = (n, c) ∷ rest
 
 unfoldable pub commands_of : ℕ → List (List ℕ) → List Numbered
 commands_of n [] = []
-commands_of n (l ∷ ls) = numbered n (command_of (line_text l)) (commands_of (n + 1) ls)
+commands_of n (l ∷ ls) = numbered_command n (command_of (line_text l)) (commands_of (n + 1) ls)
 
 -- the commands of a script that are left to run
-abbrev pub left_of : Commands → List Numbered
-left_of c = commands_of c.number (raw_lines c.rest.now)
+abbrev pub commands_left : Commands → List Numbered
+commands_left c = commands_of c.number (raw_lines c.rest.now)
 
 -- commands one after another beside the lot of a number, where one is served beside them
 unfoldable pub all_run : (Opened → Act (Unit {0})) → Option ℕ → List Numbered → Supply → Act Supply

@@ -66,18 +66,18 @@ abbrev pub text_said : List Exchange → List ℕ
 text_said said = flat_map text_in said
 
 -- an exchange is the next one of an act, and this is left of the act
-abbrev pub IsNext : {A : Type 0} → Exchange → Act A → Act A → Type 0
-IsNext x (Gives a) left = ⊥
-IsNext x (Tells text next) left = (x ≡ Told text) × (left ≡ next)
-IsNext x (Lets e next) left = (o : Outcome) × (x ≡ Came e o) × (left ≡ next o)
-IsNext x (Plans name stands next) left = (planned : Bool) × (x ≡ Planned name stands planned) × (left ≡ next planned)
-IsNext x (Looks next) left = (w : Shown) × (x ≡ Showed w) × (left ≡ next w)
-IsNext x (Draws lot next) left = (haul : Option Haul) × (x ≡ Drew lot haul) × (left ≡ next haul)
+abbrev pub IsNextExchange : {A : Type 0} → Exchange → Act A → Act A → Type 0
+IsNextExchange x (Gives a) left = ⊥
+IsNextExchange x (Tells text next) left = (x ≡ Told text) × (left ≡ next)
+IsNextExchange x (Lets e next) left = (o : Outcome) × (x ≡ Came e o) × (left ≡ next o)
+IsNextExchange x (Plans name stands next) left = (planned : Bool) × (x ≡ Planned name stands planned) × (left ≡ next planned)
+IsNextExchange x (Looks next) left = (w : Shown) × (x ≡ Showed w) × (left ≡ next w)
+IsNextExchange x (Draws lot next) left = (haul : Option Haul) × (x ≡ Drew lot haul) × (left ≡ next haul)
 
 -- exchanges are the first ones of an act, and this is left of the act
-abbrev pub Follows : {A : Type 0} → Act A → List Exchange → Act A → Type 0
-Follows act [] left = left ≡ act
-Follows {A} act (x ∷ said) left = (next : Act A) × IsNext x act next × Follows next said left
+abbrev pub ActLeaves : {A : Type 0} → Act A → List Exchange → Act A → Type 0
+ActLeaves act [] left = left ≡ act
+ActLeaves {A} act (x ∷ said) left = (next : Act A) × IsNextExchange x act next × ActLeaves next said left
 
 -- an exchange leads from what both nodes were to what they are; a text that is told leaves them
 abbrev pub Leads : {N : Type 0} → (Exchange → N → N → Type 0) → Exchange → N → N → Type 0
@@ -106,7 +106,7 @@ at run sent = record { nodes = run.nodes; held = run.page.text; sent = sent }
 -- an act has come so far that another one is left of it
 pub record Continues {A N : Type 0} (leads : Exchange → N → N → Type 0) (act left : Act A) (old new : Place N) : Type 0 where
   pub said : List Exchange
-  pub follows : Follows act said left
+  pub follows : ActLeaves act said left
   pub led : IsLed leads said old.nodes new.nodes
   pub writes : Writes (text_said said) (output_at old) (output_at new)
 
@@ -114,7 +114,7 @@ pub record Continues {A N : Type 0} (leads : Exchange → N → N → Type 0) (a
 pub record Stops {A N : Type 0} (leads : Exchange → N → N → Type 0) (act : Act A) (old new : Place N) : Type 0 where
   pub said : List Exchange
   pub left : Act A
-  pub follows : Follows act said left
+  pub follows : ActLeaves act said left
   pub led : IsLed leads said old.nodes new.nodes
   pub writes : BreaksOff (text_said said) (output_at old) new.sent
 

@@ -30,7 +30,7 @@ use Rattle.cns_batch.specs.Acts.{Act, Gives}
 use Rattle.cns_batch.specs.ByWorkers.{ComesToPass, served_by_workers}
 use Rattle.cns_batch.specs.Commands.{served_in_turn}
 use Rattle.cns_batch.specs.InTurn.{Told, in_turn, scene_at}
-use Rattle.cns_batch.specs.Runs.{Exchange, Follows, text_said}
+use Rattle.cns_batch.specs.Runs.{Exchange, ActLeaves, text_said}
 use Rattle.cns_batch.specs.Opened.{told_opening}
 use Rattle.cns_batch.specs.Run.{commands_of, script_run}
 use Rattle.cns_input.specs.Sections.{raw_lines, sections}
@@ -79,7 +79,7 @@ first_scene openings =
     let clear : LogShown ClearRecord = record { records = []; tried = None; down = false } in
     let depot : LogShown DepRecord = record { records = []; tried = None; down = false } in
     let sight : Sight = record { honest = true; foresight = record { next = Succeeds; stands = None } } in
-    let shown : Shown = record { clear = clear; open_lots = []; lots = []; openings = openings; depot = depot; orders = []; replies = [] } in
+    let shown : Shown = record { clear = clear; open_lots = []; lots = []; openings = openings; depot = depot; order_packets = []; reply_packets = [] } in
     record { shown = shown; clear = sight; depot = sight }
 
 -- the output text of an input's bytes over keepers in memory, by what comes between, or the fault of the bytes
@@ -135,15 +135,15 @@ WritesPart shake input clear depot clear' depot' old new =
     × ((count : ℕ) × AreGivenUp (scene_at (scene_of w) (take count (run_from shake chances (scene_of w) input).occurred)) clear' depot'))
 
 -- an opening is refused for want of memory
-abbrev pub is_short : StartFault → Bool
-is_short (start.Clear replay.OutOfMemory) = true
-is_short (start.Depot replay.OutOfMemory) = true
-is_short _ = false
+abbrev pub lacks_memory : StartFault → Bool
+lacks_memory (start.Clear replay.OutOfMemory) = true
+lacks_memory (start.Depot replay.OutOfMemory) = true
+lacks_memory _ = false
 
 -- both nodes were not opened, for want of memory or for another cause
 abbrev pub IsUnopened : Bool → Input → KeeperState → KeeperState → KeeperState → KeeperState → Type 0
 IsUnopened for_memory input clear depot clear' depot' =
-    (why : StartFault) × (rejected : List (List ℕ)) × (is_short why ≡ for_memory) × IsNotOpened input.openings why rejected clear depot clear' depot'
+    (why : StartFault) × (rejected : List (List ℕ)) × (lacks_memory why ≡ for_memory) × IsNotOpened input.openings why rejected clear depot clear' depot'
 
 -- what a batch over the input leaves of both keepers and of what its writer holds, by its answer
 abbrev pub RunsInput : Result (Unit {0}) BatchFault → Option ℕ → Input → KeeperState → KeeperState → KeeperState → KeeperState → Option (List ℕ) → Option (List ℕ) → Type 0
@@ -155,7 +155,7 @@ RunsInput (Err fault.Write) shake input clear depot clear' depot' old new = Writ
 RunsInput (Err _) shake input clear depot clear' depot' old new = ⊥
 
 abbrev pub fault_of_start : StartFault → BatchFault
-fault_of_start why = if is_short why then fault.Memory else fault.Journal
+fault_of_start why = if lacks_memory why then fault.Memory else fault.Journal
 
 -- the faults with which nothing was written
 abbrev pub WritesNothing : BatchFault → Type 0
@@ -224,14 +224,14 @@ BatchLeaves (Err fault.Write) bytes old new = WritesTextPart bytes old new
 abbrev pub WritesWhole : Option ℕ → List ℕ → Option (List ℕ) → Option (List ℕ) → Type 0
 WritesWhole shake bytes old new =
     (input : Input) × (input_of bytes ≡ Ok input)
-    × ((said : List Exchange) × (left : Supply) × Follows (script_of served_by_workers shake input) said (Gives left) × All ComesToPass said
+    × ((said : List Exchange) × (left : Supply) × ActLeaves (script_of served_by_workers shake input) said (Gives left) × All ComesToPass said
     × Appends old new (input.told ++ text_said said))
 
 -- so much of it was run, and a first part of the text was written
 abbrev pub WritesFront : Option ℕ → List ℕ → Option (List ℕ) → Option (List ℕ) → Type 0
 WritesFront shake bytes old new =
     (input : Input) × (input_of bytes ≡ Ok input)
-    × ((said : List Exchange) × (left : Act Supply) × (size : ℕ) × Follows (script_of served_by_workers shake input) said left × All ComesToPass said
+    × ((said : List Exchange) × (left : Act Supply) × (size : ℕ) × ActLeaves (script_of served_by_workers shake input) said left × All ComesToPass said
     × Appends old new (take size (input.told ++ text_said said)))
 
 -- what is written, by the answer

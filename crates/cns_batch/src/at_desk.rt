@@ -8,7 +8,7 @@ ghost use Rattle.cns_system.specs.Lot.{planned_sum};
 ghost use Rattle.cns_input.specs.Sections.{raw_lines};
 ghost use Rattle.cns_batch.specs.ByWorkers.{served_by_workers};
 ghost use Rattle.cns_batch.specs.Commands.{allocated, command_run};
-ghost use Rattle.cns_batch.specs.Run.{all_run, commands_of, first_run, left_of, ran_beside, run_beside, script_run};
+ghost use Rattle.cns_batch.specs.Run.{all_run, commands_of, first_run, commands_left, ran_beside, run_beside, script_run};
 ghost use Rattle.cns_batch.specs.Runs.{Runs, at, leaves};
 
 use crate::fault::Told;
@@ -213,9 +213,9 @@ fn run_next<N: Lots, G: Gate + Sync, R: Threads + Sync, W: Write>(
     supply: &mut Supply,
     writer: &mut W,
 ) -> Told
-    ensures runs { Runs N.leads (all_run served_by_workers busy (take count (left_of commands.old)) supply.old) (leaves result supply.new)
+    ensures runs { Runs N.leads (all_run served_by_workers busy (take count (commands_left commands.old)) supply.old) (leaves result supply.new)
         (at run.old (W.contents writer.old)) (at run.new (W.contents writer.new)) }
-    ensures passed { OnOk result (left_of commands.new ≡ drop count (left_of commands.old)) }
+    ensures passed { OnOk result (commands_left commands.new ≡ drop count (commands_left commands.old)) }
 {
     for _command in 0..count {
         let Some((number, command)) = commands.next_command() else {
@@ -272,9 +272,9 @@ fn beside<N: Lots, G: Gate + Sync, R: Threads + Sync, W: Write>(
     supply: &mut Supply,
     writer: &mut W,
 ) -> Told
-    ensures runs { Runs N.leads (run_beside served_by_workers issue (take count (left_of commands.old)) supply.old) (leaves result supply.new)
+    ensures runs { Runs N.leads (run_beside served_by_workers issue (take count (commands_left commands.old)) supply.old) (leaves result supply.new)
         (at run.old (W.contents writer.old)) (at run.new (W.contents writer.new)) }
-    ensures passed { OnOk result (left_of commands.new ≡ drop count (left_of commands.old)) }
+    ensures passed { OnOk result (commands_left commands.new ≡ drop count (commands_left commands.old)) }
 {
     let alloc = run.alloc;
     let Some(begun) = run.nodes.begin(alloc, issue, &mut run.page, writer)? else {
@@ -301,9 +301,9 @@ fn beside<N: Lots, G: Gate + Sync, R: Threads + Sync, W: Write>(
         workers,
         opened,
         &mut || -> Told
-            ensures runs { Runs N.leads (all_run served_by_workers (Some lot) (take count (left_of commands.entry.now)) supply.entry.now) (leaves result supply.exit.now)
+            ensures runs { Runs N.leads (all_run served_by_workers (Some lot) (take count (commands_left commands.entry.now)) supply.entry.now) (leaves result supply.exit.now)
                 (at run.entry.now (W.contents writer.entry.now)) (at run.exit.now (W.contents writer.exit.now)) }
-            ensures passed { OnOk result (left_of commands.exit.now ≡ drop count (left_of commands.entry.now)) }
+            ensures passed { OnOk result (commands_left commands.exit.now ≡ drop count (commands_left commands.entry.now)) }
         {
             run_next(
                 rt,
@@ -338,9 +338,9 @@ fn run_first<N: Lots, G: Gate + Sync, R: Threads + Sync, W: Write>(
     supply: &mut Supply,
     writer: &mut W,
 ) -> Told
-    ensures runs { Runs N.leads (first_run served_by_workers (number, command.now) (left_of commands.old) supply.old) (leaves result supply.new)
+    ensures runs { Runs N.leads (first_run served_by_workers (number, command.now) (commands_left commands.old) supply.old) (leaves result supply.new)
         (at run.old (W.contents writer.old)) (at run.new (W.contents writer.new)) }
-    ensures passed { OnOk result (left_of commands.new ≡ drop (ran_beside command.now) (left_of commands.old)) }
+    ensures passed { OnOk result (commands_left commands.new ≡ drop (ran_beside command.now) (commands_left commands.old)) }
 {
     match command {
         Command::Beside { issue, lines } => {

@@ -3,10 +3,10 @@
 ghost use Rattle.std.specs.Prelude.{◌≡◌, Option, ℕ};
 ghost use Rattle.cns_records.specs.declared.refusal.Refusal.TheVariants as refusals;
 ghost use Rattle.cns_system.specs.declared.event.Event.TheVariants as event;
-ghost use Rattle.cns_report.specs.Lines.{line_text};
+ghost use Rattle.cns_report.specs.Lines.{bytes_of_line};
 ghost use Rattle.cns_report.specs.declared.line.Line.TheVariants as line;
 ghost use Rattle.cns_batch.specs.Acts.{done, each, single, tells};
-ghost use Rattle.cns_batch.specs.Commands.{all_pumped, all_taken, delivered, drawn, event_run, failed, looked, names_busy as names_busy_of, is_busy as is_busy_of, link_shaken, opened, plain_run, pumped, pumped_shaken, row_taken, shaken, taken};
+ghost use Rattle.cns_batch.specs.Commands.{all_pumped, all_taken, delivered, drawn, event_run, failed, looked, names_busy as names_busy_of, is_busy as is_busy_of, link_shaken, opened, plain_run, pumped, pumped_shaken, row_taken, shaken, first_taken};
 ghost use Rattle.cns_batch.specs.Runs.{Runs, at, leaves};
 
 use crate::fault::Told;
@@ -56,7 +56,7 @@ impl<N: Nodes> Runner<N> {
 
     // Takes so many of the rows that are left, or all where fewer are.
     fn take<W: Write>(&mut self, rows: u64, supply: &mut Supply, writer: &mut W) -> Told
-        ensures { Runs N.leads (taken rows supply.old) (leaves result supply.new) (at self.old (W.contents writer.old)) (at self.new (W.contents writer.new)) }
+        ensures { Runs N.leads (first_taken rows supply.old) (leaves result supply.new) (at self.old (W.contents writer.old)) (at self.new (W.contents writer.new)) }
     {
         for _turn in 0..rows {
             let Some(row) = supply.trades.next() else {
@@ -202,7 +202,7 @@ impl<N: Nodes> Runner<N> {
 
     // Tells that the line of this number holds no command that may run there.
     fn refuse_line<W: Write>(&mut self, number: u64, writer: &mut W) -> Told
-        ensures { Runs N.leads (tells (line_text (line.BadCommand number))) result (at self.old (W.contents writer.old)) (at self.new (W.contents writer.new)) }
+        ensures { Runs N.leads (tells (bytes_of_line (line.BadCommand number))) result (at self.old (W.contents writer.old)) (at self.new (W.contents writer.new)) }
     {
         self.tell(Line::BadCommand { line: number }, writer)
     }

@@ -7,7 +7,7 @@ ghost use Rattle.cns_batch.specs.Acts.{done, single};
 ghost use Rattle.cns_input.specs.Sections.{raw_lines};
 ghost use Rattle.cns_batch.specs.Commands.{allocated, command_run, served, served_if_open, served_in_turn};
 ghost use Rattle.cns_batch.specs.InTurn.{LeadsInTurn};
-ghost use Rattle.cns_batch.specs.Run.{all_run, commands_of, first_run, left_of, ran_beside, run_beside, script_run};
+ghost use Rattle.cns_batch.specs.Run.{all_run, commands_of, first_run, commands_left, ran_beside, run_beside, script_run};
 ghost use Rattle.cns_batch.specs.Runs.{Runs, at, leaves};
 
 use crate::fault::Told;
@@ -170,9 +170,9 @@ fn run_next<C: Keeper, D: Keeper, W: Write>(
     supply: &mut Supply,
     writer: &mut W,
 ) -> Told
-    ensures runs { Runs LeadsInTurn (all_run served_in_turn busy (take count (left_of commands.old)) supply.old) (leaves result supply.new)
+    ensures runs { Runs LeadsInTurn (all_run served_in_turn busy (take count (commands_left commands.old)) supply.old) (leaves result supply.new)
         (at run.old (W.contents writer.old)) (at run.new (W.contents writer.new)) }
-    ensures passed { OnOk result (left_of commands.new ≡ drop count (left_of commands.old)) }
+    ensures passed { OnOk result (commands_left commands.new ≡ drop count (commands_left commands.old)) }
 {
     for _command in 0..count {
         let Some((number, command)) = commands.next_command() else {
@@ -192,9 +192,9 @@ fn beside<C: Keeper, D: Keeper, W: Write>(
     supply: &mut Supply,
     writer: &mut W,
 ) -> Told
-    ensures runs { Runs LeadsInTurn (run_beside served_in_turn issue (take count (left_of commands.old)) supply.old) (leaves result supply.new)
+    ensures runs { Runs LeadsInTurn (run_beside served_in_turn issue (take count (commands_left commands.old)) supply.old) (leaves result supply.new)
         (at run.old (W.contents writer.old)) (at run.new (W.contents writer.new)) }
-    ensures passed { OnOk result (left_of commands.new ≡ drop count (left_of commands.old)) }
+    ensures passed { OnOk result (commands_left commands.new ≡ drop count (commands_left commands.old)) }
 {
     let lot = run.open_lot(issue, writer)?;
     run_next(run, number_of(&lot), count, commands, supply, writer)?;
@@ -211,9 +211,9 @@ fn run_first<C: Keeper, D: Keeper, W: Write>(
     supply: &mut Supply,
     writer: &mut W,
 ) -> Told
-    ensures runs { Runs LeadsInTurn (first_run served_in_turn (number, command.now) (left_of commands.old) supply.old) (leaves result supply.new)
+    ensures runs { Runs LeadsInTurn (first_run served_in_turn (number, command.now) (commands_left commands.old) supply.old) (leaves result supply.new)
         (at run.old (W.contents writer.old)) (at run.new (W.contents writer.new)) }
-    ensures passed { OnOk result (left_of commands.new ≡ drop (ran_beside command.now) (left_of commands.old)) }
+    ensures passed { OnOk result (commands_left commands.new ≡ drop (ran_beside command.now) (commands_left commands.old)) }
 {
     match command {
         Command::Beside { issue, lines } => {

@@ -2,11 +2,11 @@
 
 ghost use Rattle.std.specs.Prelude.{◌≡◌, [], IfErr, OnOk, length};
 ghost use Rattle.std.specs.List.{flat_map};
-ghost use Rattle.cns_report.specs.Lines.{line_text};
+ghost use Rattle.cns_report.specs.Lines.{bytes_of_line};
 ghost use Rattle.cns_report.specs.Outcomes.{outcome_line};
 ghost use Rattle.cns_report.specs.Report.{balance_line, cycle_report_text};
 ghost use Rattle.cns_clearing.specs.Books.{history_of, latest_of, orders_of};
-ghost use Rattle.cns_clearing.specs.Pools.{rows_of as pools_of};
+ghost use Rattle.cns_clearing.specs.Pools.{rows_of_pools};
 ghost use Rattle.cns_depository.specs.Balances.{balance_rows};
 ghost use Rattle.cns_netting.specs.Rows.{rows_of};
 ghost use Rattle.cns_system.specs.Shown.{shown_of};
@@ -134,7 +134,7 @@ impl Page {
 
     /// Tells a line.
     pub(crate) fn tell<W: Write>(&mut self, line: Line, writer: &mut W) -> Told
-        ensures { Puts (line_text line) result self.old self.new (W.contents writer.old) (W.contents writer.new) }
+        ensures { Puts (bytes_of_line line) result self.old self.new (W.contents writer.old) (W.contents writer.new) }
     {
         self.told(&line, writer)
     }
@@ -168,7 +168,7 @@ impl Page {
         clearing: &Clearing<C>,
         writer: &mut W,
     ) -> Told
-        ensures { Prints (cycle_report_text (latest_of clearing.now.log.records) (rows_of (history_of clearing.now.log.records)) (pools_of (orders_of clearing.now.log.records) clearing.now.lots))
+        ensures { Prints (cycle_report_text (latest_of clearing.now.log.records) (rows_of (history_of clearing.now.log.records)) (rows_of_pools (orders_of clearing.now.log.records) clearing.now.lots))
             result (output self.old (W.contents writer.old)) (output self.new (W.contents writer.new)) }
     {
         let latest = clearing.latest();

@@ -1,4 +1,4 @@
-ghost use Rattle.cns_report.specs.Lines.{line_text};
+ghost use Rattle.cns_report.specs.Lines.{bytes_of_line};
 ghost use Rattle.cns_report.specs.Outcomes.{outcome_line};
 ghost use Rattle.cns_batch.specs.Acts.{happened, single, tells};
 ghost use Rattle.cns_batch.specs.Commands.{reported};
@@ -50,7 +50,7 @@ impl<N: Nodes> Runner<N> {
 
     /// Tells a line.
     pub(crate) fn tell<W: Write>(&mut self, line: Line, writer: &mut W) -> Told
-        ensures { Runs N.leads (tells (line_text line)) result (at self.old (W.contents writer.old)) (at self.new (W.contents writer.new)) }
+        ensures { Runs N.leads (tells (bytes_of_line line)) result (at self.old (W.contents writer.old)) (at self.new (W.contents writer.new)) }
     {
         self.page.tell(line, writer)
     }

@@ -2,7 +2,7 @@
 
 ghost use Rattle.std.specs.Prelude.{◌≡◌, ◌+◌, ◌<◌, length};
 ghost use Rattle.cns_input.specs.Sections.{raw_lines};
-ghost use Rattle.cns_batch.specs.Run.{IsNextOf, commands_of, left_of};
+ghost use Rattle.cns_batch.specs.Run.{IsNextOf, commands_of, commands_left};
 
 use crate::lines::Commands;
 use cns_input::{Command, command_of, line_size, line_text};
@@ -10,7 +10,7 @@ use cns_input::{Command, command_of, line_size, line_text};
 impl<'a> Commands<'a> {
     /// All commands of a script, whose lines are numbered from 1.
     pub(crate) fn of(script: &'a [u8]) -> Commands<'a>
-        ensures { left_of result ≡ commands_of 1 (raw_lines script.now) }
+        ensures { commands_left result ≡ commands_of 1 (raw_lines script.now) }
     {
         Commands {
             rest: script,
@@ -22,7 +22,7 @@ impl<'a> Commands<'a> {
     /// over.
     #[inline(always)]
     pub(crate) fn next_command(&mut self) -> Option<(u64, Command)>
-        ensures { IsNextOf result (left_of self.old) (left_of self.new) }
+        ensures { IsNextOf result (commands_left self.old) (commands_left self.new) }
     {
         while !self.rest.is_empty() {
             let (line, rest) = self.rest.split_at(line_size(self.rest));

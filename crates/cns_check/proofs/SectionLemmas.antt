@@ -8,7 +8,7 @@ use Rattle.std.proofs.lemmas.Grind.{flat_map-append, fold-append}
 use Rattle.std.proofs.lemmas.List.{append-nil, map-append, take_more}
 use Rattle.cns_trades.specs.Openings.{opening_of}
 use Rattle.cns_trades.specs.declared.opening.Opening.{Opening}
-use Rattle.cns_depository.specs.Openings.{AddLeaves, opening_fault}
+use Rattle.cns_depository.specs.Openings.{OpeningLeaves, opening_fault}
 use Rattle.cns_depository.specs.declared.openings.OpeningFault.{OpeningFault}
 use Rattle.cns_depository.specs.declared.openings.OpeningFault.TheVariants as opening_faults
 use Rattle.std.proofs.lemmas.List.Elements.{filter_map-append}
@@ -114,7 +114,7 @@ opening_stands rows before f n Is held new o at is fits made was =
     leaves (rows ++ f ∷ []) before Is new _ _ (openings-one rows f n at ∙ step) (made ∙ ap (λ h. h ++ o ∷ []) was.0) was.1
 
 -- it is one, which is refused
-pub is_refused : (why : OpeningFault) (held new : List Opening) (o : Opening) → (why ≡ opening_faults.OutOfMemory → ⊥) → AddLeaves o (Err why) held new
+pub is_refused : (why : OpeningFault) (held new : List Opening) (o : Opening) → (why ≡ opening_faults.OutOfMemory → ⊥) → OpeningLeaves o (Err why) held new
     → (opening_fault held o ≡ Some why) × (new ≡ held)
 is_refused opening_faults.Double held new o not left = left
 is_refused opening_faults.IssueSum held new o not left = left

@@ -17,8 +17,8 @@ use Rattle.cns_covers.proofs.BoundLemmas.{settled_most}
 use Rattle.cns_records.specs.Clear.{AreWritable}
 use Rattle.cns_records.specs.declared.allocation.Allocation.{Allocation}
 use Rattle.cns_records.specs.declared.clear_record.ClearRecord.{ClearRecord}
-use Rattle.cns_clearing.specs.Answers.{Closes, allocation_of, deliveries_by}
-use Rattle.cns_clearing.specs.Books.{Books, IsAllocable, IsLawful, are_spent, books_of, deliveries_in, history_of, orders_of, tickets_of}
+use Rattle.cns_clearing.specs.Answers.{Closes, closing_allocation, deliveries_by}
+use Rattle.cns_clearing.specs.Books.{Books, IsAllocable, IsLawful, are_spent, books_of, deliveries_in, history_of, orders_of, pool_tickets}
 use Rattle.cns_clearing.specs.Closing.{AreRecordable, IsRecordable}
 use Rattle.cns_clearing.specs.Lots.{IsAllocation, IsLot, longs_among}
 use Rattle.cns_clearing.specs.Node.{ClearNode}
@@ -30,7 +30,7 @@ use Rattle.cns_clearing.proofs.PlanLemmas.{lot_lawful, lot_plan, lot_pours, lot_
 
 -- tickets that serve the plan of a lot close it
 pub allocation_lawful : (c : List ClearRecord) (lot : Lot) (tickets : List Ticket) (sealed : Bool) → IsLot c lot → IsServed lot.plan tickets sealed
-    → IsAllocation c (allocation_of lot tickets sealed)
+    → IsAllocation c (closing_allocation lot tickets sealed)
 allocation_lawful c lot tickets sealed is served = record { plan = lot.plan; lot = is; served = rw tickets_drawn served }
 
 -- tickets that stand end to end, and ask for at most 10^18 shares together, can each be recorded
@@ -50,28 +50,28 @@ module _ (c : List ClearRecord) (a : Allocation) (lawful : IsLawful c) (fits : A
   allocable enough = record {
     order = omega (arith, closes.lot.opened, closes.lot.upto, length-append closes.lot.middle closes.lot.before);
     chained = closes.served.chained;
-    once = served_once closes.plan (tickets_of a.drawn) a.sealed (lot_plan c _ lawful fits closes.lot) closes.served;
-    within = served_within closes.plan (tickets_of a.drawn) a.sealed closes.served (λ m. want_in (history_of c) (orders_of c) m a.issue) (lot_wants c _ lawful closes.lot);
+    once = served_once closes.plan (pool_tickets a.drawn) a.sealed (lot_plan c _ lawful fits closes.lot) closes.served;
+    within = served_within closes.plan (pool_tickets a.drawn) a.sealed closes.served (λ m. want_in (history_of c) (orders_of c) m a.issue) (lot_wants c _ lawful closes.lot);
     there = lot_pours c _ lawful closes.lot;
     numbers = enough;
   }
 
   -- its tickets ask for at most 10^18 shares together
-  pub asked_small : asked_sum (tickets_of a.drawn) ≤ 1000000000000000000
+  pub asked_small : asked_sum (pool_tickets a.drawn) ≤ 1000000000000000000
   asked_small =
       let b : Books = books_of closes.lot.before in
       let sound = lawful_sound closes.lot.before (lot_lawful c _ lawful closes.lot) (lot_writable c _ fits closes.lot) in
       let total = plan_of-total a.issue b.history b.orders b.priorities (longs_among a.issue b.previous) sound.netted (settled_most b.history b.orders sound.bounded) in
       let planned : sum_by (λ (p : Planned). p.asked) closes.plan ≤ 1000000000000000000 = rw closes.lot.plan total in
-      omega (arith, served_sum closes.plan (tickets_of a.drawn) a.sealed closes.served, planned)
+      omega (arith, served_sum closes.plan (pool_tickets a.drawn) a.sealed closes.served, planned)
 
   -- and a record can hold them
-  pub recordable : AreRecordable (tickets_of a.drawn)
+  pub recordable : AreRecordable (pool_tickets a.drawn)
   recordable =
       let plan = lot_plan c _ lawful fits closes.lot in
       record {
-        each = each_recordable 0 (tickets_of a.drawn) closes.served.chained (omega (arith, asked_small)) (served_shares closes.plan (tickets_of a.drawn) a.sealed plan closes.served);
-        once = served_once closes.plan (tickets_of a.drawn) a.sealed plan closes.served;
+        each = each_recordable 0 (pool_tickets a.drawn) closes.served.chained (omega (arith, asked_small)) (served_shares closes.plan (pool_tickets a.drawn) a.sealed plan closes.served);
+        once = served_once closes.plan (pool_tickets a.drawn) a.sealed plan closes.served;
       }
 
 -- ---- its deliveries

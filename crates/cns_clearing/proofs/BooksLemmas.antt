@@ -27,7 +27,7 @@ use Rattle.cns_records.specs.Clear.{HasRanges, AreWritable}
 use Rattle.cns_records.specs.declared.allocation.Allocation.{Allocation}
 use Rattle.cns_records.specs.declared.clear_record.ClearRecord.{ClearRecord}
 use Rattle.cns_records.specs.declared.clear_record.ClearRecord.TheVariants.{Accept, Cycle, Allocate, Confirm}
-use Rattle.cns_clearing.specs.Books.{Books, Allows, AreSound, IsAllocable, IsLawful, are_spent, books_of, covers_on, deliveries_in, tickets_of, with_record}
+use Rattle.cns_clearing.specs.Books.{Books, Allows, AreSound, IsAllocable, IsLawful, are_spent, books_of, covers_on, deliveries_in, pool_tickets, with_record}
 
 -- a position stays within 10^18 of 0 where a first confirmation brings its shares
 pub settle_within : (b : Books) (r : Reply) (o : Order) → AreSound b → confirm_answer b.orders r ≡ answers.Done → order_of b.orders.orders r.number ≡ Some o
@@ -49,8 +49,8 @@ pub record AreOrderly (b : Books) : Type 0 where
 -- the deliveries of an allocation that may follow
 allocable_asks : (b : Books) (a : Allocation) → IsAllocable b a → AreDeliverable b.history b.orders a.issue (deliveries_in a)
 allocable_asks b a allocable = record {
-  each = deliveries_within a.issue a.poured (tickets_of a.drawn) (λ m. want_in b.history b.orders m a.issue) allocable.within;
-  once = deliveries_once a.issue a.poured (tickets_of a.drawn) allocable.once;
+  each = deliveries_within a.issue a.poured (pool_tickets a.drawn) (λ m. want_in b.history b.orders m a.issue) allocable.within;
+  once = deliveries_once a.issue a.poured (pool_tickets a.drawn) allocable.once;
 }
 
 -- they stay so with one more record

@@ -20,7 +20,7 @@ use Rattle.cns_records.specs.declared.clear_record.ClearRecord.TheVariants as en
 use Rattle.cns_records.specs.declared.refusal.Refusal.{Refusal}
 use Rattle.cns_records.specs.declared.refusal.Refusal.TheVariants as refusal
 use Rattle.cns_records.proofs.CallLemmas.{changed, committed, refused}
-use Rattle.cns_clearing.specs.Answers.{Closes, ClosesNone, IsPoured, Leaves, allocation_of, answer_in, close_call, closed_of, covers_in, cycle_call, cycled_of, open_call, pour_call, reply_call, trade_call, verdict_in}
+use Rattle.cns_clearing.specs.Answers.{Closes, ClosesNone, IsPoured, NodeLeaves, closing_allocation, answer_in, close_call, closed_of, covers_in, cycle_call, cycled_of, open_call, pour_call, reply_call, trade_call, verdict_in}
 use Rattle.cns_clearing.specs.Books.{IsLawful, are_spent, is_later, latest_of, orders_of}
 use Rattle.cns_clearing.specs.Lots.{AreLots, avail_in, lots_poured, new_lot, refilled}
 use Rattle.cns_clearing.specs.Node.{AddLeaves, ClearNode, IsCommitted}
@@ -38,14 +38,14 @@ added x (Err fault) = Err (commit_refusal fault)
 
 -- what such a call leaves
 pub adds : {X : Type 0} (call : Result (Deed ClearRecord X) Refusal) (r : ClearRecord) (x : X) (answer : Result ℕ CommitFault) (result : Result X Refusal) (old new : ClearNode)
-    → call ≡ Ok (Commits r x) → result ≡ added x answer → AddLeaves r answer old new → Leaves call result old new
+    → call ≡ Ok (Commits r x) → result ≡ added x answer → AddLeaves r answer old new → NodeLeaves call result old new
 adds call r x (Ok due) result old new is told left = committed commit_refusal IsCommitted call r x (Ok tt) result old new is told left.1
 adds call r x (Err commit.OutOfMemory) result old new is told left = committed commit_refusal IsCommitted call r x (Err commit.OutOfMemory) result old new is told left
 adds call r x (Err commit.Device) result old new is told left = committed commit_refusal IsCommitted call r x (Err commit.Device) result old new is told left
 
 -- and where there is no memory for what it needs besides
 pub short_of : {X : Type 0} (call : Result (Deed ClearRecord X) Refusal) (r : ClearRecord) (x : X) (result : Result X Refusal) (old new : ClearNode)
-    → call ≡ Ok (Commits r x) → result ≡ Err refusal.OutOfMemory → new ≡ old → Leaves call result old new
+    → call ≡ Ok (Commits r x) → result ≡ Err refusal.OutOfMemory → new ≡ old → NodeLeaves call result old new
 short_of call r x result old new is told same = committed commit_refusal IsCommitted call r x (Err commit.OutOfMemory) result old new is told same
 
 -- ---- trades
@@ -57,7 +57,7 @@ trade_new t down c up new = rw (up, new) refl
 
 -- any other is refused with its verdict
 pub trade_other : (t : Trade) (v : Verdict) (node : ClearNode) → node.log.down ≡ false → verdict_in node.log.records t ≡ v → v ≢ verdicts.New
-    → Leaves (trade_call t node.log.down node.log.records) (Err (refusal.Trade v)) node node
+    → NodeLeaves (trade_call t node.log.down node.log.records) (Err (refusal.Trade v)) node node
 unfolding trade_call
 trade_other t verdicts.New node up is other = absurd (other refl)
 trade_other t _ node up is other = rw (up, is) (refl, refl)
@@ -66,20 +66,20 @@ trade_other t _ node up is other = rw (up, is) (refl, refl)
 
 -- a cycle that is not later than the latest one is refused
 pub cycle_early : (id : CycleId) (node : ClearNode) → node.log.down ≡ false → is_later (latest_of node.log.records) id ≡ false
-    → Leaves (cycle_call id node.log.down node.log.records node.lots) (Err refusal.CycleOrder) node node
+    → NodeLeaves (cycle_call id node.log.down node.log.records node.lots) (Err refusal.CycleOrder) node node
 unfolding cycle_call
 cycle_early id node up early = rw (up, early) (refl, refl)
 
 -- so is one while a lot is open
 pub cycle_beside_lots : (id : CycleId) (node : ClearNode) → node.log.down ≡ false → is_later (latest_of node.log.records) id ≡ true → node.lots ≢ []
-    → Leaves (cycle_call id node.log.down node.log.records node.lots) (Err refusal.LotsOpen) node node
+    → NodeLeaves (cycle_call id node.log.down node.log.records node.lots) (Err refusal.LotsOpen) node node
 unfolding cycle_call
 cycle_beside_lots id node up later some = rw (up, later, ne_eqb (length node.lots) 0 (λ none. some (nil_from_length node.lots none))) (refl, refl)
 
 -- and one for whose covers there are no numbers
 pub cycle_spent : (id : CycleId) (old new : ClearNode) → old.log.down ≡ false → is_later (latest_of old.log.records) id ≡ true → old.lots ≡ []
     → are_spent (orders_of old.log.records) (length (covers_in old.log.records id.day)) ≡ true → new ≡ old
-    → Leaves (cycle_call id old.log.down old.log.records old.lots) (Err refusal.NumbersSpent) old new
+    → NodeLeaves (cycle_call id old.log.down old.log.records old.lots) (Err refusal.NumbersSpent) old new
 unfolding cycle_call
 cycle_spent id old new up later none spent same = refused _ _ _ refusal.NumbersSpent _ _ _ (rw (up, later, none, spent)) refl same
 
@@ -92,11 +92,11 @@ cycle_goes id down c lots up later none room = rw (up, later, none, room) refl
 -- a cycle whose covers there is no memory to list
 pub cycle_short : (id : CycleId) (old new : ClearNode) (r : Refusal) → old.log.down ≡ false → is_later (latest_of old.log.records) id ≡ true → old.lots ≡ []
     → r ≡ (if are_spent (orders_of old.log.records) (length (covers_in old.log.records id.day)) then refusal.NumbersSpent else refusal.OutOfMemory) → new ≡ old
-    → Leaves (cycle_call id old.log.down old.log.records old.lots) (Err r) old new
+    → NodeLeaves (cycle_call id old.log.down old.log.records old.lots) (Err r) old new
 cycle_short id old new r up later none is same = rw is (by (are_spent (orders_of old.log.records) (length (covers_in old.log.records id.day))) refl)
   where
     by : (b : Bool) → are_spent (orders_of old.log.records) (length (covers_in old.log.records id.day)) ≡ b
-        → Leaves (cycle_call id old.log.down old.log.records old.lots) (Err (if b then refusal.NumbersSpent else refusal.OutOfMemory)) old new
+        → NodeLeaves (cycle_call id old.log.down old.log.records old.lots) (Err (if b then refusal.NumbersSpent else refusal.OutOfMemory)) old new
     by true spent = cycle_spent id old new up later none spent same
     by false room = short_of _ _ _ _ _ _ (cycle_goes id old.log.down old.log.records old.lots up later none room) refl same
 
@@ -144,7 +144,7 @@ close_none node issue tickets sealed _ up none = absurd none
 
 -- else its allocation is recorded
 pub close_goes : (node : ClearNode) (issue : ℕ) (tickets : List Ticket) (sealed : Bool) (lot : Lot) → node.log.down ≡ false → Closes node issue tickets sealed lot
-    → close_call issue tickets sealed node.log.down node.log.records node.lots ≡ Ok (Commits (entry.Allocate (allocation_of lot tickets sealed)) (closed_of lot tickets sealed node.log.records))
+    → close_call issue tickets sealed node.log.down node.log.records node.lots ≡ Ok (Commits (entry.Allocate (closing_allocation lot tickets sealed)) (closed_of lot tickets sealed node.log.records))
 unfolding close_call
 close_goes node issue tickets sealed lot up closes = rw (up, closes.found, closes.numbers) refl
 
@@ -157,24 +157,24 @@ reply_done r down c up is = rw (up, is) refl
 
 -- the same one again changes nothing
 pub reply_again : (r : Reply) (node : ClearNode) → node.log.down ≡ false → answer_in node.log.records r ≡ answers.Again
-    → Leaves (reply_call r node.log.down node.log.records) (Ok Again) node node
+    → NodeLeaves (reply_call r node.log.down node.log.records) (Ok Again) node node
 unfolding reply_call
 reply_again r node up is = rw (up, is) (refl, refl)
 
 -- and any other is refused
 pub reply_unknown : (r : Reply) (node : ClearNode) → node.log.down ≡ false → answer_in node.log.records r ≡ answers.UnknownMove
-    → Leaves (reply_call r node.log.down node.log.records) (Err refusal.UnknownMove) node node
+    → NodeLeaves (reply_call r node.log.down node.log.records) (Err refusal.UnknownMove) node node
 unfolding reply_call
 reply_unknown r node up is = rw (up, is) (refl, refl)
 
 -- of an order that was confirmed with other shares
 pub reply_other : (r : Reply) (node : ClearNode) → node.log.down ≡ false → answer_in node.log.records r ≡ answers.Conflict
-    → Leaves (reply_call r node.log.down node.log.records) (Err refusal.Conflict) node node
+    → NodeLeaves (reply_call r node.log.down node.log.records) (Err refusal.Conflict) node node
 unfolding reply_call
 reply_other r node up is = rw (up, is) (refl, refl)
 
 -- of more shares than the order asked for
 pub reply_much : (r : Reply) (node : ClearNode) → node.log.down ≡ false → answer_in node.log.records r ≡ answers.TooMuch
-    → Leaves (reply_call r node.log.down node.log.records) (Err refusal.TooMuch) node node
+    → NodeLeaves (reply_call r node.log.down node.log.records) (Err refusal.TooMuch) node node
 unfolding reply_call
 reply_much r node up is = rw (up, is) (refl, refl)

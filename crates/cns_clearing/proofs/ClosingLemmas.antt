@@ -11,7 +11,7 @@ use Rattle.cns_allocate.specs.Deliveries.{deliveries_of}
 use Rattle.cns_allocate.specs.Served.{has_ticket}
 use Rattle.cns_movements.specs.declared.order.Ask.{Ask}
 use Rattle.cns_records.specs.declared.allocation.Allocation.{Allocation}
-use Rattle.cns_clearing.specs.Books.{Books, IsAllocable, are_spent, deliveries_in, tickets_of}
+use Rattle.cns_clearing.specs.Books.{Books, IsAllocable, are_spent, deliveries_in, pool_tickets}
 use Rattle.cns_clearing.specs.Closing.{AreApart, MayFollow, is_apart, is_chained}
 
 -- tickets that are found to stand end to end do, and all that do are found
@@ -54,28 +54,28 @@ apart_all (t ∷ ts) h =
     grind (arith, nat_tests, rest, some_times t.member ts, h t.member, times-cons t.member t ts)
 
 -- what an allocation that may follow shows to its tests
-pub allocable_parts : (b : Books) (a : Allocation) (ts : List Ticket) → ts ≡ tickets_of a.drawn → IsAllocable b a → MayFollow b a ts
+pub allocable_parts : (b : Books) (a : Allocation) (ts : List Ticket) → ts ≡ pool_tickets a.drawn → IsAllocable b a → MayFollow b a ts
 allocable_parts b a ts same h =
-    rw same (h.order, (chained 0 (tickets_of a.drawn)).1 h.chained, apart_all (tickets_of a.drawn) h.once, h.within, h.there)
+    rw same (h.order, (chained 0 (pool_tickets a.drawn)).1 h.chained, apart_all (pool_tickets a.drawn) h.once, h.within, h.there)
 
 -- one for whose deliveries there are no numbers may not follow
 pub spent_allocable : (b : Books) (a : Allocation) (asks : List Ask) → asks ≡ deliveries_in a → are_spent b.orders (length asks) ≡ true → IsAllocable b a → ⊥
 spent_allocable b a asks same spent h = let no : true ≡ false = sym (rw same at spent) ∙ h.numbers in absurd cc
 
 -- what passes its tests may follow
-pub follows_allocable : (b : Books) (a : Allocation) (ts : List Ticket) (asks : List Ask) → ts ≡ tickets_of a.drawn → asks ≡ deliveries_in a → MayFollow b a ts
+pub follows_allocable : (b : Books) (a : Allocation) (ts : List Ticket) (asks : List Ask) → ts ≡ pool_tickets a.drawn → asks ≡ deliveries_in a → MayFollow b a ts
     → are_spent b.orders (length asks) ≡ false → IsAllocable b a
 follows_allocable b a ts asks same same_asks follows spent =
     let h = rw same at follows in
     record {
       order = h.0;
-      chained = (chained 0 (tickets_of a.drawn)).0 h.1;
-      once = apart_found (tickets_of a.drawn) h.2;
+      chained = (chained 0 (pool_tickets a.drawn)).0 h.1;
+      once = apart_found (pool_tickets a.drawn) h.2;
       within = h.3;
       there = h.4;
       numbers = rw same_asks at spent;
     }
 
 -- the deliveries of the tickets and shares of an allocation
-pub asks_same : (a : Allocation) (ts : List Ticket) (poured : ℕ) → ts ≡ tickets_of a.drawn → poured ≡ a.poured → deliveries_of a.issue poured ts ≡ deliveries_in a
+pub asks_same : (a : Allocation) (ts : List Ticket) (poured : ℕ) → ts ≡ pool_tickets a.drawn → poured ≡ a.poured → deliveries_of a.issue poured ts ≡ deliveries_in a
 asks_same a ts poured same is = rw (same, is) refl

@@ -19,7 +19,7 @@ use Rattle.cns_movements.specs.Order.{numbered, order_of}
 use Rattle.cns_movements.specs.declared.order.Ask.{Ask}
 use Rattle.cns_movements.specs.declared.order.Order.{Order}
 use Rattle.cns_clearing.specs.Pools.{issues_of}
-use Rattle.cns_clearing.specs.PoolSums.{is_asked, is_named}
+use Rattle.cns_clearing.specs.PoolSums.{asks_for, is_named}
 
 -- ---- numbers in order
 
@@ -98,12 +98,12 @@ issues_by_keys keys sorted orders distinct named moved order =
 -- ---- as orders are added and confirmed
 
 -- new orders name what the asks for them name
-numbered_named : (n i : ℕ) (cycle : Option CycleId) (asks : List Ask) → is_named i (numbered n cycle asks) ≡ is_asked i asks
+numbered_named : (n i : ℕ) (cycle : Option CycleId) (asks : List Ask) → is_named i (numbered n cycle asks) ≡ asks_for i asks
 numbered_named n i cycle [] = refl
 numbered_named n i cycle (a ∷ asks) = ap (λ b. (a.issue == i) || b) (numbered_named (suc n) i cycle asks)
 
 -- so more orders name that besides
-pub named_ordered : (book : Orders) (cycle : Option CycleId) (asks : List Ask) (i : ℕ) → is_named i (with_asks book cycle asks).orders ≡ (is_named i book.orders || is_asked i asks)
+pub named_ordered : (book : Orders) (cycle : Option CycleId) (asks : List Ask) (i : ℕ) → is_named i (with_asks book cycle asks).orders ≡ (is_named i book.orders || asks_for i asks)
 named_ordered book cycle asks i = list_any-append (λ (o : Order). o.issue == i) book.orders _ ∙ ap (λ b. is_named i book.orders || b) (numbered_named _ i cycle asks)
 
 -- the issue of an order is named

@@ -20,7 +20,7 @@ use Rattle.cns_journal.specs.declared.keeper.NotPlanned.{NotPlanned}
 use Rattle.cns_journal.specs.declared.record_log.ReplayFault.{ReplayFault}
 use Rattle.cns_journal.specs.declared.record_log.ReplayFault.TheVariants.{OutOfMemory}
 use Rattle.cns_journal.specs.declared.record_log.Restarted.{Restarted}
-use Rattle.cns_clearing.specs.Books.{Allows, AreBooksOf, AreSound, Books, IsAllowed, books_of, tickets_of, with_record}
+use Rattle.cns_clearing.specs.Books.{Allows, AreBooksOf, AreSound, Books, IsAllowed, books_of, pool_tickets, with_record}
 use Rattle.cns_clearing.specs.Lots.{AreLots, DoesNotDisturb, lots_after}
 use Rattle.cns_clearing.specs.Node.{ClearNode, IsNode, NodePlanned, RestartLeaves}
 use Rattle.cns_clearing.specs.declared.lot.Lot.{Lot}
@@ -32,7 +32,7 @@ new_differs : (held : List Trade) (t : Trade) → verdict held t ≡ verdicts.Ne
 new_differs held t is same = let no : verdict held t ≡ verdicts.SameMember = rw (eq-eqb t.buyer t.seller same) refl in cc
 
 -- tickets that stand end to end stand by their starts
-chained_starts : (n low : ℕ) (ds : List Drawn) → low ≤ n → AreChained n (intervals_of (tickets_of ds)) → starts_from low ds ≡ true
+chained_starts : (n low : ℕ) (ds : List Drawn) → low ≤ n → AreChained n (intervals_of (pool_tickets ds)) → starts_from low ds ≡ true
 chained_starts n low [] le chained = refl
 chained_starts n low (d ∷ ds) le chained =
     let at : d.start ≡ n = chained.0 in

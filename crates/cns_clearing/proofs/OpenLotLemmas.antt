@@ -12,7 +12,7 @@ use Rattle.std.proofs.lemmas.List.Sums.{sum_by-cons}
 use Rattle.std.proofs.lemmas.Option.{MatchOption-at_none, MatchOption-at_some}
 use Rattle.cns_allocate.proofs.TurnLemmas.{count_by-filter, find-passes}
 use Rattle.cns_clearing.specs.Lots.{refilled, without_lot}
-use Rattle.cns_clearing.specs.OpenLots.{ArePlaces, AreSlots, filled, is_slot_of}
+use Rattle.cns_clearing.specs.OpenLots.{AreSlotPlaces, AreSlots, filled, is_slot_of}
 use Rattle.cns_clearing.specs.Pools.{lot_of}
 use Rattle.cns_clearing.specs.declared.lot.Lot.{Lot}
 use Rattle.cns_clearing.proofs.ListLemmas.{map_once, position_found, position_map, position_no, position_none, position_push, position_push_other}
@@ -68,7 +68,7 @@ none_found issue (Some lot ∷ slots) none = grind (arith, none_found issue slot
 
 -- ---- the lot of an issue
 
-module _ (slots : List (Option Lot)) (issue : ℕ) (places : ℕ → Option ℕ) (are : ArePlaces slots places) where
+module _ (slots : List (Option Lot)) (issue : ℕ) (places : ℕ → Option ℕ) (are : AreSlotPlaces slots places) where
   -- what stands at the place of an issue
   slot_found : (k : ℕ) → Some k ≡ places issue → (d : Option Lot) → find (is_slot_of issue) slots ≡ Some (get_or slots k d)
   slot_found k is = MatchOption-at_some _ _ k (sym (are.first issue) ∙ sym is) (position_found (is_slot_of issue) slots)
@@ -102,7 +102,7 @@ none_at_all [] none = refl
 none_at_all (lot ∷ lots) none = grind (arith, nat_tests, none lot.issue)
 
 -- where no issue has a place no lot is open
-pub none_open : {S : Type 0} (slots : List (Option Lot)) (map : HashMap ℕ ℕ S) → ArePlaces slots (λ issue. get nat_eq map issue) → hash_map_len map ≡ 0 → filled slots ≡ []
+pub none_open : {S : Type 0} (slots : List (Option Lot)) (map : HashMap ℕ ℕ S) → AreSlotPlaces slots (λ issue. get nat_eq map issue) → hash_map_len map ≡ 0 → filled slots ≡ []
 none_open slots map are none =
     none_at_all (filled slots) (λ issue. sym (none_got slots issue _ are (ap (lookup (nat_eq issue)) (sym (nil_from_length map.entries none)))))
 
@@ -112,7 +112,7 @@ no_entries [] none = refl
 no_entries (e ∷ entries) none = grind (arith, nat_tests, none e.0)
 
 -- so where no lot is open no issue has a place
-pub no_place : {S : Type 0} (slots : List (Option Lot)) (map : HashMap ℕ ℕ S) → ArePlaces slots (λ issue. get nat_eq map issue) → filled slots ≡ [] → hash_map_len map ≡ 0
+pub no_place : {S : Type 0} (slots : List (Option Lot)) (map : HashMap ℕ ℕ S) → AreSlotPlaces slots (λ issue. get nat_eq map issue) → filled slots ≡ [] → hash_map_len map ≡ 0
 no_place slots map are none = no_entries map.entries (λ issue. are.first issue ∙ position_no (is_slot_of issue) slots (none_found issue slots (rw none)))
 
 -- ---- the slots that are left
@@ -127,13 +127,13 @@ none_by_length slots places are =
     (λ is. ap filled (nil_from_length slots (eqb-true (length slots) 0 is)), λ none. rw (are.cleared none))
 
 -- a map that has entries has a place
-pub some_left : {S : Type 0} (slots : List (Option Lot)) (map : HashMap ℕ ℕ S) → ArePlaces slots (λ issue. get nat_eq map issue) → (hash_map_len map ≡ 0 → ⊥) → AreSlots slots (λ issue. get nat_eq map issue)
+pub some_left : {S : Type 0} (slots : List (Option Lot)) (map : HashMap ℕ ℕ S) → AreSlotPlaces slots (λ issue. get nat_eq map issue) → (hash_map_len map ≡ 0 → ⊥) → AreSlots slots (λ issue. get nat_eq map issue)
 some_left slots map are some = record { placed = are; cleared = λ none. absurd (some (no_place slots map are none)) }
 
 -- ---- a lot that is opened
 
 -- the new slot is the last, and the place of its issue
-pub slots_opened : (slots : List (Option Lot)) (lot : Lot) (n : ℕ) (old new : ℕ → Option ℕ) → ArePlaces slots old → lot_of (filled slots) lot.issue ≡ None → n ≡ length slots
+pub slots_opened : (slots : List (Option Lot)) (lot : Lot) (n : ℕ) (old new : ℕ → Option ℕ) → AreSlotPlaces slots old → lot_of (filled slots) lot.issue ≡ None → n ≡ length slots
     → ((i : ℕ) → new i ≡ cond (lot.issue == i) (Some n) (old i)) → AreSlots (slots ++ Some lot ∷ []) new
 slots_opened slots lot n old new are none last set = record {
   placed = record {
@@ -161,11 +161,11 @@ it_changes issue upto poured (Some lot) e = rw e
 
 module _ (slots : List (Option Lot)) (issue : ℕ) (places : ℕ → Option ℕ) (upto poured : ℕ) where
   -- where no lot of the issue is open all stay as they are
-  pub refilled_none : ArePlaces slots places → None ≡ places issue → filled slots ≡ map (refilled issue upto poured) (filled slots)
+  pub refilled_none : AreSlotPlaces slots places → None ≡ places issue → filled slots ≡ map (refilled issue upto poured) (filled slots)
   refilled_none are is = ap filled (sym (none_set slots issue places are (option_map (refilled issue upto poured)) (other_stays issue upto poured) is)) ∙ filled_map (refilled issue upto poured) slots
 
   -- and else that lot alone changes
-  pub refilled_at : (k : ℕ) (slot slot' : Option Lot) → ArePlaces slots places → Some k ≡ places issue → slot ≡ get_or slots k slot
+  pub refilled_at : (k : ℕ) (slot slot' : Option Lot) → AreSlotPlaces slots places → Some k ≡ places issue → slot ≡ get_or slots k slot
       → slot' ≡ option_map (λ (lot : Lot). record lot { upto = upto; poured = poured }) slot → slice_set slots k slot' ≡ map (option_map (refilled issue upto poured)) slots
   refilled_at k slot slot' are is here has =
       let f : Option Lot → Option Lot = option_map (refilled issue upto poured) in
@@ -189,7 +189,7 @@ module _ (slots : List (Option Lot)) (issue : ℕ) (places : ℕ → Option ℕ)
 
 -- ---- a lot that is closed
 
-module _ (slots : List (Option Lot)) (issue : ℕ) (places : ℕ → Option ℕ) (are : ArePlaces slots places) where
+module _ (slots : List (Option Lot)) (issue : ℕ) (places : ℕ → Option ℕ) (are : AreSlotPlaces slots places) where
   -- where no lot of the issue is open all stay open
   pub closed_none : None ≡ places issue → filled slots ≡ without_lot issue (filled slots)
   closed_none is = ap filled (sym (none_set slots issue places are (emptied issue) (λ slot e. cond-false _ _ _ e) is)) ∙ filled_emptied issue slots
@@ -205,7 +205,7 @@ module _ (slots : List (Option Lot)) (issue : ℕ) (places : ℕ → Option ℕ)
   closed_at k is = ap filled (emptied_at k is) ∙ filled_emptied issue slots
 
   -- nor has it a place any more
-  pub places_closed : (k : ℕ) (new : ℕ → Option ℕ) → Some k ≡ places issue → ((i : ℕ) → new i ≡ cond (issue == i) None (places i)) → ArePlaces (slice_set slots k None) new
+  pub places_closed : (k : ℕ) (new : ℕ → Option ℕ) → Some k ≡ places issue → ((i : ℕ) → new i ≡ cond (issue == i) None (places i)) → AreSlotPlaces (slice_set slots k None) new
   places_closed k new is gone = rw (emptied_at k is) (record {
     first = λ i. by i (issue == i) refl (gone i);
     once = λ i. omega (arith, ap (count_by (is_lot_of i)) (filled_emptied issue slots), count_by-filter (λ (lot : Lot). not (lot.issue == issue)) (is_lot_of i) (filled slots), are.once i);

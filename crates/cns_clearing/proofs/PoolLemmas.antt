@@ -20,7 +20,7 @@ use Rattle.cns_covers.proofs.BoundLemmas.{at_most}
 use Rattle.cns_records.specs.declared.allocation.Allocation.{Allocation}
 use Rattle.cns_records.specs.declared.clear_record.ClearRecord.{ClearRecord}
 use Rattle.cns_records.specs.declared.clear_record.ClearRecord.TheVariants.{Cycle, Allocate, Confirm}
-use Rattle.cns_clearing.specs.Books.{Books, Allows, IsLawful, books_of, deliveries_in, tickets_of, with_record}
+use Rattle.cns_clearing.specs.Books.{Books, Allows, IsLawful, books_of, deliveries_in, pool_tickets, with_record}
 use Rattle.cns_clearing.specs.Lots.{AreQuiet, IsQuiet, avail_in}
 use Rattle.cns_clearing.specs.Pools.{asked_of_pool, avail_of, covered_of, delivered_of, kind_part, out_of}
 use Rattle.cns_clearing.proofs.BooksLemmas.{lawful_bounded}
@@ -130,7 +130,7 @@ taken_confirmed book r issue lawful taken =
 pub allocation_issue : (b : Books) (a : Allocation) → Allows b (Allocate a) → All (λ (x : Ask). x.issue ≡ a.issue) (deliveries_in a)
 allocation_issue b a allowed =
     All-weaker (λ (x : Ask). (x.kind ≡ Delivery) × (x.issue ≡ a.issue) × (x.asked ≤ want_in b.history b.orders x.member a.issue)) (λ (x : Ask). x.issue ≡ a.issue)
-    (λ x its. its.1) (deliveries_in a) (deliveries_within a.issue a.poured (tickets_of a.drawn) (λ m. want_in b.history b.orders m a.issue) allowed.within)
+    (λ x its. its.1) (deliveries_in a) (deliveries_within a.issue a.poured (pool_tickets a.drawn) (λ m. want_in b.history b.orders m a.issue) allowed.within)
 
 -- a record that is no allocation of the issue leaves its shares there
 avail_more : (r : ClearRecord) (b : Books) (issue : ℕ) → IsOrderBook b.orders → Allows b r → IsQuiet issue r → avail_of b.orders issue ≤ avail_of (with_record r b).orders issue

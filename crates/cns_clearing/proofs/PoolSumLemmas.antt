@@ -16,7 +16,7 @@ use Rattle.cns_movements.proofs.OpenLemmas.{numbered_asked}
 use Rattle.cns_movements.proofs.OrderLemmas.{length-numbered, sum_le_found}
 use Rattle.cns_movements.proofs.ReplyLemmas.{moved_with_reply, open_with_reply, parts_le_asked}
 use Rattle.cns_clearing.specs.Pools.{asked_of_pool, covered_of, delivered_of, out_of}
-use Rattle.cns_clearing.specs.PoolSums.{ArePools, AreSumsOf, is_asked, sums_at}
+use Rattle.cns_clearing.specs.PoolSums.{ArePools, AreSumsOf, asks_for, sums_at}
 use Rattle.cns_clearing.specs.declared.pool_sums.PoolSums.{PoolSums}
 use Rattle.cns_movements.proofs.BookLemmas.{with_asks_lawful, with_reply_lawful}
 use Rattle.cns_covers.proofs.BoundLemmas.{at_most}
@@ -86,7 +86,7 @@ none_named b = grind arith
 -- sums that grew by what the asks ask for are those with their orders
 pub pools_ordered : (old new : ℕ → Option PoolSums) (book : Orders) (cycle : Option CycleId) (asks : List Ask) → ArePools old book → are_spent book (length asks) ≡ false
     → ((i : ℕ) → (sums_at (new i)).covered ≡ (sums_at (old i)).covered) → ((i : ℕ) → (sums_at (new i)).delivered ≡ (sums_at (old i)).delivered)
-    → ((i : ℕ) → (sums_at (new i)).out ≡ (sums_at (old i)).out + asked_of_pool i asks) → ((i : ℕ) → is_some (new i) ≡ (is_some (old i) || is_asked i asks))
+    → ((i : ℕ) → (sums_at (new i)).out ≡ (sums_at (old i)).out + asked_of_pool i asks) → ((i : ℕ) → is_some (new i) ≡ (is_some (old i) || asks_for i asks))
     → sum_by (λ (a : Ask). a.asked) asks ≤ 10 ^ 18 * length asks → ArePools new (with_asks book cycle asks)
 pools_ordered old new book cycle asks are enough covered delivered out named most =
     let sums = are.sums in
@@ -99,7 +99,7 @@ pools_ordered old new book cycle asks are enough covered delivered out named mos
         out = λ i. omega (arith, out i, sums.out i, out_ordered book cycle asks i sums.lawful);
         asked = omega (arith, sums.asked, numbered_asked next cycle asks, length-numbered next cycle asks, sum_by-append, length-append {A = Order});
       };
-      named = λ i. named i ∙ ap (λ b. b || is_asked i asks) (are.named i) ∙ sym (named_ordered book cycle asks i);
+      named = λ i. named i ∙ ap (λ b. b || asks_for i asks) (are.named i) ∙ sym (named_ordered book cycle asks i);
     }
 
 -- ---- with one more confirmation

@@ -16,7 +16,7 @@ use Rattle.cns_records.specs.declared.allocation.Allocation.{Allocation}
 use Rattle.cns_records.specs.declared.clear_record.ClearRecord.{ClearRecord}
 use Rattle.cns_records.specs.declared.clear_record.ClearRecord.TheVariants.{Cycle, Allocate, Confirm}
 use Rattle.cns_movements.specs.Order.{moved_part}
-use Rattle.cns_clearing.specs.Books.{Books, Allows, IsAllocable, IsLawful, books_of, covers_on, deliveries_in, orders_of, tickets_of, with_record}
+use Rattle.cns_clearing.specs.Books.{Books, Allows, IsAllocable, IsLawful, books_of, covers_on, deliveries_in, orders_of, pool_tickets, with_record}
 use Rattle.cns_clearing.specs.Lots.{avail_in}
 use Rattle.cns_clearing.specs.Pools.{asked_of_pool, avail_of, covered_of, delivered_of, kind_part, out_of}
 use Rattle.cns_clearing.proofs.BalanceLemmas.{member_part}
@@ -46,7 +46,7 @@ allocation_takes b a issue allocable = by (issue == a.issue) refl
     by : (its : Bool) → (issue == a.issue) ≡ its → asked_of_pool issue (deliveries_in a) ≤ avail_of b.orders issue
     by true e =
         let there : a.poured ≤ avail_of b.orders issue = rw (eqb-true issue a.issue e) allocable.there in
-        omega (arith, there, delivered_most (deliveries_in a) issue, deliveries_sum a.issue a.poured (tickets_of a.drawn) allocable.chained)
+        omega (arith, there, delivered_most (deliveries_in a) issue, deliveries_sum a.issue a.poured (pool_tickets a.drawn) allocable.chained)
     by false e = omega (arith, others_deliver_nothing (deliveries_in a) issue a.issue e (allocation_issue b a allocable))
 
 -- with one more record deliveries still take no more than covers brought

@@ -40,12 +40,12 @@ use Rattle.cns_clearing.specs.declared.answer.Taken.{Taken}
 use Rattle.cns_clearing.specs.declared.answer.Taken.TheVariants.{Done, Again}
 
 -- what a call that commits a record leaves of the node, by what it comes to
-abbrev pub Leaves : {X : Type 0} → Result (Deed ClearRecord X) Refusal → Result X Refusal → ClearNode → ClearNode → Type 0
-Leaves call result old new = CallLeaves commit_refusal IsCommitted call result old new
+abbrev pub NodeLeaves : {X : Type 0} → Result (Deed ClearRecord X) Refusal → Result X Refusal → ClearNode → ClearNode → Type 0
+NodeLeaves call result old new = CallLeaves commit_refusal IsCommitted call result old new
 
 -- the node answers
-abbrev pub up : Bool → Result (Unit {0}) Refusal
-up down = need (not down) refusal.Down
+abbrev pub need_up : Bool → Result (Unit {0}) Refusal
+need_up down = need (not down) refusal.Down
 
 -- ---- trades and settings
 
@@ -55,10 +55,10 @@ verdict_in c t = verdict (accepted (history_of c)) t
 
 -- a trade is accepted where it is new
 unfoldable pub trade_call : Trade → Bool → List ClearRecord → Result (Deed ClearRecord (Unit {0})) Refusal
-trade_call t down c = up down >> elim (verdict_in c t) [ verdicts.New ↦ Ok (Commits (entry.Accept t) tt) | verdict ↦ Err (refusal.Trade verdict) ]
+trade_call t down c = need_up down >> elim (verdict_in c t) [ verdicts.New ↦ Ok (Commits (entry.Accept t) tt) | verdict ↦ Err (refusal.Trade verdict) ]
 
 unfoldable pub setting_call : ClearRecord → Bool → Result (Deed ClearRecord (Unit {0})) Refusal
-setting_call r down = up down >> Ok (Commits r tt)
+setting_call r down = need_up down >> Ok (Commits r tt)
 
 -- ---- cycles
 
@@ -73,7 +73,7 @@ cycled_of c id = record { due = becoming_due (history_of c) id.day; orders = nex
 -- a cycle runs where it is later than the latest one, no lot is open, and there are numbers for its covers
 unfoldable pub cycle_call : CycleId → Bool → List ClearRecord → List Lot → Result (Deed ClearRecord Cycled) Refusal
 cycle_call id down c lots = do
-  up down
+  need_up down
   need (is_later (latest_of c) id) refusal.CycleOrder
   need (length lots == 0) refusal.LotsOpen
   need (not (are_spent (orders_of c) (length (covers_in c id.day)))) refusal.NumbersSpent
@@ -83,12 +83,12 @@ cycle_call id down c lots = do
 
 -- a lot is opened where none of the issue is open: it has all shares of the issue that are there, and its plan, which is told
 unfoldable pub open_call : ℕ → Bool → List ClearRecord → List Lot → Result (List Planned × List Lot) Refusal
-open_call issue down c lots = up down >> need (is_none (lot_of lots issue)) refusal.LotAlready >> Ok ((new_lot c issue).plan, lots ++ new_lot c issue ∷ [])
+open_call issue down c lots = need_up down >> need (is_none (lot_of lots issue)) refusal.LotAlready >> Ok ((new_lot c issue).plan, lots ++ new_lot c issue ∷ [])
 
 -- what a lot gets that is poured into, and the lots then
 unfoldable pub pour_call : ℕ → Bool → List ClearRecord → List Lot → Result (ℕ × List Lot) Refusal
 pour_call issue down c lots = do
-  up down
+  need_up down
   need (not (is_none (lot_of lots issue))) refusal.NoLot
   Ok (free_of (orders_of c) lots issue, lots_poured c issue lots)
 
@@ -101,16 +101,16 @@ pub record IsPoured (node : ClearNode) (issue shares : ℕ) : Type 0 where
   pub few : lot.poured + shares ≤ 10 ^ 18
 
 -- a ticket of a pool as that of a record
-abbrev pub drawn_of : Ticket → Drawn
-drawn_of t = record { member = t.member; start = t.start; asked = t.asked }
+abbrev pub recorded_ticket : Ticket → Drawn
+recorded_ticket t = record { member = t.member; start = t.start; asked = t.asked }
 
 -- the allocation that closes a lot with these tickets
-abbrev pub allocation_of : Lot → List Ticket → Bool → Allocation
-allocation_of lot tickets sealed = record { issue = lot.issue; opened = lot.opened; upto = lot.upto; poured = lot.poured; sealed = sealed; drawn = map drawn_of tickets }
+abbrev pub closing_allocation : Lot → List Ticket → Bool → Allocation
+closing_allocation lot tickets sealed = record { issue = lot.issue; opened = lot.opened; upto = lot.upto; poured = lot.poured; sealed = sealed; drawn = map recorded_ticket tickets }
 
 -- the deliveries that it orders
 abbrev pub deliveries_by : Lot → List Ticket → Bool → List Ask
-deliveries_by lot tickets sealed = deliveries_in (allocation_of lot tickets sealed)
+deliveries_by lot tickets sealed = deliveries_in (closing_allocation lot tickets sealed)
 
 -- what is told of a lot that was closed with these tickets: how many shares they were granted in all, and the orders of its deliveries, the next
 -- ones, which are of the latest cycle
@@ -122,7 +122,7 @@ closed_of lot tickets sealed c =
 pub record Closes (node : ClearNode) (issue : ℕ) (tickets : List Ticket) (sealed : Bool) (lot : Lot) : Type 0 where
   pub found : lot_of node.lots issue ≡ Some lot
   pub served : IsServed lot.plan tickets sealed
-  pub lawful : IsAllocation node.log.records (allocation_of lot tickets sealed)
+  pub lawful : IsAllocation node.log.records (closing_allocation lot tickets sealed)
   pub numbers : are_spent (orders_of node.log.records) (length (deliveries_by lot tickets sealed)) ≡ false
 
 -- why no lot of the issue closes with these tickets, which serve its plan
@@ -136,11 +136,11 @@ ClosesNone node issue tickets sealed _ = ⊥
 abbrev pub close_deed : List Ticket → Bool → List ClearRecord → Lot → Result (Deed ClearRecord Closed) Refusal
 close_deed tickets sealed c lot =
     need (not (are_spent (orders_of c) (length (deliveries_by lot tickets sealed)))) refusal.NumbersSpent
-    >> Ok (Commits (entry.Allocate (allocation_of lot tickets sealed)) (closed_of lot tickets sealed c))
+    >> Ok (Commits (entry.Allocate (closing_allocation lot tickets sealed)) (closed_of lot tickets sealed c))
 
 -- the lot of an issue closes with tickets that serve its plan
 unfoldable pub close_call : ℕ → List Ticket → Bool → Bool → List ClearRecord → List Lot → Result (Deed ClearRecord Closed) Refusal
-close_call issue tickets sealed down c lots = up down >> ok_or (lot_of lots issue) refusal.NoLot >>= close_deed tickets sealed c
+close_call issue tickets sealed down c lots = need_up down >> ok_or (lot_of lots issue) refusal.NoLot >>= close_deed tickets sealed c
 
 -- these tickets serve the plan of the lot of the issue, where the node has one
 abbrev pub AreServed : List Lot → ℕ → List Ticket → Bool → Type 0
@@ -157,13 +157,13 @@ pub record HasBad (node : ClearNode) (issue : ℕ) (tickets : List Ticket) (seal
 abbrev pub LotCloseLeaves : ℕ → List Ticket → Bool → Result Closed Refusal → ClearNode → ClearNode → Type 0
 LotCloseLeaves issue tickets sealed result old new =
     (HasBad old issue tickets sealed × (result ≡ Err refusal.BadTickets) × (new ≡ old))
-    ⊎ ((HasBad old issue tickets sealed → ⊥) × Leaves (close_call issue tickets sealed old.log.down old.log.records old.lots) result old new)
+    ⊎ ((HasBad old issue tickets sealed → ⊥) × NodeLeaves (close_call issue tickets sealed old.log.down old.log.records old.lots) result old new)
 
 -- ---- orders and replies
 
 -- the order of a number
 unfoldable pub order_call : ℕ → Bool → List ClearRecord → Result Order Refusal
-order_call n down c = up down >> ok_or (order_of (orders_of c).orders n) refusal.UnknownMove
+order_call n down c = need_up down >> ok_or (order_of (orders_of c).orders n) refusal.UnknownMove
 
 -- what the orders and confirmations say of a reply
 abbrev pub answer_in : List ClearRecord → Reply → Confirm
@@ -172,7 +172,7 @@ answer_in c r = confirm_answer (orders_of c) r
 -- only the first reply to an order adds a record
 unfoldable pub reply_call : Reply → Bool → List ClearRecord → Result (Deed ClearRecord Taken) Refusal
 reply_call r down c =
-    up down
+    need_up down
     >> elim (answer_in c r) [
       | answers.Done ↦ Ok (Commits (entry.Confirm r) Done)
       | answers.Again ↦ Ok (Tells Again)

@@ -52,12 +52,12 @@ abbrev pub covers_on : Books → ℕ → List Ask
 covers_on b day = covers_of (Netted day ∷ b.history) b.orders b.exemptions
 
 -- the tickets of a record as those of a pool
-abbrev pub tickets_of : List Drawn → List Ticket
-tickets_of drawn = map (λ (d : Drawn). record { member = d.member; start = d.start; asked = d.asked }) drawn
+abbrev pub pool_tickets : List Drawn → List Ticket
+pool_tickets drawn = map (λ (d : Drawn). record { member = d.member; start = d.start; asked = d.asked }) drawn
 
 -- the deliveries that an allocation orders: what its tickets are granted of the shares poured
 abbrev pub deliveries_in : Allocation → List Ask
-deliveries_in a = deliveries_of a.issue a.poured (tickets_of a.drawn)
+deliveries_in a = deliveries_of a.issue a.poured (pool_tickets a.drawn)
 
 -- the history once an order has moved these shares
 abbrev pub settled_by : Option Order → ℕ → List NetEntry → List NetEntry
@@ -103,9 +103,9 @@ are_spent book count = not (count == 0) && nat_lt 1000000 (length book.orders + 
 -- no more than that is long of, less its open deliveries; the shares poured are there, and there are numbers for its deliveries
 pub record IsAllocable (b : Books) (a : Allocation) : Type 0 where
   pub order : a.opened ≤ a.upto
-  pub chained : AreChained 0 (intervals_of (tickets_of a.drawn))
-  pub once : (member : ℕ) → count_by (λ (t : Ticket). t.member == member) (tickets_of a.drawn) ≤ 1
-  pub within : All (λ (t : Ticket). t.asked ≤ want_in b.history b.orders t.member a.issue) (tickets_of a.drawn)
+  pub chained : AreChained 0 (intervals_of (pool_tickets a.drawn))
+  pub once : (member : ℕ) → count_by (λ (t : Ticket). t.member == member) (pool_tickets a.drawn) ≤ 1
+  pub within : All (λ (t : Ticket). t.asked ≤ want_in b.history b.orders t.member a.issue) (pool_tickets a.drawn)
   pub there : a.poured ≤ avail_of b.orders a.issue
   pub numbers : are_spent b.orders (length (deliveries_in a)) ≡ false
 
@@ -113,11 +113,10 @@ pub record IsAllocable (b : Books) (a : Allocation) : Type 0 where
 -- covers; a confirmation is the first one of an order, and not above what that asked for
 abbrev pub Allows : Books → ClearRecord → Type 0
 Allows b (Accept t) = verdict (accepted b.history) t ≡ verdicts.New
-Allows b (Exempt m i s) = Unit {0}
-Allows b (Priority m i is_on) = Unit {0}
 Allows b (Cycle id) = (is_later b.latest id ≡ true) × (are_spent b.orders (length (covers_on b id.day)) ≡ false)
 Allows b (Allocate a) = IsAllocable b a
 Allows b (Confirm r) = confirm_answer b.orders r ≡ answers.Done
+Allows b _ = Unit {0}
 
 -- a record may stand after these
 abbrev pub IsAllowed : List ClearRecord → ClearRecord → Type 0
@@ -135,21 +134,14 @@ pub record AreBooksOf (b : Books) (c : List ClearRecord) : Type 0 where
 
 -- the orders that a record makes
 abbrev pub asks_of : Books → ClearRecord → List Ask
-asks_of b (Accept t) = []
-asks_of b (Exempt m i s) = []
-asks_of b (Priority m i is_on) = []
 asks_of b (Cycle id) = covers_on b id.day
 asks_of b (Allocate a) = deliveries_in a
-asks_of b (Confirm r) = []
+asks_of b _ = []
 
 -- the positions directly after a record, where it is a cycle
 abbrev pub rows_after : Books → ClearRecord → List PositionRow
-rows_after b (Accept t) = []
-rows_after b (Exempt m i s) = []
-rows_after b (Priority m i is_on) = []
 rows_after b (Cycle id) = rows_of (Netted id.day ∷ b.history)
-rows_after b (Allocate a) = []
-rows_after b (Confirm r) = []
+rows_after b _ = []
 
 -- the orders and the positions that a record makes
 pub record AreEffects (b : Books) (r : ClearRecord) (effects : Effects) : Type 0 where
@@ -167,12 +159,8 @@ AllocatedBy b a effects = AdmittedBy b (Allocate a) effects
 
 -- how many trades a record makes due
 abbrev pub due_by : Books → ClearRecord → ℕ
-due_by b (Accept t) = 0
-due_by b (Exempt m i s) = 0
-due_by b (Priority m i is_on) = 0
 due_by b (Cycle id) = becoming_due b.history id.day
-due_by b (Allocate a) = 0
-due_by b (Confirm r) = 0
+due_by b _ = 0
 
 -- books as those of records that each could stand where it does: their positions are small, and those after the cycle before the
 -- latest stand by issue

@@ -8,8 +8,8 @@ use Rattle.cns_allocate.specs.Served.{IsServed}
 use Rattle.cns_allocate.specs.declared.planned.Planned.{Planned}
 use Rattle.cns_records.specs.declared.allocation.Allocation.{Allocation}
 use Rattle.cns_records.specs.declared.clear_record.ClearRecord.{ClearRecord}
-use Rattle.cns_records.specs.declared.clear_record.ClearRecord.TheVariants.{Accept, Exempt, Priority, Cycle, Allocate, Confirm}
-use Rattle.cns_clearing.specs.Books.{books_of, tickets_of}
+use Rattle.cns_records.specs.declared.clear_record.ClearRecord.TheVariants.{Cycle, Allocate}
+use Rattle.cns_clearing.specs.Books.{books_of, pool_tickets}
 use Rattle.cns_clearing.specs.Pools.{avail_of}
 use Rattle.cns_clearing.specs.declared.lot.Lot.{Lot}
 
@@ -27,12 +27,9 @@ avail_in c issue = avail_of (books_of c).orders issue
 
 -- a record is neither a cycle nor an allocation of the issue
 abbrev pub IsQuiet : ℕ → ClearRecord → Type 0
-IsQuiet issue (Accept t) = Unit {0}
-IsQuiet issue (Exempt m i s) = Unit {0}
-IsQuiet issue (Priority m i is_on) = Unit {0}
 IsQuiet issue (Cycle id) = ⊥
 IsQuiet issue (Allocate a) = (issue == a.issue) ≡ false
-IsQuiet issue (Confirm r) = Unit {0}
+IsQuiet issue _ = Unit {0}
 
 abbrev pub AreQuiet : ℕ → List ClearRecord → Type 0
 AreQuiet issue [] = Unit {0}
@@ -60,16 +57,12 @@ pub record AreLots (c : List ClearRecord) (lots : List Lot) : Type 0 where
 pub record IsAllocation (c : List ClearRecord) (a : Allocation) : Type 0 where
   pub plan : List Planned
   pub lot : IsLot c (record { issue = a.issue; opened = a.opened; upto = a.upto; poured = a.poured; plan = plan })
-  pub served : IsServed plan (tickets_of a.drawn) a.sealed
+  pub served : IsServed plan (pool_tickets a.drawn) a.sealed
 
 -- an allocation may follow these records in the strict sense: not by its numbers alone, but since it closes a lot that they have
 abbrev pub ClosesLot : List ClearRecord → ClearRecord → Type 0
-ClosesLot c (Accept t) = Unit {0}
-ClosesLot c (Exempt m i s) = Unit {0}
-ClosesLot c (Priority m i is_on) = Unit {0}
-ClosesLot c (Cycle id) = Unit {0}
 ClosesLot c (Allocate a) = IsAllocation c a
-ClosesLot c (Confirm r) = Unit {0}
+ClosesLot c _ = Unit {0}
 
 -- the lot that is opened after these records
 abbrev pub new_lot : List ClearRecord → ℕ → Lot
@@ -93,9 +86,5 @@ lots_after r lots = elim r [ Allocate a ↦ without_lot a.issue lots | _ ↦ lot
 
 -- a record may be added while these lots are open: no cycle runs while one is
 abbrev pub DoesNotDisturb : ClearRecord → List Lot → Type 0
-DoesNotDisturb (Accept t) lots = Unit {0}
-DoesNotDisturb (Exempt m i s) lots = Unit {0}
-DoesNotDisturb (Priority m i is_on) lots = Unit {0}
 DoesNotDisturb (Cycle id) lots = lots ≡ []
-DoesNotDisturb (Allocate a) lots = Unit {0}
-DoesNotDisturb (Confirm r) lots = Unit {0}
+DoesNotDisturb _ lots = Unit {0}

@@ -20,11 +20,11 @@ is_slot_of issue None = false
 is_slot_of issue (Some lot) = lot.issue == issue
 
 -- each issue's place is that of the first slot with its lot, where it has one; and it has at most one
-pub record ArePlaces (slots : List (Option Lot)) (places : ℕ → Option ℕ) : Type 0 where
+pub record AreSlotPlaces (slots : List (Option Lot)) (places : ℕ → Option ℕ) : Type 0 where
   pub first : (issue : ℕ) → places issue ≡ position (is_slot_of issue) slots
   pub once : (issue : ℕ) → count_by (λ (lot : Lot). lot.issue == issue) (filled slots) ≤ 1
 
 -- these are the places, and no slot is left where no lot is open
 pub record AreSlots (slots : List (Option Lot)) (places : ℕ → Option ℕ) : Type 0 where
-  pub placed : ArePlaces slots places
+  pub placed : AreSlotPlaces slots places
   pub cleared : filled slots ≡ [] → slots ≡ []

@@ -24,8 +24,8 @@ pub record AreSumsOf (sums : ℕ → PoolSums) (book : Orders) : Type 0 where
 abbrev pub is_named : ℕ → List Order → Bool
 is_named issue orders = list_any (λ (o : Order). o.issue == issue) orders
 
-abbrev pub is_asked : ℕ → List Ask → Bool
-is_asked issue asks = list_any (λ (a : Ask). a.issue == issue) asks
+abbrev pub asks_for : ℕ → List Ask → Bool
+asks_for issue asks = list_any (λ (a : Ask). a.issue == issue) asks
 
 -- what is kept by issue are the sums of a book; an issue has some exactly where an order names it
 pub record ArePools (pools : ℕ → Option PoolSums) (book : Orders) : Type 0 where

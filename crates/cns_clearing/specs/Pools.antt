@@ -61,5 +61,5 @@ pool_row book lots issue =
     else Some (record { issue = issue; free = free_of book lots issue; lent = lent_of lots issue; out = out_of book issue })
 
 -- the pools that have shares, by issue
-abbrev pub rows_of : Orders → List Lot → List PoolRow
-rows_of book lots = filter_map (pool_row book lots) (issues_of book.orders)
+abbrev pub rows_of_pools : Orders → List Lot → List PoolRow
+rows_of_pools book lots = filter_map (pool_row book lots) (issues_of book.orders)

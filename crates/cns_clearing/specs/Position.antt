@@ -6,17 +6,13 @@ use Rattle.cns_netting.specs.History.{bought, sold}
 use Rattle.cns_movements.specs.Order.{moved_sum, open_sum}
 use Rattle.cns_movements.specs.declared.order.MoveKind.TheVariants.{Cover, Delivery}
 use Rattle.cns_records.specs.declared.clear_record.ClearRecord.{ClearRecord}
-use Rattle.cns_records.specs.declared.clear_record.ClearRecord.TheVariants.{Accept, Exempt, Priority, Cycle, Allocate, Confirm}
+use Rattle.cns_records.specs.declared.clear_record.ClearRecord.TheVariants.{Accept, Cycle}
 use Rattle.cns_clearing.specs.Books.{orders_of, confirmed_of}
 
 -- whether a record is a cycle of this date or of a later one
 abbrev pub is_cycle_from : ℕ → ClearRecord → Bool
-is_cycle_from day (Accept t) = false
-is_cycle_from day (Exempt m i s) = false
-is_cycle_from day (Priority m i is_on) = false
 is_cycle_from day (Cycle id) = nat_le day id.day
-is_cycle_from day (Allocate a) = false
-is_cycle_from day (Confirm r) = false
+is_cycle_from day _ = false
 
 -- the due trades of records after which these others were recorded: the accepted ones after which a cycle of their settlement
 -- date or of a later one was recorded
@@ -24,11 +20,7 @@ abbrev pub due_before : List ClearRecord → List ClearRecord → List Trade
 due_before later [] = []
 due_before later (Accept t ∷ c) =
     if list_any (is_cycle_from t.settle) later then t ∷ due_before (Accept t ∷ later) c else due_before (Accept t ∷ later) c
-due_before later (Exempt m i s ∷ c) = due_before (Exempt m i s ∷ later) c
-due_before later (Priority m i is_on ∷ c) = due_before (Priority m i is_on ∷ later) c
-due_before later (Cycle id ∷ c) = due_before (Cycle id ∷ later) c
-due_before later (Allocate a ∷ c) = due_before (Allocate a ∷ later) c
-due_before later (Confirm r ∷ c) = due_before (Confirm r ∷ later) c
+due_before later (r ∷ c) = due_before (r ∷ later) c
 
 -- the due trades
 abbrev pub due_in : List ClearRecord → List Trade

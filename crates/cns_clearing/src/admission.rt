@@ -1,7 +1,7 @@
 ghost use Rattle.std.specs.Prelude.{◌≡◌, ◌↔◌, ◌≤◌, ℕ, All, IfOk, IsTrue};
 ghost use Rattle.cns_covers.specs.Bounds.{want_in};
 ghost use Rattle.cns_pool.specs.declared.ticket.Ticket.{Ticket};
-ghost use Rattle.cns_clearing.specs.Books.{AllocatedBy, AreSound, tickets_of};
+ghost use Rattle.cns_clearing.specs.Books.{AllocatedBy, AreSound, pool_tickets};
 ghost use Rattle.cns_clearing.specs.Closing.{MayFollow, is_apart, is_chained};
 
 use crate::books::Books;
@@ -51,7 +51,7 @@ fn may_follow(books: &Books, allocation: &Allocation, tickets: &[Ticket]) -> boo
 
 // The tickets of a record as those of a pool.
 fn tickets(alloc: Global, drawn: &[Drawn]) -> Result<Vec<Ticket>, AllocError>
-    ensures { IfOk result (λ tickets. tickets.items ≡ tickets_of drawn.now) }
+    ensures { IfOk result (λ tickets. tickets.items ≡ pool_tickets drawn.now) }
 {
     drawn.iter().map(ticket).collect(alloc)
 }

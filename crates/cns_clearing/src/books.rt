@@ -7,7 +7,7 @@ ghost use Rattle.cns_movements.specs.Order.{order_of};
 ghost use Rattle.cns_covers.specs.Bounds.{amount_of as amount_in, want_in};
 ghost use Rattle.cns_netting.specs.Rows.{rows_of};
 ghost use Rattle.cns_allocate.specs.Plan.{plan_of};
-ghost use Rattle.cns_clearing.specs.Books.{AreSound, AreEffects, Allows, asks_of, due_by, with_record, books_of, covers_on, deliveries_in, tickets_of, is_later as is_later_cycle, are_spent as are_numbers_spent};
+ghost use Rattle.cns_clearing.specs.Books.{AreSound, AreEffects, Allows, asks_of, due_by, with_record, books_of, covers_on, deliveries_in, pool_tickets, is_later as is_later_cycle, are_spent as are_numbers_spent};
 ghost use Rattle.cns_clearing.specs.Lots.{longs_among};
 ghost use Rattle.cns_clearing.specs.Pools.{avail_of as avail_in};
 ghost use Rattle.cns_clearing.specs.Room.{HasRoom};

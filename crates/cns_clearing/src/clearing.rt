@@ -9,9 +9,9 @@ ghost use Rattle.cns_clearing.specs.Books.{AreEffects, AreSound, IsAllowed, IsLa
 ghost use Rattle.cns_clearing.specs.Closing.{AreRecordable};
 ghost use Rattle.cns_clearing.specs.Lots.{AreLots, DoesNotDisturb, avail_in, new_lot, plan_in};
 ghost use Rattle.cns_clearing.specs.Position.{IsBetween, due_in, position_in};
-ghost use Rattle.cns_clearing.specs.Pools.{covered_of as covered_in, delivered_of as delivered_in, free_of as free_in, lent_of as lent_in, lot_of, out_of as out_in, rows_of};
+ghost use Rattle.cns_clearing.specs.Pools.{covered_of as covered_in, delivered_of as delivered_in, free_of as free_in, lent_of as lent_in, lot_of, out_of as out_in, rows_of_pools};
 ghost use Rattle.cns_records.specs.Call.{Changes, Grows};
-ghost use Rattle.cns_clearing.specs.Answers.{close_call, covers_in, cycle_call, open_call, order_call, pour_call, reply_call, setting_call, trade_call, AreServed, Closes, ClosesNone, IsPoured, Leaves, LotCloseLeaves};
+ghost use Rattle.cns_clearing.specs.Answers.{close_call, covers_in, cycle_call, open_call, order_call, pour_call, reply_call, setting_call, trade_call, AreServed, Closes, ClosesNone, IsPoured, NodeLeaves, LotCloseLeaves};
 ghost use Rattle.cns_clearing.specs.Node.{AddLeaves, IsOpened, IsUnread, NodePlanned, RestartLeaves};
 ghost use Rattle.cns_clearing.specs.declared.lot.Lot.{Lot};
 ghost use Rattle.cns_journal.specs.RecordLog.{IsGivenUp};
@@ -103,7 +103,7 @@ impl<K: Keeper> Clearing<K> {
     /// Costs look-ups of the trade's id and of its two holdings, a place among the trades that are not
     /// due, and one commit.
     pub fn take_trade(&mut self, trade: &Trade) -> Result<(), Refusal>
-        ensures { Leaves (trade_call trade.now self.old.log.down self.old.log.records) result self.old self.new }
+        ensures { NodeLeaves (trade_call trade.now self.old.log.down self.old.log.records) result self.old self.new }
     {
         let verdict = self.up()?.verdict(trade);
         if verdict != Verdict::New {
@@ -122,7 +122,7 @@ impl<K: Keeper> Clearing<K> {
     ///
     /// Costs a look-up and one commit.
     pub fn exempt(&mut self, member: MemberNo, issue: Cusip, shares: Shares) -> Result<(), Refusal>
-        ensures { Leaves (setting_call (Exempt member issue shares) self.old.log.down) result self.old self.new }
+        ensures { NodeLeaves (setting_call (Exempt member issue shares) self.old.log.down) result self.old self.new }
     {
         self.set(ClearRecord::Exempt {
             member,
@@ -138,7 +138,7 @@ impl<K: Keeper> Clearing<K> {
     ///
     /// Costs a look-up and one commit.
     pub fn priority(&mut self, member: MemberNo, issue: Cusip, on: bool) -> Result<(), Refusal>
-        ensures { Leaves (setting_call (Priority member issue on) self.old.log.down) result self.old self.new }
+        ensures { NodeLeaves (setting_call (Priority member issue on) self.old.log.down) result self.old self.new }
     {
         self.set(ClearRecord::Priority { member, issue, on })
     }
@@ -157,7 +157,7 @@ impl<K: Keeper> Clearing<K> {
     /// named since the latest cycle, look-ups for the trades that become due and for each short position,
     /// and one commit.
     pub fn cycle(&mut self, id: CycleId) -> Result<Cycled, Refusal>
-        ensures { Leaves (cycle_call id self.old.log.down self.old.log.records self.old.lots) result self.old self.new }
+        ensures { NodeLeaves (cycle_call id self.old.log.down self.old.log.records self.old.lots) result self.old self.new }
     {
         let alloc = self.alloc;
         let books = self.up()?;
@@ -288,7 +288,7 @@ impl<K: Keeper> Clearing<K> {
         sealed: bool,
     ) -> Result<Closed, Refusal>
         requires served { AreServed self.old.lots issue tickets.now sealed }
-        ensures { Leaves (close_call issue tickets.now sealed self.old.log.down self.old.log.records self.old.lots) result self.old self.new }
+        ensures { NodeLeaves (close_call issue tickets.now sealed self.old.log.down self.old.log.records self.old.lots) result self.old self.new }
     {
         self.up()?;
         let alloc = self.alloc;
@@ -325,7 +325,7 @@ impl<K: Keeper> Clearing<K> {
     ///
     /// Costs look-ups and one commit.
     pub fn take_reply(&mut self, reply: &Reply) -> Result<Taken, Refusal>
-        ensures { Leaves (reply_call reply.now self.old.log.down self.old.log.records) result self.old self.new }
+        ensures { NodeLeaves (reply_call reply.now self.old.log.down self.old.log.records) result self.old self.new }
     {
         match self.up()?.answer(reply) {
             Confirmed::Done => {}
@@ -445,7 +445,7 @@ impl<K: Keeper> Clearing<K> {
     ///
     /// Costs a look-up and a sort's share for each issue that an order names.
     pub fn pools(&self, alloc: Global) -> Result<PoolRows, AllocError>
-        ensures { IfOk result (λ rows. rows ≡ rows_of (orders_of self.now.log.records) self.now.lots) }
+        ensures { IfOk result (λ rows. rows ≡ rows_of_pools (orders_of self.now.log.records) self.now.lots) }
     {
         pool_rows(alloc, self.books().pooled(), self.lots())
     }
@@ -665,7 +665,7 @@ impl<K: Keeper> Clearing<K> {
         requires quiet { DoesNotDisturb entry self.old.lots }
         requires asks { [] ≡ asks_of (books_of self.old.log.records) entry }
         requires rows { [] ≡ rows_after (books_of self.old.log.records) entry }
-        ensures { Leaves (setting_call entry self.old.log.down) result self.old self.new }
+        ensures { NodeLeaves (setting_call entry self.old.log.down) result self.old self.new }
     {
         self.up()?;
         let nothing = Effects::none(self.alloc);

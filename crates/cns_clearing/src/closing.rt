@@ -2,7 +2,7 @@ ghost use Rattle.std.specs.Prelude.{◌≡◌, ◌≤◌, IfOk, map};
 ghost use Rattle.cns_pool.specs.Pool.{asked_sum};
 ghost use Rattle.cns_pool.specs.declared.ticket.Ticket.{Ticket};
 ghost use Rattle.cns_records.specs.declared.drawn.Drawn.{Drawn};
-ghost use Rattle.cns_clearing.specs.Answers.{allocation_of as allocation_in, drawn_of};
+ghost use Rattle.cns_clearing.specs.Answers.{closing_allocation as allocation_in, recorded_ticket};
 ghost use Rattle.cns_clearing.specs.Closing.{AreRecordable, IsRecordable};
 
 use crate::lot::Lot;
@@ -36,7 +36,7 @@ pub(crate) fn allocation_of(
 // The tickets as those of a record.
 fn drawn_list(alloc: Global, tickets: &[Ticket]) -> Result<DrawnList, AllocError>
     requires { AreRecordable tickets.now }
-    ensures { IfOk result (λ drawn. drawn ≡ map drawn_of tickets.now) }
+    ensures { IfOk result (λ drawn. drawn ≡ map recorded_ticket tickets.now) }
 {
     let mut list = Vec::new(alloc);
     for ticket in tickets {
@@ -51,7 +51,7 @@ fn drawn_list(alloc: Global, tickets: &[Ticket]) -> Result<DrawnList, AllocError
 // A ticket as that of a record.
 fn drawn(ticket: &Ticket) -> Drawn
     requires { IsRecordable ticket.now }
-    ensures { result ≡ drawn_of ticket.now }
+    ensures { result ≡ recorded_ticket ticket.now }
 {
     let Some(start) = Shares::new(ticket.start) else {
         unreachable!()

@@ -4,7 +4,7 @@ ghost use Rattle.std.specs.List.{IsDistinct, list_any};
 ghost use Rattle.cns_movements.specs.Order.{is_cover, is_delivery};
 ghost use Rattle.cns_movements.specs.declared.order.Ask.{Ask};
 ghost use Rattle.cns_clearing.specs.Pools.{asked_of_pool};
-ghost use Rattle.cns_clearing.specs.PoolSums.{is_asked, sums_at};
+ghost use Rattle.cns_clearing.specs.PoolSums.{asks_for, sums_at};
 
 use cns_ids::{Cusip, Shares};
 use cns_movements::{Ask, MoveKind, Order};
@@ -117,7 +117,7 @@ pub(crate) fn ask_all(pools: &mut HashMap<Cusip, PoolSums>, asks: &[Ask])
     ensures delivered { (i : ℕ) → (sums_at (get nat_eq pools.new i)).delivered ≡ (sums_at (get nat_eq pools.old i)).delivered }
     ensures out { (i : ℕ) → (sums_at (get nat_eq pools.new i)).out
         ≡ (sums_at (get nat_eq pools.old i)).out + asked_of_pool i asks.now }
-    ensures named { (i : ℕ) → is_some (get nat_eq pools.new i) ≡ (is_some (get nat_eq pools.old i) || is_asked i asks.now) }
+    ensures named { (i : ℕ) → is_some (get nat_eq pools.new i) ≡ (is_some (get nat_eq pools.old i) || asks_for i asks.now) }
     ensures most { sum_by (λ (a : Ask). a.asked) asks.now ≤ 10 ^ 18 * length asks.now }
 {
     let mut left = asks;

@@ -1,6 +1,6 @@
 ghost use Rattle.std.specs.Prelude.{◌≡◌, IfOk};
 ghost use Rattle.std.specs.List.{filter_map};
-ghost use Rattle.cns_clearing.specs.Pools.{lent_of as lent_in, free_of as free_in, pool_row as pool_row_of, rows_of};
+ghost use Rattle.cns_clearing.specs.Pools.{lent_of as lent_in, free_of as free_in, pool_row as pool_row_of, rows_of_pools};
 
 use crate::lot::Lots;
 use crate::pooled_orders::PooledOrders;
@@ -87,7 +87,7 @@ pub(crate) fn pool_rows(
     orders: &PooledOrders,
     lots: &Lots,
 ) -> Result<PoolRows, AllocError>
-    ensures { IfOk result (λ rows. rows ≡ rows_of orders.now.book lots.now.lots) }
+    ensures { IfOk result (λ rows. rows ≡ rows_of_pools orders.now.book lots.now.lots) }
 {
     if orders.book().is_empty() {
         let rows = Vec::new(alloc);

@@ -9,7 +9,7 @@ use Rattle.cns_depository.specs.declared.account.Account.{Account}
 use Rattle.cns_depository.specs.declared.account.Side.TheVariants.{At}
 use Rattle.cns_depository.specs.Account.{same_side}
 use Rattle.cns_depository.specs.Openings.{opening_shares}
-use Rattle.cns_depository.specs.Stock.{IsExecutable, IsLawfulDepot, balance_of, brought, moved_in, moved_out, part_in, part_out, taken, transfer_of}
+use Rattle.cns_depository.specs.Stock.{IsExecutable, IsLawfulDepot, balance_of, brought_to, moved_in, moved_out, part_in, part_out, taken_from, transfer_of}
 use Rattle.cns_depository.proofs.MovementLemmas.{equal_sides, transfer_covered}
 
 -- what a record takes out of an account is at most its balance before
@@ -26,7 +26,7 @@ part_out_le openings p e a issue allowed =
 
 -- what was moved out of an account was in it
 pub moved_out_covered : (openings : List Opening) (p : List DepRecord) (a : Account) (issue : ℕ) → IsLawfulDepot openings p → moved_out p a issue ≤ opening_shares openings a issue + moved_in p a issue
-unfolding brought taken balance_of
+unfolding brought_to taken_from balance_of
 moved_out_covered openings [] a issue lawful = omega arith
 moved_out_covered openings (e ∷ p) a issue lawful =
     let into : DepRecord → ℕ = λ e. part_in (At a) issue (transfer_of e) in

@@ -15,7 +15,7 @@ use Rattle.cns_records.specs.declared.instruction.Instruction.{Instruction}
 use Rattle.cns_records.specs.declared.instruction.Sort.TheVariants.{Deposit, Withdraw}
 use Rattle.cns_depository.specs.declared.movement.Movement.{Movement}
 use Rattle.cns_depository.specs.Account.{giver, own_giver, own_receiver, receiver, same_account, same_side}
-use Rattle.cns_depository.specs.Stock.{IsLawfulDepot, brought, executed_of, moved_in, moved_out, movement_of, part_in, part_out, taken, transfer_of}
+use Rattle.cns_depository.specs.Stock.{IsLawfulDepot, brought_to, executed_of, moved_in, moved_out, movement_of, part_in, part_out, taken_from, transfer_of}
 
 -- no two movements are of one number
 abbrev pub AreOnce : List Movement → Type 0
@@ -75,14 +75,14 @@ own_leaves i = elim i.sort as (λ sort. same_side (own_giver (record i { sort = 
 
 -- covers alone move shares into the CNS account, and deliveries alone move them out of it
 pub moved_in_cns : (p : List DepRecord) (issue : ℕ) → moved_in p Cns issue ≡ covers_moved (executed_of p) issue
-unfolding brought
+unfolding brought_to
 moved_in_cns p issue =
     sum_executed (λ e. part_in (At Cns) issue (transfer_of e)) (λ o. is_cover o.kind && (o.issue == issue))
     (λ o moved. ap (λ (b : Bool). if b && (o.issue == issue) then moved else 0) (cover_enters o))
     (λ i. ap (λ (b : Bool). if b && (i.issue == issue) then i.shares else 0) (own_enters i)) p
 
 pub moved_out_cns : (p : List DepRecord) (issue : ℕ) → moved_out p Cns issue ≡ deliveries_moved (executed_of p) issue
-unfolding taken
+unfolding taken_from
 moved_out_cns p issue =
     sum_executed (λ e. part_out (At Cns) issue (transfer_of e)) (λ o. is_delivery o.kind && (o.issue == issue))
     (λ o moved. ap (λ (b : Bool). if b && (o.issue == issue) then moved else 0) (delivery_leaves o))

@@ -20,7 +20,7 @@ use Rattle.cns_depository.specs.declared.account.Side.TheVariants.{Outside, At}
 use Rattle.cns_depository.specs.declared.moved.Moved.{Moved}
 use Rattle.cns_depository.specs.declared.place.Place.{Place}
 use Rattle.cns_depository.specs.declared.stock.Stock.{Stock}
-use Rattle.cns_depository.specs.Balances.{balance_row, balance_rows, place_cmp, places_of, side_row}
+use Rattle.cns_depository.specs.Balances.{balance_row, balance_rows, place_cmp, stock_places, side_row}
 use Rattle.cns_depository.specs.Openings.{is_opening_of, opening_shares}
 use Rattle.cns_depository.specs.Places.{named_places, opened_place}
 use Rattle.cns_depository.specs.Stock.{balance_of, moved_in}
@@ -145,8 +145,8 @@ by_row openings p ks q row is has = by q.side is
 pub rows_by_places : (s : Stock) (openings : List Opening) (p : List DepRecord) (ks : List Place) → IsStockOf s p → Ascend ks
     → ((q : Place) → Contains (named_places openings s) q → Contains ks q) → filter_map (balance_row openings p) ks ≡ balance_rows openings p
 rows_by_places s openings p ks stock order named =
-    same_rows (balance_row openings p) ks (places_of openings p) order (places_sorted openings p)
-    (λ q row is in'. by_row openings p (places_of openings p) q row is (λ a issue held. held_place openings p a issue held))
+    same_rows (balance_row openings p) ks (stock_places openings p) order (places_sorted openings p)
+    (λ q row is in'. by_row openings p (stock_places openings p) q row is (λ a issue held. held_place openings p a issue held))
     (λ q row is in'. by_row openings p ks q row is (λ a issue held. among_contained ks _ (named _ (named_place s openings p a issue stock held))))
 
 -- where nothing is opened and nothing was moved there is no row

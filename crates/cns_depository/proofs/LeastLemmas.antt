@@ -18,7 +18,7 @@ use Rattle.cns_depository.specs.Account.{giver, own_giver, own_receiver, receive
 use Rattle.cns_depository.specs.Least.{least}
 use Rattle.cns_depository.specs.Openings.{issue_sum, opening_shares}
 use Rattle.cns_depository.specs.Ranges.{AreEnough}
-use Rattle.cns_depository.specs.Stock.{IsExecutable, IsLawfulDepot, balance_of, brought, held_in, moved_in, moved_out, own_refusal, part_in, part_out, taken, transfer_of}
+use Rattle.cns_depository.specs.Stock.{IsExecutable, IsLawfulDepot, balance_of, brought_to, held_in, moved_in, moved_out, own_refusal, part_in, part_out, taken_from, transfer_of}
 use Rattle.cns_depository.specs.declared.account.Side.{Side}
 use Rattle.cns_depository.proofs.BalanceLemmas.{moved_out_covered}
 use Rattle.cns_depository.proofs.MovementLemmas.{by_sort, none_refused}
@@ -45,24 +45,24 @@ unfolding least
 least_before e p a issue = omega arith
 
 -- what a record takes of its giver, and leaves elsewhere
-pub taken_here : (e : DepRecord) (p : List DepRecord) (s : Side) (issue : ℕ) → (transfer_of e).giver ≡ s → (transfer_of e).issue ≡ issue → taken (e ∷ p) s issue ≡ (transfer_of e).shares + taken p s issue
-unfolding taken
+pub taken_here : (e : DepRecord) (p : List DepRecord) (s : Side) (issue : ℕ) → (transfer_of e).giver ≡ s → (transfer_of e).issue ≡ issue → taken_from (e ∷ p) s issue ≡ (transfer_of e).shares + taken_from p s issue
+unfolding taken_from
 taken_here e p s issue from of =
     let t = transfer_of e in
     let both = and_from (same_side t.giver s) (t.issue == issue) (ap (λ x. same_side x s) from ∙ own_side s) (eq-eqb t.issue issue of) in
     omega (arith, cond-true _ t.shares 0 both, sum_by-cons (λ (e : DepRecord). part_out s issue (transfer_of e)) e p)
 
-taken_other : (e : DepRecord) (p : List DepRecord) (s : Side) (issue : ℕ) → (same_side (transfer_of e).giver s && ((transfer_of e).issue == issue)) ≡ false → taken (e ∷ p) s issue ≡ taken p s issue
-unfolding taken
+taken_other : (e : DepRecord) (p : List DepRecord) (s : Side) (issue : ℕ) → (same_side (transfer_of e).giver s && ((transfer_of e).issue == issue)) ≡ false → taken_from (e ∷ p) s issue ≡ taken_from p s issue
+unfolding taken_from
 taken_other e p s issue other = omega (arith, cond-false _ (transfer_of e).shares 0 other, sum_by-cons (λ (e : DepRecord). part_out s issue (transfer_of e)) e p)
 
 -- what it brings is not less, and nothing where it is not the receiver's
-brought_more : (e : DepRecord) (p : List DepRecord) (s : Side) (issue : ℕ) → brought p s issue ≤ brought (e ∷ p) s issue
-unfolding brought
+brought_more : (e : DepRecord) (p : List DepRecord) (s : Side) (issue : ℕ) → brought_to p s issue ≤ brought_to (e ∷ p) s issue
+unfolding brought_to
 brought_more e p s issue = omega (arith, sum_by-cons (λ (e : DepRecord). part_in s issue (transfer_of e)) e p)
 
-pub brought_other : (e : DepRecord) (p : List DepRecord) (s : Side) (issue : ℕ) → same_side (transfer_of e).receiver s ≡ false → brought (e ∷ p) s issue ≡ brought p s issue
-unfolding brought
+pub brought_other : (e : DepRecord) (p : List DepRecord) (s : Side) (issue : ℕ) → same_side (transfer_of e).receiver s ≡ false → brought_to (e ∷ p) s issue ≡ brought_to p s issue
+unfolding brought_to
 brought_other e p s issue other =
     omega (arith, cond-false _ (transfer_of e).shares 0 (and_left (same_side (transfer_of e).receiver s) ((transfer_of e).issue == issue) other), sum_by-cons (λ (e : DepRecord). part_in s issue (transfer_of e)) e p)
 
@@ -72,7 +72,7 @@ least_is e p a issue = refl
 
 -- what has passed what was brought is no more than the most by which it did so
 least_covers : (p : List DepRecord) (a : Account) (issue : ℕ) → moved_out p a issue - moved_in p a issue ≤ least p a issue
-unfolding least taken brought
+unfolding least taken_from brought_to
 least_covers [] a issue = omega arith
 least_covers (e ∷ p) a issue = omega arith
 
@@ -88,7 +88,7 @@ cns_balance : (openings others : List Opening) (p : List DepRecord) (issue : ℕ
 unfolding balance_of
 cns_balance openings others p issue = refl
 
-pub held_is : (openings : List Opening) (p : List DepRecord) (issue : ℕ) → held_in openings p issue ≡ (issue_sum openings issue + taken p Outside issue) - brought p Outside issue
+pub held_is : (openings : List Opening) (p : List DepRecord) (issue : ℕ) → held_in openings p issue ≡ (issue_sum openings issue + taken_from p Outside issue) - brought_to p Outside issue
 unfolding held_in
 held_is openings p issue = refl
 

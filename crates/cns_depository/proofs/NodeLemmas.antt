@@ -6,7 +6,7 @@ use Rattle.cns_records.specs.Call.{Commits}
 use Rattle.cns_records.specs.declared.dep_record.DepRecord.{DepRecord}
 use Rattle.cns_records.specs.declared.dep_record.DepRecord.TheVariants as entry
 use Rattle.cns_records.specs.declared.instruction.Instruction.{Instruction}
-use Rattle.cns_depository.specs.Answers.{executes, held_call, instruct_call, known_call, order_call, own_refused}
+use Rattle.cns_depository.specs.Answers.{executes, held_call, instruct_call, known_call, take_order_call, own_refused}
 use Rattle.cns_depository.specs.Stock.{executed_of, instructed_of, instruction_of, movement, movement_of, own_refusal}
 use Rattle.cns_depository.specs.declared.fault.DepFault.TheVariants.{Down}
 use Rattle.cns_depository.specs.declared.fault.Own.TheVariants as done
@@ -14,18 +14,18 @@ use Rattle.cns_depository.specs.declared.fault.OwnFault.TheVariants as own
 use Rattle.cns_depository.specs.declared.fault.OwnRefusal.{OwnRefusal}
 use Rattle.cns_depository.specs.declared.movement.Movement.{Movement}
 
-pub order_down : (o : Order) (down : Bool) (openings : List Opening) (p : List DepRecord) → down ≡ true → order_call o down openings p ≡ Err Down
-unfolding order_call
+pub order_down : (o : Order) (down : Bool) (openings : List Opening) (p : List DepRecord) → down ≡ true → take_order_call o down openings p ≡ Err Down
+unfolding take_order_call
 order_down o down openings p is = rw is refl
 
 pub order_new : (o : Order) (down : Bool) (openings : List Opening) (p : List DepRecord) → down ≡ false → movement_of (executed_of p) o.number ≡ None
-    → order_call o down openings p ≡ Ok (executes (movement openings p o))
-unfolding order_call
+    → take_order_call o down openings p ≡ Ok (executes (movement openings p o))
+unfolding take_order_call
 order_new o down openings p up none = rw (up, none) refl
 
 pub order_known : (o : Order) (down : Bool) (openings : List Opening) (p : List DepRecord) (known : Movement) → down ≡ false → movement_of (executed_of p) o.number ≡ Some known
-    → order_call o down openings p ≡ known_call o known
-unfolding order_call
+    → take_order_call o down openings p ≡ known_call o known
+unfolding take_order_call
 order_known o down openings p known up found = rw (up, found) refl
 
 pub instruct_down : (i : Instruction) (down : Bool) (openings : List Opening) (p : List DepRecord) → down ≡ true → instruct_call i down openings p ≡ Err own.Down

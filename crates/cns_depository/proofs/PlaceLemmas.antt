@@ -12,7 +12,7 @@ use Rattle.cns_depository.specs.declared.account.Side.{Side}
 use Rattle.cns_depository.specs.declared.account.Side.TheVariants.{Outside, At}
 use Rattle.cns_depository.specs.declared.place.Place.{Place}
 use Rattle.cns_depository.specs.contracts.place.PlaceEq.TheImpl.Laws.{laws-law}
-use Rattle.cns_depository.specs.Balances.{place_cmp, rank, side_rank}
+use Rattle.cns_depository.specs.Balances.{place_cmp, account_rank, side_rank}
 use Rattle.cns_depository.specs.Totals.{place_eq}
 use Rattle.cns_journal.proofs.LayoutLemmas.{by_bool}
 use Rattle.cns_depository.proofs.TotalLemmas.{equal_places}
@@ -25,7 +25,7 @@ place_total = then_total (on_total (λ (k : Place). k.issue) nat_cmp_total) (on_
 same_number : (x y : ℕ) → nat_cmp x y ≡ Equal → x ≡ y
 same_number x y e = ranked x y Equal (sym e)
 
-same_rank : (a b : Account) → rank a ≡ rank b → a ≡ b
+same_rank : (a b : Account) → account_rank a ≡ account_rank b → a ≡ b
 same_rank Cns Cns e = refl
 same_rank Cns (Member m) e = absurd (omega (arith, e))
 same_rank (Member m) Cns e = absurd (omega (arith, e))

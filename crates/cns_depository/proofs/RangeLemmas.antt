@@ -17,7 +17,7 @@ use Rattle.cns_depository.specs.Account.{giver, own_receiver, same_account, same
 use Rattle.cns_depository.specs.Least.{least}
 use Rattle.cns_depository.specs.Openings.{issue_sum, opening_shares}
 use Rattle.cns_depository.specs.Ranges.{AreOpeningsOf, AreRanges, IsDemanded, IsLimited, first_range, is_met, issue_place, least_sum, place_of, takes_all}
-use Rattle.cns_depository.specs.Stock.{brought, held_in, moved_in, moved_out, taken, transfer_of}
+use Rattle.cns_depository.specs.Stock.{brought_to, held_in, moved_in, moved_out, taken_from, transfer_of}
 use Rattle.cns_depository.proofs.LeastLemmas.{all_taken, brought_other, held_is, least_before, least_is, least_lawful, least_same, taken_here}
 use Rattle.cns_depository.proofs.MemberSums.{opens_up_to, up_to-grows, up_to-le, up_to-more}
 use Rattle.cns_depository.proofs.MovementLemmas.{by_sort, equal_accounts, none_refused, same_At}
@@ -166,7 +166,7 @@ module _ (ranges : Place → Range) (p : List DepRecord) (are : AreRanges ranges
 
 -- a deposit tells with how many shares all accounts opened at most
 pub deposit_limit : (e : DepRecord) (p : List DepRecord) (openings : List Opening) → AreOpeningsOf openings (e ∷ p) → (transfer_of e).giver ≡ Outside
-    → issue_sum openings (transfer_of e).issue ≤ (10 ^ 18 + brought (e ∷ p) Outside (transfer_of e).issue) - taken (e ∷ p) Outside (transfer_of e).issue
+    → issue_sum openings (transfer_of e).issue ≤ (10 ^ 18 + brought_to (e ∷ p) Outside (transfer_of e).issue) - taken_from (e ∷ p) Outside (transfer_of e).issue
 deposit_limit (Exec o moved) p openings are from = absurd cc
 deposit_limit (Own i) p openings are from = by_sort i.sort
     (λ deposit.

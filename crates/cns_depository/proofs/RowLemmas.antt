@@ -19,8 +19,8 @@ use Rattle.cns_depository.specs.declared.place.Place.{Place}
 use Rattle.cns_depository.specs.declared.balances.BalanceRow.{BalanceRow}
 use Rattle.cns_depository.specs.Account.{same_side}
 use Rattle.cns_depository.specs.Openings.{is_opening_of, opening_shares}
-use Rattle.cns_depository.specs.Stock.{balance_of, brought, moved_in, part_in, transfer_of}
-use Rattle.cns_depository.specs.Balances.{side_row, place_cmp, places_of, balance_row, balance_rows, row_place, AreComplete, AreAscending}
+use Rattle.cns_depository.specs.Stock.{balance_of, brought_to, moved_in, part_in, transfer_of}
+use Rattle.cns_depository.specs.Balances.{side_row, place_cmp, stock_places, balance_row, balance_rows, row_place, AreComplete, AreAscending}
 use Rattle.cns_depository.proofs.MovementLemmas.{equal_sides}
 use Rattle.cns_depository.proofs.OpeningLemmas.{opening_is, shares_other}
 use Rattle.cns_depository.proofs.PlaceLemmas.{by_order, place_total, same_place}
@@ -61,18 +61,18 @@ opened_has (o ∷ os) ps m i held = ⊎_elim (λ its. let is = opening_is o m i 
 record_keeps : (ps : List Place) (e : DepRecord) (q : Place) → IsAmong q ps → IsAmong q (with_record ps e)
 record_keeps ps e q in' = insert_keeps _ _ q (insert_keeps ps _ q in')
 
-opening_place : (openings : List Opening) (p : List DepRecord) (a : Account) (i : ℕ) → opening_shares openings a i ≢ 0 → IsAmong (record { issue = i; side = At a }) (places_of openings p)
-unfolding places_of
+opening_place : (openings : List Opening) (p : List DepRecord) (a : Account) (i : ℕ) → opening_shares openings a i ≢ 0 → IsAmong (record { issue = i; side = At a }) (stock_places openings p)
+unfolding stock_places
 opening_place openings [] Cns i held = absurd (held refl)
 opening_place openings [] (Member m) i held = opened_has openings [] m i held
-opening_place openings (e ∷ p) a i held = record_keeps (places_of openings p) e _ (opening_place openings p a i held)
+opening_place openings (e ∷ p) a i held = record_keeps (stock_places openings p) e _ (opening_place openings p a i held)
 
-moved_place : (openings : List Opening) (p : List DepRecord) (a : Account) (i : ℕ) → moved_in p a i ≢ 0 → IsAmong (record { issue = i; side = At a }) (places_of openings p)
-unfolding places_of brought
+moved_place : (openings : List Opening) (p : List DepRecord) (a : Account) (i : ℕ) → moved_in p a i ≢ 0 → IsAmong (record { issue = i; side = At a }) (stock_places openings p)
+unfolding stock_places brought_to
 moved_place openings [] a i held = absurd (held refl)
 moved_place openings (e ∷ p) a i held =
     let t = transfer_of e in
-    let ps = places_of openings p in
+    let ps = stock_places openings p in
     ⊎_elim (λ its.
     let both = and_parts (same_side t.receiver (At a)) (eqb t.issue i) its in
     let to = equal_sides t.receiver (At a) both.0 in
@@ -84,7 +84,7 @@ moved_place openings (e ∷ p) a i held =
     (cases_Bool (same_side t.receiver (At a) && eqb t.issue i))
 
 -- a balance other than 0 is of a place that is named
-pub held_place : (openings : List Opening) (p : List DepRecord) (a : Account) (i : ℕ) → balance_of openings p a i ≢ 0 → IsAmong (record { issue = i; side = At a }) (places_of openings p)
+pub held_place : (openings : List Opening) (p : List DepRecord) (a : Account) (i : ℕ) → balance_of openings p a i ≢ 0 → IsAmong (record { issue = i; side = At a }) (stock_places openings p)
 unfolding balance_of
 held_place openings p a i held =
     ⊎_elim (λ none. moved_place openings p a i (λ z. held (omega (arith, none, z)))) (opening_place openings p a i) (cases_eq (opening_shares openings a i) 0)
@@ -109,7 +109,7 @@ held_row openings p a i held = rw (ne_eqb (balance_of openings p a i) 0 held) re
 -- each balance other than 0 has its row
 pub rows_complete : (openings : List Opening) (p : List DepRecord) → AreComplete openings p (balance_rows openings p)
 rows_complete openings p a i held =
-    row_among (balance_row openings p) (places_of openings p) _ (record { issue = i; account = a; shares = balance_of openings p a i }) (held_place openings p a i held)
+    row_among (balance_row openings p) (stock_places openings p) _ (record { issue = i; account = a; shares = balance_of openings p a i }) (held_place openings p a i held)
     (held_row openings p a i held)
 
 -- what stands after a place stands after one before it
@@ -135,10 +135,10 @@ opened_sorted : (os : List Opening) (ps : List Place) → IsStrictlySortedBy pla
 opened_sorted [] ps sorted = sorted
 opened_sorted (o ∷ os) ps sorted = opened_sorted os (with_opening ps o) (sorted_insert ps _ sorted)
 
-pub places_sorted : (openings : List Opening) (p : List DepRecord) → IsStrictlySortedBy place_cmp (places_of openings p)
-unfolding places_of IsStrictlySortedBy
+pub places_sorted : (openings : List Opening) (p : List DepRecord) → IsStrictlySortedBy place_cmp (stock_places openings p)
+unfolding stock_places IsStrictlySortedBy
 places_sorted openings [] = opened_sorted openings [] tt
-places_sorted openings (e ∷ p) = sorted_insert _ _ (sorted_insert (places_of openings p) _ (places_sorted openings p))
+places_sorted openings (e ∷ p) = sorted_insert _ _ (sorted_insert (stock_places openings p) _ (places_sorted openings p))
 
 -- a place gives a row of its own
 abbrev GivesOwn : (Place → Option BalanceRow) → Type 0
@@ -165,4 +165,4 @@ own_row openings p k row is = by k.side is
 
 -- the rows stand by issue, then account
 pub rows_ascend : (openings : List Opening) (p : List DepRecord) → AreAscending (balance_rows openings p)
-rows_ascend openings p = rows_sorted (balance_row openings p) (places_of openings p) (own_row openings p) (places_sorted openings p)
+rows_ascend openings p = rows_sorted (balance_row openings p) (stock_places openings p) (own_row openings p) (places_sorted openings p)

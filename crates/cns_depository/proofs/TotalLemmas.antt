@@ -16,8 +16,8 @@ use Rattle.cns_depository.specs.declared.moved.Moved.{Moved}
 use Rattle.cns_depository.specs.declared.movement.Transfer.{Transfer}
 use Rattle.cns_depository.specs.declared.place.Place.{Place}
 use Rattle.cns_depository.specs.Account.{same_side}
-use Rattle.cns_depository.specs.Stock.{brought, part_in, part_out, taken, transfer_of}
-use Rattle.cns_depository.specs.Totals.{AreTransferred, AreTotalsOf, HasIndex, key_eq, key_of, moved_at, place_eq, record_of}
+use Rattle.cns_depository.specs.Stock.{brought_to, part_in, part_out, taken_from, transfer_of}
+use Rattle.cns_depository.specs.Totals.{AreTransferred, AreStockTotals, HasIndex, key_eq, key_of, moved_at, place_eq, record_of}
 use Rattle.cns_depository.proofs.MovementLemmas.{earlier_record, equal_sides, newest_record}
 
 -- ---- the index of a record
@@ -107,7 +107,7 @@ at_most b n = grind arith
 
 -- those of no records
 pub sums_none : (moved : Place → Moved) → ((k : Place) → moved k ≡ record { entered = 0; left = 0 }) → AreTransferred moved []
-unfolding brought taken
+unfolding brought_to taken_from
 sums_none moved nothing = record {
   entered = λ a i. ap (λ (m : Moved). m.entered) (nothing (record { issue = i; side = a }));
   left = λ a i. ap (λ (m : Moved). m.left) (nothing (record { issue = i; side = a }));
@@ -116,7 +116,7 @@ sums_none moved nothing = record {
   left_small = λ a i. omega arith;
 }
 
-pub totals_none : (moved : Place → Moved) (indices : Key → Option ℕ) → ((k : Place) → moved k ≡ record { entered = 0; left = 0 }) → ((k : Key) → indices k ≡ None) → AreTotalsOf moved indices []
+pub totals_none : (moved : Place → Moved) (indices : Key → Option ℕ) → ((k : Place) → moved k ≡ record { entered = 0; left = 0 }) → ((k : Key) → indices k ≡ None) → AreStockTotals moved indices []
 totals_none moved indices nothing none = record { sums = sums_none moved nothing; found = λ n. subst (HasIndex [] n) (sym (none n)) refl }
 
 -- look-ups alone count
@@ -130,7 +130,7 @@ sums_kept moved now p same sums = record {
 }
 
 pub totals_kept : (moved now : Place → Moved) (indices after : Key → Option ℕ) (p : List DepRecord) → ((k : Place) → now k ≡ moved k) → ((k : Key) → after k ≡ indices k)
-    → AreTotalsOf moved indices p → AreTotalsOf now after p
+    → AreStockTotals moved indices p → AreStockTotals now after p
 totals_kept moved now indices after p same found totals = record { sums = sums_kept moved now p same totals.sums; found = λ n. subst (HasIndex p n) (sym (found n)) (totals.found n) }
 
 -- those with one more record
@@ -139,7 +139,7 @@ pub sums_more : (moved now : Place → Moved) (p : List DepRecord) (e : DepRecor
     → ((k : Place) → (now k).entered ≡ (moved k).entered + (if place_eq (record { issue = t.issue; side = t.receiver }) k then shares else 0))
     → ((k : Place) → (now k).left ≡ (moved k).left + (if place_eq (record { issue = t.issue; side = t.giver }) k then shares else 0))
     → AreTransferred now (e ∷ p)
-unfolding brought taken
+unfolding brought_to taken_from
 sums_more moved now p e t shares sums few is worth small entered left =
     let into : Side → ℕ → DepRecord → ℕ = λ a i x. part_in a i (transfer_of x) in
     let out : Side → ℕ → DepRecord → ℕ = λ a i x. part_out a i (transfer_of x) in

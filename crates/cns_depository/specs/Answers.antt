@@ -56,8 +56,8 @@ abbrev pub executes : Movement → Deed DepRecord Answer
 executes m = Commits (execution m) (Done (reply_to m))
 
 -- an order is executed where its number is new, and nothing else adds a record
-unfoldable pub order_call : Order → Bool → List Opening → List DepRecord → Result (Deed DepRecord Answer) DepFault
-order_call o down openings p =
+unfoldable pub take_order_call : Order → Bool → List Opening → List DepRecord → Result (Deed DepRecord Answer) DepFault
+take_order_call o down openings p =
     need (not down) Down
     >> elim (movement_of (executed_of p) o.number) [ None ↦ Ok (executes (movement openings p o)) | Some known ↦ known_call o known ]
 

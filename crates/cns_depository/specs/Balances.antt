@@ -16,22 +16,22 @@ use Rattle.cns_depository.specs.declared.balances.BalanceRow.{BalanceRow}
 use Rattle.cns_depository.specs.Stock.{balance_of, transfer_of}
 
 -- the rank of an account: the CNS account first, then the members by number; and that of a side: the outside first
-abbrev pub rank : Account → ℕ
-rank account = elim account [ Cns ↦ 0 | Member m ↦ m + 1 ]
+abbrev pub account_rank : Account → ℕ
+account_rank account = elim account [ Cns ↦ 0 | Member m ↦ m + 1 ]
 
 abbrev pub side_rank : Side → ℕ
 side_rank Outside = 0
-side_rank (At account) = rank account + 1
+side_rank (At account) = account_rank account + 1
 
 -- the order of places: by issue, then side
 abbrev pub place_cmp : Place → Place → Ordering
 place_cmp a b = ordering_then (nat_cmp a.issue b.issue) (nat_cmp (side_rank a.side) (side_rank b.side))
 
 -- the places that some opening or transfer names, each once, ascending
-unfoldable pub places_of : List Opening → List DepRecord → List Place
-places_of openings [] = fold (λ ps o. insert_key place_cmp ps (record { issue = o.issue; side = At (Member o.member) })) [] openings
-places_of openings (e ∷ p) =
-    let t = transfer_of e in fold (λ ps s. insert_key place_cmp ps (record { issue = t.issue; side = s })) (places_of openings p) (t.giver ∷ t.receiver ∷ [])
+unfoldable pub stock_places : List Opening → List DepRecord → List Place
+stock_places openings [] = fold (λ ps o. insert_key place_cmp ps (record { issue = o.issue; side = At (Member o.member) })) [] openings
+stock_places openings (e ∷ p) =
+    let t = transfer_of e in fold (λ ps s. insert_key place_cmp ps (record { issue = t.issue; side = s })) (stock_places openings p) (t.giver ∷ t.receiver ∷ [])
 
 -- the row of a place that is an account's, where its balance is not 0
 abbrev pub account_row : List Opening → List DepRecord → Account → ℕ → Option BalanceRow
@@ -48,7 +48,7 @@ balance_row openings p k = side_row openings p k.side k.issue
 
 -- the balances other than 0
 abbrev pub balance_rows : List Opening → List DepRecord → List BalanceRow
-balance_rows openings p = filter_map (balance_row openings p) (places_of openings p)
+balance_rows openings p = filter_map (balance_row openings p) (stock_places openings p)
 
 -- a row's place
 abbrev pub row_place : BalanceRow → Place

@@ -27,11 +27,11 @@ opening_fault openings o =
     else if nat_lt (10 ^ 18) (issue_sum openings o.issue + o.shares) then Some IssueSum else None
 
 -- what adding an opening leaves, by its answer: only an accepted one changes the list
-abbrev pub AddLeaves : Opening → Result (Unit {0}) OpeningFault → List Opening → List Opening → Type 0
-AddLeaves o (Ok _) old new = (opening_fault old o ≡ None) × (new ≡ old ++ o ∷ [])
-AddLeaves o (Err Double) old new = (opening_fault old o ≡ Some Double) × (new ≡ old)
-AddLeaves o (Err IssueSum) old new = (opening_fault old o ≡ Some IssueSum) × (new ≡ old)
-AddLeaves o (Err OutOfMemory) old new = (opening_fault old o ≡ None) × (new ≡ old)
+abbrev pub OpeningLeaves : Opening → Result (Unit {0}) OpeningFault → List Opening → List Opening → Type 0
+OpeningLeaves o (Ok _) old new = (opening_fault old o ≡ None) × (new ≡ old ++ o ∷ [])
+OpeningLeaves o (Err Double) old new = (opening_fault old o ≡ Some Double) × (new ≡ old)
+OpeningLeaves o (Err IssueSum) old new = (opening_fault old o ≡ Some IssueSum) × (new ≡ old)
+OpeningLeaves o (Err OutOfMemory) old new = (opening_fault old o ≡ None) × (new ≡ old)
 
 -- the openings of no issue pass 10^18 shares
 abbrev pub DoIssuesFit : List Opening → Type 0

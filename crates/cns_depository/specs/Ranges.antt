@@ -76,8 +76,8 @@ abbrev pub is_met : Range → Bool
 is_met range = nat_le range.least range.most
 
 -- a range once an account must have opened with so many shares at least, or with just so many
-abbrev pub narrowed : Range → ℕ → Bool → Range
-narrowed range needed exactly = record { least = max range.least needed; most = if exactly then min range.most needed else range.most }
+abbrev pub narrowed_range : Range → ℕ → Bool → Range
+narrowed_range range needed exactly = record { least = max range.least needed; most = if exactly then min range.most needed else range.most }
 
 -- that of an issue, once the accounts must have opened with so many more, or with so many at most
 abbrev pub raised : Range → ℕ → Range
@@ -88,7 +88,7 @@ limited range most = record range { most = min range.most most }
 
 -- an account in an issue must have opened with so many shares at least, or with just so many
 pub record IsDemanded (a : Account) (issue needed : ℕ) (exactly : Bool) (old new : Place → Range) : Type 0 where
-  pub place : new (place_of a issue) ≡ narrowed (old (place_of a issue)) needed exactly
+  pub place : new (place_of a issue) ≡ narrowed_range (old (place_of a issue)) needed exactly
   pub sum : new (issue_place issue) ≡ raised (old (issue_place issue)) (max (old (place_of a issue)).least needed - (old (place_of a issue)).least)
   pub others : (k : Place) → place_eq (place_of a issue) k ≡ false → place_eq (issue_place issue) k ≡ false → new k ≡ old k
 

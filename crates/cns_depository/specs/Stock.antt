@@ -66,18 +66,18 @@ abbrev pub part_out : Side → ℕ → Transfer → ℕ
 part_out s issue t = if same_side t.giver s && (t.issue == issue) then t.shares else 0
 
 -- the shares of an issue brought to a side, and taken from it
-unfoldable pub brought : List DepRecord → Side → ℕ → ℕ
-brought p s issue = sum_by (λ (e : DepRecord). part_in s issue (transfer_of e)) p
+unfoldable pub brought_to : List DepRecord → Side → ℕ → ℕ
+brought_to p s issue = sum_by (λ (e : DepRecord). part_in s issue (transfer_of e)) p
 
-unfoldable pub taken : List DepRecord → Side → ℕ → ℕ
-taken p s issue = sum_by (λ (e : DepRecord). part_out s issue (transfer_of e)) p
+unfoldable pub taken_from : List DepRecord → Side → ℕ → ℕ
+taken_from p s issue = sum_by (λ (e : DepRecord). part_out s issue (transfer_of e)) p
 
 -- the same of an account: what was moved into it, and out of it
 abbrev pub moved_in : List DepRecord → Account → ℕ → ℕ
-moved_in p a issue = brought p (At a) issue
+moved_in p a issue = brought_to p (At a) issue
 
 abbrev pub moved_out : List DepRecord → Account → ℕ → ℕ
-moved_out p a issue = taken p (At a) issue
+moved_out p a issue = taken_from p (At a) issue
 
 -- the balance of an account in an issue: its opening, and what was moved in, less what was moved out
 unfoldable pub balance_of : List Opening → List DepRecord → Account → ℕ → ℕ
@@ -85,7 +85,7 @@ balance_of openings p a issue = (opening_shares openings a issue + moved_in p a 
 
 -- the shares of an issue that all accounts hold: its openings, and what came from outside, less what went there
 unfoldable pub held_in : List Opening → List DepRecord → ℕ → ℕ
-held_in openings p issue = (issue_sum openings issue + taken p Outside issue) - brought p Outside issue
+held_in openings p issue = (issue_sum openings issue + taken_from p Outside issue) - brought_to p Outside issue
 
 -- ---- which records may stand
 

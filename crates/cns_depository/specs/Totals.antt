@@ -13,7 +13,7 @@ use Rattle.cns_depository.specs.declared.stock.Stock.{Stock}
 use Rattle.cns_depository.specs.contracts.key.KeyPartialEq.TheImpl as keys
 use Rattle.cns_depository.specs.contracts.place.PlacePartialEq.TheImpl as place
 use Rattle.cns_depository.specs.Node.{DepNode, IsNode}
-use Rattle.cns_depository.specs.Stock.{brought, taken}
+use Rattle.cns_depository.specs.Stock.{brought_to, taken_from}
 
 -- whether two places are the same, and whether two keys are
 abbrev pub place_eq : Place → Place → Bool
@@ -43,30 +43,30 @@ HasIndex p k (Some i) = (i < length p) × (slice_get (reverse p) i ≡ record_of
 
 -- what was brought to each place and taken from it is that of these records, the newest first, which moved at most 10^18 shares each
 pub record AreTransferred (moved : Place → Moved) (p : List DepRecord) : Type 0 where
-  pub entered : (s : Side) (issue : ℕ) → (moved (record { issue = issue; side = s })).entered ≡ brought p s issue
-  pub left : (s : Side) (issue : ℕ) → (moved (record { issue = issue; side = s })).left ≡ taken p s issue
+  pub entered : (s : Side) (issue : ℕ) → (moved (record { issue = issue; side = s })).entered ≡ brought_to p s issue
+  pub left : (s : Side) (issue : ℕ) → (moved (record { issue = issue; side = s })).left ≡ taken_from p s issue
   pub few : length p ≤ 2 ^ 64
-  pub entered_small : (s : Side) (issue : ℕ) → brought p s issue ≤ 10 ^ 18 * length p
-  pub left_small : (s : Side) (issue : ℕ) → taken p s issue ≤ 10 ^ 18 * length p
+  pub entered_small : (s : Side) (issue : ℕ) → brought_to p s issue ≤ 10 ^ 18 * length p
+  pub left_small : (s : Side) (issue : ℕ) → taken_from p s issue ≤ 10 ^ 18 * length p
 
 -- and so is the index of the record of each key
-pub record AreTotalsOf (moved : Place → Moved) (indices : Key → Option ℕ) (p : List DepRecord) : Type 0 where
+pub record AreStockTotals (moved : Place → Moved) (indices : Key → Option ℕ) (p : List DepRecord) : Type 0 where
   pub sums : AreTransferred moved p
   pub found : (k : Key) → HasIndex p k (indices k)
 
 -- a stock is what these records come to
 abbrev pub IsStockOf : Stock → List DepRecord → Type 0
-IsStockOf s p = AreTotalsOf (λ k. moved_at (get place_eq s.moved k)) (get key_eq s.indices) p
+IsStockOf s p = AreStockTotals (λ k. moved_at (get place_eq s.moved k)) (get key_eq s.indices) p
 
 -- a stock is what some records come to
 abbrev pub IsStock : Stock → Type 0
 IsStock s = (p : List DepRecord) × IsStockOf s p
 
 -- there is room for one more record
-abbrev pub HasRoom : Stock → Type 0
-HasRoom s = (2 ≤ spare s.moved) × (1 ≤ spare s.indices)
+abbrev pub HasStockRoom : Stock → Type 0
+HasStockRoom s = (2 ≤ spare s.moved) × (1 ≤ spare s.indices)
 
 -- what a depository keeps: a lawful log, and what its records come to
-pub record IsKept (stock : Stock) (node : DepNode) : Type 0 where
+pub record IsStockKept (stock : Stock) (node : DepNode) : Type 0 where
   pub lawful : IsNode node
   pub totals : IsStockOf stock node.log.records

@@ -2,7 +2,7 @@ ghost use Rattle.std.specs.Prelude.{◌≡◌, ◌+◌, ◌≤◌, true, false, 
 ghost use Rattle.cns_depository.specs.Openings.{opening_shares};
 ghost use Rattle.cns_depository.specs.Stock.{IsExecutable, IsLawfulDepot, IsNextMovement, execution, instructed_of, instruction_of, executed_of, movement_of, moved_in, moved_out, balance_of as balance_in};
 ghost use Rattle.cns_depository.specs.Balances.{balance_rows as balance_rows_of, AreComplete, AreAscending};
-ghost use Rattle.cns_depository.specs.Answers.{InstructLeaves, OrderLeaves, held_call, instruct_call, known_call, order_call};
+ghost use Rattle.cns_depository.specs.Answers.{InstructLeaves, OrderLeaves, held_call, instruct_call, known_call, take_order_call};
 ghost use Rattle.cns_depository.specs.Node.{DepNode, IsCommitted, IsOpened, IsUnread, NodePlanned, RestartLeaves};
 ghost use Rattle.cns_journal.specs.RecordLog.{IsGivenUp};
 ghost use Rattle.cns_records.specs.Dep.{dep_spelling};
@@ -43,13 +43,13 @@ pub struct Depository<K: Keeper> {
 
 impl<K: Keeper> Model for Depository<K> {
     ghost use Rattle.cns_depository.specs.Node.{DepNode};
-    ghost use Rattle.cns_depository.specs.Totals.{IsKept};
+    ghost use Rattle.cns_depository.specs.Totals.{IsStockKept};
 
     ghost Value = { DepNode };
 
     ghost view = { λ d. record { openings = d.openings; log = d.log } };
 
-    ghost invariant = { λ d. IsKept d.stock (record { openings = d.openings; log = d.log }) };
+    ghost invariant = { λ d. IsStockKept d.stock (record { openings = d.openings; log = d.log }) };
 }
 
 impl<K: Keeper> Depository<K> {
@@ -138,7 +138,7 @@ impl<K: Keeper> Depository<K> {
     /// `Device` nothing is executed, and the depository is down until it is restarted. Costs a few
     /// look-ups, and the commit of its record. (This project's own rule.)
     pub fn take_order(&mut self, order: &Order) -> Result<Answer, DepFault>
-        ensures { OrderLeaves (order_call order.now self.old.log.down self.old.openings self.old.log.records) result self.old self.new }
+        ensures { OrderLeaves (take_order_call order.now self.old.log.down self.old.openings self.old.log.records) result self.old self.new }
     {
         if self.is_down() {
             return Err(DepFault::Down);

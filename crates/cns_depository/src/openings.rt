@@ -1,5 +1,5 @@
 ghost use Rattle.std.specs.Prelude.{◌≡◌, ◌^◌, ◌≤◌, []};
-ghost use Rattle.cns_depository.specs.Openings.{AddLeaves, issue_sum, opening_shares as shares_of_opening};
+ghost use Rattle.cns_depository.specs.Openings.{OpeningLeaves, issue_sum, opening_shares as shares_of_opening};
 
 use crate::account::Account;
 use crate::opening_index::{enter, held, is_held, make_room, set_sum, sum_of};
@@ -68,7 +68,7 @@ impl Openings {
     /// openings of the issue, this one among them, would pass 10^18 shares. (This project's own
     /// rule.)
     pub fn add(&mut self, opening: &Opening) -> Result<(), OpeningFault>
-        ensures { AddLeaves opening.now result self.old self.new }
+        ensures { OpeningLeaves opening.now result self.old self.new }
     {
         if is_held(&self.shares, opening.member, opening.issue) {
             return Err(OpeningFault::Double);

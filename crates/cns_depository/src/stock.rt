@@ -2,7 +2,7 @@ ghost use Rattle.std.specs.Prelude.{◌≡◌, ℕ, ◌^◌, ◌<◌, ◌≤◌,
 ghost use Rattle.std.specs.HashMap.{get, keys, spare};
 ghost use Rattle.cns_records.specs.declared.dep_record.DepRecord.{DepRecord};
 ghost use Rattle.cns_depository.specs.Stock.{balance_of as balance_in, executed_of, held_in, instructed_of, instruction_of, movement as movement_after, movement_of, own_refusal, IsExecutable, IsNextInstruction, IsNextMovement};
-ghost use Rattle.cns_depository.specs.Totals.{HasRoom, IsStock, IsStockOf, key_eq, key_of as key_of_record, record_of};
+ghost use Rattle.cns_depository.specs.Totals.{HasStockRoom, IsStock, IsStockOf, key_eq, key_of as key_of_record, record_of};
 ghost use Rattle.cns_depository.specs.declared.key.Key.{Key};
 
 use crate::account::{Account, Side, giver_of};
@@ -192,7 +192,7 @@ impl Stock {
     /// Takes the memory that `add` of a record needs.
     pub(crate) fn room(&mut self) -> Result<(), AllocError>
         ensures same { (p : List DepRecord) → IsStockOf self.old p → IsStockOf self.new p }
-        ensures room { OnOk result (HasRoom self.new) }
+        ensures room { OnOk result (HasStockRoom self.new) }
     {
         self.moved.reserve(2)?;
         self.indices.reserve(1)
@@ -200,7 +200,7 @@ impl Stock {
 
     /// Adds what a record transfers, and notes its index. It takes no memory.
     pub(crate) fn add(&mut self, index: usize, entry: &DepRecord)
-        requires room { HasRoom self.old }
+        requires room { HasStockRoom self.old }
         requires stock { IsStock self.old }
         ensures { (p : List DepRecord) → IsStockOf self.old p → length p ≡ index
             → IsStockOf self.new (entry.now ∷ p) }

@@ -37,8 +37,8 @@ move_no_in = number 1 1000000
 abbrev pub asked_in : List ℕ → Option ℕ
 asked_in = number 1 (10 ^ 18)
 
-abbrev pub issue_in : List ℕ → Option ℕ
-issue_in text = result_ok (read_cusip text)
+abbrev pub cusip_in : List ℕ → Option ℕ
+cusip_in text = result_ok (read_cusip text)
 
 abbrev pub node_in : List ℕ → Option NodeName
 node_in = word_in (("CLEAR", node.Clear) ∷ ("DEPOT", node.Depot) ∷ [])
@@ -73,21 +73,21 @@ four read next third last make words =
 -- a member's own instruction of a sort: its member, its number, the issue and the shares
 abbrev pub own_in : Sort → List (List ℕ) → Option Event
 own_in sort =
-    four member_in move_no_in issue_in asked_in
+    four member_in move_no_in cusip_in asked_in
     (λ member number issue shares. event.Own (record { sort = sort; member = member; number = number; issue = issue; shares = shares }))
 
 -- those that are one event, but for the three of the link
 abbrev pub events : List (String × (List (List ℕ) → Option Event))
 events =
     ("RESTART", one node_in event.Restart)
-    ∷ ("LOT", one issue_in event.LotOpen)
+    ∷ ("LOT", one cusip_in event.LotOpen)
     ∷ ("POUR", one place_in event.LotPour)
     ∷ ("RESERVE", two place_in member_in event.Reserve)
     ∷ ("SEAL", one place_in event.Seal)
     ∷ ("CLOSE", one place_in event.LotClose)
     ∷ ("CYCLE", two (word_in (("NIGHT", Night) ∷ ("DAY", Day) ∷ [])) (λ text. result_ok (read_day text)) (λ kind day. event.Cycle (record { day = day; kind = kind })))
-    ∷ ("EXEMPT", three member_in issue_in (number 0 (10 ^ 18)) event.Exempt)
-    ∷ ("PRIORITY", three member_in issue_in (word_in (("ON", true) ∷ ("OFF", false) ∷ [])) event.Priority)
+    ∷ ("EXEMPT", three member_in cusip_in (number 0 (10 ^ 18)) event.Exempt)
+    ∷ ("PRIORITY", three member_in cusip_in (word_in (("ON", true) ∷ ("OFF", false) ∷ [])) event.Priority)
     ∷ ("DEPOSIT", own_in Deposit)
     ∷ ("WITHDRAW", own_in Withdraw)
     ∷ []
@@ -101,8 +101,8 @@ commands =
     ∷ ("PUMP", none command.Pump) ∷ ("REPORT", none command.Report)
     ∷ ("TAKE", one take_in (λ take. take))
     ∷ ("LOOK", one place_in command.Look)
-    ∷ ("ALLOCATE", one issue_in command.Allocate)
-    ∷ ("BESIDE", two issue_in (number 0 1000) command.Beside)
+    ∷ ("ALLOCATE", one cusip_in command.Allocate)
+    ∷ ("BESIDE", two cusip_in (number 0 1000) command.Beside)
     ∷ ("FAIL", two node_in (word_in (("KEEP", true) ∷ ("DROP", false) ∷ [])) command.Fail)
     ∷ map (λ row. (row.0, λ words. option_map command.Single (row.1 words))) events
 

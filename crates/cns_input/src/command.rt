@@ -1,7 +1,7 @@
 ghost use Rattle.std.specs.Prelude.{◌≡◌, ◌==◌, ◌∷◌, [], true, false, drop, length, MatchOption, Some, None, if◌then◌else◌};
 ghost use Rattle.cns_trades.specs.Fields.{same_text};
 ghost use Rattle.cns_words.specs.Words.{words_behind};
-ghost use Rattle.cns_input.specs.Script.{by_table, command_of as command_of_line, commands, events, none as none_of, own_in, issue_in, member_in, move_no_in, asked_in, node_in, place_in, take_in};
+ghost use Rattle.cns_input.specs.Script.{by_table, command_of as command_of_line, commands, events, none as none_of, own_in, cusip_in, member_in, move_no_in, asked_in, node_in, place_in, take_in};
 
 use cns_ids::{Cusip, CycleId, CycleKind, Day, MemberNo, Shares, read_number};
 use cns_movements::{Asked, MoveNo};
@@ -103,7 +103,7 @@ fn read_member(text: &[u8]) -> Option<MemberNo>
 }
 
 fn read_issue(text: &[u8]) -> Option<Cusip>
-    ensures { result ≡ issue_in text.now }
+    ensures { result ≡ cusip_in text.now }
 {
     Cusip::read(text).ok()
 }
@@ -167,35 +167,13 @@ fn read_own(sort: Sort, rest: Option<&[u8]>) -> Option<Event>
     }))
 }
 
-// The event that a word and those behind it are: `RESTART node`, `LOT cusip`, `POUR lot`,
-// `RESERVE lot member`, `SEAL lot`, `CLOSE lot`, `CYCLE NIGHT date` or `CYCLE DAY date`,
-// `EXEMPT member cusip shares`, `PRIORITY member cusip ON` or `OFF`, or `DEPOSIT member number cusip shares`
-// or `WITHDRAW ..`.
-fn read_event(word: &[u8], rest: Option<&[u8]>) -> Option<Event>
-    ensures { result ≡ by_table events (word.now ∷ words_behind rest.entry) }
+// The event that a word and those behind it are, where it is neither a restart nor of a lot: `CYCLE NIGHT date`
+// or `CYCLE DAY date`, `EXEMPT member cusip shares`, `PRIORITY member cusip ON` or `OFF`,
+// `DEPOSIT member number cusip shares` or `WITHDRAW ..`.
+fn read_other_event(word: &[u8], rest: Option<&[u8]>) -> Option<Event>
+    ensures { result ≡ by_table (drop 6 events) (word.now ∷ words_behind rest.entry) }
 {
-    if is_word(word, b"RESTART") {
-        let node = read_node(one(rest)?)?;
-        Some(Event::Restart(node))
-    } else if is_word(word, b"LOT") {
-        let issue = read_issue(one(rest)?)?;
-        Some(Event::LotOpen { issue })
-    } else if is_word(word, b"POUR") {
-        let lot = read_place(one(rest)?)?;
-        Some(Event::LotPour { lot })
-    } else if is_word(word, b"RESERVE") {
-        let (lot, member) = two(rest)?;
-        Some(Event::Reserve {
-            lot: read_place(lot)?,
-            member: read_member(member)?,
-        })
-    } else if is_word(word, b"SEAL") {
-        let lot = read_place(one(rest)?)?;
-        Some(Event::Seal { lot })
-    } else if is_word(word, b"CLOSE") {
-        let lot = read_place(one(rest)?)?;
-        Some(Event::LotClose { lot })
-    } else if is_word(word, b"CYCLE") {
+    if is_word(word, b"CYCLE") {
         let (kind, day) = two(rest)?;
         let kind = read_one_of(kind, b"NIGHT", CycleKind::Night, b"DAY", CycleKind::Day)?;
         let day = Day::read(day).ok()?;
@@ -220,6 +198,37 @@ fn read_event(word: &[u8], rest: Option<&[u8]>) -> Option<Event>
         read_own(Sort::Withdraw, rest)
     } else {
         None
+    }
+}
+
+// The event that a word and those behind it are: `RESTART node`, `LOT cusip`, `POUR lot`,
+// `RESERVE lot member`, `SEAL lot`, `CLOSE lot`, or another.
+fn read_event(word: &[u8], rest: Option<&[u8]>) -> Option<Event>
+    ensures { result ≡ by_table events (word.now ∷ words_behind rest.entry) }
+{
+    if is_word(word, b"RESTART") {
+        let node = read_node(one(rest)?)?;
+        Some(Event::Restart(node))
+    } else if is_word(word, b"LOT") {
+        let issue = read_issue(one(rest)?)?;
+        Some(Event::LotOpen { issue })
+    } else if is_word(word, b"POUR") {
+        let lot = read_place(one(rest)?)?;
+        Some(Event::LotPour { lot })
+    } else if is_word(word, b"RESERVE") {
+        let (lot, member) = two(rest)?;
+        Some(Event::Reserve {
+            lot: read_place(lot)?,
+            member: read_member(member)?,
+        })
+    } else if is_word(word, b"SEAL") {
+        let lot = read_place(one(rest)?)?;
+        Some(Event::Seal { lot })
+    } else if is_word(word, b"CLOSE") {
+        let lot = read_place(one(rest)?)?;
+        Some(Event::LotClose { lot })
+    } else {
+        read_other_event(word, rest)
     }
 }
 

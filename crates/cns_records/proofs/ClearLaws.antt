@@ -118,7 +118,7 @@ allocation_takes bytes a fits e =
 
 -- ---- a payload
 
-kind_takes : (version : Version) (kind : ℕ) (bytes : List ℕ) (r : ClearRecord) → IsBytes bytes → clear.of_kind version kind bytes ≡ Ok r
+kind_takes : (version : Version) (kind : ℕ) (bytes : List ℕ) (r : ClearRecord) → IsBytes bytes → clear.record_of_kind version kind bytes ≡ Ok r
     → Spells spelling HasPayload version kind bytes r
 kind_takes Two kind bytes r fits e = absurd cc
 kind_takes One kind bytes r fits e = elim (chosen (kind == 5) (allocate_of bytes) (whole_at (entry_at kind) bytes) (Ok r) e) [
@@ -156,7 +156,7 @@ read-spelling (Confirm r) fits u = whole_again confirm_kind r (fits, u)
 -- what read answers
 pub is_spelled : (bytes : List ℕ) (r : Result ClearRecord RecordFault) → IsBytes bytes → ReadsAs bytes r → IfOk r (λ v. (spelling v ≡ bytes) × IsWritable v)
 unfolding read_clear_of
-is_spelled bytes (Ok v) fits e = let t = payload_takes spelling HasPayload clear.of_kind kind_takes bytes v fits e in (t.0, t.1.1)
+is_spelled bytes (Ok v) fits e = let t = payload_takes spelling HasPayload clear.record_of_kind kind_takes bytes v fits e in (t.0, t.1.1)
 is_spelled bytes (Err f) fits e = tt
 
 -- how long a payload can be

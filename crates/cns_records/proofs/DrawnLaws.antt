@@ -10,32 +10,32 @@ use Rattle.cns_records.specs.declared.bad_record.BadRecord.{BadRecord}
 use Rattle.cns_records.specs.declared.drawn.Drawn.{Drawn}
 use Rattle.cns_ids.specs.Steps.{◌>>=◌}
 use Rattle.cns_records.specs.Fields.{bad, number_at, tested, tested_at, whole}
-use Rattle.cns_records.specs.Drawn.{IsDrawn, AreDrawn, IsByStart, starts_from, by_start, ticket_bytes, ticket_at, tickets_at, is_few, drawn_bytes, tickets_of, drawn_of}
+use Rattle.cns_records.specs.Drawn.{IsTicketInRange, AreTicketsInRange, IsByStart, starts_from, by_start, ticket_bytes, ticket_at, tickets_at, is_few, drawn_bytes, tickets_read, drawn_of}
 use Rattle.cns_movements.proofs.BytesLemmas.{IsBytes}
 use Rattle.cns_records.proofs.FieldLemmas.{bind_ok, ok_value, tested_ok, whole_ok, ok_is, Takes, IsField, step, chain, last, both_field, made_field, tested_field, number_field, wide32}
 use Rattle.cns_records.proofs.FieldLaws.{member_field, shares_field, asked_field}
 
 -- ---- a ticket
 
-pub ticket_field : IsField ticket_at ticket_bytes IsDrawn
+pub ticket_field : IsField ticket_at ticket_bytes IsTicketInRange
 unfolding ticket_at
 ticket_field =
     let fields = both_field member_field (both_field shares_field asked_field) in
-    made_field fields _ (λ t. (t.member, (t.start, t.asked))) IsDrawn
+    made_field fields _ (λ t. (t.member, (t.start, t.asked))) IsTicketInRange
     (λ t fits. (refl, record { member = fits.0; start = fits.1.0; asked = fits.1.1 })) (λ t is. (refl, (is.member, (is.start, is.asked))))
 
 -- ---- tickets
 
-all_cons : (t : Drawn) (ts : List Drawn) → IsDrawn t → All IsDrawn ts → All IsDrawn (t ∷ ts)
+all_cons : (t : Drawn) (ts : List Drawn) → IsTicketInRange t → All IsTicketInRange ts → All IsTicketInRange (t ∷ ts)
 all_cons t ts h hs zero d lt = h
 all_cons t ts h hs (suc k) d lt = hs k d (omega arith)
 
-all_tail : (t : Drawn) (ts : List Drawn) → All IsDrawn (t ∷ ts) → All IsDrawn ts
+all_tail : (t : Drawn) (ts : List Drawn) → All IsTicketInRange (t ∷ ts) → All IsTicketInRange ts
 all_tail t ts h k d lt = h (suc k) d (omega arith)
 
 -- what so many tickets are read from
 abbrev AreTaken : ℕ → List ℕ → List Drawn × List ℕ → Type 0
-AreTaken n bytes x = Takes bytes (flat_map ticket_bytes x.0) x.1 × (length x.0 ≡ n) × All IsDrawn x.0
+AreTaken n bytes x = Takes bytes (flat_map ticket_bytes x.0) x.1 × (length x.0 ≡ n) × All IsTicketInRange x.0
 
 tickets_take : (n : ℕ) (bytes : List ℕ) (x : List Drawn × List ℕ) → IsBytes bytes → tickets_at n bytes ≡ Ok x → AreTaken n bytes x
 unfolding tickets_at
@@ -47,11 +47,11 @@ tickets_take (suc n) bytes x fits e =
     subst (AreTaken (suc n) bytes) (ok_is (first.value ∷ others.0.0, others.0.1) x others.2)
     (record { parts = chain (ticket_bytes first.value) first.parts more.0.parts; rest_fits = more.0.rest_fits }, ap suc more.1, all_cons first.value others.0.0 first.fits more.2)
 
-tickets_again : (ts : List Drawn) (rest : List ℕ) → All IsDrawn ts → tickets_at (length ts) (flat_map ticket_bytes ts ++ rest) ≡ Ok (ts, rest)
+tickets_again : (ts : List Drawn) (rest : List ℕ) → All IsTicketInRange ts → tickets_at (length ts) (flat_map ticket_bytes ts ++ rest) ≡ Ok (ts, rest)
 unfolding tickets_at
 tickets_again [] rest fits = refl
 tickets_again (t ∷ ts) rest fits =
-    let here : IsDrawn t = fits 0 t (omega arith) in
+    let here : IsTicketInRange t = fits 0 t (omega arith) in
     let first : ticket_at (ticket_bytes t ++ (flat_map ticket_bytes ts ++ rest)) ≡ Ok (t, flat_map ticket_bytes ts ++ rest) = ticket_field.again t (flat_map ticket_bytes ts ++ rest) here in
     rw (first, tickets_again ts rest (all_tail t ts fits)) refl
 
@@ -149,8 +149,8 @@ by_start-complete ts h = starts 0 ts (starts_at_0 ts) (all_adjacent_from_non_dec
 -- ---- the tickets that bytes are
 
 -- what was read in front of the tickets that bytes are
-tickets_front : (n : ℕ) (bytes : List ℕ) (ts : List Drawn) → tickets_of n bytes ≡ Ok ts → (tickets_at n bytes ≡ Ok (ts, [])) × (by_start ts ≡ true)
-unfolding tickets_of
+tickets_front : (n : ℕ) (bytes : List ℕ) (ts : List Drawn) → tickets_read n bytes ≡ Ok ts → (tickets_at n bytes ≡ Ok (ts, [])) × (by_start ts ≡ true)
+unfolding tickets_read
 tickets_front n bytes ts e =
     let front = bind_ok (tickets_at n bytes) _ ts e in
     let listed = bind_ok (whole front.0.1 front.0.0) _ ts front.2 in
@@ -159,18 +159,18 @@ tickets_front n bytes ts e =
     (front.1 ∙ ap₂ (λ (us : List Drawn) (rest : List ℕ). Ok (us, rest)) (end.1 ∙ sorted.1) end.0, subst (λ (us : List Drawn). by_start us ≡ true) sorted.1 sorted.0)
 
 -- where the bytes are so many tickets, so many are in front
-pub tickets_there : (n : ℕ) (bytes : List ℕ) → IsOk (tickets_of n bytes) → IsOk (tickets_at n bytes)
-tickets_there n bytes there = let ts = ok_value (tickets_of n bytes) there in ap is_ok (tickets_front n bytes ts.0 ts.1).0
+pub tickets_there : (n : ℕ) (bytes : List ℕ) → IsOk (tickets_read n bytes) → IsOk (tickets_at n bytes)
+tickets_there n bytes there = let ts = ok_value (tickets_read n bytes) there in ap is_ok (tickets_front n bytes ts.0 ts.1).0
 
 -- tickets by their starts and nothing after them are the tickets that bytes are
-tickets_whole : (n : ℕ) (bytes : List ℕ) (ts : List Drawn) → tickets_at n bytes ≡ Ok (ts, []) → by_start ts ≡ true → tickets_of n bytes ≡ Ok ts
-unfolding tickets_of
+tickets_whole : (n : ℕ) (bytes : List ℕ) (ts : List Drawn) → tickets_at n bytes ≡ Ok (ts, []) → by_start ts ≡ true → tickets_read n bytes ≡ Ok ts
+unfolding tickets_read
 tickets_whole n bytes ts e sorted = rw (e, sorted) refl
 
-pub drawn_takes : (bytes : List ℕ) (ts : List Drawn) → IsBytes bytes → drawn_of bytes ≡ Ok ts → (bytes ≡ drawn_bytes ts) × AreDrawn ts × IsByStart ts
+pub drawn_takes : (bytes : List ℕ) (ts : List Drawn) → IsBytes bytes → drawn_of bytes ≡ Ok ts → (bytes ≡ drawn_bytes ts) × AreTicketsInRange ts × IsByStart ts
 unfolding drawn_of
 drawn_takes bytes ts fits e =
-    let count = step count_field bytes (λ n. tickets_of n.0 n.1) ts fits e in
+    let count = step count_field bytes (λ n. tickets_read n.0 n.1) ts fits e in
     let front = tickets_front count.value count.rest ts count.then in
     let taken = tickets_take count.value count.rest (ts, []) count.rest_fits front.0 in
     let parts : bytes ≡ drawn_bytes ts =
@@ -178,7 +178,7 @@ drawn_takes bytes ts fits e =
     let few : length ts ≤ 9999 = subst (λ (n : ℕ). n ≤ 9999) (sym taken.1) count.fits in
     (parts, record { few = few; each = taken.2 }, by_start-sound ts front.1)
 
-pub drawn_again : (ts : List Drawn) → AreDrawn ts → IsByStart ts → drawn_of (drawn_bytes ts) ≡ Ok ts
+pub drawn_again : (ts : List Drawn) → AreTicketsInRange ts → IsByStart ts → drawn_of (drawn_bytes ts) ≡ Ok ts
 unfolding drawn_of
 drawn_again ts fits sorted =
     let count = count_field.again (length ts) (flat_map ticket_bytes ts) fits.few in
@@ -186,9 +186,9 @@ drawn_again ts fits sorted =
     rw count (tickets_whole (length ts) (flat_map ticket_bytes ts) ts front (by_start-complete ts sorted))
 
 -- so many tickets that are read, where the bytes are so many tickets, are these
-pub tickets_all : (n : ℕ) (bytes : List ℕ) (x : List Drawn × List ℕ) → IsOk (tickets_of n bytes) → tickets_at n bytes ≡ Ok x → tickets_of n bytes ≡ Ok x.0
+pub tickets_all : (n : ℕ) (bytes : List ℕ) (x : List Drawn × List ℕ) → IsOk (tickets_read n bytes) → tickets_at n bytes ≡ Ok x → tickets_read n bytes ≡ Ok x.0
 tickets_all n bytes x there e =
-    let ts = ok_value (tickets_of n bytes) there in
+    let ts = ok_value (tickets_read n bytes) there in
     let same = ok_is (ts.0, []) x (sym (tickets_front n bytes ts.0 ts.1).0 ∙ e) in
     ts.1 ∙ ap (λ (p : List Drawn × List ℕ). Ok p.0) same
 
@@ -199,8 +199,8 @@ abbrev pub tickets_from : ℕ → ℕ → List ℕ → Result (List Drawn) BadRe
 tickets_from low n bytes = tickets_at n bytes >>= λ front. whole front.1 front.0 >>= λ tickets. tested (starts_from low tickets) tickets
 
 -- no ticket yet
-pub from_first : (n m : ℕ) (bytes rest : List ℕ) → m ≡ n → rest ≡ bytes → is_ok (tickets_of n bytes) ≡ is_ok (tickets_from 0 m rest)
-unfolding tickets_of
+pub from_first : (n m : ℕ) (bytes rest : List ℕ) → m ≡ n → rest ≡ bytes → is_ok (tickets_read n bytes) ≡ is_ok (tickets_from 0 m rest)
+unfolding tickets_read
 from_first n m bytes rest is same = rw (is, same) refl
 
 -- a value that passes two tests

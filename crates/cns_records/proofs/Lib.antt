@@ -4,5 +4,4 @@ pub mod RecordLemmas
 pub mod DrawnLaws
 pub mod ClearLaws
 pub mod DepLaws
-pub mod InstructionLemmas
 pub mod CallLemmas

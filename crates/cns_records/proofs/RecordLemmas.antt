@@ -7,7 +7,7 @@ use Rattle.cns_movements.specs.declared.version.Version.{Version}
 use Rattle.cns_movements.proofs.BytesLemmas.{IsBytes}
 use Rattle.cns_movements.proofs.FieldLemmas.{version_back, version_spelled}
 use Rattle.cns_records.specs.declared.bad_record.BadRecord.{BadRecord}
-use Rattle.cns_records.specs.Fields.{bad, Reader, made, whole_at, of_version, payload_as}
+use Rattle.cns_records.specs.Fields.{bad, Reader, made, whole_at, payload_of_version, payload_as}
 use Rattle.cns_records.proofs.FieldLemmas.{bind_ok, chosen, whole_ok, ok_is, IsField, step, last, again_last}
 
 -- the bytes after version and kind
@@ -68,7 +68,7 @@ whole_again is x fits = rw (again_last is.fields x fits) refl
 -- a payload of this version is what the bytes of its kind are
 pub payload_of : {R : Type 0} (of : Version → ℕ → List ℕ → Result R BadRecord) (version : Version) (kind : ℕ) (fields : List ℕ)
     → payload_as of (version_byte version ∷ kind ∷ fields) ≡ of version kind fields
-payload_of of version kind fields = ap (λ (v : Option Version). of_version of v kind fields) (version_back version)
+payload_of of version kind fields = ap (λ (v : Option Version). payload_of_version of v kind fields) (version_back version)
 
 -- bytes that are read as a record are its payload
 pub payload_takes : {R : Type 0} (spelling : R → List ℕ) (HasPayload : R → Type 0) (of : Version → ℕ → List ℕ → Result R BadRecord)
@@ -78,7 +78,7 @@ payload_takes spelling HasPayload of takes [] r fits e = absurd cc
 payload_takes spelling HasPayload of takes (v ∷ []) r fits e = absurd cc
 payload_takes {R} spelling HasPayload of takes (v ∷ k ∷ bytes) r fits e = by (version_of_byte v) refl e
   where
-    by : (version : Option Version) → version_of_byte v ≡ version → of_version of version k bytes ≡ Ok r → (spelling r ≡ v ∷ k ∷ bytes) × HasPayload r
+    by : (version : Option Version) → version_of_byte v ≡ version → payload_of_version of version k bytes ≡ Ok r → (spelling r ≡ v ∷ k ∷ bytes) × HasPayload r
     by None is e = absurd cc
     by (Some version) is e =
         let s = takes version k bytes r (λ i. fits (suc (suc i))) e in

@@ -13,7 +13,7 @@ use Rattle.cns_trades.specs.TradeId.{IsId}
 use Rattle.cns_trades.specs.declared.trade.Trade.{Trade}
 use Rattle.cns_ids.specs.Steps.{◌>>=◌}
 use Rattle.cns_records.specs.Fields.{bad, Reader, ◌&◌, made, tested_at, whole_at, payload_as, number_at, id_bytes, id_at, day_at, cycle_at, member_at, issue_at, quantity_at, shares_at, flag_bytes, flag_at, reply_at}
-use Rattle.cns_records.specs.Drawn.{AreDrawn, IsByStart, drawn_bytes, drawn_of}
+use Rattle.cns_records.specs.Drawn.{AreTicketsInRange, IsByStart, drawn_bytes, drawn_of}
 use Rattle.cns_records.specs.declared.allocation.Allocation.{Allocation}
 use Rattle.cns_records.specs.declared.bad_record.BadRecord.{BadRecord}
 use Rattle.cns_records.specs.declared.clear_record.ClearRecord.{ClearRecord}
@@ -48,7 +48,7 @@ pub record IsAllocationInRange (a : Allocation) : Type 0 where
   pub opened : a.opened < 2 ^ 64
   pub upto : a.upto < 2 ^ 64
   pub poured : IsShares a.poured
-  pub drawn : AreDrawn a.drawn
+  pub drawn : AreTicketsInRange a.drawn
 
 -- what the types of a record's fields promise
 abbrev pub HasRanges : ClearRecord → Type 0
@@ -63,11 +63,8 @@ HasRanges (Confirm r) = IsReplyInRange r
 -- last pour, and its tickets stand by start
 abbrev pub IsWritable : ClearRecord → Type 0
 IsWritable (Accept t) = t.buyer ≢ t.seller
-IsWritable (Exempt member issue shares) = Unit {0}
-IsWritable (Priority member issue on) = Unit {0}
-IsWritable (Cycle id) = Unit {0}
 IsWritable (Allocate a) = (a.opened ≤ a.upto) × IsByStart a.drawn
-IsWritable (Confirm r) = Unit {0}
+IsWritable _ = Unit {0}
 
 -- the records that have a payload of their own
 abbrev pub HasPayload : ClearRecord → Type 0
@@ -113,13 +110,13 @@ allocate_of bytes = do
   Ok (Allocate allocation)
 
 -- the record of this version and kind that the bytes after them are: all are of the first version
-abbrev pub of_kind : Version → ℕ → List ℕ → Result ClearRecord BadRecord
-of_kind One kind fields = if kind == 5 then allocate_of fields else whole_at (entry_at kind) fields
-of_kind Two kind fields = bad
+abbrev pub record_of_kind : Version → ℕ → List ℕ → Result ClearRecord BadRecord
+record_of_kind One kind fields = if kind == 5 then allocate_of fields else whole_at (entry_at kind) fields
+record_of_kind Two kind fields = bad
 
 -- the record that a payload is
 unfoldable pub read_clear_of : List ℕ → Result ClearRecord BadRecord
-read_clear_of payload = payload_as of_kind payload
+read_clear_of payload = payload_as record_of_kind payload
 
 -- what reading a payload answers: its record, or that it is none; memory may be short for an allocation only
 abbrev pub ReadsAs : List ℕ → Result ClearRecord RecordFault → Type 0

@@ -14,15 +14,15 @@ use Rattle.cns_journal.specs.declared.record_log.RecordFault.{RecordFault}
 use Rattle.cns_journal.specs.declared.record_log.RecordFault.TheVariants as fault
 
 -- what the types of a ticket's fields promise
-pub record IsDrawn (t : Drawn) : Type 0 where
+pub record IsTicketInRange (t : Drawn) : Type 0 where
   pub member : IsMember t.member
   pub start : IsShares t.start
   pub asked : IsAsked t.asked
 
 -- the same of each ticket of a list, of which there are not too many
-pub record AreDrawn (tickets : List Drawn) : Type 0 where
+pub record AreTicketsInRange (tickets : List Drawn) : Type 0 where
   pub few : length tickets ≤ 9999
-  pub each : All IsDrawn tickets
+  pub each : All IsTicketInRange tickets
 
 -- the tickets stand by their starts
 abbrev pub IsByStart : List Drawn → Type 0
@@ -61,8 +61,8 @@ abbrev pub drawn_bytes : List Drawn → List ℕ
 drawn_bytes tickets = to_be_bytes w32 (length tickets) ++ flat_map ticket_bytes tickets
 
 -- the tickets that bytes are, so many of them, by their starts
-unfoldable pub tickets_of : ℕ → List ℕ → Result (List Drawn) BadRecord
-tickets_of n bytes = do
+unfoldable pub tickets_read : ℕ → List ℕ → Result (List Drawn) BadRecord
+tickets_read n bytes = do
   front ← tickets_at n bytes
   tickets ← whole front.1 front.0
   tested (by_start tickets) tickets
@@ -71,7 +71,7 @@ tickets_of n bytes = do
 unfoldable pub drawn_of : List ℕ → Result (List Drawn) BadRecord
 drawn_of bytes = do
   count ← tested_at (number_at w32) is_few bytes
-  tickets_of count.0 count.1
+  tickets_read count.0 count.1
 
 -- what a reader that takes memory returned is what reading gives; memory is short only where reading gives a value
 abbrev pub AnswersIfRoom : {X : Type 0} → Result X RecordFault → Result X BadRecord → Type 0

@@ -67,12 +67,12 @@ whole_at read bytes = do
   whole x.1 x.0
 
 -- the record that a payload is: after its version and its kind, what the bytes of these are
-abbrev pub of_version : {R : Type 0} → (Version → ℕ → List ℕ → Result R BadRecord) → Option Version → ℕ → List ℕ → Result R BadRecord
-of_version of_kind (Some version) kind fields = of_kind version kind fields
-of_version of_kind None kind fields = bad
+abbrev pub payload_of_version : {R : Type 0} → (Version → ℕ → List ℕ → Result R BadRecord) → Option Version → ℕ → List ℕ → Result R BadRecord
+payload_of_version of_kind (Some version) kind fields = of_kind version kind fields
+payload_of_version of_kind None kind fields = bad
 
 abbrev pub payload_as : {R : Type 0} → (Version → ℕ → List ℕ → Result R BadRecord) → List ℕ → Result R BadRecord
-payload_as of_kind (version ∷ kind ∷ fields) = of_version of_kind (version_of_byte version) kind fields
+payload_as of_kind (version ∷ kind ∷ fields) = payload_of_version of_kind (version_of_byte version) kind fields
 payload_as of_kind _ = bad
 
 -- ---- the fields

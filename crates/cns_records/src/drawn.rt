@@ -1,6 +1,6 @@
 ghost use Rattle.std.specs.Prelude.{◌≡◌, ◌↔◌, ◌≤◌, [], Some, None, nat_le, length, IsTrue, if◌then◌else◌};
 ghost use Rattle.std.specs.List.{All};
-ghost use Rattle.cns_records.specs.Drawn.{IsDrawn, AreDrawn};
+ghost use Rattle.cns_records.specs.Drawn.{IsTicketInRange, AreTicketsInRange};
 
 use cns_ids::{MemberNo, Shares};
 use cns_movements::Asked;
@@ -30,20 +30,20 @@ pub struct DrawnList {
 
 impl Model for DrawnList {
     ghost use Rattle.std.specs.Prelude.{List};
-    ghost use Rattle.cns_records.specs.Drawn.{AreDrawn};
+    ghost use Rattle.cns_records.specs.Drawn.{AreTicketsInRange};
     ghost use Rattle.cns_records.specs.declared.drawn.Drawn.{Drawn};
 
     ghost Value = { List Drawn };
 
     ghost view = { λ d. d.tickets.items };
 
-    ghost invariant = { λ d. AreDrawn d.tickets.items };
+    ghost invariant = { λ d. AreTicketsInRange d.tickets.items };
 }
 
 // Whether the ticket's fields are in the ranges of their types, as they are.
 fn is_in_range(ticket: &Drawn) -> bool
     ensures holds { IsTrue result }
-    ensures ranges { IsDrawn ticket.now }
+    ensures ranges { IsTicketInRange ticket.now }
 {
     let member = ticket.member.number();
     let start = ticket.start.count();
@@ -54,7 +54,7 @@ fn is_in_range(ticket: &Drawn) -> bool
 // The same of each ticket.
 fn are_in_range(tickets: &[Drawn]) -> bool
     ensures holds { IsTrue result }
-    ensures ranges { All IsDrawn tickets.now }
+    ensures ranges { All IsTicketInRange tickets.now }
 {
     for ticket in tickets {
         if !is_in_range(ticket) {
@@ -87,7 +87,7 @@ impl DrawnList {
     /// The tickets.
     pub fn as_slice(&self) -> &[Drawn]
         ensures list { result.now ≡ self.now }
-        ensures ranges { AreDrawn self.now }
+        ensures ranges { AreTicketsInRange self.now }
     {
         self.tickets.as_slice()
     }

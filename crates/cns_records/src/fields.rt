@@ -3,7 +3,7 @@ ghost use Rattle.std.specs.Prelude.{◌≡◌, ◌≤◌, ◌==◌, ◌++◌, Ok
 ghost use Rattle.std.specs.Int.{w16, w32, w64};
 ghost use Rattle.std.specs.List.{flat_map};
 ghost use Rattle.cns_records.specs.Fields.{Gives, byte_at, number_at, text_at, member_at, quantity_at, shares_at, asked_at, move_no_at, id_at, day_at, issue_at, one_of_at, flag_at, cycle_at, move_kind_at, order_at, reply_at};
-ghost use Rattle.cns_records.specs.Drawn.{ticket_bytes, ticket_at, tickets_at, tickets_of, drawn_of, AnswersIfRoom};
+ghost use Rattle.cns_records.specs.Drawn.{ticket_bytes, ticket_at, tickets_at, tickets_read, drawn_of, AnswersIfRoom};
 
 use crate::bad_record::BadRecord;
 use crate::drawn::{Drawn, DrawnList, MAX_DRAWN};
@@ -293,7 +293,7 @@ impl<'a> Fields<'a> {
 
     // Whether the bytes are so many tickets, by their starts. Takes no memory.
     fn are_tickets(&self, count: usize) -> bool
-        ensures { result ≡ is_ok (tickets_of count self.now) }
+        ensures { result ≡ is_ok (tickets_read count self.now) }
     {
         let mut rest = Fields::new(self.bytes);
         let mut low = 0;

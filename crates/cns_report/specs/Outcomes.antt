@@ -15,7 +15,7 @@ use Rattle.cns_system.specs.declared.event.Event.{Event}
 use Rattle.cns_system.specs.declared.event.Event.TheVariants as event
 use Rattle.cns_system.specs.declared.outcome.Outcome.{Outcome}
 use Rattle.cns_system.specs.declared.outcome.Outcome.TheVariants as outcome
-use Rattle.cns_report.specs.Refusals.{node_text, refusal_text, word_of}
+use Rattle.cns_report.specs.Refusals.{node_text, refusal_text, event_word}
 
 abbrev pub yes_or_no : Bool → List ℕ
 yes_or_no answer = if answer then codes "yes" else codes "no"
@@ -32,9 +32,9 @@ instruction_text i = sort_text i.sort ++ 32 ∷ member_text i.member ++ codes " 
 -- one: the first tells its first part. (Of an outcome that the event never comes to, the line has no meaning, or there is none.)
 unfoldable pub event_line : Event → Outcome → List ℕ
 -- trade ID accepted
-event_line e outcome.Accepted = word_of e ++ codes " accepted\n"
+event_line e outcome.Accepted = event_word e ++ codes " accepted\n"
 -- exempt ok, priority ok or seal ok
-event_line e outcome.Done = word_of e ++ codes " ok\n"
+event_line e outcome.Done = event_word e ++ codes " ok\n"
 -- cycle DATE KIND due N
 event_line (event.Cycle id) (outcome.Cycled done) =
     codes "cycle " ++ day_text id.day ++ 32 ∷ kind_text id.kind ++ codes " due " ++ decimal done.due ++ codes "\n"
@@ -68,7 +68,7 @@ event_line e (outcome.InstructedAgain i) = instruction_text i ++ codes " again\n
 event_line (event.Restart node) (outcome.Restarted records kept) =
     codes "restart " ++ node_text node ++ codes " records " ++ decimal records ++ codes " kept " ++ yes_or_no kept ++ codes "\n"
 -- WORD refused NAME, or trade ID refused NAME
-event_line e (outcome.Refused r) = word_of e ++ codes " refused " ++ refusal_text r ++ codes "\n"
+event_line e (outcome.Refused r) = event_word e ++ codes " refused " ++ refusal_text r ++ codes "\n"
 event_line _ _ = []
 
 -- order N KIND MEMBER CUSIP ASKED, of an order as it was made
@@ -77,8 +77,8 @@ ordered_line o =
     codes "order " ++ decimal o.number ++ 32 ∷ move_text o.kind ++ 32 ∷ member_text o.member ++ 32 ∷ cusip_text o.issue ++ 32 ∷ decimal o.asked ++ codes "\n"
 
 -- the orders that a cycle or a close made
-abbrev pub orders_of : Outcome → List Order
-orders_of = elim [ outcome.Cycled done ↦ done.orders | outcome.Closed done ↦ done.orders | _ ↦ [] ]
+abbrev pub orders_made : Outcome → List Order
+orders_made = elim [ outcome.Cycled done ↦ done.orders | outcome.Closed done ↦ done.orders | _ ↦ [] ]
 
 abbrev pub outcome_line : Event → Outcome → List ℕ
-outcome_line e o = event_line e o ++ flat_map ordered_line (orders_of o)
+outcome_line e o = event_line e o ++ flat_map ordered_line (orders_made o)

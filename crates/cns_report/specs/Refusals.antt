@@ -10,23 +10,23 @@ use Rattle.cns_system.specs.declared.event.NodeName.TheVariants as node
 use Rattle.cns_trades.specs.declared.list.Verdict.TheVariants as verdict
 
 -- the word that the line of a refused, accepted or done event begins with; that of a trade has the trade's name behind it
-abbrev pub word_of : Event → List ℕ
-word_of (event.Trade t) = codes "trade " ++ t.id
-word_of (event.Exempt member issue shares) = codes "exempt"
-word_of (event.Priority member issue on) = codes "priority"
-word_of (event.Cycle id) = codes "cycle"
-word_of (event.LotOpen issue) = codes "lot"
-word_of (event.LotPour lot) = codes "pour"
-word_of (event.Reserve lot member) = codes "reserve"
-word_of (event.LookPoured lot) = codes "look"
-word_of (event.LookAsked lot) = codes "look"
-word_of (event.Seal lot) = codes "seal"
-word_of (event.LotClose lot) = codes "close"
-word_of (event.Send number) = codes "send"
-word_of (event.OrderIn packet) = codes "order"
-word_of (event.ReplyIn packet) = codes "reply"
-word_of (event.Own i) = sort_text i.sort
-word_of (event.Restart node) = codes "restart"
+abbrev pub event_word : Event → List ℕ
+event_word (event.Trade t) = codes "trade " ++ t.id
+event_word (event.Exempt member issue shares) = codes "exempt"
+event_word (event.Priority member issue on) = codes "priority"
+event_word (event.Cycle id) = codes "cycle"
+event_word (event.LotOpen issue) = codes "lot"
+event_word (event.LotPour lot) = codes "pour"
+event_word (event.Reserve lot member) = codes "reserve"
+event_word (event.LookPoured lot) = codes "look"
+event_word (event.LookAsked lot) = codes "look"
+event_word (event.Seal lot) = codes "seal"
+event_word (event.LotClose lot) = codes "close"
+event_word (event.Send number) = codes "send"
+event_word (event.OrderIn packet) = codes "order"
+event_word (event.ReplyIn packet) = codes "reply"
+event_word (event.Own i) = sort_text i.sort
+event_word (event.Restart node) = codes "restart"
 
 -- a trade is refused by the name of its verdict
 abbrev pub refusal_text : Refusal → List ℕ

@@ -4,7 +4,7 @@ ghost use Rattle.std.specs.Fmt.{decimal};
 ghost use Rattle.cns_ids.specs.Member.{member_text};
 ghost use Rattle.cns_records.specs.Instruction.{sort_text};
 ghost use Rattle.cns_report.specs.Outcomes.{event_line, instruction_text, yes_or_no};
-ghost use Rattle.cns_report.specs.Refusals.{node_text, refusal_text, word_of};
+ghost use Rattle.cns_report.specs.Refusals.{node_text, refusal_text, event_word};
 
 use crate::fault::refusal_name;
 use crate::put::{LF, Put, SPACE};
@@ -53,7 +53,7 @@ impl Put for RefusedLine<'_> {
 struct Word<'a>(&'a Event);
 
 impl Put for Word<'_> {
-    ghost text = { λ word. word_of word.0.now };
+    ghost text = { λ word. event_word word.0.now };
 
     fn put(&self, draft: &mut Draft) -> Result<(), AllocError> {
         match self.0 {

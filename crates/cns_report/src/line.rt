@@ -1,4 +1,4 @@
-ghost use Rattle.cns_report.specs.Lines.{line_text};
+ghost use Rattle.cns_report.specs.Lines.{bytes_of_line};
 
 use crate::fault::opening_fault_name;
 use crate::put::{LF, Put};
@@ -25,9 +25,9 @@ pub enum Line {
 }
 
 impl Put for Line {
-    ghost text = { line_text };
+    ghost text = { bytes_of_line };
 
-    #[tactic(auto, unfolding(crate::specs::Lines::line_text))]
+    #[tactic(auto, unfolding(crate::specs::Lines::bytes_of_line))]
     fn put(&self, draft: &mut Draft) -> Result<(), AllocError> {
         match *self {
             Line::RowFault { row, fault } => ("row ", row, " fault ", fault, LF).put(draft),

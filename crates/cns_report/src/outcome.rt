@@ -1,5 +1,5 @@
 ghost use Rattle.std.specs.Prelude.{◌≡◌, ◌+◌, ◌<◌, ◌≤◌, ◌++◌, length, OnOk, OnErr};
-ghost use Rattle.cns_report.specs.Outcomes.{orders_of, outcome_line};
+ghost use Rattle.cns_report.specs.Outcomes.{orders_made, outcome_line};
 
 use crate::event::EventLine;
 use crate::row::Rows;
@@ -22,7 +22,7 @@ pub fn outcome_line(out: &mut Text, event: &Event, outcome: &Outcome) -> Result<
 
 /// The orders that a cycle or a close made; none of another outcome.
 pub fn orders_of(outcome: &Outcome) -> &[Order]
-    ensures { result.now ≡ orders_of outcome.now }
+    ensures { result.now ≡ orders_made outcome.now }
 {
     match outcome {
         Outcome::Cycled(done) => done.orders.as_slice(),

@@ -101,7 +101,7 @@ module _ (w : Shown) (a : Accord w) where
       record {
         executed = All-weaker (IsAsOrdered (orders_of w.clear.records).orders) (IsAsOrdered (orders_of (u ∷ w.clear.records)).orders) (known_stays u w.clear.records) movements a.executed;
         confirmed = replies_fit u w.clear.records movements fits a.confirmed;
-        sent = All-weaker (SpellsOrder (orders_of w.clear.records).orders) (SpellsOrder (orders_of (u ∷ w.clear.records)).orders) (order_spelt_stays u w.clear.records) w.orders a.sent;
+        sent = All-weaker (SpellsOrder (orders_of w.clear.records).orders) (SpellsOrder (orders_of (u ∷ w.clear.records)).orders) (order_spelt_stays u w.clear.records) w.order_packets a.sent;
         answered = a.answered;
         clear_tried = λ v tried. absurd (none-some v (sym none ∙ tried));
         depot_tried = λ e tried. orders_fit_stays u w.clear.records movements e (a.depot_tried e tried);
@@ -125,7 +125,7 @@ module _ (w : Shown) (a : Accord w) where
         executed = known_more known_orders x movements (IfSome_then x fits (λ m its. its.0)) a.executed;
         confirmed = All-weaker (IsExecuted movements) (IsExecuted (cons_option x movements)) (λ r done. executed_stays x movements r fresh done) (orders_of w.clear.records).replies a.confirmed;
         sent = a.sent;
-        answered = All-weaker (SpellsReply movements) (SpellsReply (cons_option x movements)) (λ packet is. reply_spelt_stays x movements packet fresh is) w.replies a.answered;
+        answered = All-weaker (SpellsReply movements) (SpellsReply (cons_option x movements)) (λ packet is. reply_spelt_stays x movements packet fresh is) w.reply_packets a.answered;
         clear_tried = λ u tried. fits_stays x movements u fresh (a.clear_tried u tried);
         depot_tried = λ f tried. absurd (none-some f (sym none ∙ tried));
         clear_up = a.clear_up;
@@ -137,11 +137,11 @@ module _ (w : Shown) (a : Accord w) where
   depot_stays tried down fits up = assumption
 
   -- a packet more on the link of orders, and one on that of replies
-  pub order_put : (o : Order) → order_of (orders_of w.clear.records).orders o.number ≡ Some o → Accord (record w { orders = w.orders ++ Some o ∷ [] })
-  order_put o found = let sent = All-push (SpellsOrder (orders_of w.clear.records).orders) w.orders (Some o) a.sent found in assumption
+  pub order_put : (o : Order) → order_of (orders_of w.clear.records).orders o.number ≡ Some o → Accord (record w { order_packets = w.order_packets ++ Some o ∷ [] })
+  order_put o found = let sent = All-push (SpellsOrder (orders_of w.clear.records).orders) w.order_packets (Some o) a.sent found in assumption
 
   pub reply_put : (r : Reply) → IsExecuted (executed_of w.depot.records) r → Accord (with_reply_put r w)
-  reply_put r done = let answered = All-push (SpellsReply (executed_of w.depot.records)) w.replies (Some r) a.answered done in assumption
+  reply_put r done = let answered = All-push (SpellsReply (executed_of w.depot.records)) w.reply_packets (Some r) a.answered done in assumption
 
 -- executed movements are known where each is that of the order of its number, and moved no more than that asks for
 known_all : (orders : List Order) (movements : List Movement) → All IsWithin movements → All (IsOrdered orders) movements → All (IsAsOrdered orders) movements
@@ -155,8 +155,8 @@ started openings clear depot w s =
     λ clear_honest depot_honest. record {
       executed = known_all (orders_of w.clear.clear.log.records).orders (executed_of w.depot.log.records) (lawful_within openings w.depot.log.records s.depot_opens.0.allowed) s.agree.executed;
       confirmed = s.agree.confirmed;
-      sent = rw s.orders (All-nil (SpellsOrder (orders_of w.clear.clear.log.records).orders));
-      answered = rw s.replies (All-nil (SpellsReply (executed_of w.depot.log.records)));
+      sent = rw s.order_packets (All-nil (SpellsOrder (orders_of w.clear.clear.log.records).orders));
+      answered = rw s.reply_packets (All-nil (SpellsReply (executed_of w.depot.log.records)));
       clear_tried = λ u tried. absurd (none-some u (sym none ∙ tried));
       depot_tried = λ e tried. absurd (none-some e (sym stock_none ∙ tried));
       clear_up = λ up. none;

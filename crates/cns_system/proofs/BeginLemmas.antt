@@ -19,7 +19,7 @@ use Rattle.cns_clearing.specs.Pools.{lent_of, lot_of}
 use Rattle.cns_clearing.specs.declared.lot.Lot.{Lot}
 use Rattle.cns_system.specs.Accord.{IsInAccord, StaysSound}
 use Rattle.cns_system.specs.Begin.{IsBegun, IsNotBegun, new_busy}
-use Rattle.cns_system.specs.Floor.{AreBusy, AreInOrder, BusyLot, FloorState, IsBusy, IsFed}
+use Rattle.cns_system.specs.Floor.{AreBusy, AreByNumber, BusyLot, FloorState, IsBusy, IsCellFed}
 use Rattle.cns_system.specs.Headline.{IsAgreed}
 use Rattle.cns_system.specs.Lot.{LotState, numbered_lot}
 use Rattle.cns_system.specs.Run.{Occurs}
@@ -37,7 +37,7 @@ use Rattle.cns_system.proofs.RunLemmas.{Goes, goes_step}
 use Rattle.cns_system.proofs.TiedLemmas.{at_place, found_new}
 
 -- an event is refused, and nothing changes
-pub occurs_refused : (e : Event) (r : Refusal) (w : World) → Comes e (outcomes.Refused r) w w → StaysSound w e (outcomes.Refused r) → IsInAccord w → AreFrames w.orders w.replies → IsAgreed w
+pub occurs_refused : (e : Event) (r : Refusal) (w : World) → Comes e (outcomes.Refused r) w w → StaysSound w e (outcomes.Refused r) → IsInAccord w → AreFrames w.order_packets w.reply_packets → IsAgreed w
     → Occurs e (outcomes.Refused r) w w
 occurs_refused e r w comes sound accord frames agreed = record {
   comes = comes;
@@ -48,7 +48,7 @@ occurs_refused e r w comes sound accord frames agreed = record {
   strict = λ s. s;
 }
 
-pub refused_occurs : (issue : ℕ) (r : Refusal) (w : World) → Grows refusal.OutOfMemory (opening_call issue w.clear) (Err r) w.clear w.clear → IsInAccord w → AreFrames w.orders w.replies → IsAgreed w
+pub refused_occurs : (issue : ℕ) (r : Refusal) (w : World) → Grows refusal.OutOfMemory (opening_call issue w.clear) (Err r) w.clear w.clear → IsInAccord w → AreFrames w.order_packets w.reply_packets → IsAgreed w
     → Occurs (event.LotOpen issue) (outcomes.Refused r) w w
 refused_occurs issue r w h =
     occurs_refused (event.LotOpen issue) r w (open_comes w w.clear issue (Err r) h) (λ a b. tt)
@@ -112,7 +112,7 @@ newest issue opened old new backed comes = by (opens_by issue (outcomes.LotOpene
           lots = ap (λ (w : Shown). w.lots) opens.left_is;
         }
 
-order_push : (busy : List BusyLot) (c : BusyLot) → AreInOrder busy → All (λ (b : BusyLot). b.lot < c.lot) busy → AreInOrder (busy ++ c ∷ [])
+order_push : (busy : List BusyLot) (c : BusyLot) → AreByNumber busy → All (λ (b : BusyLot). b.lot < c.lot) busy → AreByNumber (busy ++ c ∷ [])
 order_push [] c order below = (All-nil (λ (b : BusyLot). c.lot < b.lot), tt)
 order_push (x ∷ busy) c order below =
     let P : BusyLot → Type 0 = λ b. b.lot < c.lot in (
@@ -130,14 +130,14 @@ begun_busy issue opened begun old new busy backed tied h are lot poured =
     let number : begun.lot ≡ length old.clear.lots + 1 = lot ∙ is.number in
     let len : length new.clear.lots ≡ length old.clear.lots + 1 = ap length is.lots ∙ length-append old.clear.lots (x ∷ []) in
     let here : begun.lot - 1 ≡ length old.clear.lots = omega (arith, number) in
-    let fed : IsFed new.clear.clear.lots (new_busy begun) x = record { poured = poured ∙ is.lent; tickets = refl; unsealed = refl } in
+    let fed : IsCellFed new.clear.clear.lots (new_busy begun) x = record { poured = poured ∙ is.lent; tickets = refl; unsealed = refl } in
     let one : IsBusy new.clear (new_busy begun) = record {
       given = omega (arith, number, len);
       fed = λ l found going.
           let at = at_place new.clear.lots begun.lot l found in
           let there : slice_get new.clear.lots (begun.lot - 1) ≡ Some x =
           ap (slice_get new.clear.lots) here ∙ ap (λ (lots : List LotState). slice_get lots (length old.clear.lots)) is.lots ∙ last_found old.clear.lots x in
-          subst (IsFed new.clear.clear.lots (new_busy begun)) (same_Some x l (sym there ∙ at.1)) fed;
+          subst (IsCellFed new.clear.clear.lots (new_busy begun)) (same_Some x l (sym there ∙ at.1)) fed;
     } in
     let others = open_kept issue (outcomes.LotOpened opened) old new busy busy refl tied h are in
     record {

@@ -10,7 +10,7 @@ use Rattle.cns_records.specs.Refusals.{commit_refusal}
 use Rattle.cns_records.specs.declared.clear_record.ClearRecord.{ClearRecord}
 use Rattle.cns_records.specs.declared.refusal.Refusal.{Refusal}
 use Rattle.cns_records.specs.declared.refusal.Refusal.TheVariants as refusal
-use Rattle.cns_clearing.specs.Answers.{Leaves}
+use Rattle.cns_clearing.specs.Answers.{NodeLeaves}
 use Rattle.cns_system.specs.Devices.{DeviceAtCommit, IsUntouched, node_of}
 use Rattle.cns_system.specs.Happens.{by_clear, clear_deed, judged, outcome_of}
 use Rattle.cns_system.specs.Lot.{LotState}
@@ -62,11 +62,11 @@ module _ {X : Type 0} (e : Event) (told : X → Outcome) (lots_after : List LotS
 -- one of the node alone leaves the lots by number
 pub node_comes : {X : Type 0} (e : Event) (told : X → Outcome) (deed : Result (Deed ClearRecord X) Refusal) (result : Result X Refusal) (old : World) (n : NumberedNode) → IsByCommit e old
     → node_of e ≡ node.Clear → ((x : X) → IsTold (told x)) → judged e (shown_of old) ≡ by_clear told (shown_of old) deed → n.lots ≡ old.clear.lots
-    → Leaves deed result old.clear.clear n.clear → Comes e (outcome_of told result) old (record old { clear = n })
+    → NodeLeaves deed result old.clear.clear n.clear → Comes e (outcome_of told result) old (record old { clear = n })
 node_comes {X} e told deed result old n by_commit node_is quiet is lots left =
     clear_comes e told (λ ls. ls) old n by_commit node_is quiet deed result is (by deed left)
   where
-    by : (deed : Result (Deed ClearRecord X) Refusal) → Leaves deed result old.clear.clear n.clear → CallLeaves commit_refusal (IsNumberedCommit (λ ls. ls)) deed result old.clear n
+    by : (deed : Result (Deed ClearRecord X) Refusal) → NodeLeaves deed result old.clear.clear n.clear → CallLeaves commit_refusal (IsNumberedCommit (λ ls. ls)) deed result old.clear n
     by (Err r) (answer, same) = (answer, rw (same, lots) refl)
     by (Ok (call.Tells x)) (answer, same) = (answer, rw (same, lots) refl)
     by (Ok (call.Commits r x)) (Ok u, answer, left) = (Ok u, answer, (left, lots))

@@ -1,4 +1,4 @@
--- What is so of whatever an accepted event may leave: a lemma of each call, over any property of what is told and left.
+-- What holds of each change that an event may come to: one lemma for each kind of event, over any property of what is told and left. A refusal needs no case.
 use Rattle.std.proofs.Common.{◌≡◌, ◌∙◌, ◌+◌, ◌++◌, [], ◌∷◌, ℕ, Bool, true, false, List, length, Option, Some, None, Result, Ok, Err, ap, refl}
 use Rattle.std.specs.Prelude.{IfOk, nat_lt}
 use Rattle.std.specs.Option.{is_none, ok_or, option_flatten}
@@ -18,14 +18,14 @@ use Rattle.cns_records.specs.declared.dep_record.DepRecord.TheVariants as dep
 use Rattle.cns_records.specs.declared.instruction.Instruction.{Instruction}
 use Rattle.cns_records.specs.declared.refusal.Refusal.{Refusal}
 use Rattle.cns_records.specs.declared.refusal.Refusal.TheVariants as refusal
-use Rattle.cns_clearing.specs.Answers.{reply_call, up}
+use Rattle.cns_clearing.specs.Answers.{reply_call, need_up}
 use Rattle.cns_clearing.specs.Books.{orders_of}
 use Rattle.cns_clearing.specs.Lots.{lots_poured, new_lot}
 use Rattle.cns_clearing.specs.Pools.{free_of, lot_of}
 use Rattle.cns_clearing.specs.declared.answer.Closed.{Closed}
 use Rattle.cns_clearing.specs.declared.answer.Taken.{Taken}
 use Rattle.cns_clearing.specs.declared.lot.Lot.{Lot}
-use Rattle.cns_depository.specs.Answers.{instruct_call, order_call, reply_to}
+use Rattle.cns_depository.specs.Answers.{instruct_call, take_order_call, reply_to}
 use Rattle.cns_depository.specs.Stock.{executed_of, execution, movement, movement_of}
 use Rattle.cns_depository.specs.declared.fault.Answer.{Answer}
 use Rattle.cns_depository.specs.declared.fault.DepFault.{DepFault}
@@ -56,16 +56,17 @@ Arrives packets number a = option_flatten (at_number packets number) ≡ Some a
 abbrev pub next_movement : Shown → Order → Movement
 next_movement w o = movement w.openings w.depot.records o
 
+-- each lemma says: where the property holds of what the event tells and leaves, by what its call found, it holds of the change that the event is judged to be
 module _ (P : Outcome → Shown → Type 0) (d : Decision) (w : Shown) where
-  -- what holds of each change that is not refused
+  -- the property holds of the change, where the event is not refused
   abbrev Holding : Result Change Refusal → Type 0
   Holding j = IfOk j (Holds P d w)
 
-  -- what holds of a record of the clearing node that is added, and of one whose commit failed
+  -- it holds where this record of the clearing node is added, and where its commit fails at the device
   abbrev pub Added : Outcome → ClearRecord → List LotState → Type 0
   Added told r lots = P told (record (clear_added r w) { lots = lots }) × P (outcomes.Refused refusal.Device) (clear_failed r w)
 
-  -- a call of the clearing node
+  -- a call of the clearing node tells what it found, or commits a record
   by_record : {X : Type 0} (told : X → Outcome) (ends : List LotState → List LotState) (deed : Result (Deed ClearRecord X) Refusal) (T : X → Type 0) (Q : ClearRecord → X → Type 0)
       → IfOk deed (Recorded w.clear.down T Q) → ((x : X) → T x → P (told x) w) → ((r : ClearRecord) (x : X) → w.clear.down ≡ false → Q r x → Added (told x) r (ends w.lots))
       → Holding (deed >>= λ k. Ok (clear_deed told ends w k))
@@ -73,12 +74,12 @@ module _ (P : Outcome → Shown → Type 0) (d : Decision) (w : Shown) where
   by_record told ends (Ok (call.Tells x)) T Q is tells commits = tells x is
   by_record told ends (Ok (call.Commits r x)) T Q (up, is) tells commits = commits r x up is
 
-  -- one that comes to nothing but the commit of this record
+  -- a call that is not refused commits just this record
   pub commit_holds : {X : Type 0} (told : X → Outcome) (r : ClearRecord) (deed : Result (Deed ClearRecord X) Refusal) → IfOk deed (Commits w.clear.down r)
       → ((x : X) → w.clear.down ≡ false → Added (told x) r w.lots) → Holding (by_clear told w deed)
   commit_holds told r deed is adds = by_record told (λ lots. lots) deed (λ x. ⊥) (λ k x. k ≡ r) is (λ x no. absurd no) (λ k x up same. rw same (adds x up))
 
-  -- an opening, where no lot of the issue is open
+  -- a lot is opened where none of its issue is open
   pub open_holds : (issue : ℕ)
       → (lot_of w.open_lots issue ≡ None → let lot = new_lot w.clear.records issue in
       P (outcomes.LotOpened (record { number = length w.lots + 1; poured = lot.poured; plan = lot.plan })) (with_new_lot lot w))
@@ -93,13 +94,13 @@ module _ (P : Outcome → Shown → Type 0) (d : Decision) (w : Shown) where
       opened = Ok (record { number = length w.lots + 1; poured = lot.poured; plan = lot.plan }, lot)
 
       by : (down : Bool) (found : Option Lot) → lot_of w.open_lots issue ≡ found → (few : Bool)
-          → Holding (up down >> (need (is_none found) refusal.LotAlready >> (need few refusal.LotsSpent >> opened)) >>= λ o. Ok (Grows (outcomes.LotOpened o.0) (with_new_lot o.1 w)))
+          → Holding (need_up down >> (need (is_none found) refusal.LotAlready >> (need few refusal.LotsSpent >> opened)) >>= λ o. Ok (Grows (outcomes.LotOpened o.0) (with_new_lot o.1 w)))
       by true found is few = tt
       by false None is false = tt
       by false None is true = opens is
       by false (Some l) is few = tt
 
-  -- the calls of a lot that has not ended
+  -- a lot is poured into, a ticket of it is drawn, it is sealed, or closed, where it has not ended
   pub pour_holds : (number : ℕ)
       → ((lot : LotState) → IsGoing w.lots number lot
       → P (outcomes.Poured (free_of (orders_of w.clear.records) w.open_lots lot.issue)) (record w { open_lots = lots_poured w.clear.records lot.issue w.open_lots }))
@@ -108,7 +109,7 @@ module _ (P : Outcome → Shown → Type 0) (d : Decision) (w : Shown) where
   pour_holds number pours =
       let told : ℕ × List Lot → Result Change Refusal = λ poured. Ok (Leaves (outcomes.Poured poured.0) (record w { open_lots = poured.1 })) in
       let poured : LotState → Result (ℕ × List Lot) Refusal = λ lot. Ok (free_of (orders_of w.clear.records) w.open_lots lot.issue, lots_poured w.clear.records lot.issue w.open_lots) in
-      steps_by (Holds P d w) (going_lot w.lots number) (λ lot. up w.clear.down >> poured lot) told
+      steps_by (Holds P d w) (going_lot w.lots number) (λ lot. need_up w.clear.down >> poured lot) told
       (λ lot going. ok_up (λ (p : ℕ × List Lot). IfOk (told p) (Holds P d w)) w.clear.down (poured lot) (λ up. pours lot (going_parts w.lots number lot going)))
 
   pub reserve_holds : (number member : ℕ)
@@ -139,39 +140,39 @@ module _ (P : Outcome → Shown → Type 0) (d : Decision) (w : Shown) where
       by_record (λ (done : Closed). outcomes.Closed done) (lots_ended number) (numbered_close number w.clear.down w.clear.records w.open_lots w.lots) _ _
       (close_records number w.clear.down w.clear.records w.open_lots w.lots) (λ done no. absurd no) (λ r done up is. rw (is.1) (closes done is.0 up))
 
-  -- a look at such a lot, which tells of it, changes nothing
+  -- a look tells of such a lot, and changes nothing
   pub look_holds : (number : ℕ) (told : LotState → Outcome) → ((outcome : Outcome) → P outcome w) → Holding (going_lot w.lots number >>= λ lot. Ok (Leaves (told lot) w))
   look_holds number told looks = ok_then (Holds P d w) (going_lot w.lots number) (λ lot. Ok (Leaves (told lot) w)) (λ lot is. looks (told lot))
 
-  -- an order is put on the link
+  -- the order of the number is put on the link
   pub send_holds : (number : ℕ)
-      → ((packet : ℕ) (o : Order) → order_of (orders_of w.clear.records).orders number ≡ Some o → P (outcomes.Sent packet) (record w { orders = w.orders ++ Some o ∷ [] }))
+      → ((packet : ℕ) (o : Order) → order_of (orders_of w.clear.records).orders number ≡ Some o → P (outcomes.Sent packet) (record w { order_packets = w.order_packets ++ Some o ∷ [] }))
       → Holding (judged (event.Send number) w)
   unfolding judged
   send_holds number sends =
       let order : Option Order = order_of (orders_of w.clear.records).orders number in
-      let put : Order → Result Change Refusal = λ o. Ok (Grows (outcomes.Sent (length w.orders + 1)) (record w { orders = w.orders ++ Some o ∷ [] })) in
-      ok_up (Holds P d w) w.clear.down (ok_or order refusal.UnknownMove >>= put) (λ up. ok_found (Holds P d w) order refusal.UnknownMove put (λ o found. sends (length w.orders + 1) o found))
+      let put : Order → Result Change Refusal = λ o. Ok (Grows (outcomes.Sent (length w.order_packets + 1)) (record w { order_packets = w.order_packets ++ Some o ∷ [] })) in
+      ok_up (Holds P d w) w.clear.down (ok_or order refusal.UnknownMove >>= put) (λ up. ok_found (Holds P d w) order refusal.UnknownMove put (λ o found. sends (length w.order_packets + 1) o found))
 
   -- an order that arrives was executed before; or it is executed, or the commit fails at the device
   pub order_holds : (packet : ℕ)
       → ((place : ℕ) (known : Movement) → movement_of (executed_of w.depot.records) known.order.number ≡ Some known → P (outcomes.ExecutedAgain (reply_to known) place) (with_reply_put (reply_to known) w))
-      → ((place : ℕ) (o : Order) → Arrives w.orders packet o → w.depot.down ≡ false → movement_of (executed_of w.depot.records) o.number ≡ None
+      → ((place : ℕ) (o : Order) → Arrives w.order_packets packet o → w.depot.down ≡ false → movement_of (executed_of w.depot.records) o.number ≡ None
       → let m = next_movement w o in
       P (outcomes.Executed (reply_to m) place) (with_reply_put (reply_to m) (depot_added (execution m) w)) × P (outcomes.Refused refusal.Device) (depot_failed (execution m) w))
       → Holding (judged (event.OrderIn packet) w)
   unfolding judged
   order_holds packet again executes =
-      let call : Order → Result (Deed DepRecord Answer) DepFault = λ o. order_call o w.depot.down w.openings w.depot.records in
-      ok_found (Holds P d w) (option_flatten (at_number w.orders packet)) refusal.NoPacket (λ o. by_order w (call o))
+      let call : Order → Result (Deed DepRecord Answer) DepFault = λ o. take_order_call o w.depot.down w.openings w.depot.records in
+      ok_found (Holds P d w) (option_flatten (at_number w.order_packets packet)) refusal.NoPacket (λ o. by_order w (call o))
       (λ o at. by o at (call o) (order_deeds o w.depot.down w.openings w.depot.records))
     where
-      by : (o : Order) → Arrives w.orders packet o → (deed : Result (Deed DepRecord Answer) DepFault) → IfOk deed (IsOrderDeed o w.depot.down w.openings w.depot.records) → Holding (by_order w deed)
+      by : (o : Order) → Arrives w.order_packets packet o → (deed : Result (Deed DepRecord Answer) DepFault) → IfOk deed (IsOrderDeed o w.depot.down w.openings w.depot.records) → Holding (by_order w deed)
       by o at (Err fault) is = tt
       by o at (Ok (call.Tells a)) (known, found, agrees, is) = rw is (again _ known (ap (movement_of (executed_of w.depot.records)) (agree_fields known.order o agrees).number ∙ found))
       by o at (Ok (call.Commits e a)) (up, none, e_is, a_is) = rw (e_is, a_is) (executes _ o at up none)
 
-  -- a member's own instruction likewise
+  -- a member's own instruction was carried out before; or it is carried out, or the commit fails
   pub own_holds : (i : Instruction) → P (outcomes.InstructedAgain i) w
       → (w.depot.down ≡ false → P (outcomes.Instructed i) (depot_added (dep.Own i) w) × P (outcomes.Refused refusal.Device) (depot_failed (dep.Own i) w)) → Holding (judged (event.Own i) w)
   unfolding judged
@@ -182,13 +183,13 @@ module _ (P : Outcome → Shown → Type 0) (d : Decision) (w : Shown) where
       by (Ok (call.Tells o)) is = rw is again
       by (Ok (call.Commits e o)) (up, e_is, o_is) = rw (e_is, o_is) (instructs up)
 
-  -- a reply that arrives was confirmed before, or it is recorded
+  -- a reply that arrives was confirmed before; or its record is committed
   pub reply_holds : (packet : ℕ) → ((r : Reply) → P (outcomes.ConfirmedAgain r) w)
-      → ((r : Reply) → Arrives w.replies packet r → w.clear.down ≡ false → Added (outcomes.Confirmed r) (entry.Confirm r) w.lots) → Holding (judged (event.ReplyIn packet) w)
+      → ((r : Reply) → Arrives w.reply_packets packet r → w.clear.down ≡ false → Added (outcomes.Confirmed r) (entry.Confirm r) w.lots) → Holding (judged (event.ReplyIn packet) w)
   unfolding judged
   reply_holds packet again confirms =
       let call : Reply → Result (Deed ClearRecord Taken) Refusal = λ r. reply_call r w.clear.down w.clear.records in
-      ok_found (Holds P d w) (option_flatten (at_number w.replies packet)) refusal.NoPacket (λ r. by_clear (taken_told r) w (call r))
+      ok_found (Holds P d w) (option_flatten (at_number w.reply_packets packet)) refusal.NoPacket (λ r. by_clear (taken_told r) w (call r))
       (λ r at.
       by_record (taken_told r) (λ lots. lots) (call r) _ _ (reply_records r w.clear.down w.clear.records) (λ x is. rw is (again r))
       (λ k x up is. rw (is.0, is.1) (confirms r at up)))

@@ -1,5 +1,5 @@
--- What each event keeps, by one walk over the events: the accord of both nodes and the link, allocations that close lots, and the lots but the one that
--- it is of.
+-- What each event keeps, by one walk over the function of what happens: the accord of both nodes and the link, allocations that close lots, and the lots
+-- but the one that the event is of.
 use Rattle.std.proofs.Common.{◌≡◌, ◌∙◌, [], true, false, List, None, refl, sym, subst, inl}
 use Rattle.std.specs.Prelude.{IfOk, map}
 use Rattle.cns_pool.specs.Pool.{asked_sum}
@@ -66,11 +66,11 @@ module _ (s : Scene) (e : Event) where
   abbrev Kept : Outcome → Shown → Type 0
   Kept outcome left = Keeps s e left
 
-  -- an event that changes nothing
+  -- an event keeps all that it leaves as it was
   same : Keeps s e w
   same = record { accord = λ b. b.accord; strict = λ b. b.strict; lots = keeps_same (lot_changed e) w w refl refl }
 
-  -- one that changes lots alone
+  -- one that changes lots alone keeps the accord, and allocations that close lots
   of_lots : (open_lots : List Lot) (lots : List LotState) → KeepsLots (lot_changed e) w (record w { open_lots = open_lots; lots = lots }) → Keeps s e (record w { open_lots = open_lots; lots = lots })
   of_lots open_lots lots kept = record {
     accord = λ b. clear_stays w b.accord w.clear.tried w.clear.down open_lots lots b.accord.clear_tried b.accord.clear_up;
@@ -78,12 +78,12 @@ module _ (s : Scene) (e : Event) where
     lots = kept;
   }
 
-  -- one that changes the depository and the link alone
+  -- one that changes the depository and the link alone keeps allocations that close lots, and the lots
   of_depot : (left : Shown) → left.clear ≡ w.clear → left.lots ≡ w.lots → left.open_lots ≡ w.open_lots → (AccordBefore s → Accord left) → Keeps s e left
   of_depot left clear lots open_lots accord =
       record { accord = accord; strict = λ b. subst IsStrict (sym clear) b.strict; lots = keeps_same (lot_changed e) w left lots open_lots }
 
-  -- one that commits a record of the clearing node, which fits what was executed, and closes a lot where it is an allocation
+  -- one that commits a record of the clearing node keeps the accord where the record fits what was executed, and allocations that close lots where it does
   adds : (r : ClearRecord) (lots : List LotState) → w.clear.down ≡ false → (AccordBefore s → FitsStock (executed_of w.depot.records) r) → (StrictBefore s → ClosesLot w.clear.records r)
       → KeepsLots (lot_changed e) w (record (clear_added r w) { lots = lots }) → Keeps s e (record (clear_added r w) { lots = lots }) × Keeps s e (clear_failed r w)
   adds r lots up fits closes kept = (
@@ -95,12 +95,12 @@ module _ (s : Scene) (e : Event) where
     },
   )
 
-  -- a record that is neither a confirmation nor an allocation
+  -- so does one whose record is neither a confirmation nor an allocation
   adds_plain : (r : ClearRecord) → w.clear.down ≡ false → FitsStock (executed_of w.depot.records) r → ClosesLot w.clear.records r → lots_after r w.open_lots ≡ w.open_lots
       → Keeps s e (clear_added r w) × Keeps s e (clear_failed r w)
   adds_plain r up fits closes open_lots = adds r w.lots up (λ b. fits) (λ b. closes) (keeps_same (lot_changed e) w (clear_added r w) refl open_lots)
 
--- a restart of each node
+-- a restart of each node keeps them, whatever is decided
 module _ (s : Scene) where
   clear_read : (c : List ClearRecord) → (s.clear.honest ≡ true → AreBack s.shown.clear.tried s.shown.clear.records c)
       → Keeps s (event.Restart node.Clear) (record s.shown { clear = record { records = c; tried = None; down = false }; open_lots = []; lots = map with_end s.shown.lots })
@@ -138,7 +138,7 @@ module _ (s : Scene) where
   depot_restarts (DepotReads p) gives = depot_read p gives
   depot_restarts _ gives = depot_read s.shown.depot.records (λ honest. inl refl)
 
--- whatever an accepted event leaves is kept so
+-- whatever an accepted event leaves, it keeps them
 accepted : (s : Scene) (chance : Chance) (e : Event) → IfOk (judged e s.shown) (Holds (Kept s e) (decision_at chance e s) s.shown)
 unfolding judged
 accepted s chance (event.Trade t) =

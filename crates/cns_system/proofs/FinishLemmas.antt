@@ -12,7 +12,7 @@ use Rattle.cns_records.specs.declared.refusal.Refusal.TheVariants as refusal
 use Rattle.cns_system.specs.Accord.{IsInAccord}
 use Rattle.cns_system.specs.Begin.{IsRefusal}
 use Rattle.cns_system.specs.Finish.{AreAllEntered, AreCutOff, AreEntered, FinishGives, IsEnded, IsFinished, IsNotEntered, IsReleased, draws, is_sealed, reserves, sealed_at, without_busy}
-use Rattle.cns_system.specs.Floor.{AreBusy, AreInOrder, BusyLot, FloorState, IsBusy, IsPlaceOf, busy_at}
+use Rattle.cns_system.specs.Floor.{AreBusy, AreByNumber, BusyLot, FloorState, IsBusy, IsBusyPlace, busy_at}
 use Rattle.cns_system.specs.Headline.{IsAgreed}
 use Rattle.cns_system.specs.Lot.{LotState, with_ticket}
 use Rattle.cns_ids.specs.Steps.{◌>>=◌}
@@ -47,7 +47,7 @@ all_remain n busy others =
     filter_whole stays busy (All-weaker (λ (b : BusyLot). b.lot ≡ n → ⊥) (λ (b : BusyLot). stays b ≡ true) (remains n) busy others)
 
 -- the one in a place is taken out
-taken_out : (n : ℕ) (busy : List BusyLot) (place : ℕ) (b : BusyLot) → AreInOrder busy → slice_get busy place ≡ Some b → b.lot ≡ n
+taken_out : (n : ℕ) (busy : List BusyLot) (place : ℕ) (b : BusyLot) → AreByNumber busy → slice_get busy place ≡ Some b → b.lot ≡ n
     → take place busy ++ drop (suc place) busy ≡ without_busy n busy
 taken_out n [] place b order found is = cc
 taken_out n (x ∷ busy) zero b order found is =
@@ -61,15 +61,15 @@ taken_out n (x ∷ busy) (suc place) b order found is =
     ∙ sym (ap (λ (t : Bool). cond t (x ∷ without_busy n busy) (without_busy n busy)) (remains n x (λ e. absurd (omega (arith, later, e)))))
 
 -- what is left where the one that was found in a place is taken out
-pub left_busy : (f : FloorState) (n place : ℕ) (items rest : List BusyLot) → items ≡ f.busy → IsPlaceOf (busy_at items n) items (Some place)
-    → rest ≡ take place f.busy ++ drop (place + 1) f.busy → AreInOrder f.busy → rest ≡ without_busy n f.busy
+pub left_busy : (f : FloorState) (n place : ℕ) (items rest : List BusyLot) → items ≡ f.busy → IsBusyPlace (busy_at items n) items (Some place)
+    → rest ≡ take place f.busy ++ drop (place + 1) f.busy → AreByNumber f.busy → rest ≡ without_busy n f.busy
 left_busy f n place items rest same is out order =
     let there : slice_get f.busy place ≡ Some is.0 = ap (λ (bs : List BusyLot). slice_get bs place) (sym same) ∙ is.2 in
     let next : place + 1 ≡ suc place = omega arith in
     out ∙ ap (λ (i : ℕ). take place f.busy ++ drop i f.busy) next ∙ taken_out n f.busy place is.0 order there (busy_number items n is.0 is.1)
 
 pub released_from : (f now : FloorState) (n place : ℕ) (items rest : List BusyLot) (x : BusyLot) (sealed : Bool) → f ≡ now → items ≡ f.busy
-    → IsPlaceOf (busy_at items n) items (Some place) → rest ≡ without_busy n f.busy → x ≡ get_or f.busy place x → sealed ≡ x.sealed
+    → IsBusyPlace (busy_at items n) items (Some place) → rest ≡ without_busy n f.busy → x ≡ get_or f.busy place x → sealed ≡ x.sealed
     → IsReleased n (Some sealed) now (record f { busy = rest })
 released_from f now n place items rest x sealed was same is left read shown =
     let there : slice_get f.busy place ≡ Some is.0 = ap (λ (bs : List BusyLot). slice_get bs place) (sym same) ∙ is.2 in
@@ -80,7 +80,7 @@ released_from f now n place items rest x sealed was same is left read shown =
     )
 
 -- whether the cell of the busy lot that was looked for is sealed
-pub sealed_here : (f now : FloorState) (n place : ℕ) (items : List BusyLot) (x : BusyLot) → f ≡ now → items ≡ f.busy → IsPlaceOf (busy_at items n) items (Some place)
+pub sealed_here : (f now : FloorState) (n place : ℕ) (items : List BusyLot) (x : BusyLot) → f ≡ now → items ≡ f.busy → IsBusyPlace (busy_at items n) items (Some place)
     → x ≡ get_or f.busy place x → x.sealed ≡ sealed_at now.busy n
 sealed_here f now n place items x was same is read =
     let there : slice_get f.busy place ≡ Some is.0 = ap (λ (bs : List BusyLot). slice_get bs place) (sym same) ∙ is.2 in
@@ -93,11 +93,11 @@ sealed_nowhere f now n items was same none =
     let here : busy_at f.busy n ≡ None = ap (λ (bs : List BusyLot). busy_at bs n) (sym same) ∙ none in
     subst (λ (g : FloorState). false ≡ sealed_at g.busy n) was (sym (ap is_sealed here))
 
-order_without : (n : ℕ) (busy : List BusyLot) → AreInOrder busy → AreInOrder (without_busy n busy)
+order_without : (n : ℕ) (busy : List BusyLot) → AreByNumber busy → AreByNumber (without_busy n busy)
 order_without n [] order = tt
 order_without n (x ∷ busy) order = by (not (x.lot == n)) (order_without n busy order.1)
   where
-    by : (t : Bool) → AreInOrder (without_busy n busy) → AreInOrder (cond t (x ∷ without_busy n busy) (without_busy n busy))
+    by : (t : Bool) → AreByNumber (without_busy n busy) → AreByNumber (cond t (x ∷ without_busy n busy) (without_busy n busy))
     by true rest = (All-filter (λ (b : BusyLot). not (b.lot == n)) (λ (c : BusyLot). x.lot < c.lot) busy order.0, rest)
     by false rest = rest
 
@@ -186,7 +186,7 @@ draws_it lot member t outcome old new would occurs =
 
 -- ---- tickets that are not entered
 
-pub stops : (lot : ℕ) (t : Ticket) (r : Refusal) (w : World) → ticket_call lot t.member w.clear.lots ≡ Err r → IsInAccord w → AreFrames w.orders w.replies → IsAgreed w → IsNotEntered lot t r w w
+pub stops : (lot : ℕ) (t : Ticket) (r : Refusal) (w : World) → ticket_call lot t.member w.clear.lots ≡ Err r → IsInAccord w → AreFrames w.order_packets w.reply_packets → IsAgreed w → IsNotEntered lot t r w w
 unfolding judged
 stops lot t r w would accord frames agreed =
     let refuses : reserve_call lot t.member w.clear.lots ≡ Err r = rw would at (reserve_as lot t.member w.clear.lots) in

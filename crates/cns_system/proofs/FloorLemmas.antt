@@ -17,7 +17,7 @@ use Rattle.cns_clearing.specs.Pools.{free_of, lent_of, lot_of}
 use Rattle.cns_clearing.specs.declared.lot.Lot.{Lot}
 use Rattle.cns_records.specs.declared.clear_record.ClearRecord.{ClearRecord}
 use Rattle.cns_records.specs.declared.refusal.Refusal.TheVariants as refusal
-use Rattle.cns_system.specs.Floor.{AreBusy, AreInOrder, BusyLot, BySystem, FloorState, FloorStep, IsBusy, IsFed, IsPlaceOf, LooksAsked, NamesLot, PourFits, SparesBusy, busy_after_pour, busy_at, busy_with_look, busy_with_pour, busy_with_seal, changed_at, is_open, lot_changed, served_at, with_busy}
+use Rattle.cns_system.specs.Floor.{AreBusy, AreByNumber, BusyLot, BySystem, FloorState, FloorStep, IsBusy, IsCellFed, IsBusyPlace, LooksAsked, NamesLot, PourFits, SparesBusy, busy_after_pour, busy_at, busy_with_look, busy_with_pour, busy_with_seal, changed_at, is_open, lot_changed, served_at, with_busy}
 use Rattle.cns_system.specs.Lot.{LotState}
 use Rattle.cns_wire.specs.Packet.{at_number}
 use Rattle.cns_system.specs.Numbered.{AreTied, NumberedNode}
@@ -79,7 +79,7 @@ pub record IsAt (busy : List BusyLot) (n place : ℕ) (x : BusyLot) : Type 0 whe
   pub number : x.lot ≡ n
 
 -- the one that is read in the place where it was found
-pub read_busy : (busy items : List BusyLot) (n place : ℕ) (x : BusyLot) → items ≡ busy → IsPlaceOf (busy_at items n) items (Some place) → x ≡ get_or busy place x → IsAt busy n place x
+pub read_busy : (busy items : List BusyLot) (n place : ℕ) (x : BusyLot) → items ≡ busy → IsBusyPlace (busy_at items n) items (Some place) → x ≡ get_or busy place x → IsAt busy n place x
 read_busy busy items n place x same is read =
     let there : slice_get busy place ≡ Some is.0 = ap (λ (bs : List BusyLot). slice_get bs place) (sym same) ∙ is.2 in
     let one : x ≡ is.0 = read ∙ get_or_from_slice_get busy place is.0 x there in
@@ -93,7 +93,7 @@ served_busy f n b found = by (is_open f.system.clear.lots n) found
     by true is = is
     by false is = cc
 
-pub read_served : (f now : FloorState) (n place : ℕ) (x : BusyLot) → f ≡ now → IsPlaceOf (served_at now n) now.busy (Some place) → x ≡ get_or f.busy place x → IsAt f.busy n place x
+pub read_served : (f now : FloorState) (n place : ℕ) (x : BusyLot) → f ≡ now → IsBusyPlace (served_at now n) now.busy (Some place) → x ≡ get_or f.busy place x → IsAt f.busy n place x
 read_served f now n place x same is read =
     read_busy f.busy now.busy n place x (ap (λ (g : FloorState). g.busy) (sym same)) (is.0, served_busy now n is.0 is.1, is.2) read
 
@@ -118,7 +118,7 @@ all_stay change n busy others =
     map_fixed (changed_at change n) busy (All-weaker (λ (b : BusyLot). b.lot ≡ n → ⊥) (λ (b : BusyLot). changed_at change n b ≡ b) (stays change n) busy others)
 
 -- it is a change in its place
-pub change_in_place : (change : BusyLot → BusyLot) (n : ℕ) (busy : List BusyLot) (place : ℕ) (b : BusyLot) → AreInOrder busy → slice_get busy place ≡ Some b → b.lot ≡ n
+pub change_in_place : (change : BusyLot → BusyLot) (n : ℕ) (busy : List BusyLot) (place : ℕ) (b : BusyLot) → AreByNumber busy → slice_get busy place ≡ Some b → b.lot ≡ n
     → with_busy change n busy ≡ slice_set busy place (change b)
 change_in_place change n [] place b order found is = cc
 change_in_place change n (x ∷ busy) zero b order found is =
@@ -141,7 +141,7 @@ number_stays change n same b = by (b.lot == n)
     by true = same b
     by false = refl
 
-order_stays : (change : BusyLot → BusyLot) (n : ℕ) → ((b : BusyLot) → (change b).lot ≡ b.lot) → (busy : List BusyLot) → AreInOrder busy → AreInOrder (with_busy change n busy)
+order_stays : (change : BusyLot → BusyLot) (n : ℕ) → ((b : BusyLot) → (change b).lot ≡ b.lot) → (busy : List BusyLot) → AreByNumber busy → AreByNumber (with_busy change n busy)
 order_stays change n same [] order = tt
 order_stays change n same (x ∷ busy) order = (
   All-map (λ (c : BusyLot). (changed_at change n x).lot < c.lot) (changed_at change n) busy
@@ -247,7 +247,7 @@ poured_busy n outcome old new b backed tied comes p busy = by (b.lot == n) refl
     shares : ℕ
     shares = free_of (orders_of old.clear.clear.log.records) old.clear.clear.lots p.lot.issue
 
-    more : b.lot ≡ n → (l : LotState) → at_number old.clear.lots b.lot ≡ Some l → IsFed new.clear.clear.lots (busy_with_pour shares b) l
+    more : b.lot ≡ n → (l : LotState) → at_number old.clear.lots b.lot ≡ Some l → IsCellFed new.clear.clear.lots (busy_with_pour shares b) l
     more same l found =
         let pour = added_by n outcome old new backed p tied in
         let one : p.lot ≡ l = same_Some p.lot l (sym p.at.found ∙ ap (at_number old.clear.lots) (sym same) ∙ found) in
@@ -255,7 +255,7 @@ poured_busy n outcome old new b backed tied comes p busy = by (b.lot == n) refl
         let before : b.poured ≡ pour.lot.poured = fed.poured ∙ ap lent_by pour.found in
         let after : lent_of new.clear.clear.lots p.lot.issue ≡ avail_in old.clear.clear.log.records p.lot.issue =
         ap (λ (ls : List Lot). lent_of ls p.lot.issue) p.open_lots ∙ lent_poured old.clear.clear.log.records p.lot.issue old.clear.clear.lots pour.lot pour.found in
-        subst (IsFed new.clear.clear.lots (busy_with_pour shares b)) one
+        subst (IsCellFed new.clear.clear.lots (busy_with_pour shares b)) one
         (record { poured = ap (λ (x : ℕ). x + shares) before ∙ pour.all ∙ sym after; tickets = fed.tickets; unsealed = fed.unsealed })
 
     by : (t : Bool) → (b.lot == n) ≡ t → IsBusy new.clear (if t then busy_with_pour shares b else b)
@@ -328,7 +328,7 @@ fits_at n shares place busy x fits at =
     subst (λ (b : BusyLot). b.lot ≡ n → b.poured + shares ≤ 1000000000000000000) same (fits place x (slice_get_within busy place x at.found)) at.number
 
 -- what a change in its place leaves
-pub changed_in_place : (change : BusyLot → BusyLot) (n place : ℕ) (busy : List BusyLot) (x new : BusyLot) → AreInOrder busy → IsAt busy n place x → new ≡ change x
+pub changed_in_place : (change : BusyLot → BusyLot) (n place : ℕ) (busy : List BusyLot) (x new : BusyLot) → AreByNumber busy → IsAt busy n place x → new ≡ change x
     → slice_set busy place new ≡ with_busy change n busy
 changed_in_place change n place busy x new order at is =
     ap (λ (b : BusyLot). slice_set busy place b) is ∙ sym (change_in_place change n busy place x order at.found at.number)
@@ -338,7 +338,7 @@ pub record LooksAt (f now : FloorState) (n place : ℕ) (x new : BusyLot) : Type
   pub found : served_at now n ≡ Some x
   pub same : record f { busy = slice_set f.busy place new } ≡ now
 
-pub looks_at : (f now : FloorState) (n place : ℕ) (x new : BusyLot) → f ≡ now → IsPlaceOf (served_at now n) now.busy (Some place) → x ≡ get_or f.busy place x → new ≡ x
+pub looks_at : (f now : FloorState) (n place : ℕ) (x new : BusyLot) → f ≡ now → IsBusyPlace (served_at now n) now.busy (Some place) → x ≡ get_or f.busy place x → new ≡ x
     → LooksAt f now n place x new
 looks_at f now n place x new same is read stays =
     let at = read_served f now n place x same is read in
@@ -382,7 +382,7 @@ pub record ChangesAt (change : BusyLot → BusyLot) (f now : FloorState) (n plac
   pub changed : record f { busy = slice_set f.busy place new } ≡ record now { busy = with_busy change n now.busy }
 
 pub changes_at : (change : BusyLot → BusyLot) → LeavesPours change → (f now : FloorState) (n place : ℕ) (x new : BusyLot) → f ≡ now
-    → IsPlaceOf (served_at now n) now.busy (Some place) → x ≡ get_or f.busy place x → new ≡ change x → AreBusy f.system.clear f.busy → ChangesAt change f now n place x new
+    → IsBusyPlace (served_at now n) now.busy (Some place) → x ≡ get_or f.busy place x → new ≡ change x → AreBusy f.system.clear f.busy → ChangesAt change f now n place x new
 changes_at change leaves f now n place x new same is read changed are =
     let at = read_served f now n place x same is read in
     let one : is.0 ≡ x = same_Some is.0 x (sym is.2 ∙ ap (λ (g : FloorState). slice_get g.busy place) (sym same) ∙ at.found) in

@@ -99,14 +99,15 @@ pub record IsRefused (w : Shown) (outcome : Outcome) (left : Shown) : Type 0 whe
   pub lots : left.lots ≡ w.lots
   pub open_lots : left.open_lots ≡ w.open_lots
 
--- so it is of an event that comes, or this is so of it, where one of both is so of what an accepted event may leave
+-- an event is refused so, or this is so of what it tells and leaves; one of both is so of an event that comes, where it is so of each change
 abbrev pub OrRefused : (Shown → Outcome → Shown → Type 0) → Shown → Outcome → Shown → Type 0
 OrRefused P w outcome left = IsRefused w outcome left ⊎ P w outcome left
 
 pub comes_told : (P : Shown → Outcome → Shown → Type 0) (e : Event) (outcome : Outcome) (old new : World) → Comes e outcome old new
     → ((d : Decision) → IfOk (judged e (shown_of old)) (Holds (OrRefused P (shown_of old)) d (shown_of old))) → OrRefused P (shown_of old) outcome (shown_of new)
 comes_told P e outcome old new comes accepted =
-    comes_keeps (OrRefused P w) e outcome old new comes (refused_keeps (λ r. OrRefused P w (outcomes.Refused r) w) (judged e w) refuses) (refuses refusal.OutOfMemory) (λ chance. accepted (decision_at chance e (scene_of old)))
+    comes_keeps (OrRefused P w) e outcome old new comes (refused_keeps (λ r. OrRefused P w (outcomes.Refused r) w) (judged e w) refuses) (refuses refusal.OutOfMemory)
+    (λ chance. accepted (decision_at chance e (scene_of old)))
   where
     w : Shown
     w = shown_of old

@@ -65,7 +65,7 @@ reply_packet : (movements : List Movement) (bytes : List ℕ) → IsReplyFrame b
 reply_packet movements bytes frame spells = record { reply = frame.reply; done = subst (SpellsReply movements) frame.reads spells; frame = frame.frame; reads = frame.reads }
 
 -- both nodes and the link are as the headline says
-pub agreed : (w : World) → AreLawful w → IsBalanced w → AreFrames w.orders w.replies → IsInAccord w → IsAgreed w
+pub agreed : (w : World) → AreLawful w → IsBalanced w → AreFrames w.order_packets w.reply_packets → IsInAccord w → IsAgreed w
 agreed w lawful balanced frames accord honest depot_honest =
     let a = accord honest depot_honest in
     let c = w.clear.clear.log.records in
@@ -79,8 +79,8 @@ agreed w lawful balanced frames accord honest depot_honest =
     record {
       executed = a.executed;
       confirmed = a.confirmed;
-      sent = λ k bytes at. order_packet (orders_of c).orders bytes (frames.orders_are k bytes at) (spelt_at (SpellsOrder (orders_of c).orders) order_spelt w.orders k bytes a.sent at);
-      answered = λ k bytes at. reply_packet movements bytes (frames.replies_are k bytes at) (spelt_at (SpellsReply movements) reply_spelt w.replies k bytes a.answered at);
+      sent = λ k bytes at. order_packet (orders_of c).orders bytes (frames.orders_are k bytes at) (spelt_at (SpellsOrder (orders_of c).orders) order_spelt w.order_packets k bytes a.sent at);
+      answered = λ k bytes at. reply_packet movements bytes (frames.replies_are k bytes at) (spelt_at (SpellsReply movements) reply_spelt w.reply_packets k bytes a.answered at);
       lawful = lawful.0;
       stock = lawful.1;
       given = λ account issue. moved_out_covered w.depot.openings p account issue lawful.1;

@@ -61,20 +61,20 @@ module _ (w : Shown) (a : Accord w) where
   executes_accord e up fits = (executed_more w a e fits (a.depot_up up), depot_stays w a (Some e) true (only FitsDepot e fits) (λ e. absurd (cc e)))
 
   -- a reply that arrives is of a movement that was executed, and an order that arrives is found under its number
-  pub replied : (packet : ℕ) (r : Reply) → Arrives w.replies packet r → IsExecuted (executed_of w.depot.records) r
-  replied packet r at = spelt_in (SpellsReply (executed_of w.depot.records)) w.replies packet r a.answered at
+  pub replied : (packet : ℕ) (r : Reply) → Arrives w.reply_packets packet r → IsExecuted (executed_of w.depot.records) r
+  replied packet r at = spelt_in (SpellsReply (executed_of w.depot.records)) w.reply_packets packet r a.answered at
 
-  pub ordered : (packet : ℕ) (o : Order) → Arrives w.orders packet o → order_of (orders_of w.clear.records).orders o.number ≡ Some o
-  ordered packet o at = spelt_in (SpellsOrder (orders_of w.clear.records).orders) w.orders packet o a.sent at
+  pub ordered : (packet : ℕ) (o : Order) → Arrives w.order_packets packet o → order_of (orders_of w.clear.records).orders o.number ≡ Some o
+  ordered packet o at = spelt_in (SpellsOrder (orders_of w.clear.records).orders) w.order_packets packet o a.sent at
 
   -- an order is put on the link
-  pub sends_accord : (number : ℕ) (o : Order) → order_of (orders_of w.clear.records).orders number ≡ Some o → Accord (record w { orders = w.orders ++ Some o ∷ [] })
+  pub sends_accord : (number : ℕ) (o : Order) → order_of (orders_of w.clear.records).orders number ≡ Some o → Accord (record w { order_packets = w.order_packets ++ Some o ∷ [] })
   sends_accord number o found =
       let orders : List Order = (orders_of w.clear.records).orders in
       order_put w a o (subst (λ (n : ℕ). order_of orders n ≡ Some o) (sym (order_of_number orders number o found)) found)
 
   -- a new order that arrives is executed, or its commit fails
-  pub order_accord : IsLawful w.clear.records → IsLawfulDepot w.openings w.depot.records → (packet : ℕ) (o : Order) → Arrives w.orders packet o → w.depot.down ≡ false
+  pub order_accord : IsLawful w.clear.records → IsLawfulDepot w.openings w.depot.records → (packet : ℕ) (o : Order) → Arrives w.order_packets packet o → w.depot.down ≡ false
       → movement_of (executed_of w.depot.records) o.number ≡ None
       → let m = next_movement w o in
       Accord (with_reply_put (reply_to m) (depot_added (execution m) w)) × Accord (depot_failed (execution m) w)

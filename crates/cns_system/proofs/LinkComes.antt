@@ -23,11 +23,11 @@ use Rattle.cns_records.specs.declared.dep_record.DepRecord.{DepRecord}
 use Rattle.cns_records.specs.declared.instruction.Instruction.{Instruction}
 use Rattle.cns_records.specs.declared.refusal.Refusal.{Refusal}
 use Rattle.cns_records.specs.declared.refusal.Refusal.TheVariants as refusal
-use Rattle.cns_clearing.specs.Answers.{Leaves, reply_call}
+use Rattle.cns_clearing.specs.Answers.{NodeLeaves, reply_call}
 use Rattle.cns_clearing.specs.Books.{orders_of}
 use Rattle.cns_clearing.specs.declared.answer.Taken.{Taken}
 use Rattle.cns_clearing.specs.declared.answer.Taken.TheVariants as taken
-use Rattle.cns_depository.specs.Answers.{InstructLeaves, OrderLeaves, dep_fault, dep_refusal, own_fault, instruct_call, order_call, own_fault_refusal}
+use Rattle.cns_depository.specs.Answers.{InstructLeaves, OrderLeaves, dep_fault, dep_refusal, own_fault, instruct_call, take_order_call, own_fault_refusal}
 use Rattle.cns_depository.specs.Node as depot
 use Rattle.cns_depository.specs.Node.{DepNode}
 use Rattle.cns_depository.specs.declared.fault.Answer.TheVariants as answer
@@ -83,25 +83,25 @@ module _ (number : ℕ) where
   send_unknown w up none = refused (event.Send number) w refusal.UnknownMove (rw (up, none) refl)
 
   send_found : (o : Order) (w : Shown) → w.clear.down ≡ false → order_of (orders_of w.clear.records).orders number ≡ Some o
-      → judged (event.Send number) w ≡ Ok (Grows (outcomes.Sent (length w.orders + 1)) (record w { orders = w.orders ++ Some o ∷ [] }))
+      → judged (event.Send number) w ≡ Ok (Grows (outcomes.Sent (length w.order_packets + 1)) (record w { order_packets = w.order_packets ++ Some o ∷ [] }))
   unfolding judged
   send_found o w up found = rw (up, found) refl
 
   pub send_short : (o : Order) (w : World) → w.clear.clear.log.down ≡ false → order_of (orders_of w.clear.clear.log.records).orders number ≡ Some o
       → Comes (event.Send number) (outcomes.Refused refusal.OutOfMemory) w w
   send_short o w up found =
-      not_grown (event.Send number) w (λ c. refl) (outcomes.Sent (length (map order_spelt w.orders) + 1)) (record (shown_of w) { orders = map order_spelt w.orders ++ Some o ∷ [] })
+      not_grown (event.Send number) w (λ c. refl) (outcomes.Sent (length (map order_spelt w.order_packets) + 1)) (record (shown_of w) { order_packets = map order_spelt w.order_packets ++ Some o ∷ [] })
       (send_found o (shown_of w) up found)
 
   pub sent : (o : Order) (packet : ℕ) (orders : List (List ℕ)) (w : World) → w.clear.clear.log.down ≡ false → order_of (orders_of w.clear.clear.log.records).orders number ≡ Some o
-      → orders ≡ w.orders ++ order_frame o ∷ [] → packet ≡ length orders → order_spelt (order_frame o) ≡ Some o
-      → Comes (event.Send number) (outcomes.Sent packet) w (record w { orders = orders })
+      → orders ≡ w.order_packets ++ order_frame o ∷ [] → packet ≡ length orders → order_spelt (order_frame o) ≡ Some o
+      → Comes (event.Send number) (outcomes.Sent packet) w (record w { order_packets = orders })
   sent o packet orders w up found are place spells =
-      let spelt : map order_spelt orders ≡ map order_spelt w.orders ++ Some o ∷ [] = rw (are, map-append order_spelt w.orders (order_frame o ∷ []), spells) refl in
-      let next : length (map order_spelt w.orders) + 1 ≡ packet = sym (place ∙ rw (are, length-append w.orders (order_frame o ∷ []), length-map w.orders order_spelt) refl) in
-      subst (λ (n : ℕ). Comes (event.Send number) (outcomes.Sent n) w (record w { orders = orders })) next
-      (grows (event.Send number) w (record w { orders = orders }) (λ c. refl) (outcomes.Sent (length (map order_spelt w.orders) + 1))
-      (record (shown_of w) { orders = map order_spelt w.orders ++ Some o ∷ [] }) (send_found o (shown_of w) up found) (rw spelt refl) refl refl)
+      let spelt : map order_spelt orders ≡ map order_spelt w.order_packets ++ Some o ∷ [] = rw (are, map-append order_spelt w.order_packets (order_frame o ∷ []), spells) refl in
+      let next : length (map order_spelt w.order_packets) + 1 ≡ packet = sym (place ∙ rw (are, length-append w.order_packets (order_frame o ∷ []), length-map w.order_packets order_spelt) refl) in
+      subst (λ (n : ℕ). Comes (event.Send number) (outcomes.Sent n) w (record w { order_packets = orders })) next
+      (grows (event.Send number) w (record w { order_packets = orders }) (λ c. refl) (outcomes.Sent (length (map order_spelt w.order_packets) + 1))
+      (record (shown_of w) { order_packets = map order_spelt w.order_packets ++ Some o ∷ [] }) (send_found o (shown_of w) up found) (rw spelt refl) refl refl)
 
 -- no packets are none that is no frame
 no_packet : (none : List (List ℕ)) → none ≡ [] → (k : ℕ) (bytes : List ℕ) → slice_get none k ≡ Some bytes → ⊥
@@ -127,17 +127,17 @@ frames_sent orders replies after o are is spells = subst (λ (ps : List (List �
 -- ---- a reply arrives
 
 module _ (packet : ℕ) where
-  pub no_reply : (w : World) → reply_in_packet (at_number w.replies packet) ≡ None → Comes (event.ReplyIn packet) (outcomes.Refused refusal.NoPacket) w w
+  pub no_reply : (w : World) → reply_in_packet (at_number w.reply_packets packet) ≡ None → Comes (event.ReplyIn packet) (outcomes.Refused refusal.NoPacket) w w
   unfolding judged
-  no_reply w none = refused (event.ReplyIn packet) w refusal.NoPacket (rw (spelt_at reply_spelt w.replies packet ∙ none) refl)
+  no_reply w none = refused (event.ReplyIn packet) w refusal.NoPacket (rw (spelt_at reply_spelt w.reply_packets packet ∙ none) refl)
 
-  pub reply_comes : (r : Reply) (result : Result Taken Refusal) (old : World) (n : NumberedNode) → reply_in_packet (at_number old.replies packet) ≡ Some r → n.lots ≡ old.clear.lots
-      → Leaves (reply_call r old.clear.clear.log.down old.clear.clear.log.records) result old.clear.clear n.clear
+  pub reply_comes : (r : Reply) (result : Result Taken Refusal) (old : World) (n : NumberedNode) → reply_in_packet (at_number old.reply_packets packet) ≡ Some r → n.lots ≡ old.clear.lots
+      → NodeLeaves (reply_call r old.clear.clear.log.down old.clear.clear.log.records) result old.clear.clear n.clear
       → Comes (event.ReplyIn packet) (outcome_of (taken_told r) result) old (record old { clear = n })
   unfolding judged
   reply_comes r result old n held lots left =
       node_comes (event.ReplyIn packet) (taken_told r) (reply_call r old.clear.clear.log.down old.clear.clear.log.records) result old n (λ c. refl) refl quiet
-      (rw (spelt_at reply_spelt old.replies packet ∙ held) refl) lots left
+      (rw (spelt_at reply_spelt old.reply_packets packet ∙ held) refl) lots left
     where
       quiet : (t : Taken) → IsTold (taken_told r t)
       quiet taken.Done = tt
@@ -146,15 +146,15 @@ module _ (packet : ℕ) where
 -- ---- an order arrives
 
 module _ (packet : ℕ) (o : Order) where
-  order_is : (w : World) → order_in_packet (at_number w.orders packet) ≡ Some o
-      → judged (event.OrderIn packet) (shown_of w) ≡ by_order (shown_of w) (order_call o w.depot.log.down w.depot.openings w.depot.log.records)
+  order_is : (w : World) → order_in_packet (at_number w.order_packets packet) ≡ Some o
+      → judged (event.OrderIn packet) (shown_of w) ≡ by_order (shown_of w) (take_order_call o w.depot.log.down w.depot.openings w.depot.log.records)
   unfolding judged
-  order_is w held = rw (spelt_at order_spelt w.orders packet ∙ held) refl
+  order_is w held = rw (spelt_at order_spelt w.order_packets packet ∙ held) refl
 
-  pub without_room : (r : Refusal) (w : World) → order_in_packet (at_number w.orders packet) ≡ Some o
-      → decided NoMemory (shown_of w) (by_order (shown_of w) (order_call o w.depot.log.down w.depot.openings w.depot.log.records)) ≡ (outcomes.Refused r, shown_of w)
+  pub without_room : (r : Refusal) (w : World) → order_in_packet (at_number w.order_packets packet) ≡ Some o
+      → decided NoMemory (shown_of w) (by_order (shown_of w) (take_order_call o w.depot.log.down w.depot.openings w.depot.log.records)) ≡ (outcomes.Refused r, shown_of w)
       → Comes (event.OrderIn packet) (outcomes.Refused r) w w
-  without_room r w held is = by (order_call o w.depot.log.down w.depot.openings w.depot.log.records) (order_is w held) is
+  without_room r w held is = by (take_order_call o w.depot.log.down w.depot.openings w.depot.log.records) (order_is w held) is
     where
       by : (d : Result (Deed DepRecord Answer) DepFault) → judged (event.OrderIn packet) (shown_of w) ≡ by_order (shown_of w) d
           → decided NoMemory (shown_of w) (by_order (shown_of w) d) ≡ (outcomes.Refused r, shown_of w) → Comes (event.OrderIn packet) (outcomes.Refused r) w w
@@ -164,31 +164,31 @@ module _ (packet : ℕ) (o : Order) where
       by (Ok (call.Commits e a)) judge is =
           subst (λ (k : Outcome). Comes (event.OrderIn packet) k w w) (ap (λ (p : Outcome × Shown). p.0) is) (not_committed (event.OrderIn packet) w (λ c. refl) _ _ _ judge)
 
-pub no_order : (packet : ℕ) (w : World) → order_in_packet (at_number w.orders packet) ≡ None → Comes (event.OrderIn packet) (outcomes.Refused refusal.NoPacket) w w
+pub no_order : (packet : ℕ) (w : World) → order_in_packet (at_number w.order_packets packet) ≡ None → Comes (event.OrderIn packet) (outcomes.Refused refusal.NoPacket) w w
 unfolding judged
-no_order packet w none = refused (event.OrderIn packet) w refusal.NoPacket (rw (spelt_at order_spelt w.orders packet ∙ none) refl)
+no_order packet w none = refused (event.OrderIn packet) w refusal.NoPacket (rw (spelt_at order_spelt w.order_packets packet ∙ none) refl)
 
 -- what an order comes to where there is no memory
 module _ (o : Order) (w : World) where
   abbrev pub IsShort : Refusal → Type 0
-  IsShort r = decided NoMemory (shown_of w) (by_order (shown_of w) (order_call o w.depot.log.down w.depot.openings w.depot.log.records)) ≡ (outcomes.Refused r, shown_of w)
+  IsShort r = decided NoMemory (shown_of w) (by_order (shown_of w) (take_order_call o w.depot.log.down w.depot.openings w.depot.log.records)) ≡ (outcomes.Refused r, shown_of w)
 
   pub short_down : w.depot.log.down ≡ true → IsShort refusal.Down
-  unfolding order_call
+  unfolding take_order_call
   short_down down = rw down refl
 
   pub short_new : w.depot.log.down ≡ false → movement_of (executed_of w.depot.log.records) o.number ≡ None → IsShort refusal.OutOfMemory
-  unfolding order_call
+  unfolding take_order_call
   short_new up none = rw (up, none) refl
 
   pub short_known : (known : Movement) → w.depot.log.down ≡ false → movement_of (executed_of w.depot.log.records) o.number ≡ Some known → AgreesWith known.order o
       → IsShort refusal.OutOfMemory
-  unfolding order_call
+  unfolding take_order_call
   short_known known up found agrees = rw (up, found, agrees_with-holds known.order o agrees) refl
 
   pub short_other : (known : Movement) → w.depot.log.down ≡ false → movement_of (executed_of w.depot.log.records) o.number ≡ Some known → (AgreesWith known.order o → ⊥)
       → IsShort refusal.Conflict
-  unfolding order_call
+  unfolding take_order_call
   short_other known up found isnt = rw (up, found, agrees_with-differ known.order o isnt) refl
 
 -- the movement that is found, where its order and the shares that it moved are
@@ -207,10 +207,10 @@ none_found (Some m) is = absurd (cc is)
 module _ (e : Event) (by_commit : (w : World) → IsByCommit e w) (node_is : node_of e ≡ node.Depot) (outcome : Outcome) (r : DepRecord) (left : Shown) (old : World) (d : DepNode)
     (judge : judged e (shown_of old) ≡ Ok (Commits outcome left (depot_failed r (shown_of old)))) where
   -- its record is acknowledged
-  pub depot_goes : (replies : List (List ℕ)) → IsTold outcome → shown_of (record old { depot = d; replies = replies }) ≡ left → LogCommits r (Ok tt) old.depot.log d.log
-      → Comes e outcome old (record old { depot = d; replies = replies })
+  pub depot_goes : (replies : List (List ℕ)) → IsTold outcome → shown_of (record old { depot = d; reply_packets = replies }) ≡ left → LogCommits r (Ok tt) old.depot.log d.log
+      → Comes e outcome old (record old { depot = d; reply_packets = replies })
   depot_goes replies quiet shown (log, may) =
-      commits e old (record old { depot = d; replies = replies }) (by_commit old) outcome left (depot_failed r (shown_of old)) judge shown (rw node_is may) refl (ap sight_of log)
+      commits e old (record old { depot = d; reply_packets = replies }) (by_commit old) outcome left (depot_failed r (shown_of old)) judge shown (rw node_is may) refl (ap sight_of log)
       (rw node_is (told_leaves outcome quiet old.depot.log d.log (record { failures = rw log refl; rejected = rw log refl }), untouched_refl old.clear.clear.log))
 
   -- or it is not
@@ -227,24 +227,24 @@ module _ (e : Event) (by_commit : (w : World) → IsByCommit e w) (node_is : nod
 
 -- what is told of an order that was answered, and what is put on the link of replies
 abbrev pub order_told : World → Result Answer DepFault → Outcome
-order_told old (Ok a) = answer_told (length old.replies + 1) a
+order_told old (Ok a) = answer_told (length old.reply_packets + 1) a
 order_told old (Err f) = outcomes.Refused (dep_refusal f)
 
 abbrev pub PutsReply : World → List (List ℕ) → Result Answer DepFault → Type 0
-PutsReply old replies (Ok a) = (replies ≡ old.replies ++ reply_frame (answer_reply a) ∷ []) × (reply_spelt (reply_frame (answer_reply a)) ≡ Some (answer_reply a))
-PutsReply old replies (Err f) = replies ≡ old.replies
+PutsReply old replies (Ok a) = (replies ≡ old.reply_packets ++ reply_frame (answer_reply a) ∷ []) × (reply_spelt (reply_frame (answer_reply a)) ≡ Some (answer_reply a))
+PutsReply old replies (Err f) = replies ≡ old.reply_packets
 
 -- an order is answered, and its reply put on the link, in room that was there; or it is refused
-pub order_comes : (packet : ℕ) (o : Order) (old : World) (result : Result Answer DepFault) (d : DepNode) (replies : List (List ℕ)) → order_in_packet (at_number old.orders packet) ≡ Some o
-    → OrderLeaves (order_call o old.depot.log.down old.depot.openings old.depot.log.records) result old.depot d → PutsReply old replies result
-    → Comes (event.OrderIn packet) (order_told old result) old (record old { depot = d; replies = replies })
+pub order_comes : (packet : ℕ) (o : Order) (old : World) (result : Result Answer DepFault) (d : DepNode) (replies : List (List ℕ)) → order_in_packet (at_number old.order_packets packet) ≡ Some o
+    → OrderLeaves (take_order_call o old.depot.log.down old.depot.openings old.depot.log.records) result old.depot d → PutsReply old replies result
+    → Comes (event.OrderIn packet) (order_told old result) old (record old { depot = d; reply_packets = replies })
 order_comes packet o old result d replies held left puts =
-    by (order_call o old.depot.log.down old.depot.openings old.depot.log.records) (order_is packet o old held) left
+    by (take_order_call o old.depot.log.down old.depot.openings old.depot.log.records) (order_is packet o old held) left
   where
     e : Event
     e = event.OrderIn packet
 
-    told : (a : Answer) → IsTold (answer_told (length old.replies + 1) a)
+    told : (a : Answer) → IsTold (answer_told (length old.reply_packets + 1) a)
     told (answer.Done r) = tt
     told (answer.Again r) = tt
 
@@ -252,21 +252,21 @@ order_comes packet o old result d replies held left puts =
     refused_by commit.OutOfMemory = refl
     refused_by commit.Device = refl
 
-    next : length (map reply_spelt old.replies) ≡ length old.replies
-    next = length-map old.replies reply_spelt
+    next : length (map reply_spelt old.reply_packets) ≡ length old.reply_packets
+    next = length-map old.reply_packets reply_spelt
 
-    spelt : (a : Answer) → PutsReply old replies (Ok a) → map reply_spelt replies ≡ map reply_spelt old.replies ++ Some (answer_reply a) ∷ []
-    spelt a (are, spells) = rw (are, map-append reply_spelt old.replies (reply_frame (answer_reply a) ∷ []), spells) refl
+    spelt : (a : Answer) → PutsReply old replies (Ok a) → map reply_spelt replies ≡ map reply_spelt old.reply_packets ++ Some (answer_reply a) ∷ []
+    spelt a (are, spells) = rw (are, map-append reply_spelt old.reply_packets (reply_frame (answer_reply a) ∷ []), spells) refl
 
     by : (deed : Result (Deed DepRecord Answer) DepFault) → judged e (shown_of old) ≡ by_order (shown_of old) deed → OrderLeaves deed result old.depot d
-        → Comes e (order_told old result) old (record old { depot = d; replies = replies })
+        → Comes e (order_told old result) old (record old { depot = d; reply_packets = replies })
     by (Err f) judge (answer, same) = rw (answer, same, rw answer at puts) (refused e old (dep_refusal f) judge)
     by (Ok (call.Tells a)) judge (answer, same) =
         rw (answer, same)
-        (grows e old (record old { replies = replies }) (λ c. refl) (answer_told (length old.replies + 1) a) _ (rw next at judge) (rw (spelt a (rw answer at puts)) refl) refl refl)
+        (grows e old (record old { reply_packets = replies }) (λ c. refl) (answer_told (length old.reply_packets + 1) a) _ (rw next at judge) (rw (spelt a (rw answer at puts)) refl) refl refl)
     by (Ok (call.Commits r a)) judge (Ok u, answer, (up, (log, may), openings)) =
         rw answer
-        (depot_goes e (λ w c. refl) refl (answer_told (length old.replies + 1) a) r _ old d (rw next at judge) replies (told a) (rw (spelt a (rw answer at puts), log, openings) refl) (log, may))
+        (depot_goes e (λ w c. refl) refl (answer_told (length old.reply_packets + 1) a) r _ old d (rw next at judge) replies (told a) (rw (spelt a (rw answer at puts), log, openings) refl) (log, may))
     by (Ok (call.Commits r a)) judge (Err fault, answer, failed) =
         rw (answer, refused_by fault, rw answer at puts) (depot_fails e (λ w c. refl) refl _ r _ old d judge fault failed)
 
@@ -291,6 +291,6 @@ own_comes i result old d left = by (instruct_call i old.depot.log.down old.depot
     by (Err k) judge (answer, same) = rw (answer, same) (refused (event.Own i) old (own_fault_refusal k) judge)
     by (Ok (call.Tells x)) judge (answer, same) = rw (answer, same) (tells (event.Own i) old old (own_told i x) (shown_of old) judge refl refl refl)
     by (Ok (call.Commits r x)) judge (Ok u, answer, (up, (log, may), openings)) =
-        rw answer (depot_goes (event.Own i) (λ w c. refl) refl (own_told i x) r _ old d judge old.replies (quiet x) (rw (log, openings) refl) (log, may))
+        rw answer (depot_goes (event.Own i) (λ w c. refl) refl (own_told i x) r _ old d judge old.reply_packets (quiet x) (rw (log, openings) refl) (log, may))
     by (Ok (call.Commits r x)) judge (Err fault, answer, failed) =
         rw (answer, refused_by fault) (depot_fails (event.Own i) (λ w c. refl) refl _ r _ old d judge fault failed)

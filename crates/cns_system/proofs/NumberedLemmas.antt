@@ -1,7 +1,6 @@
 -- What the calls of a node with its lots by number come to and leave.
 use Rattle.std.proofs.Common.{◌+◌, ◌≡◌, ◌≤◌, ◌<◌, ◌-◌, ◌∙◌, ℕ, List, [], ◌∷◌, ◌++◌, length, Option, Some, None, Result, Ok, Err, Bool, true, false, ap, sym, subst, refl, arith, inl, inr}
 use Rattle.std.specs.Prelude.{◌==◌, ◌⊎◌, ◌||◌, slice_set, not, nat_lt, IfErr, IfOk, IsSome, option_map, unwrap_or, if◌then◌else◌}
-use Rattle.std.specs.Option.{ok_or}
 use Rattle.std.proofs.lemmas.Bool.{eqb-true, false_from_ne_true}
 use Rattle.std.proofs.lemmas.Bool.Decides.{nat_tests}
 use Rattle.std.proofs.lemmas.Option.{same_Some}
@@ -26,8 +25,8 @@ use Rattle.cns_records.specs.declared.clear_record.ClearRecord.{ClearRecord}
 use Rattle.cns_records.specs.declared.clear_record.ClearRecord.TheVariants as entry
 use Rattle.cns_records.proofs.CallLemmas.{changed}
 use Rattle.cns_clearing.specs.Answers as clear
-use Rattle.cns_clearing.specs.Answers.{AreServed, Leaves, allocation_of, close_deed, closed_of}
-use Rattle.cns_clearing.specs.Books.{IsLawful, books_of, history_of, orders_of}
+use Rattle.cns_clearing.specs.Answers.{AreServed, NodeLeaves, closing_allocation, close_deed, closed_of, deliveries_by}
+use Rattle.cns_clearing.specs.Books.{IsLawful, are_spent, books_of, history_of, orders_of}
 use Rattle.cns_clearing.specs.Lots.{avail_in, longs_among, lots_after, lots_poured, plan_in, refilled, without_lot}
 use Rattle.cns_clearing.specs.Lots as node
 use Rattle.cns_clearing.specs.Node.{ClearNode}
@@ -45,7 +44,7 @@ use Rattle.cns_system.specs.Lots.{change_call, going_lot, turn_ticket, reserve_c
 use Rattle.cns_system.specs.Numbered.{AreTied, IsNumberedCommit, NumberedNode, numbered_close, lots_ended, numbered_open, opening_call, numbered_pour, with_opened}
 use Rattle.cns_system.proofs.LotsLemmas.{IsGoing, going_parts}
 use Rattle.cns_system.proofs.RecordedLemmas.{IsMet, Recorded, is_met}
-use Rattle.cns_system.proofs.StepLemmas.{ok_then}
+use Rattle.cns_system.proofs.StepLemmas.{ok_found, ok_needed, ok_then}
 use Rattle.cns_system.proofs.TiedLemmas.{ended_lots, found_poured, found_without, poured_keeps, tied_changed, tied_more}
 
 -- ---- changes of the lots by number alone
@@ -123,7 +122,7 @@ reserve_tied open_lots n member r lots after are h =
 
 -- a call whose record is no allocation leaves the node's open lots
 pub call_lots : {X : Type 0} (deed : Result (Deed ClearRecord X) Refusal) (T : X → Type 0) (Q : ClearRecord → X → Type 0) (result : Result X Refusal) (old new : ClearNode)
-    → ((r : ClearRecord) (x : X) → Q r x → (lots : List Lot) → lots_after r lots ≡ lots) → IfOk deed (Recorded old.log.down T Q) → Leaves deed result old new → new.lots ≡ old.lots
+    → ((r : ClearRecord) (x : X) → Q r x → (lots : List Lot) → lots_after r lots ≡ lots) → IfOk deed (Recorded old.log.down T Q) → NodeLeaves deed result old new → new.lots ≡ old.lots
 call_lots (Err r) T Q result old new quiet records (answer, same) = ap (λ (n : ClearNode). n.lots) same
 call_lots (Ok (call.Tells x)) T Q result old new quiet records (answer, same) = ap (λ (n : ClearNode). n.lots) same
 call_lots (Ok (call.Commits r x)) T Q result old new quiet records (Ok u, answer, added) = added.2 ∙ quiet r x records.1 old.lots
@@ -133,7 +132,7 @@ call_lots (Ok (call.Commits r x)) T Q result old new quiet records (Err commit.D
 -- and so those by number stay tied to them
 pub call_tied : {X : Type 0} (deed : Result (Deed ClearRecord X) Refusal) (T : X → Type 0) (Q : ClearRecord → X → Type 0) (result : Result X Refusal) (old new : ClearNode)
     (lots : List LotState) → ((r : ClearRecord) (x : X) → Q r x → (ls : List Lot) → lots_after r ls ≡ ls) → IfOk deed (Recorded old.log.down T Q) → AreTied old.lots lots
-    → Leaves deed result old new → AreTied new.lots lots
+    → NodeLeaves deed result old new → AreTied new.lots lots
 call_tied deed T Q result old new lots quiet records are left = subst (λ (ls : List Lot). AreTied ls lots) (sym (call_lots deed T Q result old new quiet records left)) are
 
 -- ---- an opening
@@ -311,22 +310,17 @@ close_unserved number down c open_lots lots l going up waits = rw (going, up, no
 pub record IsCloseOf (issue : ℕ) (tickets : List Ticket) (sealed : Bool) (c : List ClearRecord) (lots : List Lot) (d : Deed ClearRecord Closed) : Type 0 where
   pub lot : Lot
   pub found : lot_of lots issue ≡ Some lot
-  pub is : d ≡ call.Commits (entry.Allocate (allocation_of lot tickets sealed)) (closed_of lot tickets sealed c)
+  pub is : d ≡ call.Commits (entry.Allocate (closing_allocation lot tickets sealed)) (closed_of lot tickets sealed c)
 
 pub close_record : (issue : ℕ) (tickets : List Ticket) (sealed down : Bool) (c : List ClearRecord) (lots : List Lot)
     → IfOk (clear.close_call issue tickets sealed down c lots) (IsCloseOf issue tickets sealed c lots)
 unfolding clear.close_call
 close_record issue tickets sealed true c lots = tt
-close_record issue tickets sealed false c lots = by (lot_of lots issue) refl
-  where
-    numbers : (lot : Lot) (spent : Bool) → lot_of lots issue ≡ Some lot
-        → IfOk (need (not spent) refusal.NumbersSpent >> Ok (call.Commits (entry.Allocate (allocation_of lot tickets sealed)) (closed_of lot tickets sealed c))) (IsCloseOf issue tickets sealed c lots)
-    numbers lot true found = tt
-    numbers lot false found = record { lot = lot; found = found; is = refl }
-
-    by : (o : Option Lot) → lot_of lots issue ≡ o → IfOk (ok_or o refusal.NoLot >>= close_deed tickets sealed c) (IsCloseOf issue tickets sealed c lots)
-    by None found = tt
-    by (Some lot) found = numbers lot _ found
+close_record issue tickets sealed false c lots =
+    let Q = IsCloseOf issue tickets sealed c lots in
+    ok_found Q (lot_of lots issue) refusal.NoLot (close_deed tickets sealed c) (λ lot found.
+    ok_needed Q (not (are_spent (orders_of c) (length (deliveries_by lot tickets sealed)))) refusal.NumbersSpent
+    (Ok (call.Commits (entry.Allocate (closing_allocation lot tickets sealed)) (closed_of lot tickets sealed c))) (λ few. record { lot = lot; found = found; is = refl }))
 
 -- the end of a lot that has not ended
 pub end_is : (lots after : List LotState) (number : ℕ) (l : LotState) (r : Result (Unit {0}) Refusal) → going_lot lots number ≡ Ok l → Changes (change_call with_end number lots) r lots after
@@ -338,7 +332,7 @@ end_is lots after number l r going h =
 
 -- what the node's close leaves is what that of the lot's number does, where the lot ends just where the close is not refused
 pub closed_by : (number : ℕ) (old : NumberedNode) (l : LotState) (result : Result Closed Refusal) (new : ClearNode) (after : List LotState) → going_lot old.lots number ≡ Ok l
-    → old.clear.log.down ≡ false → IsMet l → Leaves (clear.close_call l.issue l.tickets l.sealed old.clear.log.down old.clear.log.records old.clear.lots) result old.clear new
+    → old.clear.log.down ≡ false → IsMet l → NodeLeaves (clear.close_call l.issue l.tickets l.sealed old.clear.log.down old.clear.log.records old.clear.lots) result old.clear new
     → IfOk result (λ _. after ≡ lots_ended number old.lots) → IfErr result (λ _. after ≡ old.lots)
     → CallLeaves commit_refusal (IsNumberedCommit (lots_ended number)) (numbered_close number old.clear.log.down old.clear.log.records old.clear.lots old.lots) result old
     (record { clear = new; lots = after })
@@ -347,7 +341,7 @@ closed_by number old l result new after going up met left ended kept =
     (by (clear.close_call l.issue l.tickets l.sealed old.clear.log.down old.clear.log.records old.clear.lots)
     (close_record l.issue l.tickets l.sealed old.clear.log.down old.clear.log.records old.clear.lots) left)
   where
-    by : (d : Result (Deed ClearRecord Closed) Refusal) → IfOk d (IsCloseOf l.issue l.tickets l.sealed old.clear.log.records old.clear.lots) → Leaves d result old.clear new
+    by : (d : Result (Deed ClearRecord Closed) Refusal) → IfOk d (IsCloseOf l.issue l.tickets l.sealed old.clear.log.records old.clear.lots) → NodeLeaves d result old.clear new
         → CallLeaves commit_refusal (IsNumberedCommit (lots_ended number)) d result old (record { clear = new; lots = after })
     by (Err r) is (answer, same) = (answer, rw (same, rw answer at kept) refl)
     by (Ok (call.Tells x)) is left = absurd (cc is.is)
@@ -356,18 +350,18 @@ closed_by number old l result new after going up met left ended kept =
 
 -- a close that is refused leaves the node's open lots, and one that is not takes the lot of its issue from them
 pub close_lots : (old new : ClearNode) (l : LotState) (result : Result Closed Refusal)
-    → Leaves (clear.close_call l.issue l.tickets l.sealed old.log.down old.log.records old.lots) result old new
+    → NodeLeaves (clear.close_call l.issue l.tickets l.sealed old.log.down old.log.records old.lots) result old new
     → new.lots ≡ elim result [ Ok done ↦ without_lot l.issue old.lots | Err r ↦ old.lots ]
 close_lots old new l result left =
     by (clear.close_call l.issue l.tickets l.sealed old.log.down old.log.records old.lots)
     (close_record l.issue l.tickets l.sealed old.log.down old.log.records old.lots) left
   where
-    by : (d : Result (Deed ClearRecord Closed) Refusal) → IfOk d (IsCloseOf l.issue l.tickets l.sealed old.log.records old.lots) → Leaves d result old new
+    by : (d : Result (Deed ClearRecord Closed) Refusal) → IfOk d (IsCloseOf l.issue l.tickets l.sealed old.log.records old.lots) → NodeLeaves d result old new
         → new.lots ≡ elim result [ Ok done ↦ without_lot l.issue old.lots | Err r ↦ old.lots ]
     by (Err f) is (answer, same) = rw answer (ap (λ (n : ClearNode). n.lots) same)
     by (Ok (call.Tells x)) is left = absurd (cc is.is)
     by (Ok (call.Commits r x)) is (Ok u, answer, added) =
-        let record_is : r ≡ entry.Allocate (allocation_of is.lot l.tickets l.sealed) = cc is.is in
+        let record_is : r ≡ entry.Allocate (closing_allocation is.lot l.tickets l.sealed) = cc is.is in
         rw answer (added.2 ∙ rw record_is (ap (λ (i : ℕ). without_lot i old.lots) (found_issue old.lots l.issue is.lot is.found)))
     by (Ok (call.Commits r x)) is (Err commit.OutOfMemory, answer, same) = rw answer (ap (λ (n : ClearNode). n.lots) same)
     by (Ok (call.Commits r x)) is (Err commit.Device, answer, failed) = rw answer failed.2

@@ -11,7 +11,7 @@ use Rattle.cns_records.specs.Call as call
 use Rattle.cns_records.specs.declared.dep_record.DepRecord.{DepRecord}
 use Rattle.cns_records.specs.declared.dep_record.DepRecord.TheVariants as dep
 use Rattle.cns_records.specs.declared.instruction.Instruction.{Instruction}
-use Rattle.cns_depository.specs.Answers.{executes, held_call, instruct_call, known_call, order_call, own_refused, reply_to}
+use Rattle.cns_depository.specs.Answers.{executes, held_call, instruct_call, known_call, take_order_call, own_refused, reply_to}
 use Rattle.cns_depository.specs.Stock.{executed_of, execution, instructed_of, instruction_of, movement, movement_of, own_refusal}
 use Rattle.cns_depository.specs.declared.fault.Answer.{Answer}
 use Rattle.cns_depository.specs.declared.fault.Answer.TheVariants as answer
@@ -29,8 +29,8 @@ IsOrderDeed o down openings p (call.Tells a) =
 IsOrderDeed o down openings p (call.Commits e a) =
     (down ≡ false) × (movement_of (executed_of p) o.number ≡ None) × (e ≡ execution (movement openings p o)) × (a ≡ answer.Done (reply_to (movement openings p o)))
 
-pub order_deeds : (o : Order) (down : Bool) (openings : List Opening) (p : List DepRecord) → IfOk (order_call o down openings p) (IsOrderDeed o down openings p)
-unfolding order_call
+pub order_deeds : (o : Order) (down : Bool) (openings : List Opening) (p : List DepRecord) → IfOk (take_order_call o down openings p) (IsOrderDeed o down openings p)
+unfolding take_order_call
 order_deeds o true openings p = tt
 order_deeds o false openings p = by (movement_of (executed_of p) o.number) refl
   where

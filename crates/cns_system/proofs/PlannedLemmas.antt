@@ -21,13 +21,13 @@ foreseen_when _ known = refl
 -- only what is known of one node's keeper has changed
 clear_planned : (f : Foresight) (old new : World) → new.clear.clear.log ≡ record old.clear.clear.log { foresight = new.clear.clear.log.foresight }
     → new.clear.clear.log.foresight ≡ f → new.clear.clear.lots ≡ old.clear.clear.lots → new.clear.lots ≡ old.clear.lots → new.depot ≡ old.depot
-    → new.orders ≡ old.orders → new.replies ≡ old.replies
+    → new.order_packets ≡ old.order_packets → new.reply_packets ≡ old.reply_packets
     → scene_of new ≡ record (scene_of old) { clear = record (sight_of old.clear.clear.log) { foresight = f } }
 clear_planned f old new log foresight open_lots lots depot orders replies = cc (ap log_shown log, ap sight_of log)
 
 depot_planned : (f : Foresight) (old new : World) → new.depot.log ≡ record old.depot.log { foresight = new.depot.log.foresight }
     → new.depot.log.foresight ≡ f
-    → new.depot.openings ≡ old.depot.openings → new.clear ≡ old.clear → new.orders ≡ old.orders → new.replies ≡ old.replies
+    → new.depot.openings ≡ old.depot.openings → new.clear ≡ old.clear → new.order_packets ≡ old.order_packets → new.reply_packets ≡ old.reply_packets
     → scene_of new ≡ record (scene_of old) { depot = record (sight_of old.depot.log) { foresight = f } }
 depot_planned f old new log foresight openings clear orders replies = cc (ap log_shown log, ap sight_of log)
 

@@ -18,7 +18,7 @@ use Rattle.cns_records.specs.declared.clear_record.ClearRecord.TheVariants as en
 use Rattle.cns_records.specs.declared.refusal.Refusal.{Refusal}
 use Rattle.cns_records.specs.declared.refusal.Refusal.TheVariants as refusal
 use Rattle.cns_allocate.specs.declared.planned.Planned.{Planned}
-use Rattle.cns_clearing.specs.Answers.{allocation_of, answer_in, close_deed, closed_of, covers_in, cycle_call, cycled_of, deliveries_by, reply_call, setting_call, trade_call, up, verdict_in}
+use Rattle.cns_clearing.specs.Answers.{closing_allocation, answer_in, close_deed, closed_of, covers_in, cycle_call, cycled_of, deliveries_by, reply_call, setting_call, trade_call, need_up, verdict_in}
 use Rattle.cns_clearing.specs.Books.{are_spent, is_later, latest_of, orders_of}
 use Rattle.cns_clearing.specs.Pools.{lot_of}
 use Rattle.cns_clearing.specs.declared.answer.Closed.{Closed}
@@ -43,7 +43,7 @@ abbrev pub Commits : {X : Type 0} → Bool → ClearRecord → Deed ClearRecord 
 Commits down r d = Recorded down (λ x. ⊥) (λ k x. k ≡ r) d
 
 -- what a node answers that is up is what comes after that
-pub ok_up : {B : Type 0} (P : B → Type 0) (down : Bool) (next : Result B Refusal) → (down ≡ false → IfOk next P) → IfOk (up down >> next) P
+pub ok_up : {B : Type 0} (P : B → Type 0) (down : Bool) (next : Result B Refusal) → (down ≡ false → IfOk next P) → IfOk (need_up down >> next) P
 ok_up P true next rest = tt
 ok_up P false next rest = rest refl
 
@@ -116,7 +116,7 @@ pub record IsClose (number : ℕ) (open_lots : List Lot) (lots : List LotState) 
 
 -- its allocation
 abbrev pub allocated : {number : ℕ} {open_lots : List Lot} {lots : List LotState} → IsClose number open_lots lots → ClearRecord
-allocated close = entry.Allocate (allocation_of close.twin close.lot.tickets close.lot.sealed)
+allocated close = entry.Allocate (closing_allocation close.twin close.lot.tickets close.lot.sealed)
 
 abbrev pub Closes : ℕ → Bool → List Lot → List LotState → Deed ClearRecord Closed → Type 0
 Closes number down open_lots lots d = Recorded down (λ x. ⊥) (λ r x. (close : IsClose number open_lots lots) × (r ≡ allocated close)) d
@@ -129,10 +129,10 @@ close_records number down c open_lots lots =
     let deed : LotState → Lot → Result (Deed ClearRecord Closed) Refusal = λ lot twin. close_deed lot.tickets lot.sealed c twin in
     let twin : LotState → Result (Deed ClearRecord Closed) Refusal = λ lot. ok_or (lot_of open_lots lot.issue) refusal.NoLot >>= deed lot in
     let served : LotState → Bool = λ lot. lot.sealed || (length lot.turns == 0) in
-    ok_then Q (going_lot lots number) (λ lot. up down >> (need (served lot) refusal.Unserved >> twin lot)) (λ lot going.
+    ok_then Q (going_lot lots number) (λ lot. need_up down >> (need (served lot) refusal.Unserved >> twin lot)) (λ lot going.
     ok_up Q down (need (served lot) refusal.Unserved >> twin lot) (λ up.
     ok_needed Q (served lot) refusal.Unserved (twin lot) (λ met.
     ok_found Q (lot_of open_lots lot.issue) refusal.NoLot (deed lot) (λ k found.
     ok_needed Q (not (are_spent (orders_of c) (length (deliveries_by k lot.tickets lot.sealed)))) refusal.NumbersSpent
-    (Ok (call.Commits (entry.Allocate (allocation_of k lot.tickets lot.sealed)) (closed_of k lot.tickets lot.sealed c))) (λ few.
+    (Ok (call.Commits (entry.Allocate (closing_allocation k lot.tickets lot.sealed)) (closed_of k lot.tickets lot.sealed c))) (λ few.
     let close : IsClose number open_lots lots = record { lot = lot; at = going_parts lots number lot going; met = is_met lot met; twin = k; found = found } in (up, (close, refl)))))))

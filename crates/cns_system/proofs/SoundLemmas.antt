@@ -8,7 +8,7 @@ use Rattle.cns_movements.specs.Order.{AgreesWith, moved_of, order_of}
 use Rattle.cns_movements.proofs.AgreeLemmas.{agree_fields, agrees_with-holds}
 use Rattle.cns_records.specs.Call as call
 use Rattle.cns_records.specs.declared.clear_record.ClearRecord.TheVariants as entry
-use Rattle.cns_clearing.specs.Answers.{reply_call, up}
+use Rattle.cns_clearing.specs.Answers.{reply_call, need_up}
 use Rattle.cns_depository.specs.Stock.{executed_of, movement, movement_of}
 use Rattle.cns_system.specs.World.{World}
 use Rattle.std.proofs.lemmas.Bool.{eq-eqb, ltb-true}
@@ -32,7 +32,7 @@ use Rattle.cns_system.specs.declared.outcome.Outcome.TheVariants as outcomes
 use Rattle.cns_records.specs.declared.refusal.Refusal.{Refusal}
 use Rattle.cns_records.specs.declared.refusal.Refusal.TheVariants as refusal
 use Rattle.cns_system.specs.Agreement.{IsExecuted}
-use Rattle.cns_depository.specs.Answers.{executes, known_call, order_call}
+use Rattle.cns_depository.specs.Answers.{executes, known_call, take_order_call}
 use Rattle.cns_system.specs.Accord.{Accord, IsInAccord, IsAsOrdered, IsSound, StaysSound}
 use Rattle.cns_system.specs.Happens.{Change, Commits, Decision, FindsBad, Grows, Leaves, Restarts, by_clear, by_order, judged, restarts, taken_told}
 use Rattle.cns_system.specs.Scene.{Chance, Comes, Scene, decision_at, scene_of}
@@ -93,9 +93,9 @@ fine _ o is = tt
 
 module _ (s : Scene) (a : Accord s.shown) where
   -- an order that came is of the orders, so that it agrees with what was executed under its number, and meets no other one
-  order_refused : (packet : ℕ) (o : Order) → Arrives s.shown.orders packet o
-      → IfErr (by_order s.shown (order_call o s.shown.depot.down s.shown.openings s.shown.depot.records)) (λ r. IsSound (event.OrderIn packet) (outcomes.Refused r))
-  unfolding order_call
+  order_refused : (packet : ℕ) (o : Order) → Arrives s.shown.order_packets packet o
+      → IfErr (by_order s.shown (take_order_call o s.shown.depot.down s.shown.openings s.shown.depot.records)) (λ r. IsSound (event.OrderIn packet) (outcomes.Refused r))
+  unfolding take_order_call
   order_refused packet o at = by s.shown.depot.down (movement_of (executed_of s.shown.depot.records) o.number) refl
     where
       by : (down : Bool) (found : Option Movement) → movement_of (executed_of s.shown.depot.records) o.number ≡ found
@@ -108,7 +108,7 @@ module _ (s : Scene) (a : Accord s.shown) where
           rw (agrees_with-holds known.order o agrees) tt
 
   -- a reply that came is of a movement that was executed, so that it is a first or a repeated confirmation
-  reply_refused : (packet : ℕ) (r : Reply) → Arrives s.shown.replies packet r
+  reply_refused : (packet : ℕ) (r : Reply) → Arrives s.shown.reply_packets packet r
       → IfErr (by_clear (taken_told r) s.shown (reply_call r s.shown.clear.down s.shown.clear.records)) (λ f. IsSound (event.ReplyIn packet) (outcomes.Refused f))
   unfolding reply_call
   reply_refused packet r at =
@@ -116,7 +116,7 @@ module _ (s : Scene) (a : Accord s.shown) where
       (answer_known (orders_of s.shown.clear.records) (executed_of s.shown.depot.records) r a.executed a.confirmed (replied s.shown a packet r at))
     where
       by : (down : Bool) (answer : Confirm) → (answer ≡ confirm.Done) ⊎ (answer ≡ confirm.Again)
-          → IfErr (by_clear (taken_told r) s.shown (up down >> elim answer [
+          → IfErr (by_clear (taken_told r) s.shown (need_up down >> elim answer [
             | confirm.Done ↦ Ok (call.Commits (entry.Confirm r) taken.Done)
             | confirm.Again ↦ Ok (call.Tells taken.Again)
             | confirm.UnknownMove ↦ Err refusal.UnknownMove
@@ -131,11 +131,11 @@ module _ (s : Scene) (a : Accord s.shown) where
   refused_sound : (e : Event) → IfErr (judged e s.shown) (λ r. IsSound e (outcomes.Refused r))
   unfolding judged
   refused_sound (event.OrderIn packet) =
-      let held = option_flatten (at_number s.shown.orders packet) in
-      let next : Order → Result Change Refusal = λ o. by_order s.shown (order_call o s.shown.depot.down s.shown.openings s.shown.depot.records) in
+      let held = option_flatten (at_number s.shown.order_packets packet) in
+      let next : Order → Result Change Refusal = λ o. by_order s.shown (take_order_call o s.shown.depot.down s.shown.openings s.shown.depot.records) in
       err_found (λ r. IsSound (event.OrderIn packet) (outcomes.Refused r)) held refusal.NoPacket next (fine (event.OrderIn packet) (outcomes.Refused refusal.NoPacket) tt) (order_refused packet)
   refused_sound (event.ReplyIn packet) =
-      let held = option_flatten (at_number s.shown.replies packet) in
+      let held = option_flatten (at_number s.shown.reply_packets packet) in
       let next : Reply → Result Change Refusal = λ r. by_clear (taken_told r) s.shown (reply_call r s.shown.clear.down s.shown.clear.records) in
       err_found (λ r. IsSound (event.ReplyIn packet) (outcomes.Refused r)) held refusal.NoPacket next (fine (event.ReplyIn packet) (outcomes.Refused refusal.NoPacket) tt) (reply_refused packet)
   refused_sound (event.Restart name) = tt

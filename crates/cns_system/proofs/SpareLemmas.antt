@@ -31,7 +31,7 @@ pub record KeepsLots (changed : Option ℕ) (w left : Shown) : Type 0 where
 
 -- ---- by what becomes of the lots
 
--- they stay
+-- the lots stay
 pub rest_same : (changed : Option ℕ) (w left : Shown) → left.lots ≡ w.lots → left.open_lots ≡ w.open_lots → KeepsRest changed w left
 rest_same changed w left lots open_lots n l spared given found going =
     (ap (λ (ls : List LotState). at_number ls n) (sym lots) ∙ found, ap (λ (ls : List Lot). lot_of ls l.issue) open_lots)
@@ -41,7 +41,7 @@ pub keeps_same : (changed : Option ℕ) (w left : Shown) → left.lots ≡ w.lot
 keeps_same changed w left lots open_lots =
     record { longer = omega (arith, ap length lots); rest = λ tied. rest_same changed w left lots open_lots }
 
--- one more is opened
+-- one more lot is opened
 pub opens_one : (w : Shown) (lot : Lot) → KeepsLots None w (with_new_lot lot w)
 opens_one w lot = record {
   longer = omega (arith, length-append w.lots (numbered_lot lot.issue lot.plan ∷ []));
@@ -68,14 +68,14 @@ changes_one w left number lot at len lots open_lots = record {
       (there, open_lots l.issue (λ same. other (tied.once n number l lot there at.found going at.going same)));
 }
 
--- it takes another state
+-- the lot of a number takes another state
 pub updates_one : (w left : Shown) (number : ℕ) (lot x : LotState) → IsGoing w.lots number lot → left.lots ≡ with_lot number x w.lots
     → ((other : ℕ) → (other ≡ lot.issue → ⊥) → lot_of left.open_lots other ≡ lot_of w.open_lots other) → KeepsLots (Some number) w left
 updates_one w left number lot x at is open_lots =
     changes_one w left number lot at (ap length is ∙ length-set _ _ _)
     (λ n l other found. at_other w.lots number n lot x l at.found other (ap (λ (lots : List LotState). at_number lots n) (sym is) ∙ found)) open_lots
 
--- all end
+-- all lots end
 pub ends_all : (w left : Shown) → left.lots ≡ map with_end w.lots → KeepsLots None w left
 ends_all w left is = record {
   longer = omega (arith, ap length is ∙ length-map w.lots with_end);
@@ -92,7 +92,7 @@ closes_one w number close =
     updates_one w _ number lot (with_end lot) close.at (ended_lots w.lots number lot close.at.found)
     (λ other differ. found_without close.twin.issue other w.open_lots (λ same. differ (same ∙ issue)))
 
--- it is poured into
+-- the lot of a number is poured into
 pub pours_one : (w : Shown) (number : ℕ) (lot : LotState) → IsGoing w.lots number lot
     → KeepsLots (Some number) w (record w { open_lots = lots_poured w.clear.records lot.issue w.open_lots })
 pours_one w number lot at =

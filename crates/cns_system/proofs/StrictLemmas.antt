@@ -35,14 +35,14 @@ close_closes number c open_lots lots are tied close =
     (served_by number open_lots lots lot tied close.at close.met close.twin close.found)
 
 module _ (log : LogShown ClearRecord) (strict : IsStrict log) where
-  -- a record more that closes a lot, or one whose commit failed
+  -- they stay so with a record more that closes a lot, and with one such whose commit failed
   pub strict_added : (r : ClearRecord) → log.down ≡ false → ClosesLot log.records r → IsStrict (record log { records = r ∷ log.records }) × IsStrict (record log { tried = Some r; down = true })
   strict_added r up closes = (
     record { allowed = (closes, strict.allowed); tried = rw (strict.up up) tt; up = strict.up },
     record { allowed = strict.allowed; tried = closes; up = λ e. absurd (cc e) },
   )
 
-  -- a restart of the node, where its records are back, and where they were not read
+  -- and at a restart of the node, where its records are back, and where they were not read
   pub strict_back : (c : List ClearRecord) → AreBack log.tried log.records c → IsStrict (record { records = c; tried = None; down = false })
   strict_back c (inl same) = rw same (record { allowed = strict.allowed; tried = tt; up = λ e. refl })
   strict_back c (inr (r, tried, is)) = rw is (record { allowed = (rw tried at strict.tried, strict.allowed); tried = tt; up = λ e. refl })

@@ -40,7 +40,7 @@ drawn_of n member t old new comes =
 
 -- ---- a lot that is sealed
 
--- it had not ended
+-- the lot had not ended
 abbrev pub Seals : ℕ → Shown → Outcome → Shown → Type 0
 Seals n w outcome left = (lot : LotState) × IsGoing w.lots n lot × (outcome ≡ outcomes.Done)
 
@@ -50,7 +50,7 @@ seals_by n outcome old new comes =
 
 -- ---- a lot that is closed
 
--- it was that of the number
+-- the lot was that of the number
 abbrev pub Closes : ℕ → Shown → Outcome → Shown → Type 0
 Closes n w outcome left = (done : Closed) × (outcome ≡ outcomes.Closed done) × IsClose n w.open_lots w.lots
 

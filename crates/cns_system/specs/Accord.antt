@@ -26,12 +26,8 @@ IsAsOrdered orders m = IsOrdered orders m × (m.moved ≤ m.order.asked)
 
 -- a record of the clearing node fits what was executed: a confirmation is of a movement that was executed, and moved so much
 abbrev pub FitsStock : List Movement → ClearRecord → Type 0
-FitsStock movements (entry.Accept t) = Unit {0}
-FitsStock movements (entry.Exempt m i s) = Unit {0}
-FitsStock movements (entry.Priority m i on) = Unit {0}
-FitsStock movements (entry.Cycle id) = Unit {0}
-FitsStock movements (entry.Allocate a) = Unit {0}
 FitsStock movements (entry.Confirm r) = IsExecuted movements r
+FitsStock movements _ = Unit {0}
 
 -- a record of the depository fits what was ordered: where it executes a movement, that is known, and no other was executed under its number
 abbrev pub FitsOrders : List Order → List Movement → DepRecord → Type 0
@@ -63,8 +59,8 @@ SpellsReply movements packet = IfSome packet (IsExecuted movements)
 pub record Accord (w : Shown) : Type 0 where
   pub executed : All (IsAsOrdered (orders_of w.clear.records).orders) (executed_of w.depot.records)
   pub confirmed : All (IsExecuted (executed_of w.depot.records)) (orders_of w.clear.records).replies
-  pub sent : All (SpellsOrder (orders_of w.clear.records).orders) w.orders
-  pub answered : All (SpellsReply (executed_of w.depot.records)) w.replies
+  pub sent : All (SpellsOrder (orders_of w.clear.records).orders) w.order_packets
+  pub answered : All (SpellsReply (executed_of w.depot.records)) w.reply_packets
   pub clear_tried : (u : ClearRecord) → w.clear.tried ≡ Some u → FitsStock (executed_of w.depot.records) u
   pub depot_tried : (e : DepRecord) → w.depot.tried ≡ Some e → FitsOrders (orders_of w.clear.records).orders (executed_of w.depot.records) e
   pub clear_up : w.clear.down ≡ false → w.clear.tried ≡ None

@@ -60,8 +60,8 @@ cut_by true = Some cut.Sealed
 cut_by false = None
 
 -- the seat with the tickets, and what cut the workers off
-abbrev pub IsDrawn : Result Served ServeFault → Drawn → Type 0
-IsDrawn served drawn =
+abbrev pub IsDrawnFrom : Result Served ServeFault → Drawn → Type 0
+IsDrawnFrom served drawn =
     MatchResult served
     (λ (s : Served). (drawn.seat ≡ s.seat) × (drawn.cut ≡ cut_by s.sealed))
     (λ (f : ServeFault). (drawn.seat ≡ f.seat) × (drawn.cut ≡ Some (cut.Fault f.cause)))

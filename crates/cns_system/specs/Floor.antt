@@ -34,7 +34,7 @@ pub record FloorState : Type 0 where
 -- ---- what holds between any two events
 
 -- the cell is fed with just what is lent to the lot, which itself has no ticket and no seal
-pub record IsFed (open_lots : List Lot) (b : BusyLot) (lot : LotState) : Type 0 where
+pub record IsCellFed (open_lots : List Lot) (b : BusyLot) (lot : LotState) : Type 0 where
   pub poured : b.poured ≡ lent_of open_lots lot.issue
   pub tickets : lot.tickets ≡ []
   pub unsealed : lot.sealed ≡ false
@@ -42,22 +42,22 @@ pub record IsFed (open_lots : List Lot) (b : BusyLot) (lot : LotState) : Type 0 
 -- a busy lot beside the clearing node and its lots by number: its number was given, and it is fed while it has not ended
 pub record IsBusy (node : NumberedNode) (b : BusyLot) : Type 0 where
   pub given : b.lot ≤ length node.lots
-  pub fed : (lot : LotState) → at_number node.lots b.lot ≡ Some lot → lot.ended ≡ false → IsFed node.clear.lots b lot
+  pub fed : (lot : LotState) → at_number node.lots b.lot ≡ Some lot → lot.ended ≡ false → IsCellFed node.clear.lots b lot
 
 -- busy lots stand by number, each once
-abbrev pub AreInOrder : List BusyLot → Type 0
-AreInOrder [] = Unit {0}
-AreInOrder (b ∷ busy) = All (λ (c : BusyLot). b.lot < c.lot) busy × AreInOrder busy
+abbrev pub AreByNumber : List BusyLot → Type 0
+AreByNumber [] = Unit {0}
+AreByNumber (b ∷ busy) = All (λ (c : BusyLot). b.lot < c.lot) busy × AreByNumber busy
 
 pub record AreBusy (node : NumberedNode) (busy : List BusyLot) : Type 0 where
   pub each : All (IsBusy node) busy
-  pub order : AreInOrder busy
+  pub order : AreByNumber busy
 
 -- where both keepers are honest, both nodes and the link are in accord and the headline holds; and the busy lots are busy, with what the
 -- clearing node has lent to each in its cell
 pub record IsLawfulFloor (f : FloorState) : Type 0 where
   pub accord : IsInAccord f.system
-  pub frames : AreFrames f.system.orders f.system.replies
+  pub frames : AreFrames f.system.order_packets f.system.reply_packets
   pub headline : IsAgreed f.system
   pub busy : AreBusy f.system.clear f.busy
 
@@ -141,9 +141,9 @@ FloorStep e outcome old new = BySystem e outcome old new
 -- ---- places, and what an event may change
 
 -- the place of a busy lot that is looked for, where there is one
-abbrev pub IsPlaceOf : Option BusyLot → List BusyLot → Option ℕ → Type 0
-IsPlaceOf found busy None = found ≡ None
-IsPlaceOf found busy (Some place) = (b : BusyLot) × (found ≡ Some b) × (slice_get busy place ≡ Some b)
+abbrev pub IsBusyPlace : Option BusyLot → List BusyLot → Option ℕ → Type 0
+IsBusyPlace found busy None = found ≡ None
+IsBusyPlace found busy (Some place) = (b : BusyLot) × (found ≡ Some b) × (slice_get busy place ≡ Some b)
 
 -- so many shares more may be poured into the cell of the busy lot of a number
 abbrev pub PourFits : ℕ → ℕ → List BusyLot → Type 0

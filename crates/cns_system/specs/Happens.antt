@@ -16,14 +16,14 @@ use Rattle.cns_records.specs.declared.dep_record.DepRecord.{DepRecord}
 use Rattle.cns_records.specs.declared.instruction.Instruction.{Instruction}
 use Rattle.cns_records.specs.declared.refusal.Refusal.{Refusal}
 use Rattle.cns_records.specs.declared.refusal.Refusal.TheVariants as refusal
-use Rattle.cns_clearing.specs.Answers.{cycle_call, reply_call, setting_call, trade_call, up}
+use Rattle.cns_clearing.specs.Answers.{cycle_call, reply_call, setting_call, trade_call, need_up}
 use Rattle.cns_clearing.specs.Books.{orders_of}
 use Rattle.cns_clearing.specs.Pools.{lent_of}
 use Rattle.cns_clearing.specs.declared.answer.Closed.{Closed}
 use Rattle.cns_clearing.specs.declared.answer.Cycled.{Cycled}
 use Rattle.cns_clearing.specs.declared.answer.Taken.{Taken}
 use Rattle.cns_clearing.specs.declared.answer.Taken.TheVariants as taken
-use Rattle.cns_depository.specs.Answers.{dep_refusal, instruct_call, order_call, own_fault_refusal}
+use Rattle.cns_depository.specs.Answers.{dep_refusal, instruct_call, take_order_call, own_fault_refusal}
 use Rattle.cns_depository.specs.declared.fault.Answer.{Answer}
 use Rattle.cns_depository.specs.declared.fault.Answer.TheVariants as answer
 use Rattle.cns_depository.specs.declared.fault.DepFault.{DepFault}
@@ -69,7 +69,7 @@ taken_told r t = elim t [ taken.Done ↦ outcomes.Confirmed r | taken.Again ↦ 
 
 -- what an order comes to at the depository, and its reply as the next packet on the link of replies
 abbrev pub with_reply_put : Reply → Shown → Shown
-with_reply_put r w = record w { replies = w.replies ++ Some r ∷ [] }
+with_reply_put r w = record w { reply_packets = w.reply_packets ++ Some r ∷ [] }
 
 abbrev pub answer_reply : Answer → Reply
 answer_reply a = elim a [ answer.Done r ↦ r | answer.Again r ↦ r ]
@@ -79,8 +79,8 @@ answer_told packet (answer.Done r) = outcomes.Executed r packet
 answer_told packet (answer.Again r) = outcomes.ExecutedAgain r packet
 
 abbrev pub order_deed : Shown → Deed DepRecord Answer → Change
-order_deed w (call.Tells a) = Grows (answer_told (length w.replies + 1) a) (with_reply_put (answer_reply a) w)
-order_deed w (call.Commits e a) = Commits (answer_told (length w.replies + 1) a) (with_reply_put (answer_reply a) (depot_added e w)) (depot_failed e w)
+order_deed w (call.Tells a) = Grows (answer_told (length w.reply_packets + 1) a) (with_reply_put (answer_reply a) w)
+order_deed w (call.Commits e a) = Commits (answer_told (length w.reply_packets + 1) a) (with_reply_put (answer_reply a) (depot_added e w)) (depot_failed e w)
 
 abbrev pub by_order : Shown → Result (Deed DepRecord Answer) DepFault → Result Change Refusal
 by_order w deed = elim deed [ Err fault ↦ Err (dep_refusal fault) | Ok d ↦ Ok (order_deed w d) ]
@@ -129,14 +129,14 @@ judged (event.Seal number) w = change_call with_seal number w.lots >>= λ sealed
 judged (event.LotClose number) w =
     numbered_close number w.clear.down w.clear.records w.open_lots w.lots >>= λ d. Ok (clear_deed (λ (done : Closed). outcomes.Closed done) (lots_ended number) w d)
 judged (event.Send number) w = do
-  up w.clear.down
+  need_up w.clear.down
   o ← ok_or (order_of (orders_of w.clear.records).orders number) refusal.UnknownMove
-  Ok (Grows (outcomes.Sent (length w.orders + 1)) (record w { orders = w.orders ++ Some o ∷ [] }))
+  Ok (Grows (outcomes.Sent (length w.order_packets + 1)) (record w { order_packets = w.order_packets ++ Some o ∷ [] }))
 judged (event.OrderIn packet) w = do
-  o ← ok_or (option_flatten (at_number w.orders packet)) refusal.NoPacket
-  by_order w (order_call o w.depot.down w.openings w.depot.records)
+  o ← ok_or (option_flatten (at_number w.order_packets packet)) refusal.NoPacket
+  by_order w (take_order_call o w.depot.down w.openings w.depot.records)
 judged (event.ReplyIn packet) w = do
-  r ← ok_or (option_flatten (at_number w.replies packet)) refusal.NoPacket
+  r ← ok_or (option_flatten (at_number w.reply_packets packet)) refusal.NoPacket
   by_clear (taken_told r) w (reply_call r w.clear.down w.clear.records)
 judged (event.Own i) w = by_own i w (instruct_call i w.depot.down w.openings w.depot.records)
 judged (event.Restart name) w = Ok (Restarts name)

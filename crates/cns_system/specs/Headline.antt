@@ -40,21 +40,21 @@ reckoned c movements member issue =
     -ℤ pos (sold (due_in c) member issue + confirmed_sum movements (confirmed_of c) Delivery member issue)
 
 -- the shares of an issue in the pool: those that are free, those that are lent to its open lot, and those on their way to members
-abbrev pub pool_of : List ClearRecord → List Lot → ℕ → ℕ
-pool_of c lots issue = free_of (orders_of c) lots issue + lent_of lots issue + out_of (orders_of c) issue
+abbrev pub pool_shares : List ClearRecord → List Lot → ℕ → ℕ
+pool_shares c lots issue = free_of (orders_of c) lots issue + lent_of lots issue + out_of (orders_of c) issue
 
 -- the clearing node's records and its open lots, the depository's openings and records, and the packets that were put on the link of
 -- orders and on that of replies. A cover brings shares from a member's account to the CNS account, a delivery takes them from there to a
 -- member's; a movement is confirmed once the clearing node has the depository's reply, and an order is open until then
-pub record Headline (c : List ClearRecord) (lots : List Lot) (openings : List Opening) (p : List DepRecord) (orders replies : List (List ℕ)) : Type 0 where
+pub record Headline (c : List ClearRecord) (lots : List Lot) (openings : List Opening) (p : List DepRecord) (order_packets reply_packets : List (List ℕ)) : Type 0 where
   -- Same: each executed movement agrees with the order of its number at the clearing node, so it has its kind, member, issue and quantity,
   -- and its cycle, where both have one; a delivery moved all that it asks for, and a cover no more than it. Each confirmed movement was
   -- executed, and moved so much.
   pub executed : All (IsAsOrdered (orders_of c).orders) (executed_of p)
   pub confirmed : All (IsExecuted (executed_of p)) (confirmed_of c)
   -- Link: each packet of an order is the frame of the order of its number, and each packet of a reply that of an executed movement.
-  pub sent : (k : ℕ) (bytes : List ℕ) → slice_get orders k ≡ Some bytes → IsOrderPacket (orders_of c).orders bytes
-  pub answered : (k : ℕ) (bytes : List ℕ) → slice_get replies k ≡ Some bytes → IsReplyPacket (executed_of p) bytes
+  pub sent : (k : ℕ) (bytes : List ℕ) → slice_get order_packets k ≡ Some bytes → IsOrderPacket (orders_of c).orders bytes
+  pub answered : (k : ℕ) (bytes : List ℕ) → slice_get reply_packets k ≡ Some bytes → IsReplyPacket (executed_of p) bytes
   -- Lawful: each record of the clearing node may stand after those before it.
   pub lawful : IsLawful c
   -- Stock: no number was executed twice, each movement moved what the giving account then had, at most what was asked for, and no
@@ -67,8 +67,8 @@ pub record Headline (c : List ClearRecord) (lots : List Lot) (openings : List Op
   pub one_position : (member issue : ℕ) → position_of (history_of c) member issue ≡ position_in c member issue
   -- Pool: in each issue the longs are the shorts and the pool; the pool, with what confirmed deliveries moved, is what confirmed covers
   -- brought; and what confirmed deliveries moved, with what open ones ask for, is no more than executed covers brought.
-  pub pool : (issue : ℕ) → longs_of (history_of c) issue ≡ shorts_of (history_of c) issue + pool_of c lots issue
-  pub whole : (issue : ℕ) → pool_of c lots issue + delivered_of (orders_of c) issue ≡ covered_of (orders_of c) issue
+  pub pool : (issue : ℕ) → longs_of (history_of c) issue ≡ shorts_of (history_of c) issue + pool_shares c lots issue
+  pub whole : (issue : ℕ) → pool_shares c lots issue + delivered_of (orders_of c) issue ≡ covered_of (orders_of c) issue
   pub backed : (issue : ℕ) → delivered_of (orders_of c) issue + out_of (orders_of c) issue ≤ moved_in p Cns issue
   -- Available: nothing is cut off in the two differences that the pool is made of. What confirmed deliveries took, with what open ones ask
   -- for, is no more than confirmed covers brought, so what is available of an issue is just the rest of it; and no more is lent than that.
@@ -79,7 +79,7 @@ pub record Headline (c : List ClearRecord) (lots : List Lot) (openings : List Op
 abbrev pub IsAgreed : World → Type 0
 IsAgreed w =
     w.clear.clear.log.honest ≡ true → w.depot.log.honest ≡ true
-    → Headline w.clear.clear.log.records w.clear.clear.lots w.depot.openings w.depot.log.records w.orders w.replies
+    → Headline w.clear.clear.log.records w.clear.clear.lots w.depot.openings w.depot.log.records w.order_packets w.reply_packets
 
 -- what the clearing node alone knows of its sums: in each issue longs less shorts are the shares that confirmed covers brought, less
 -- those that confirmed deliveries took; and what confirmed covers brought is free, lent or out, or confirmed deliveries took it
@@ -88,7 +88,7 @@ IsBalanced w =
     (issue : ℕ)
     → let c = w.clear.clear.log.records in
     (longs_of (history_of c) issue + delivered_of (orders_of c) issue ≡ shorts_of (history_of c) issue + covered_of (orders_of c) issue)
-    × (pool_of c w.clear.clear.lots issue + delivered_of (orders_of c) issue ≡ covered_of (orders_of c) issue)
+    × (pool_shares c w.clear.clear.lots issue + delivered_of (orders_of c) issue ≡ covered_of (orders_of c) issue)
 
 -- each allocation that the clearing node has, also one whose commit failed, closed a lot that was as the records before it have it, by
 -- tickets that serve its plan, where its keeper is honest; and while it is up no record of it is undecided

@@ -10,7 +10,7 @@ use Rattle.cns_records.specs.Call.{Deed}
 use Rattle.cns_records.specs.declared.clear_record.ClearRecord.{ClearRecord}
 use Rattle.cns_records.specs.declared.refusal.Refusal.{Refusal}
 use Rattle.cns_records.specs.declared.refusal.Refusal.TheVariants as refusal
-use Rattle.cns_clearing.specs.Answers.{close_deed, up}
+use Rattle.cns_clearing.specs.Answers.{close_deed, need_up}
 use Rattle.cns_clearing.specs.Books.{orders_of}
 use Rattle.cns_clearing.specs.Lots.{lots_poured, new_lot}
 use Rattle.cns_clearing.specs.Node.{ClearNode}
@@ -43,7 +43,7 @@ pub record AreTied (open_lots : List Lot) (lots : List LotState) : Type 0 where
 -- a lot is opened: what is told of it, and the lot
 unfoldable pub numbered_open : ℕ → Bool → List ClearRecord → List Lot → List LotState → Result (Opened × Lot) Refusal
 numbered_open issue down c open_lots lots = do
-  up down
+  need_up down
   need (is_none (lot_of open_lots issue)) refusal.LotAlready
   need (nat_lt (length lots) 1000000) refusal.LotsSpent
   let lot = new_lot c issue
@@ -64,14 +64,14 @@ opening_call issue n = numbered_open issue n.clear.log.down n.clear.log.records 
 unfoldable pub numbered_pour : ℕ → Bool → List ClearRecord → List Lot → List LotState → Result (ℕ × List Lot) Refusal
 numbered_pour number down c open_lots lots = do
   lot ← going_lot lots number
-  up down
+  need_up down
   Ok (free_of (orders_of c) open_lots lot.issue, lots_poured c lot.issue open_lots)
 
 -- the lot of a number is closed with the tickets that were drawn of it, where it is sealed, or nobody waits for a ticket of it
 unfoldable pub numbered_close : ℕ → Bool → List ClearRecord → List Lot → List LotState → Result (Deed ClearRecord Closed) Refusal
 numbered_close number down c open_lots lots = do
   lot ← going_lot lots number
-  up down
+  need_up down
   need (lot.sealed || (length lot.turns == 0)) refusal.Unserved
   twin ← ok_or (lot_of open_lots lot.issue) refusal.NoLot
   close_deed lot.tickets lot.sealed c twin

@@ -18,13 +18,13 @@ unconfirmed c = unconfirmed_of (orders_of c).orders (orders_of c).replies
 
 -- how many orders the clearing node has, and how many packets were put on each link
 abbrev pub counts_of : Shown → Counts
-counts_of w = record { orders = length (orders_of w.clear.records).orders; order_packets = length w.orders; reply_packets = length w.replies }
+counts_of w = record { orders = length (orders_of w.clear.records).orders; order_packets = length w.order_packets; reply_packets = length w.reply_packets }
 
 -- the next commit of a node's keeper is planned to fail, and nothing else changes
 abbrev pub PlanStep : NodeName → Bool → Result (Unit {0}) NotPlanned → World → World → Type 0
 PlanStep node.Clear stands result old new =
     clear.NodePlanned stands result old.clear.clear new.clear.clear × (new.clear.lots ≡ old.clear.lots)
-    × (new.depot ≡ old.depot) × (new.orders ≡ old.orders) × (new.replies ≡ old.replies)
+    × (new.depot ≡ old.depot) × (new.order_packets ≡ old.order_packets) × (new.reply_packets ≡ old.reply_packets)
 PlanStep node.Depot stands result old new =
     depot.NodePlanned stands result old.depot new.depot
-    × (new.clear ≡ old.clear) × (new.orders ≡ old.orders) × (new.replies ≡ old.replies)
+    × (new.clear ≡ old.clear) × (new.order_packets ≡ old.order_packets) × (new.reply_packets ≡ old.reply_packets)

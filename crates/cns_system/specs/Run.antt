@@ -13,7 +13,7 @@ pub record Occurs (event : Event) (outcome : Outcome) (old new : World) : Type 0
   pub comes : Comes event outcome old new
   pub sound : StaysSound old event outcome
   pub accord : IsInAccord new
-  pub frames : AreFrames new.orders new.replies
+  pub frames : AreFrames new.order_packets new.reply_packets
   pub agreed : IsAgreed new
   pub strict : AreStrict old → AreStrict new
 

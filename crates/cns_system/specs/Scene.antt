@@ -116,8 +116,8 @@ abbrev pub Comes : Event → Outcome → World → World → Type 0
 Comes e outcome old new = (chance : Chance) × DevicesLeave (judged e (shown_of old)) (node_of e) outcome old new × (comes_to chance e (scene_of old) ≡ (outcome, scene_of new))
 
 -- the next commit of a node is planned to fail (by who tries the program; a lot's plan is another thing)
-abbrev pub planned : NodeName → Bool → Scene → Scene
-planned name stands s = with_known name (record (known_of name s) { next = Fails stands }) s
+abbrev pub with_failure_planned : NodeName → Bool → Scene → Scene
+with_failure_planned name stands s = with_known name (record (known_of name s) { next = Fails stands }) s
 
 -- whether a node's keeper plans failures
 abbrev pub is_planner : NodeName → Scene → Bool
@@ -125,5 +125,5 @@ is_planner name s = is_foreseen (known_of name s).next
 
 -- what a plan leaves of the scene, by its answer
 abbrev pub Plans : NodeName → Bool → Result (Unit {0}) NotPlanned → Scene → Scene → Type 0
-Plans name stands (Ok _) old new = (is_planner name old ≡ true) × (new ≡ planned name stands old)
+Plans name stands (Ok _) old new = (is_planner name old ≡ true) × (new ≡ with_failure_planned name stands old)
 Plans name stands (Err _) old new = (is_planner name old ≡ false) × (new ≡ old)

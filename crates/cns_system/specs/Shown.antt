@@ -27,8 +27,8 @@ pub record Shown : Type 0 where
   pub lots : List LotState
   pub openings : List Opening
   pub depot : LogShown DepRecord
-  pub orders : List (Option Order)
-  pub replies : List (Option Reply)
+  pub order_packets : List (Option Order)
+  pub reply_packets : List (Option Reply)
 
 abbrev pub log_shown : {R : Type 0} → LogState R → LogShown R
 log_shown log = record { records = log.records; tried = log.tried; down = log.down }
@@ -40,8 +40,8 @@ shown_of w = record {
   lots = w.clear.lots;
   openings = w.depot.openings;
   depot = log_shown w.depot.log;
-  orders = map order_spelt w.orders;
-  replies = map reply_spelt w.replies;
+  order_packets = map order_spelt w.order_packets;
+  reply_packets = map reply_spelt w.reply_packets;
 }
 
 -- a record of the clearing node is added, or it is undecided and the node is down

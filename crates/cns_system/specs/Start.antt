@@ -18,8 +18,8 @@ pub record IsStarted (openings : List Opening) (clear depot : KeeperState) (w : 
   pub depot_opens : IsDepotOpened openings depot w.depot
   pub agree : Agree w.clear.clear.log.records w.depot.log.records
   pub lots : w.clear.lots ≡ []
-  pub orders : w.orders ≡ []
-  pub replies : w.replies ≡ []
+  pub order_packets : w.order_packets ≡ []
+  pub reply_packets : w.reply_packets ≡ []
 
 -- a node that was opened and gave its keeper up again
 abbrev pub IsClearReturned : KeeperState → KeeperState → ClearNode → Type 0

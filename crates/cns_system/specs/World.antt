@@ -15,8 +15,8 @@ use Rattle.cns_system.specs.Numbered.{NumberedNode}
 pub record World : Type 0 where
   pub clear : NumberedNode
   pub depot : DepNode
-  pub orders : List (List ℕ)
-  pub replies : List (List ℕ)
+  pub order_packets : List (List ℕ)
+  pub reply_packets : List (List ℕ)
 
 -- the order that a frame holds, and the reply that one holds
 abbrev pub order_in_frame : Result Frame FrameFault → Option Order
@@ -55,6 +55,6 @@ pub record IsReplyFrame (bytes : List ℕ) : Type 0 where
   pub reads : reply_spelt bytes ≡ Some reply
 
 -- each packet on either link is one
-pub record AreFrames (orders replies : List (List ℕ)) : Type 0 where
-  pub orders_are : (k : ℕ) (bytes : List ℕ) → slice_get orders k ≡ Some bytes → IsOrderFrame bytes
-  pub replies_are : (k : ℕ) (bytes : List ℕ) → slice_get replies k ≡ Some bytes → IsReplyFrame bytes
+pub record AreFrames (order_packets reply_packets : List (List ℕ)) : Type 0 where
+  pub orders_are : (k : ℕ) (bytes : List ℕ) → slice_get order_packets k ≡ Some bytes → IsOrderFrame bytes
+  pub replies_are : (k : ℕ) (bytes : List ℕ) → slice_get reply_packets k ≡ Some bytes → IsReplyFrame bytes

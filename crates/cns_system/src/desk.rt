@@ -5,7 +5,7 @@ ghost use Rattle.cns_pool.specs.WorkerSeat.{new_worker};
 ghost use Rattle.cns_allocate.specs.Serving.{Serves};
 ghost use Rattle.cns_allocate.specs.declared.serving.ServeCause.TheVariants.{TooManyWorkers};
 ghost use Rattle.cns_system.specs.Begin.{opened_of};
-ghost use Rattle.cns_system.specs.Desk.{HasTooFew, IsAllocated, IsDrawn, IsEnteredIn, IsNotOpenedIn, IsOpenedIn, IsServedAs, is_seal};
+ghost use Rattle.cns_system.specs.Desk.{HasTooFew, IsAllocated, IsDrawnFrom, IsEnteredIn, IsNotOpenedIn, IsOpenedIn, IsServedAs, is_seal};
 ghost use Rattle.cns_system.specs.Floor.{IsLawfulFloor};
 ghost use Rattle.cns_system.specs.Lot.{planned_sum};
 ghost use Rattle.cns_system.specs.declared.desk.Cut.TheVariants.{Fault};
@@ -192,7 +192,7 @@ pub fn serve_lot<G: Gate + Sync, R: Threads + Sync>(
 
 // What workers drew, and what cut them off.
 fn gather(served: Result<Served, ServeFault>) -> Drawn
-    ensures { IsDrawn served result }
+    ensures { IsDrawnFrom served result }
 {
     match served {
         Ok(Served { seat, sealed: true }) => Drawn {

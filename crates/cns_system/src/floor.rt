@@ -2,7 +2,7 @@ ghost use Rattle.std.specs.Prelude.{◌≡◌, ◌+◌, ◌^◌, ◌<◌, ◌≤
 ghost use Rattle.cns_clearing.specs.Lots.{plan_in};
 ghost use Rattle.cns_system.specs.Begin.{IsBegun, IsHandedOut, IsNewCell, IsNotBegun, IsRefusal};
 ghost use Rattle.cns_system.specs.Finish.{IsReleased, IsUnserved, sealed_at};
-ghost use Rattle.cns_system.specs.Floor.{AreInOrder, BySystem, FloorStep, IsLawfulFloor, IsPlaceOf, NamesLot, NumbersRise, PourFits, SparesBusy, UnlessBusy, busy_at, busy_with_look, busy_with_pour, busy_with_seal, is_open, served_at, with_busy};
+ghost use Rattle.cns_system.specs.Floor.{AreByNumber, BySystem, FloorStep, IsLawfulFloor, IsBusyPlace, NamesLot, NumbersRise, PourFits, SparesBusy, UnlessBusy, busy_at, busy_with_look, busy_with_pour, busy_with_seal, is_open, served_at, with_busy};
 ghost use Rattle.cns_system.specs.Headline.{AreStrict};
 ghost use Rattle.cns_system.specs.Lot.{planned_sum};
 ghost use Rattle.cns_system.specs.Lots.{ArePlanned};
@@ -354,7 +354,7 @@ impl<C: Keeper, D: Keeper> Floor<C, D> {
 
     // The place of the busy lot of a number, where the lot has not ended.
     fn served(&self, lot: u64) -> Option<usize>
-        ensures { IsPlaceOf (served_at self.now lot) self.now.busy result }
+        ensures { IsBusyPlace (served_at self.now lot) self.now.busy result }
     {
         if is_open(self.system.lots(), lot) {
             place_of(self.busy.as_slice(), lot)
@@ -416,7 +416,7 @@ fn is_open(lots: &LotBook, number: u64) -> bool
 
 // The place of the busy lot of a number.
 fn place_of(busy: &[Busy], lot: u64) -> Option<usize>
-    ensures { IsPlaceOf (busy_at busy.now lot) busy.now result }
+    ensures { IsBusyPlace (busy_at busy.now lot) busy.now result }
 {
     for (place, one) in busy.iter().enumerate() {
         if one.lot() == lot {
@@ -429,7 +429,7 @@ fn place_of(busy: &[Busy], lot: u64) -> Option<usize>
 // Pours shares into the cell of the busy lot of a number, where there is one.
 fn pour_into(busy: &mut Vec<Busy>, lot: u64, shares: u64)
     requires fits { PourFits lot shares busy.old.items }
-    requires order { AreInOrder busy.old.items }
+    requires order { AreByNumber busy.old.items }
     ensures { busy.new.items ≡ with_busy (busy_with_pour shares) lot busy.old.items }
 {
     match place_of(busy.as_slice(), lot) {

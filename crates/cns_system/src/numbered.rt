@@ -2,7 +2,7 @@ ghost use Rattle.std.specs.Prelude.{◌≡◌, ◌^◌, ◌≤◌, [], length, m
 ghost use Rattle.cns_records.specs.Call.{CallLeaves, Changes, Grows};
 ghost use Rattle.cns_records.specs.Refusals.{commit_refusal};
 ghost use Rattle.cns_records.specs.declared.clear_record.ClearRecord.TheVariants.{Exempt, Priority};
-ghost use Rattle.cns_clearing.specs.Answers.{Leaves, cycle_call, reply_call, setting_call, trade_call};
+ghost use Rattle.cns_clearing.specs.Answers.{NodeLeaves, cycle_call, reply_call, setting_call, trade_call};
 ghost use Rattle.cns_allocate.specs.Plan.{IsPlan};
 ghost use Rattle.cns_clearing.specs.Lots.{plan_in};
 ghost use Rattle.cns_clearing.specs.Node.{NodePlanned, RestartLeaves};
@@ -233,7 +233,7 @@ impl<K: Keeper> NumberedClearing<K> {
 
     /// Accepts a trade, as the node does itself.
     pub fn take_trade(&mut self, trade: &Trade) -> Result<(), Refusal>
-        ensures clear { Leaves (trade_call trade.now self.old.clear.log.down self.old.clear.log.records) result self.old.clear self.new.clear }
+        ensures clear { NodeLeaves (trade_call trade.now self.old.clear.log.down self.old.clear.log.records) result self.old.clear self.new.clear }
         ensures lots { self.new.lots ≡ self.old.lots }
     {
         self.node.take_trade(trade)
@@ -241,7 +241,7 @@ impl<K: Keeper> NumberedClearing<K> {
 
     /// Exempts shares of a member in an issue from covers, as the node does itself.
     pub fn exempt(&mut self, member: MemberNo, issue: Cusip, shares: Shares) -> Result<(), Refusal>
-        ensures clear { Leaves (setting_call (Exempt member issue shares) self.old.clear.log.down) result self.old.clear self.new.clear }
+        ensures clear { NodeLeaves (setting_call (Exempt member issue shares) self.old.clear.log.down) result self.old.clear self.new.clear }
         ensures lots { self.new.lots ≡ self.old.lots }
     {
         self.node.exempt(member, issue, shares)
@@ -249,7 +249,7 @@ impl<K: Keeper> NumberedClearing<K> {
 
     /// Sets whether a member has priority in an issue, as the node does itself.
     pub fn priority(&mut self, member: MemberNo, issue: Cusip, on: bool) -> Result<(), Refusal>
-        ensures clear { Leaves (setting_call (Priority member issue on) self.old.clear.log.down) result self.old.clear self.new.clear }
+        ensures clear { NodeLeaves (setting_call (Priority member issue on) self.old.clear.log.down) result self.old.clear self.new.clear }
         ensures lots { self.new.lots ≡ self.old.lots }
     {
         self.node.priority(member, issue, on)
@@ -257,7 +257,7 @@ impl<K: Keeper> NumberedClearing<K> {
 
     /// Runs a cycle, as the node does itself.
     pub fn cycle(&mut self, id: CycleId) -> Result<Cycled, Refusal>
-        ensures clear { Leaves (cycle_call id self.old.clear.log.down self.old.clear.log.records self.old.clear.lots) result self.old.clear self.new.clear }
+        ensures clear { NodeLeaves (cycle_call id self.old.clear.log.down self.old.clear.log.records self.old.clear.lots) result self.old.clear self.new.clear }
         ensures lots { self.new.lots ≡ self.old.lots }
     {
         self.node.cycle(id)
@@ -265,7 +265,7 @@ impl<K: Keeper> NumberedClearing<K> {
 
     /// Takes the depository's reply to an order, as the node does itself.
     pub fn take_reply(&mut self, reply: &Reply) -> Result<Taken, Refusal>
-        ensures clear { Leaves (reply_call reply.now self.old.clear.log.down self.old.clear.log.records) result self.old.clear self.new.clear }
+        ensures clear { NodeLeaves (reply_call reply.now self.old.clear.log.down self.old.clear.log.records) result self.old.clear self.new.clear }
         ensures lots { self.new.lots ≡ self.old.lots }
     {
         self.node.take_reply(reply)

@@ -7,7 +7,7 @@ ghost use Rattle.cns_clearing.specs.Books.{orders_of};
 ghost use Rattle.cns_clearing.specs.Lots.{AreLots};
 ghost use Rattle.cns_wire.specs.Frame.{reply_frame};
 ghost use Rattle.cns_wire.specs.Packet.{at_number};
-ghost use Rattle.cns_depository.specs.Answers.{order_call};
+ghost use Rattle.cns_depository.specs.Answers.{take_order_call};
 ghost use Rattle.cns_system.specs.Accord.{AreLawful};
 ghost use Rattle.cns_system.specs.Happens.{NoMemory, by_order, decided};
 ghost use Rattle.cns_system.specs.Headline.{IsBalanced};
@@ -55,8 +55,8 @@ impl<C: Keeper, D: Keeper> Model for Pair<C, D> {
     ghost view = { λ p. record {
       clear = p.clear;
       depot = p.depot;
-      orders = p.orders.packets;
-      replies = p.replies.packets;
+      order_packets = p.orders.packets;
+      reply_packets = p.replies.packets;
     } };
 
     ghost invariant = { λ p. AreFrames p.orders.packets p.replies.packets };
@@ -203,7 +203,7 @@ impl<C: Keeper, D: Keeper> Pair<C, D> {
         ensures lawful { AreLawful self.now }
         ensures fits { AreWritable self.now.clear.clear.log.records }
         ensures lots { AreLots self.now.clear.clear.log.records self.now.clear.clear.lots }
-        ensures frames { AreFrames self.now.orders self.now.replies }
+        ensures frames { AreFrames self.now.order_packets self.now.reply_packets }
         ensures balanced { IsBalanced self.now }
         ensures tied { AreTied self.now.clear.clear.lots self.now.clear.lots }
         ensures planned { ArePlanned self.now.clear.clear.log.records self.now.clear.lots }
@@ -285,7 +285,7 @@ impl<C: Keeper, D: Keeper> Pair<C, D> {
 
     // The order that a packet holds.
     fn order_in_packet(&self, packet: u64) -> Option<Order>
-        ensures { result ≡ order_in_packet (at_number self.now.orders packet) }
+        ensures { result ≡ order_in_packet (at_number self.now.order_packets packet) }
     {
         match read_frame(self.orders.packet(packet)?) {
             Ok(Frame::Order(order)) => Some(order),
@@ -295,7 +295,7 @@ impl<C: Keeper, D: Keeper> Pair<C, D> {
 
     // The reply that a packet holds.
     fn reply_in_packet(&self, packet: u64) -> Option<Reply>
-        ensures { result ≡ reply_in_packet (at_number self.now.replies packet) }
+        ensures { result ≡ reply_in_packet (at_number self.now.reply_packets packet) }
     {
         match read_frame(self.replies.packet(packet)?) {
             Ok(Frame::Reply(reply)) => Some(reply),
@@ -316,7 +316,7 @@ impl<C: Keeper, D: Keeper> Pair<C, D> {
     // Hands an order to the depository, and puts its reply on the link. The room for the reply's packet
     // is taken first, so that no order is executed without one.
     fn take_order(&mut self, order: &Order) -> Outcome
-        ensures { (packet : ℕ) → order_in_packet (at_number self.old.orders packet) ≡ Some order.now → Comes (OrderIn packet) result self.old self.new }
+        ensures { (packet : ℕ) → order_in_packet (at_number self.old.order_packets packet) ≡ Some order.now → Comes (OrderIn packet) result self.old self.new }
     {
         if self.replies.put_room().is_err() {
             return Outcome::Refused(self.refusal_without_room(order));
@@ -338,7 +338,7 @@ impl<C: Keeper, D: Keeper> Pair<C, D> {
     // want of memory.
     fn refusal_without_room(&self, order: &Order) -> Refusal
         ensures { let shown = shown_of self.now in
-            decided NoMemory shown (by_order shown (order_call order.now shown.depot.down shown.openings shown.depot.records)) ≡ (Refused result, shown) }
+            decided NoMemory shown (by_order shown (take_order_call order.now shown.depot.down shown.openings shown.depot.records)) ≡ (Refused result, shown) }
     {
         if self.depot.is_down() {
             return Refusal::Down;

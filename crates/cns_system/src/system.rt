@@ -89,7 +89,7 @@ impl<C: Keeper + Drop, D: Keeper + Drop> System<C, D> {
         ensures accord { IfOk result IsInAccord }
 
         // Each packet on the link is a frame.
-        ensures frames { IfOk result (λ system. AreFrames system.orders system.replies) }
+        ensures frames { IfOk result (λ system. AreFrames system.order_packets system.reply_packets) }
 
         // The headline.
         ensures headline { IfOk result IsAgreed }
@@ -152,7 +152,7 @@ impl<C: Keeper, D: Keeper> System<C, D> {
         ensures plan { PlanStep node stands result self.old self.new }
         ensures scene { Plans node stands result (scene_of self.old) (scene_of self.new) }
         ensures accord { IsInAccord self.new }
-        ensures frames { AreFrames self.new.orders self.new.replies }
+        ensures frames { AreFrames self.new.order_packets self.new.reply_packets }
         ensures headline { IsAgreed self.new }
         ensures strict { AreStrict self.old → AreStrict self.new }
     {
@@ -168,7 +168,7 @@ impl<C: Keeper, D: Keeper> System<C, D> {
         // known beforehand of the keepers.
         ensures comes { Comes event result self.old self.new }
         ensures accord { IsInAccord self.new }
-        ensures frames { AreFrames self.new.orders self.new.replies }
+        ensures frames { AreFrames self.new.order_packets self.new.reply_packets }
 
         // No packet is refused as one that the other node never sent, and no journal as bad.
         ensures sound { StaysSound self.old event result }
@@ -209,7 +209,7 @@ impl<C: Keeper, D: Keeper> System<C, D> {
     pub(crate) fn agreed(&self)
         ensures accord { IsInAccord self.now }
         ensures headline { IsAgreed self.now }
-        ensures frames { AreFrames self.now.orders self.now.replies }
+        ensures frames { AreFrames self.now.order_packets self.now.reply_packets }
         ensures lawful { AreLawful self.now }
         ensures fits { AreWritable self.now.clear.clear.log.records }
         ensures lots { AreLots self.now.clear.clear.log.records self.now.clear.clear.lots }

@@ -7,7 +7,7 @@ use Rattle.clap.specs.declared.builder.arg.Arg.{Arg}
 use Rattle.clap.specs.declared.builder.command.Command.{Command}
 use Rattle.clap.specs.declared.builder.command.Command.TheOpen.{Command-F}
 use Rattle.clap.specs.declared.builder.command.Command.TheViews.{out-Command}
-use Rattle.cnsd.specs.CommandLine.{all_in, is_asked, times_in, value_in}
+use Rattle.cnsd.specs.CommandLine.{all_in, is_subcommand, times_in, value_in}
 
 module _ {X : Type 0} (part : X → Text × List Row) (name id : Text) where
   -- where the words name the subcommand, it is among the subcommand's own matches
@@ -43,11 +43,11 @@ module _ {X : Type 0} (part : X → Text × List Row) (name id : Text) where
   times_of_other None other = refl
   times_of_other (Some x) other = search rules
 
-  pub asked_of_named : (used : Option X) → option_map (λ x. (part x).0) used ≡ Some name → is_asked name (option_map part used) ≡ true
+  pub asked_of_named : (used : Option X) → option_map (λ x. (part x).0) used ≡ Some name → is_subcommand name (option_map part used) ≡ true
   asked_of_named None named = absurd (none-some _ named)
   asked_of_named (Some x) named = search rules
 
-  pub asked_of_other : (used : Option X) → (option_map (λ x. (part x).0) used ≡ Some name → ⊥) → is_asked name (option_map part used) ≡ false
+  pub asked_of_other : (used : Option X) → (option_map (λ x. (part x).0) used ≡ Some name → ⊥) → is_subcommand name (option_map part used) ≡ false
   asked_of_other None other = refl
   asked_of_other (Some x) other = search rules
 

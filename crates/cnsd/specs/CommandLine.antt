@@ -134,8 +134,8 @@ times_in subcommand id None = 0
 times_in subcommand id (Some used) = if bytes_eq used.0 subcommand then count_of id used.1 else 0
 
 -- whether the words name a subcommand
-abbrev pub is_asked : Text → Option (Text × List Row) → Bool
-is_asked subcommand used = option_map_or (λ (u : Text × List Row). bytes_eq u.0 subcommand) used false
+abbrev pub is_subcommand : Text → Option (Text × List Row) → Bool
+is_subcommand subcommand used = option_map_or (λ (u : Text × List Row). bytes_eq u.0 subcommand) used false
 
 -- the names of the files of which a subcommand's text is made
 abbrev pub AreNamesIn : Text → Option (Text × List Row) → Names → Type 0
@@ -207,23 +207,23 @@ AsksForExplanation used _ = ⊥
 unfoldable pub AsksFor : Option (Text × List Row) → Option Request → Type 0
 AsksFor used (Some (request.Cusips texts)) = (is_some (value_in (codes "cusip") (codes "text") used) ≡ true) × (map string_bytes texts.items ≡ all_in (codes "cusip") (codes "text") used)
 AsksFor used (Some (request.Check source)) =
-    (is_some (value_in (codes "cusip") (codes "text") used) ≡ false) × (is_asked (codes "check") used ≡ true) × IsSourceIn (codes "check") used (Some source)
+    (is_some (value_in (codes "cusip") (codes "text") used) ≡ false) × (is_subcommand (codes "check") used ≡ true) × IsSourceIn (codes "check") used (Some source)
 AsksFor used (Some (request.Table last)) =
-    (is_some (value_in (codes "cusip") (codes "text") used) ≡ false) × (is_asked (codes "check") used ≡ false) × (is_asked (codes "table") used ≡ true)
+    (is_some (value_in (codes "cusip") (codes "text") used) ≡ false) × (is_subcommand (codes "check") used ≡ false) × (is_subcommand (codes "table") used ≡ true)
     × (last ≡ is_set (codes "table") (codes "last") used)
 AsksFor used (Some (request.Audit asked)) =
-    (is_some (value_in (codes "cusip") (codes "text") used) ≡ false) × (is_asked (codes "check") used ≡ false) × (is_asked (codes "table") used ≡ false)
-    × (((is_asked (codes "journal") used ≡ true) × AsksForJournal used (Some asked))
-    ⊎ ((is_asked (codes "journal") used ≡ false) × (is_asked (codes "explain") used ≡ true) × AsksForExplanation used asked))
+    (is_some (value_in (codes "cusip") (codes "text") used) ≡ false) × (is_subcommand (codes "check") used ≡ false) × (is_subcommand (codes "table") used ≡ false)
+    × (((is_subcommand (codes "journal") used ≡ true) × AsksForJournal used (Some asked))
+    ⊎ ((is_subcommand (codes "journal") used ≡ false) × (is_subcommand (codes "explain") used ≡ true) × AsksForExplanation used asked))
 AsksFor used (Some (request.Run source manner)) =
-    (is_some (value_in (codes "cusip") (codes "text") used) ≡ false) × (is_asked (codes "check") used ≡ false) × (is_asked (codes "table") used ≡ false)
-    × (is_asked (codes "journal") used ≡ false) × (is_asked (codes "explain") used ≡ false)
+    (is_some (value_in (codes "cusip") (codes "text") used) ≡ false) × (is_subcommand (codes "check") used ≡ false) × (is_subcommand (codes "table") used ≡ false)
+    × (is_subcommand (codes "journal") used ≡ false) × (is_subcommand (codes "explain") used ≡ false)
     × IsSourceIn (codes "run") used (Some source) × IsMannerIn used manner
 AsksFor used (Some request.Told) = ⊥
 AsksFor used (Some request.Faulty) = ⊥
 AsksFor used None =
     (is_some (value_in (codes "cusip") (codes "text") used) ≡ false)
-    × (((is_asked (codes "check") used ≡ true) × IsSourceIn (codes "check") used None)
-    ⊎ ((is_asked (codes "check") used ≡ false) × (is_asked (codes "table") used ≡ false) × (is_asked (codes "journal") used ≡ true) × AsksForJournal used None)
-    ⊎ ((is_asked (codes "check") used ≡ false) × (is_asked (codes "table") used ≡ false) × (is_asked (codes "journal") used ≡ false) × (is_asked (codes "explain") used ≡ false)
+    × (((is_subcommand (codes "check") used ≡ true) × IsSourceIn (codes "check") used None)
+    ⊎ ((is_subcommand (codes "check") used ≡ false) × (is_subcommand (codes "table") used ≡ false) × (is_subcommand (codes "journal") used ≡ true) × AsksForJournal used None)
+    ⊎ ((is_subcommand (codes "check") used ≡ false) × (is_subcommand (codes "table") used ≡ false) × (is_subcommand (codes "journal") used ≡ false) × (is_subcommand (codes "explain") used ≡ false)
     × IsSourceIn (codes "run") used None))

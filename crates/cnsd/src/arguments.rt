@@ -1,7 +1,7 @@
 ghost use Rattle.std.specs.Prelude.{◌≡◌, false, [], IfOk, codes, is_some, map, option_map, string_bytes, unwrap_or};
 ghost use Rattle.std.specs.Str.{bytes_eq};
 ghost use Rattle.clap.specs.Words.{FailsBy, all_of, app_of, fault_of, found_of, rows_of, rule_of, subcommand_of, subcommand_rows_of};
-ghost use Rattle.cnsd.specs.CommandLine.{AsksFor, AsksForExplanation, AsksForJournal, IsFolderIn, asks_check as asks_check_in, asks_dump as asks_dump_in, explain_app, flag_rule, journal_app, required_in as required_in_of, required_rule, IsCountIn, AreNamesIn, IsMannerIn, IsShakeIn, IsSourceIn, IsSourceOf, all_in, is_asked as is_asked_in, check_app, cnsd_app, cusip_app, file_rule, has_globals, is_set as is_set_in, journal_rule, last_rule, names_any, openings_rule, progress_rule, run_app, script_rule, shake_rule, strict_rule, table_app, times_in as times_in_of, with_source as source_app, text_rule, trades_rule, value_in, workers_rule};
+ghost use Rattle.cnsd.specs.CommandLine.{AsksFor, AsksForExplanation, AsksForJournal, IsFolderIn, asks_check as asks_check_in, asks_dump as asks_dump_in, explain_app, flag_rule, journal_app, required_in as required_in_of, required_rule, IsCountIn, AreNamesIn, IsMannerIn, IsShakeIn, IsSourceIn, IsSourceOf, all_in, is_subcommand as is_asked_in, check_app, cnsd_app, cusip_app, file_rule, has_globals, is_set as is_set_in, journal_rule, last_rule, names_any, openings_rule, progress_rule, run_app, script_rule, shake_rule, strict_rule, table_app, times_in as times_in_of, with_source as source_app, text_rule, trades_rule, value_in, workers_rule};
 
 use crate::help;
 use crate::version::VERSION;

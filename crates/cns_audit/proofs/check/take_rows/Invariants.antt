@@ -1,12 +1,12 @@
 use Rattle.std.proofs.Common.{◌≡◌, drop}
 use Rattle.std.specs.List.{fold}
 use Rattle.cns_audit.specs.Check.{TellsFault}
-use Rattle.cns_audit.specs.Rows.{take_row, taken}
+use Rattle.cns_audit.specs.Rows.{take_row, openings_taken}
 use Rattle.cns_audit.proofs.check.take_rows.Given as goal
 
 abbrev pub invariant-loop-row : goal.invariant-loop-row
 invariant-loop-row g l = record {
   same : l.taken.held ≡ l.taken.list.items;
-  rows : fold take_row (l.taken.list.items, l.taken.fell_out) (drop l.row-index l.rows) ≡ taken l.rows;
+  rows : fold take_row (l.taken.list.items, l.taken.fell_out) (drop l.row-index l.rows) ≡ openings_taken l.rows;
   tells : TellsFault l.taken.fell_out l.fn.told.faults l.told.faults;
 }

@@ -2,7 +2,7 @@ use Rattle.std.proofs.Common.{Some, rules, take, ◌≡◌}
 use Rattle.cns_system.specs.Begin.{opened_of}
 use Rattle.cns_batch.specs.ByWorkers.{served_by_workers}
 use Rattle.cns_batch.specs.Commands.{served_if_open}
-use Rattle.cns_batch.specs.Run.{all_run, left_of, run_beside}
+use Rattle.cns_batch.specs.Run.{all_run, commands_left, run_beside}
 use Rattle.cns_batch.specs.Runs.{Place, Runs, at, leaves}
 use Rattle.cns_batch.proofs.ActLemmas.{leaves_fault, leaving_runs, runs_after, stops_followed}
 use Rattle.cns_batch.proofs.RunLemmas.{beside_none_runs, beside_ran, beside_stops, not_begun}
@@ -20,7 +20,7 @@ returns-in_default-clause-runs g c =
 
 pub returns-clause-runs : goal.returns-clause-runs
 returns-clause-runs g c =
-    let cs = take c.args.count (left_of c.args.commands.now) in
+    let cs = take c.args.count (commands_left c.args.commands.now) in
     let s = c.args.supply.now in
     let lot = Some (opened_of c.in-Some.begun) in
     let begun = rw c.in-Some.is at c.in_ok-begun.ensures.runs in

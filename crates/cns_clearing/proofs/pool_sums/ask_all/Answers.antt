@@ -8,7 +8,7 @@ use Rattle.cns_movements.specs.Order.{is_delivery}
 use Rattle.cns_movements.specs.declared.order.Ask.{Ask}
 use Rattle.cns_covers.proofs.BoundLemmas.{at_most}
 use Rattle.cns_clearing.specs.Pools.{asked_of_pool}
-use Rattle.cns_clearing.specs.PoolSums.{is_asked}
+use Rattle.cns_clearing.specs.PoolSums.{asks_for}
 use Rattle.cns_clearing.proofs.PoolSumLemmas.{ask_first, ask_named, none_named}
 use Rattle.cns_clearing.proofs.pool_sums.ask_all.Goals as goal
 
@@ -26,7 +26,7 @@ loop-first-preserved c =
       covered = λ i. c.ask_next.ensures.covered i ∙ before.covered i;
       delivered = λ i. c.ask_next.ensures.delivered i ∙ before.delivered i;
       out = λ i. omega (arith, before.out i, rw is at (c.ask_next.ensures.out i), ask_first a rest i);
-      named = λ i. ask_named (a.issue == i) _ (is_asked i rest) _ (c.ask_next.ensures.named i) ∙ before.named i;
+      named = λ i. ask_named (a.issue == i) _ (asks_for i rest) _ (c.ask_next.ensures.named i) ∙ before.named i;
       small = λ i. omega (arith, before.small i, c.ask_next.ensures.out i, is, asked, at_most (a.issue == i) c.asked_of-asked_of_pool.result, at_most (is_delivery a.kind) a.asked);
       most = omega (arith, before.most, asked, sum_by-cons (λ (x : Ask). x.asked) a rest);
     }

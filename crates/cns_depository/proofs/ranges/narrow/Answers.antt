@@ -8,7 +8,7 @@ use Rattle.cns_depository.specs.Openings.{issue_sum, opening_shares}
 use Rattle.std.specs.HashMap.{get}
 use Rattle.cns_depository.specs.Ranges.{IsDemanded, range_by}
 use Rattle.cns_depository.specs.Totals.{place_eq}
-use Rattle.cns_depository.specs.Stock.{brought, moved_in, moved_out, taken, transfer_of}
+use Rattle.cns_depository.specs.Stock.{brought_to, moved_in, moved_out, taken_from, transfer_of}
 use Rattle.cns_depository.proofs.RangeLemmas.{account_met, deposit_limit, issue_met, ranges_demanded, ranges_limited, taken_all}
 use Rattle.cns_depository.proofs.ranges.narrow.Goals as goal
 
@@ -33,8 +33,8 @@ returns-in-At-clause-ranges c = λ p sums ranges.
       ap (λ (m : Moved). m.left) given,
       sums.entered t.giver t.issue,
       sums.left t.giver t.issue,
-      ap (λ (s : Side). brought (e ∷ p) s t.issue) gives,
-      ap (λ (s : Side). taken (e ∷ p) s t.issue) gives,
+      ap (λ (s : Side). brought_to (e ∷ p) s t.issue) gives,
+      ap (λ (s : Side). taken_from (e ∷ p) s t.issue) gives,
     ) in
     let demanded : IsDemanded a t.issue c.saturating_sub-needed.result c.takes_all.result (λ k. range_by k (get place_eq c.args.ranges.now k)) (λ k. range_by k (get place_eq c.demand.new.ranges k)) =
     rw c.in-At.account-is at c.demand.ensures.demanded in
@@ -61,7 +61,7 @@ returns-in-Outside-clause-ranges c = λ p sums ranges.
     let from : (transfer_of e).giver ≡ Outside = ap (λ (x : Transfer). x.giver) (sym c.transfer_of-transfer.ensures) ∙ gives in
     let of : (transfer_of e).issue ≡ t.issue = ap (λ (x : Transfer). x.issue) (sym c.transfer_of-transfer.ensures) in
     let given = c.moved_of-given.ensures in
-    let most : c.saturating_sub.result ≡ (10 ^ 18 + brought (e ∷ p) Outside t.issue) - taken (e ∷ p) Outside t.issue =
+    let most : c.saturating_sub.result ≡ (10 ^ 18 + brought_to (e ∷ p) Outside t.issue) - taken_from (e ∷ p) Outside t.issue =
     omega (
       arith,
       c.saturating_sub.ensures,
@@ -73,13 +73,13 @@ returns-in-Outside-clause-ranges c = λ p sums ranges.
       sums.left t.giver t.issue,
       sums.few,
       sums.entered_small Outside t.issue,
-      ap (λ (s : Side). brought (e ∷ p) s t.issue) gives,
-      ap (λ (s : Side). taken (e ∷ p) s t.issue) gives,
+      ap (λ (s : Side). brought_to (e ∷ p) s t.issue) gives,
+      ap (λ (s : Side). taken_from (e ∷ p) s t.issue) gives,
     ) in
     ranges_limited e p _ _ ranges t.issue c.saturating_sub.result c.limit.ensures.limited from
     (λ openings are.
     let limit = deposit_limit e p openings are from in
-    let here = subst (λ i. issue_sum openings i ≤ (10 ^ 18 + brought (e ∷ p) Outside i) - taken (e ∷ p) Outside i) of limit in
+    let here = subst (λ i. issue_sum openings i ≤ (10 ^ 18 + brought_to (e ∷ p) Outside i) - taken_from (e ∷ p) Outside i) of limit in
     omega (arith, most, here))
 
 pub returns-in-Outside-clause-none : goal.returns-in-Outside-clause-none

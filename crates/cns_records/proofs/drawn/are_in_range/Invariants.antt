@@ -1,6 +1,6 @@
 use Rattle.std.specs.List.{AllWithin}
-use Rattle.cns_records.specs.Drawn.{IsDrawn}
+use Rattle.cns_records.specs.Drawn.{IsTicketInRange}
 use Rattle.cns_records.proofs.drawn.are_in_range.Given as goal
 
 abbrev pub invariant-loop-ticket : goal.invariant-loop-ticket
-invariant-loop-ticket l = AllWithin IsDrawn l.tickets 0 l.ticket-index
+invariant-loop-ticket l = AllWithin IsTicketInRange l.tickets 0 l.ticket-index

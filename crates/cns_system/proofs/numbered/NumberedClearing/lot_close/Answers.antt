@@ -1,4 +1,4 @@
-use Rattle.std.proofs.Common.{◌≡◌, List, true, false, Ok, Err, sym, subst, refl, rules}
+use Rattle.std.proofs.Common.{◌≡◌, List, Ok, Err, sym, subst, refl, rules}
 use Rattle.cns_records.specs.Refusals.{commit_refusal}
 use Rattle.cns_records.specs.declared.refusal.Refusal.TheVariants as refusal
 use Rattle.cns_records.proofs.CallLemmas.{refused}
@@ -7,7 +7,6 @@ use Rattle.cns_clearing.specs.declared.lot.Lot.{Lot}
 use Rattle.cns_system.specs.Numbered.{AreTied, IsNumberedCommit, lots_ended}
 use Rattle.cns_system.proofs.NumberedLemmas.{close_down, close_lots, close_none, close_tied, close_unserved, closed_by, end_is, served_by}
 use Rattle.cns_system.proofs.LotsLemmas.{going_parts}
-use Rattle.cns_system.proofs.RecordedLemmas.{IsMet}
 use Rattle.cns_system.proofs.numbered.NumberedClearing.lot_close.Goals as goal
 
 pub returns-in_err-lot : goal.returns-in_err-lot
@@ -17,25 +16,22 @@ returns-in_err-lot g c =
 
 pub returns-then-is_down : goal.returns-then-is_down
 returns-then-is_down g c =
-    let down : c.self.inside.node.log.down ≡ true = search rules in
-    let going : going_lot c.self.inside.lots.lots c.args.number ≡ Ok c.in_ok-lot.lot.now = search rules in
-    rw (← c.self.view_is) (refused commit_refusal (IsNumberedCommit (lots_ended c.args.number)) _ refusal.Down _ _ _ (close_down c.args.number _ _ _ c.self.inside.lots.lots c.in_ok-lot.lot.now going down) refl refl)
+    rw (← c.self.view_is)
+    (refused commit_refusal (IsNumberedCommit (lots_ended c.args.number)) _ refusal.Down _ _ _
+    (close_down c.args.number _ _ _ c.self.inside.lots.lots c.in_ok-lot.lot.now (search rules) (search rules)) refl refl)
 
 pub returns-then-not-is_served : goal.returns-then-not-is_served
 returns-then-not-is_served g c =
-    let up : c.self.inside.node.log.down ≡ false = search rules in
-    let going : going_lot c.self.inside.lots.lots c.args.number ≡ Ok c.in_ok-lot.lot.now = search rules in
-    let waits : IsMet c.in_ok-lot.lot.now → ⊥ = search rules in
     rw (← c.self.view_is)
-    (refused commit_refusal (IsNumberedCommit (lots_ended c.args.number)) _ refusal.Unserved _ _ _ (close_unserved c.args.number _ _ _ c.self.inside.lots.lots c.in_ok-lot.lot.now going up waits) refl refl)
+    (refused commit_refusal (IsNumberedCommit (lots_ended c.args.number)) _ refusal.Unserved _ _ _
+    (close_unserved c.args.number _ _ _ c.self.inside.lots.lots c.in_ok-lot.lot.now (search rules) (search rules) (search rules)) refl refl)
 
 pub lot_close_served-requires : goal.lot_close_served-requires
 lot_close_served-requires g c =
     let going : going_lot c.self.inside.lots.lots c.args.number ≡ Ok c.in_ok-lot.lot.now = search rules in
-    let met : IsMet c.in_ok-lot.lot.now = search rules in
     record {
       served = rw (c.issue.ensures, c.tickets.ensures, c.is_sealed.ensures)
-          (served_by c.args.number c.self.inside.node.lots c.self.inside.lots.lots c.in_ok-lot.lot.now c.self.invariant (going_parts _ _ _ going) met);
+          (served_by c.args.number c.self.inside.node.lots c.self.inside.lots.lots c.in_ok-lot.lot.now c.self.invariant (going_parts _ _ _ going) (search rules));
     }
 
 pub invariant_of-self : goal.invariant_of-self
@@ -74,9 +70,7 @@ returns g c =
     let lots = c.self.inside.lots.lots in
     let lot = c.in_ok-lot.lot.now in
     let going : going_lot lots c.args.number ≡ Ok lot = search rules in
-    let up : node.log.down ≡ false = search rules in
-    let met : IsMet lot = search rules in
     let left = rw (c.issue.ensures, c.tickets.ensures, c.is_sealed.ensures) at c.in_ok-closed.ensures in
     let ended = end_is lots c.end-ended.new.self.lots c.args.number lot c.end-ended.result going c.end-ended.ensures in
     rw (← c.self.view_is)
-    (closed_by c.args.number (record { clear = node; lots = lots }) lot (Ok c.in_ok-closed.closed) c.lot_close_served.new.self c.end-ended.new.self.lots going up met left ended tt)
+    (closed_by c.args.number (record { clear = node; lots = lots }) lot (Ok c.in_ok-closed.closed) c.lot_close_served.new.self c.end-ended.new.self.lots going (search rules) (search rules) left ended tt)

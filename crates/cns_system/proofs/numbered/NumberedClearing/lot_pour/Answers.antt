@@ -1,4 +1,4 @@
-use Rattle.std.proofs.Common.{◌≡◌, true, Ok, ◌∙◌, sym, subst, refl, rules}
+use Rattle.std.proofs.Common.{◌≡◌, Ok, ◌∙◌, sym, subst, refl, rules}
 use Rattle.cns_records.specs.declared.refusal.Refusal.TheVariants as refusal
 use Rattle.cns_records.proofs.CallLemmas.{unchanged}
 use Rattle.cns_system.specs.Lots.{going_lot}
@@ -13,11 +13,10 @@ returns-in_err-issue-clause-pour g c =
 
 pub returns-then-is_down-clause-pour : goal.returns-then-is_down-clause-pour
 returns-then-is_down-clause-pour g c =
-    let down : c.args.self.now.clear.log.down ≡ true = search rules in
     let there = c.in_ok-issue.ensures in
     let going : going_lot c.args.self.now.lots c.args.number ≡ Ok there.0 = subst (λ (n : NumberedNode). going_lot n.lots c.args.number ≡ Ok there.0) c.self.view_is there.1 in
     unchanged (numbered_pour c.args.number c.args.self.now.clear.log.down c.args.self.now.clear.log.records c.args.self.now.clear.lots c.args.self.now.lots) refusal.Down _ c.args.self.now.clear.lots _
-    (pour_down c.args.number _ _ _ c.args.self.now.lots there.0 going down) refl (search rules)
+    (pour_down c.args.number _ _ _ c.args.self.now.lots there.0 going (search rules)) refl (search rules)
 
 pub unreachable-requires : goal.unreachable-requires
 unreachable-requires g c =

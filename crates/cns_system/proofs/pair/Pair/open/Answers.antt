@@ -13,6 +13,6 @@ returns-clause-ok g c = record {
   depot_opens = c.in-Ok-open.ensures.ok;
   agree = subst (λ (n : ClearNode). Agree n.log.records c.in-Ok-open.node.log.records) (sym c.new-2.ensures.clear) (search rules);
   lots = c.new-2.ensures.lots;
-  orders = c.new-3.ensures.packets;
-  replies = c.new-4.ensures.packets;
+  order_packets = c.new-3.ensures.packets;
+  reply_packets = c.new-4.ensures.packets;
 }

@@ -26,7 +26,7 @@ invariant_of-self g c = elim c.match-put.branch [
 
 pub returns : goal.returns
 returns g c =
-    let old : World = record { clear = c.self.inside.clear; depot = c.self.inside.depot; orders = c.self.inside.orders.packets; replies = c.self.inside.replies.packets } in
+    let old : World = record { clear = c.self.inside.clear; depot = c.self.inside.depot; order_packets = c.self.inside.orders.packets; reply_packets = c.self.inside.replies.packets } in
     let up : old.clear.clear.log.down ≡ false = search rules in
     let found : order_of (orders_of old.clear.clear.log.records).orders c.args.number ≡ Some c.in-Some.order = search rules in
     elim c.match-put.branch [

@@ -11,7 +11,7 @@ use Rattle.cns_system.proofs.pair.Pair.take_order.Goals as goal
 pub returns-then-is_err : goal.returns-then-is_err
 returns-then-is_err g c =
     let same : c.put_room.new.self.packets ≡ c.self.inside.replies.packets = search rules in
-    let world : List (List ℕ) → World = λ ps. record { clear = c.self.inside.clear; depot = c.self.inside.depot; orders = c.self.inside.orders.packets; replies = ps } in
+    let world : List (List ℕ) → World = λ ps. record { clear = c.self.inside.clear; depot = c.self.inside.depot; order_packets = c.self.inside.orders.packets; reply_packets = ps } in
     let new_is : world c.put_room.new.self.packets ≡ c.args.self.now =
     ap world same ∙ c.self.view_is in
     λ packet held.
