@@ -1,4 +1,3 @@
 pub mod BracketLemmas
 pub mod ReadLemmas
 pub mod SectionLemmas
-pub mod CommandLemmas
