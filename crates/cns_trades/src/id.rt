@@ -51,10 +51,15 @@ fn is_id_character(character: u8) -> bool
     character.is_ascii_uppercase() || character.is_ascii_digit()
 }
 
+// Each character is looked at, also behind one that is none of an id: so a processor looks at sixteen at once.
 fn all_id_characters(text: &[u8]) -> bool
     ensures { result ≡ list_all is_id_byte text.now }
 {
-    text.iter().all(|character| is_id_character(*character))
+    let mut all = true;
+    for character in text {
+        all &= is_id_character(*character);
+    }
+    all
 }
 
 /// Whether a text is 1 to 16 capital letters and digits.
