@@ -1,17 +1,20 @@
 ghost use Rattle.std.specs.Prelude.{◌≡◌, ◌≤◌, ◌∷◌, ◌++◌, length, IfOk, OnOk};
-ghost use Rattle.std.specs.Int.{w16, to_be_bytes};
+ghost use Rattle.std.specs.Int.{w16, w64, to_be_bytes};
 ghost use Rattle.cns_ids.specs.Cusip.{IsCusip, cusip_text};
+ghost use Rattle.cns_ids.specs.Day.{IsDayNumber};
 ghost use Rattle.cns_ids.specs.Member.{IsMember};
+ghost use Rattle.cns_ids.specs.Shares.{IsQuantity};
+ghost use Rattle.cns_movements.specs.Fields.{day_bytes as day_bytes_of};
 ghost use Rattle.cns_records.specs.Clear.{spelling, HasRanges, IsWritable, trade_at, entry_at, allocation_of, read_clear_of, ReadsAs};
 ghost use Rattle.cns_records.specs.Fields.{Gives};
 ghost use Rattle.cns_records.specs.Drawn.{AnswersIfRoom};
 
 use crate::allocation::Allocation;
 use crate::bad_record::BadRecord;
-use crate::fields::{Fields, VERSION, add_tickets, begin};
+use crate::fields::{CUSIP_LEN, Fields, VERSION, add_tickets, begin};
 use cns_ids::{Cusip, CycleId, MemberNo, Shares};
 use cns_journal::{Record, RecordFault};
-use cns_movements::{Reply, cycle_bytes, day_bytes};
+use cns_movements::{DAY_SIZE, Reply, cycle_bytes, day_bytes};
 use cns_trades::Trade;
 use std::alloc::{AllocError, Global};
 
@@ -27,6 +30,12 @@ const CYCLE: u8 = 4;
 const ALLOCATE: u8 = 5;
 
 const CONFIRM: u8 = 6;
+
+// How many bytes a member has in a payload, and a trade behind its id: its settlement date (4), its buyer (2), its
+// seller (2), its CUSIP (9) and its quantity (8).
+const MEMBER_SIZE: usize = 2;
+
+const TERMS_SIZE: usize = 25;
 
 /// A record of the clearing node: what one accepted call added to its book.
 #[derive(PartialEq, Eq, Debug, Drop)]
@@ -118,6 +127,27 @@ impl Record for ClearRecord {
     }
 }
 
+// The bytes of a trade behind its id.
+fn terms_of(trade: &Trade) -> [u8; TERMS_SIZE]
+    ensures bytes { result ≡ day_bytes_of trade.now.settle ++ to_be_bytes w16 trade.now.buyer ++ to_be_bytes w16 trade.now.seller ++ cusip_text trade.now.issue ++ to_be_bytes w64 trade.now.quantity }
+    ensures settle { IsDayNumber trade.now.settle }
+    ensures members { IsMember trade.now.buyer × IsMember trade.now.seller }
+    ensures issue { IsCusip trade.now.issue }
+    ensures quantity { IsQuantity trade.now.quantity }
+{
+    let mut terms = [0; TERMS_SIZE];
+    let (settle, rest) = terms.split_at_mut(DAY_SIZE);
+    let (buyer, rest) = rest.split_at_mut(MEMBER_SIZE);
+    let (seller, rest) = rest.split_at_mut(MEMBER_SIZE);
+    let (issue, quantity) = rest.split_at_mut(CUSIP_LEN);
+    settle.copy_from_slice(&day_bytes(trade.settle));
+    buyer.copy_from_slice(&trade.buyer.number().to_be_bytes());
+    seller.copy_from_slice(&trade.seller.number().to_be_bytes());
+    issue.copy_from_slice(&trade.issue.to_bytes());
+    quantity.copy_from_slice(&trade.quantity.shares().to_be_bytes());
+    terms
+}
+
 #[tactic(auto, unfolding(crate::specs::Clear::spelling))]
 fn add_accept(payload: &mut Vec<u8>, trade: &Trade) -> Result<(), AllocError>
     ensures spelled { OnOk result (payload.new.items ≡ payload.old.items ++ spelling (ClearRecord.Accept trade.now)) }
@@ -125,18 +155,10 @@ fn add_accept(payload: &mut Vec<u8>, trade: &Trade) -> Result<(), AllocError>
 {
     let id = trade.id.as_bytes();
     let id_len = id.len() as u8;
-    let settle = day_bytes(trade.settle);
-    let buyer = trade.buyer.number().to_be_bytes();
-    let seller = trade.seller.number().to_be_bytes();
-    let issue = trade.issue.to_bytes();
-    let quantity = trade.quantity.shares().to_be_bytes();
+    let terms = terms_of(trade);
     begin(payload, &[VERSION, ACCEPT, id_len])?;
     payload.extend_from_slice(id)?;
-    payload.extend_from_slice(&settle)?;
-    payload.extend_from_slice(&buyer)?;
-    payload.extend_from_slice(&seller)?;
-    payload.extend_from_slice(&issue)?;
-    payload.extend_from_slice(&quantity)?;
+    payload.extend_from_slice(&terms)?;
     Ok(())
 }
 

@@ -25,8 +25,8 @@ pub const COVER_ORDER: u8 = 1;
 
 pub const DELIVERY_ORDER: u8 = 2;
 
-// The characters of a CUSIP.
-const CUSIP_LEN: usize = 9;
+/// The characters of a CUSIP.
+pub const CUSIP_LEN: usize = 9;
 
 // As many bytes as a payload without tickets has at most: those of a trade with the longest id.
 const MOST_PLAIN: usize = 44;
