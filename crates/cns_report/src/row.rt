@@ -7,7 +7,7 @@ ghost use Rattle.cns_report.specs.Outcomes.{ordered_line};
 ghost use Rattle.cns_report.specs.Report.{balance_line, pool_line, position_line};
 
 use crate::account::account_digits;
-use crate::position::RightIn20;
+use crate::position::LastIn20;
 use crate::put::{LF, Put, SPACE};
 use crate::text::Draft;
 use cns_clearing::PoolRow;
@@ -46,7 +46,7 @@ impl Put for PositionRow {
     #[tactic(auto, unfolding(crate::specs::Report::position_line))]
     fn put(&self, draft: &mut Draft) -> Result<(), AllocError> {
         let of = issue_and_account(self.issue, self.member.to_bytes());
-        ("POS", of, RightIn20(self.position), LF).put(draft)
+        ("POS", of, LastIn20(self.position)).put(draft)
     }
 }
 
@@ -68,7 +68,7 @@ impl Put for BalanceRow {
     #[tactic(auto, unfolding(crate::specs::Report::balance_line))]
     fn put(&self, draft: &mut Draft) -> Result<(), AllocError> {
         let of = issue_and_account(self.issue, account_digits(&self.account));
-        ("BAL", of, RightIn20(self.shares), LF).put(draft)
+        ("BAL", of, LastIn20(self.shares)).put(draft)
     }
 }
 

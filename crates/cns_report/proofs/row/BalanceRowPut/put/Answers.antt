@@ -14,8 +14,7 @@ returns-clause-begun c =
     let issue = 32 ∷ cusip_text row.issue in
     let shares = right_20 (decimal row.shares) in
     let of =
-    append_assoc c.issue_and_account-of.result shares (10 ∷ [])
-    ∙ ap (λ (of : List ℕ). of ++ (shares ++ 10 ∷ [])) c.issue_and_account-of.ensures
+    ap (λ (of : List ℕ). of ++ (shares ++ 10 ∷ [])) c.issue_and_account-of.ensures
     ∙ append_assoc (issue ++ 32 ∷ c.account_digits.result) (32 ∷ []) (shares ++ 10 ∷ [])
     ∙ ap (λ (account : List ℕ). (issue ++ 32 ∷ account) ++ 32 ∷ (shares ++ 10 ∷ [])) c.account_digits.ensures
     ∙ sym (append_assoc (issue ++ 32 ∷ account_text row.account) (32 ∷ shares) (10 ∷ [])) in

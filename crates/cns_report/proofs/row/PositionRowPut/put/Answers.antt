@@ -19,8 +19,7 @@ returns-clause-begun c =
     let kept = to_z w64 (of_z w64 row.position) in
     let same : kept ≡ row.position = search rules in
     let of =
-    append_assoc c.issue_and_account-of.result (right_20 (signed_decimal kept)) (10 ∷ [])
-    ∙ ap (λ (of : List ℕ). of ++ number kept) c.issue_and_account-of.ensures
+    ap (λ (of : List ℕ). of ++ number kept) c.issue_and_account-of.ensures
     ∙ append_assoc (issue ++ 32 ∷ c.to_bytes.result) (32 ∷ []) (number kept)
     ∙ ap (λ (member : List ℕ). (issue ++ 32 ∷ member) ++ 32 ∷ number kept) c.to_bytes.ensures in
     on_ok_weaker c.put.result
