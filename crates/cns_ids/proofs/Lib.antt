@@ -3,3 +3,4 @@ pub mod CusipLemmas
 pub mod HoldingLemmas
 pub mod HoldingOrder
 pub mod ShareLemmas
+pub mod ListLemmas
