@@ -11,6 +11,7 @@ use Rattle.std.proofs.lemmas.List.Sums.{sum_by-take-le}
 use Rattle.std.proofs.lemmas.Map.Made.{is_some-lookup}
 use Rattle.cns_ids.specs.Holding.{holding_at, holding_eq}
 use Rattle.cns_ids.specs.declared.holding.Holding.{Holding}
+use Rattle.cns_ids.proofs.ListLemmas.{either_none}
 use Rattle.cns_netting.specs.History.{credit_part, debit_part}
 use Rattle.cns_netting.specs.Positions.{Adds, brought_by, brought_due, IsNamed, no_shares, position_found, position_among, shares_only_at, StayNear, taken_by, taken_due}
 use Rattle.cns_netting.specs.Undue.{delivering, if_settled, receiving}
@@ -20,7 +21,6 @@ use Rattle.cns_netting.specs.declared.undue.Change.TheVariants.{Add, TakeBack}
 use Rattle.cns_netting.specs.declared.undue.Undue.{Undue}
 use Rattle.cns_netting.proofs.PositionLemmas.{IsPut, put_there}
 use Rattle.cns_netting.proofs.QueueLemmas.{later_more, settled_more}
-use Rattle.cns_netting.proofs.TradeLemmas.{either_none}
 
 -- the part of a holding in what it has alone
 whole : (member issue shares : ℕ) → shares_only_at member issue shares member issue ≡ shares

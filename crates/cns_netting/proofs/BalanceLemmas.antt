@@ -3,6 +3,7 @@ use Rattle.std.proofs.Common.{◌≡◌, ◌≤◌, ◌<◌, ◌+◌, ℕ, zero,
 use Rattle.std.specs.Prelude.{◌&&◌, ◌==◌, sum_by, if◌then◌else◌}
 use Rattle.std.proofs.lemmas.Bool.{cases_eq, cases_lt, eq-eqb, ne_eqb}
 use Rattle.std.proofs.lemmas.List.Sums.{sum_by-cons}
+use Rattle.cns_ids.proofs.ListLemmas.{either-sum, either_none}
 use Rattle.cns_trades.specs.declared.trade.Trade.{Trade}
 use Rattle.cns_netting.specs.History.{bought, credit, debit, due, due_since, is_reached, latest, long_up_to, settled_in, settled_out, short_up_to, sold}
 use Rattle.cns_netting.specs.declared.entry.NetEntry.{NetEntry}
@@ -10,7 +11,6 @@ use Rattle.cns_netting.specs.declared.entry.NetEntry.TheVariants.{Accepted, Nett
 use Rattle.cns_netting.specs.Positions.{bought_by, sold_by}
 use Rattle.cns_netting.specs.Undue.{waiting_of}
 unfoldable pub use Rattle.cns_netting.specs.Totals.{total}
-use Rattle.cns_netting.proofs.TradeLemmas.{either-sum, either_none}
 
 -- ---- sums over the members 1 to n
 

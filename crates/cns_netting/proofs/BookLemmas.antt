@@ -2,7 +2,7 @@
 use Rattle.std.proofs.Common.{◌≡◌, ◌≤◌, ◌<◌, ◌+◌, ◌*◌, ◌^◌, ℕ, List, [], ◌∷◌, length, length-append, Option, None, Bool, true, false, refl, arith}
 use Rattle.std.specs.Prelude.{◌&&◌, ◌==◌, ℤ, pos, negsuc, ◌-ℤ◌, ◌+ℤ◌, sum_by, if◌then◌else◌}
 use Rattle.std.proofs.lemmas.Int.{ints}
-use Rattle.std.proofs.lemmas.Bool.{and_parts, eqb-true}
+use Rattle.cns_ids.proofs.ListLemmas.{at_most, same_place}
 use Rattle.cns_trades.specs.declared.trade.Trade.{Trade}
 use Rattle.cns_netting.specs.History.{accepted, bought, credit, credit_part, debit, debit_part, due_since, position_of, settled_in, settled_out, sold}
 use Rattle.cns_netting.specs.Positions.{bought_by, sold_by}
@@ -12,15 +12,11 @@ use Rattle.cns_netting.specs.declared.entry.NetEntry.{NetEntry}
 use Rattle.cns_netting.specs.declared.entry.NetEntry.TheVariants.{Accepted, Netted, Settled}
 use Rattle.cns_netting.proofs.TradeLemmas.{accepted-most}
 
-share_most : (b : Bool) (q n : ℕ) → q ≤ n → (if b then q else 0) ≤ n
-share_most true q n h = h
-share_most false q n h = omega arith
-
 bought_by-most : (m i : ℕ) (t : Trade) → bought_by m i (waiting_of t) ≤ t.quantity
-bought_by-most m i t = share_most ((t.buyer == m) && (t.issue == i)) t.quantity t.quantity (omega arith)
+bought_by-most m i t = at_most ((t.buyer == m) && (t.issue == i)) t.quantity
 
 sold_by-most : (m i : ℕ) (t : Trade) → sold_by m i (waiting_of t) ≤ t.quantity
-sold_by-most m i t = share_most ((t.seller == m) && (t.issue == i)) t.quantity t.quantity (omega arith)
+sold_by-most m i t = at_most ((t.seller == m) && (t.issue == i)) t.quantity
 
 -- the shares that due trades bring a member are at most those of all accepted trades
 pub bought-most : (reached : Option ℕ) (h : List NetEntry) (m i : ℕ) → QuantitiesFit h → bought (due_since reached h) m i ≤ length (accepted h) * 999999999999
@@ -73,9 +69,6 @@ parts_fit : (c d : ℕ) (z : ℤ) → AreNear c d → AreNear (c + credit_part z
     → (credit_part z ≤ 2000000000000000000) × (debit_part z ≤ 2000000000000000000)
 parts_fit c d (pos n) a b = (omega (arith, a.below, b.above), omega arith)
 parts_fit c d (negsuc n) a b = (omega arith, omega (arith, a.above, b.below))
-
-same_place : (k m j i : ℕ) → ((k == m) && (j == i)) ≡ true → (k ≡ m) × (j ≡ i)
-same_place k m j i h = let both = and_parts _ _ h in (eqb-true k m both.0, eqb-true j i both.1)
 
 -- a settlement that leaves the position within 10^18 of 0
 pub book_settled : (h : List NetEntry) (m i : ℕ) (z : ℤ) → IsBook h → IsWithin (position_of h m i) → IsWithin (position_of h m i +ℤ z) → IsBook (Settled m i z ∷ h)

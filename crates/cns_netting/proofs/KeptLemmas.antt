@@ -1,10 +1,11 @@
 -- What a book keeps beside its history, as the history grows.
-use Rattle.std.proofs.Common.{◌≡◌, ◌<◌, ◌+◌, ◌-◌, ℕ, List, [], ◌∷◌, None, refl, sym, ◌∙◌, arith, subst}
+use Rattle.std.proofs.Common.{◌≡◌, ◌<◌, ◌+◌, ◌-◌, ℕ, List, [], ◌∷◌, length, None, refl, sym, ◌∙◌, arith, subst}
 use Rattle.std.specs.Prelude.{All, ℤ, ◌+ℤ◌, sum_by}
 use Rattle.std.specs.BinaryHeap.{IsHeap}
 use Rattle.std.specs.HashMap.{HashMap}
 use Rattle.std.specs.List.Sorted.{IsPermutation}
 use Rattle.std.proofs.lemmas.List.Elements.{All-cons, All-nil, All-weaker}
+use Rattle.std.proofs.lemmas.List.Recursion.{is_sum_by}
 use Rattle.std.proofs.lemmas.List.Sorted.{All-permutation, sum_by_pushed}
 use Rattle.std.proofs.lemmas.List.Sums.{sum_by-cons}
 use Rattle.cns_trades.specs.declared.trade.Trade.{Trade}
@@ -27,7 +28,7 @@ use Rattle.cns_netting.proofs.BookLemmas.{book_empty, long-most, settled-near, s
 use Rattle.cns_netting.proofs.QueueLemmas.{none-settled}
 use Rattle.cns_netting.proofs.RowLemmas.{same_positions}
 use Rattle.cns_netting.proofs.TotalLemmas.{long_total, short_total, totals_kept}
-use Rattle.cns_netting.proofs.TradeLemmas.{due-netting, length-sum, settled-left, undue-netting}
+use Rattle.cns_netting.proofs.TradeLemmas.{due-netting, settled-left, undue-netting}
 
 -- what may be added of all trades that wait may be added of those that settle by a day
 pub near_by : (day : ℕ) (waiting : List Undue) {positions : List (Holding × Position)} → StayNear (bought_in waiting) (sold_in waiting) positions
@@ -124,7 +125,10 @@ module _ {T : Type 0} {h : List NetEntry} {old : List (Holding × Position)} {to
 
   -- how many become due
   pub netted_count : (day : ℕ) → sum_by (if_settled day (λ (t : Undue). 1)) waiting ≡ becoming_due h day
-  netted_count day = omega (arith, due_then day (λ t. 1), length-sum (due h), length-sum (due (Netted day ∷ h)))
+  netted_count day = omega (arith, due_then day (λ t. 1), counted (due h), counted (due (Netted day ∷ h)))
+    where
+      counted : (ts : List Trade) → length ts ≡ sum_by (λ (t : Trade). 1) ts
+      counted = is_sum_by (λ ts. length ts) (λ t. 1) refl (λ t ts. omega arith)
 
   -- nothing stands otherwise where all trades that wait settle later than the day of a netting
   pub rows_netted : {g : List NetEntry} → h ≡ g → {day : ℕ} → All (λ (t : Undue). day < t.settle) waiting → rows_of g ≡ rows_of (Netted day ∷ g)

@@ -1,4 +1,3 @@
-pub mod PutLemmas
 pub mod TradeLemmas
 pub mod PositionLemmas
 pub mod QueueLemmas
@@ -6,7 +5,6 @@ pub mod AddLemmas
 pub mod BookLemmas
 pub mod HoldingLemmas
 pub mod OrderLemmas
-pub mod SumLemmas
 pub mod RowLemmas
 pub mod MemberLemmas
 pub mod IssueLemmas

@@ -1,15 +1,15 @@
 -- Rows in the order of their holdings are known by the sums over them.
-use Rattle.std.proofs.Common.{◌≡◌, ◌≤◌, ◌<◌, ℕ, suc, List, [], ◌∷◌, length, get_or, Option, None, Some, Bool, true, false, refl, sym, ap, ◌∙◌, arith, subst, inl, inr, Less, ◌⊎◌}
-use Rattle.std.specs.Prelude.{◌&&◌, ◌==◌, All, AllPairs, sum_by, if◌then◌else◌}
-use Rattle.std.specs.List.{AllByRecursion, cons_option, filter_map}
+use Rattle.std.proofs.Common.{◌≡◌, ◌≤◌, ◌<◌, ℕ, List, [], ◌∷◌, length, get_or, Option, None, Some, Bool, true, false, refl, sym, ap, ◌∙◌, arith, subst, inl, inr, Less, ◌⊎◌}
+use Rattle.std.specs.Prelude.{◌&&◌, ◌==◌, AllPairs, sum_by, if◌then◌else◌}
+use Rattle.std.specs.List.{AllByRecursion}
 use Rattle.std.specs.Ordering.{int_eq, is_lt}
 use Rattle.std.proofs.lemmas.Bool.{and_parts, eqb-true, true≢false}
 use Rattle.std.proofs.lemmas.Bool.Decides.{Decides-int_eq, nat_tests}
-use Rattle.std.proofs.lemmas.List.Elements.{All-cons, All-head, All-nil, All-tail, All-weaker, recursion_from_All}
-use Rattle.std.proofs.lemmas.List.Kept.{AllPairs-cons}
+use Rattle.std.proofs.lemmas.List.Elements.{All-weaker, recursion_from_All}
 use Rattle.std.proofs.lemmas.List.Sums.{sum_by-cons}
 use Rattle.cns_ids.specs.Holding.{holding_cmp}
 use Rattle.cns_ids.specs.declared.holding.Holding.{Holding}
+use Rattle.cns_ids.proofs.ListLemmas.{AllPairs-head, AllPairs-tail}
 use Rattle.cns_netting.specs.Positions.{AreInOrder, holding_of, in_issue, IsNotBefore}
 use Rattle.cns_netting.specs.declared.position.PositionRow.{PositionRow}
 
@@ -19,35 +19,6 @@ IsBefore row later = holding_cmp (holding_of row) (holding_of later) ≡ Less
 
 abbrev pub AreRising : List PositionRow → Type 0
 AreRising = AllPairs IsBefore
-
--- ---- pairs of items
-
-module _ {X : Type 0} (R : X → X → Type 0) (x : X) (xs : List X) (all : AllPairs R (x ∷ xs)) where
-  pub pairs_head : All (R x) xs
-  pairs_head k d below = all 0 (suc k) d (omega arith) (omega (arith, below))
-
-  pub pairs_tail : AllPairs R xs
-  pairs_tail i j d less below = all (suc i) (suc j) d (omega (arith, less)) (omega (arith, below))
-
-module _ {X Y : Type 0} (P : Y → Type 0) (Q : X → Type 0) (made : X → Option Y) (each : (x : X) (y : Y) → made x ≡ Some y → Q x → P y) where
-  -- what holds of each item holds of all that is made of them
-  pub All-filter_map : (xs : List X) → All Q xs → All P (filter_map made xs)
-  All-filter_map [] all = All-nil P
-  All-filter_map (x ∷ xs) all = by (made x) refl (All-filter_map xs (All-tail Q x xs all))
-    where
-      by : (o : Option Y) → made x ≡ o → All P (filter_map made xs) → All P (cons_option o (filter_map made xs))
-      by None e rest = rest
-      by (Some y) e rest = All-cons P y (filter_map made xs) (each x y e (All-head Q x xs all)) rest
-
--- and what holds of each pair of items
-pub AllPairs-filter_map : {X Y : Type 0} (Q : X → X → Type 0) (R : Y → Y → Type 0) (made : X → Option Y)
-    → ((x z : X) (y w : Y) → made x ≡ Some y → made z ≡ Some w → Q x z → R y w) → (xs : List X) → AllPairs Q xs → AllPairs R (filter_map made xs)
-AllPairs-filter_map Q R made each [] all = λ i j d less below. absurd (omega (arith, below))
-AllPairs-filter_map {X} {Y} Q R made each (x ∷ xs) all = by (made x) refl (AllPairs-filter_map Q R made each xs (pairs_tail Q x xs all))
-  where
-    by : (o : Option Y) → made x ≡ o → AllPairs R (filter_map made xs) → AllPairs R (cons_option o (filter_map made xs))
-    by None e rest = rest
-    by (Some y) e rest = AllPairs-cons R y (filter_map made xs) (All-filter_map (R y) (Q x) made (λ z w later q. each x z y w e later q) xs (pairs_head Q x xs all)) rest
 
 -- a sort leaves rows in order
 pub in_order : (xs : List PositionRow)
@@ -122,13 +93,13 @@ first_same x y xs ys order rising sums =
     x_there : (x ≡ y) ⊎ (holding_cmp (holding_of y) (holding_of x) ≡ Less)
     x_there =
         from_count (λ r. (r ≡ y) ⊎ (holding_cmp (holding_of y) (holding_of r) ≡ Less)) x (y ∷ ys)
-        (inl refl, recursion_from_All _ ys (All-weaker (λ (r : PositionRow). holding_cmp (holding_of y) (holding_of r) ≡ Less) (λ (r : PositionRow). (r ≡ y) ⊎ (holding_cmp (holding_of y) (holding_of r) ≡ Less)) (λ r less. inr less) ys (pairs_head IsBefore y ys rising)))
+        (inl refl, recursion_from_All _ ys (All-weaker (λ (r : PositionRow). holding_cmp (holding_of y) (holding_of r) ≡ Less) (λ (r : PositionRow). (r ≡ y) ⊎ (holding_cmp (holding_of y) (holding_of r) ≡ Less)) (λ r less. inr less) ys (AllPairs-head IsBefore y ys rising)))
         (omega (arith, sums (if_row x), sum_by-cons (if_row x) x xs, counts_itself x))
 
     y_there : holding_cmp (holding_of y) (holding_of x) ≡ Less → ⊥
     y_there =
         from_count (λ r. holding_cmp (holding_of r) (holding_of x) ≡ Less → ⊥) y (x ∷ xs)
-        (itself, recursion_from_All _ xs (pairs_head IsNotBefore x xs order))
+        (itself, recursion_from_All _ xs (AllPairs-head IsNotBefore x xs order))
         (omega (arith, sums (if_row y), sum_by-cons (if_row y) y ys, counts_itself y))
       where
         itself : holding_cmp (holding_of x) (holding_of x) ≡ Less → ⊥
@@ -141,5 +112,5 @@ same_rows [] (y ∷ ys) order rising sums = absurd (omega (arith, sums (λ (r : 
 same_rows (x ∷ xs) [] order rising sums = absurd (omega (arith, sums (λ (r : PositionRow). 1), sum_by-cons (λ (r : PositionRow). 1) x xs))
 same_rows (x ∷ xs) (y ∷ ys) order rising sums =
     let first = first_same x y xs ys order rising sums in
-    let rest = same_rows xs ys (pairs_tail IsNotBefore x xs order) (pairs_tail IsBefore y ys rising) (λ f. omega (arith, sums f, sum_by-cons f x xs, sum_by-cons f y ys, ap f first)) in
+    let rest = same_rows xs ys (AllPairs-tail IsNotBefore x xs order) (AllPairs-tail IsBefore y ys rising) (λ f. omega (arith, sums f, sum_by-cons f x xs, sum_by-cons f y ys, ap f first)) in
     ap (λ r. r ∷ xs) first ∙ ap (λ l. y ∷ l) rest

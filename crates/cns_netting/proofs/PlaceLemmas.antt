@@ -3,7 +3,7 @@ use Rattle.std.proofs.Common.{◌≡◌, ◌≤◌, ◌<◌, ◌+◌, ℕ, zero,
 use Rattle.std.specs.Prelude.{◌==◌, if◌then◌else◌, All, IsSome, slice_get, sum_by}
 use Rattle.std.specs.Cmp.{IsTotalOrder}
 use Rattle.std.specs.List.{cons_option, filter_map}
-use Rattle.std.specs.List.Sorted.{IsNonDecreasingBy, IsPermutation, IsSortedByKey}
+use Rattle.std.specs.List.Sorted.{IsNonDecreasingBy, IsPermutation}
 use Rattle.std.specs.Map.{keys_of, lookup}
 use Rattle.std.specs.Option.{option_cmp, option_map, option_to_list}
 use Rattle.std.specs.Ordering.{is_lt}
@@ -22,12 +22,13 @@ use Rattle.cns_ids.specs.Holding.{holding_at, holding_cmp, holding_eq}
 use Rattle.cns_ids.specs.Member.{IsMember}
 use Rattle.cns_ids.specs.declared.holding.Holding.{Holding}
 use Rattle.cns_ids.proofs.HoldingLemmas.{Puts}
+use Rattle.cns_ids.proofs.ListLemmas.{AllPairs-filter_map, IsSortedByKey-alike}
 use Rattle.cns_netting.specs.Positions.{AreInOrder, AreListed, ArePlacesInOrder, holding_of, IsFrontOf, IsNotBefore, issue_in, issue_or, places_below, position_found, row_at, row_by, row_if, row_in_place, row_part}
 use Rattle.cns_netting.specs.History.{credit_part, debit_part}
 use Rattle.cns_netting.specs.declared.position.PositionRow.{PositionRow}
 use Rattle.cns_netting.specs.declared.positions.Position.{Position}
 use Rattle.cns_netting.proofs.HoldingLemmas.{holding_order}
-use Rattle.cns_netting.proofs.OrderLemmas.{AllPairs-filter_map, in_issue-holding}
+use Rattle.cns_netting.proofs.OrderLemmas.{in_issue-holding}
 use Rattle.cns_netting.proofs.PositionLemmas.{IsPut, put_members}
 
 -- holdings that may be named are compared as those that are
@@ -67,13 +68,6 @@ listed_none = record { members = λ k some. cc some; places = places_none [] }
 within : (order : List ℕ) (positions : List (Holding × Position)) → ArePlacesInOrder order positions → All (λ (p : ℕ). p < length order) order
 within order positions places = All-permutation (λ (p : ℕ). p < length order) (places_below (length order)) order places.each (places-most (length order))
 
-sorted_alike : (key next : ℕ → Option Holding) (order : List ℕ) → All (λ (p : ℕ). next p ≡ key p) order → IsSortedByKey key (option_cmp holding_cmp) order
-    → IsSortedByKey next (option_cmp holding_cmp) order
-sorted_alike key next order same sorted k d low high =
-    let first = same k d (omega (arith, high)) in
-    let second = same (k + 1) d high in
-    (λ t. is_lt (option_cmp holding_cmp (second t) (first t))) ∙ sorted k d low high
-
 -- places stay in order where the same holdings stand in front
 pub places_kept : (old new : List (Holding × Position)) (order : List ℕ) → IsFrontOf (keys_of old) (keys_of new) → ArePlacesInOrder order old → ArePlacesInOrder order new
 places_kept old new order front before =
@@ -84,7 +78,7 @@ places_kept old new order front before =
       most = omega (arith, before.most, length_old, length_new, length_all);
       each = before.each;
       sorted =
-          sorted_alike (slice_get (keys_of old)) (slice_get (keys_of new)) order
+          IsSortedByKey-alike (option_cmp holding_cmp) (slice_get (keys_of old)) (slice_get (keys_of new)) order
           (All-weaker (λ (p : ℕ). p < length order) (λ (p : ℕ). slice_get (keys_of new) p ≡ slice_get (keys_of old) p) (λ p below. there p (omega (arith, below, before.most, length_old))) order (within order old before))
           before.sorted;
     }

@@ -1,12 +1,12 @@
 -- What a queue of undue trades still has, as those of its trades become due that settle by a day.
-use Rattle.std.proofs.Common.{◌≡◌, ◌≤◌, ◌<◌, ◌+◌, ℕ, List, [], ◌∷◌, true, false, length, get_or, take, refl, ap, ◌∙◌, arith}
+use Rattle.std.proofs.Common.{◌≡◌, ◌≤◌, ◌<◌, ◌+◌, ℕ, List, true, false, length, get_or, take, ap, ◌∙◌, arith}
 use Rattle.std.specs.Prelude.{All, filter, nat_lt, sum_by}
 use Rattle.std.specs.List.Sorted.{IsPermutation}
 use Rattle.std.proofs.lemmas.Bool.Decides.{nat_tests}
-use Rattle.std.proofs.lemmas.List.Elements.{All-filter, All-head, All-tail}
+use Rattle.std.proofs.lemmas.List.Elements.{All-filter}
 use Rattle.std.proofs.lemmas.List.Sorted.{All-permutation, sum_by-IsPermutation}
-use Rattle.std.proofs.lemmas.List.Sums.{sum_by-cons, sum_by_more}
-use Rattle.cns_netting.proofs.SumLemmas.{sum_by-filter}
+use Rattle.std.proofs.lemmas.List.Sums.{sum_by-le, sum_by_more}
+use Rattle.cns_ids.proofs.ListLemmas.{sum_by-filter}
 use Rattle.cns_netting.specs.Undue.{if_left, if_settled}
 use Rattle.cns_netting.specs.declared.undue.Undue.{Undue}
 
@@ -19,9 +19,7 @@ later day f t less = grind (arith, nat_tests)
 
 -- where all trades settle later, none counts
 pub none-settled : (day : ℕ) (f : Undue → ℕ) (ts : List Undue) → All (λ (t : Undue). day < t.settle) ts → sum_by (if_settled day f) ts ≡ 0
-none-settled day f [] all = refl
-none-settled day f (t ∷ ts) all =
-    omega (arith, sum_by-cons (if_settled day f) t ts, later day f t (All-head (λ (u : Undue). day < u.settle) t ts all), none-settled day f ts (All-tail (λ (u : Undue). day < u.settle) t ts all))
+none-settled day f ts all = omega (arith, sum_by-le (if_settled day f) 0 ts (λ i t below. omega (arith, later day f (get_or ts i t) (all i t below))))
 
 -- the trades that settle later are those that are left
 pub left-later : (day : ℕ) (f : Undue → ℕ) (ts left : List Undue) → IsPermutation (filter (λ (t : Undue). nat_lt day t.settle) ts) left → sum_by f left ≡ sum_by (if_left day f) ts

@@ -1,15 +1,14 @@
 -- The rows of a history by the positions of its holdings: rows in order that have their sums are those.
-use Rattle.std.proofs.Common.{◌≡◌, ℕ, List, [], ◌∷◌, Option, Some, None, Bool, true, false, refl, sym, ap, ◌∙◌, ◌+◌, arith, subst, Ordering, Less, Equal, Greater}
-use Rattle.std.specs.Prelude.{◌||◌, ◌&&◌, ◌==◌, AllPairs, if◌then◌else◌, filter, is_some, sum_by}
+use Rattle.std.proofs.Common.{◌≡◌, ℕ, List, [], ◌∷◌, get_or, Option, Some, None, Bool, true, false, refl, sym, ap, ◌∙◌, ◌+◌, arith, subst, Less, Equal}
+use Rattle.std.specs.Prelude.{◌||◌, ◌&&◌, ◌==◌, if◌then◌else◌, filter, is_some, sum_by}
 use Rattle.std.specs.List.{cons_option, filter_map, IsDistinct, list_any}
 use Rattle.std.specs.Map.{keys_of, lookup}
-use Rattle.std.specs.Ordering.{match_ordering}
 use Rattle.std.specs.BTreeSet.{insert_key}
 use Rattle.std.proofs.lemmas.Bool.Decides.{nat_tests}
 use Rattle.std.proofs.lemmas.Bool.{eq-eqb, or_parts}
-use Rattle.std.proofs.lemmas.List.Elements.{All-weaker, recursion_from_All}
-use Rattle.std.proofs.lemmas.List.Kept.{AllPairs-cons}
+use Rattle.std.proofs.lemmas.List.Sums.{sum_by-cons}
 use Rattle.std.proofs.lemmas.Map.Made.{is_some-lookup}
+use Rattle.std.proofs.lemmas.Map.Keys.{IsDistinct-from_apart, Less-from_sorted}
 use Rattle.cns_netting.specs.History.{bought, credit, credit_part, debit, debit_part, due_since, is_reached, latest, position_of, settled_in, settled_out, sold}
 use Rattle.cns_ids.specs.Holding.{holding_at, holding_cmp, holding_eq}
 use Rattle.cns_netting.specs.Rows.{holdings_of, is_row_in, open_row, rows_of}
@@ -18,37 +17,20 @@ use Rattle.cns_netting.specs.declared.positions.Position.{Position}
 use Rattle.cns_netting.specs.declared.entry.NetEntry.{NetEntry}
 use Rattle.cns_netting.specs.declared.entry.NetEntry.TheVariants.{Accepted, Netted, Settled}
 use Rattle.cns_ids.specs.declared.holding.Holding.{Holding}
+use Rattle.cns_ids.proofs.ListLemmas.{AllPairs-filter_map, either_none, entries-sum, list_any-insert_key, same_sums}
 use Rattle.cns_netting.specs.declared.position.PositionRow.{PositionRow}
-use Rattle.cns_netting.proofs.HoldingLemmas.{AreAscending, equal_holdings, holdings-ascending}
-use Rattle.cns_netting.proofs.OrderLemmas.{AllPairs-filter_map, AreRising, IsBefore, in_issue-holding, in_issue-none, same_rows}
+use Rattle.cns_netting.proofs.HoldingLemmas.{AreAscending, equal_holdings, holding_eq_laws, holdings-ascending}
+use Rattle.cns_netting.proofs.OrderLemmas.{AreRising, IsBefore, in_issue-holding, in_issue-none, same_rows}
 use Rattle.cns_netting.proofs.PositionLemmas.{by_parts}
-use Rattle.cns_netting.proofs.SumLemmas.{entries-sum, filter_map-sum, same_sums}
-use Rattle.cns_netting.proofs.TradeLemmas.{bought-due, either_none, sold-due}
+use Rattle.cns_netting.proofs.TradeLemmas.{bought-due, sold-due}
 
 -- ---- which holdings a history names
 
 there-inserted : (q k : Holding) (ks : List Holding) → list_any (holding_eq q) (insert_key holding_cmp ks k) ≡ (holding_eq q k || list_any (holding_eq q) ks)
-there-inserted q k [] = refl
-there-inserted q k (x ∷ xs) = by (holding_cmp k x) refl (there-inserted q k xs)
+there-inserted q k ks = list_any-insert_key holding_cmp (holding_eq q) k ks (λ x e. ap (holding_eq q) (equal_holdings k x (same x e)))
   where
-    same : holding_cmp k x ≡ Equal → holding_eq k x ≡ true
-    same e = grind (arith, nat_tests)
-
-    twice : (a b : Bool) → (a || b) ≡ (a || (a || b))
-    twice true b = refl
-    twice false b = refl
-
-    swap : (a b c : Bool) → (a || (b || c)) ≡ (b || (a || c))
-    swap true true c = refl
-    swap true false c = refl
-    swap false true c = refl
-    swap false false c = refl
-
-    by : (o : Ordering) → holding_cmp k x ≡ o → list_any (holding_eq q) (insert_key holding_cmp xs k) ≡ (holding_eq q k || list_any (holding_eq q) xs)
-        → list_any (holding_eq q) (match_ordering o (k ∷ x ∷ xs) (x ∷ xs) (x ∷ insert_key holding_cmp xs k)) ≡ (holding_eq q k || (holding_eq q x || list_any (holding_eq q) xs))
-    by Less e rest = refl
-    by Equal e rest = Prim.rw (equal_holdings k x (same e)) (twice (holding_eq q x) (list_any (holding_eq q) xs))
-    by Greater e rest = ap (λ b. holding_eq q x || b) rest ∙ swap (holding_eq q x) (holding_eq q k) (list_any (holding_eq q) xs)
+    same : (x : Holding) → holding_cmp k x ≡ Equal → holding_eq k x ≡ true
+    same x e = grind (arith, nat_tests)
 
 -- what is not the place of a member in an issue gets nothing that goes there
 not_here : (q : Holding) (i m n : ℕ) → holding_eq q (holding_at i m) ≡ false → ◌≡◌ {A = ℕ} (if (m == q.member) && (i == q.issue) then n else 0) 0
@@ -100,9 +82,7 @@ no_row h q none =
 -- ---- the rows of holdings
 
 apart : (ks : List Holding) → AreAscending ks → IsDistinct holding_eq ks
-unfolding IsDistinct
-apart [] order = tt
-apart (x ∷ xs) order = (recursion_from_All _ xs (All-weaker (λ (q : Holding). holding_cmp x q ≡ Less) (λ (q : Holding). holding_eq x q ≡ false) (λ q less. differ x q less) xs order.0), apart xs order.1)
+apart ks order = IsDistinct-from_apart holding_eq ks (λ i j d less below. differ (get_or ks i d) (get_or ks j d) (Less-from_sorted holding_cmp ks i j d order less below))
   where
     differ : (a b : Holding) → holding_cmp a b ≡ Less → holding_eq a b ≡ false
     differ a b e = grind (arith, nat_tests)
@@ -163,16 +143,12 @@ row_by-history positions h are q = by (lookup (holding_eq q) positions) (are.bal
     ) refl
 
 -- the rows of holdings that rise do so
-ascending_pairs : (ks : List Holding) → AreAscending ks → AllPairs (λ (k q : Holding). holding_cmp k q ≡ Less) ks
-ascending_pairs [] order = λ i j d less below. absurd (omega (arith, below))
-ascending_pairs (k ∷ ks) order = AllPairs-cons (λ (p q : Holding). holding_cmp p q ≡ Less) k ks order.0 (ascending_pairs ks order.1)
-
 rows-rising : (rows : Holding → Option PositionRow) → ((k : Holding) (row : PositionRow) → rows k ≡ Some row → holding_of row ≡ k) → (ks : List Holding) → AreAscending ks → AreRising (filter_map rows ks)
 rows-rising rows own ks order =
     AllPairs-filter_map (λ (k q : Holding). holding_cmp k q ≡ Less) IsBefore rows
     (λ k q row later first second less.
     subst (λ (p : Holding). holding_cmp p (holding_of later) ≡ Less) (sym (own k row first)) (subst (λ (p : Holding). holding_cmp k p ≡ Less) (sym (own q later second)) less))
-    ks (ascending_pairs ks order)
+    ks (λ i j d less below. Less-from_sorted holding_cmp ks i j d order less below)
 
 rows_for : (issue : Option ℕ) (h : List NetEntry) → filter_map (row_for issue h) (holdings_of h) ≡ rows_if issue (rows_of h)
 rows_for None h = refl
@@ -184,13 +160,22 @@ rising h = rows-rising (open_row h) (open_row-holding h) (holdings_of h) (holdin
 
 -- ---- sums over the rows
 
+-- a sum over rows, by what there is of each that they are made of
+pub filter_map-sum : {X : Type 0} (f : PositionRow → ℕ) (rows : X → Option PositionRow) (ks : List X) → sum_by f (filter_map rows ks) ≡ sum_by (λ k. row_part f (rows k)) ks
+filter_map-sum f rows [] = refl
+filter_map-sum f rows (k ∷ ks) = by (rows k) refl (filter_map-sum f rows ks)
+  where
+    by : (o : Option PositionRow) → rows k ≡ o → sum_by f (filter_map rows ks) ≡ sum_by (λ q. row_part f (rows q)) ks → sum_by f (cons_option o (filter_map rows ks)) ≡ sum_by (λ q. row_part f (rows q)) (k ∷ ks)
+    by None e rest = omega (arith, sum_by-cons (λ q. row_part f (rows q)) k ks, rest, ap (row_part f) e)
+    by (Some row) e rest = omega (arith, sum_by-cons f row (filter_map rows ks), sum_by-cons (λ q. row_part f (rows q)) k ks, rest, ap (row_part f) e)
+
 -- a sum over the rows of some holdings is the one over those of the history, where no other holding has a row
 pub sum_by_holdings : (issue : Option ℕ) (positions : List (Holding × Position)) (h : List NetEntry) (f : PositionRow → ℕ) (ks : List Holding) → IsDistinct holding_eq ks → ArePositionsOf positions h
     → ((q : Holding) → list_any (holding_eq q) ks ≡ false → row_if issue q (lookup (holding_eq q) positions) ≡ None)
     → sum_by (λ q. row_part f (row_if issue q (lookup (holding_eq q) positions))) ks ≡ sum_by f (rows_if issue (rows_of h))
 sum_by_holdings issue positions h f ks distinct are others =
     (λ i. sum_by (λ q. row_part f (in_issue issue q (row_by-history positions h are q i))) ks)
-    ∙ same_sums (λ q. row_part f (row_for issue h q)) ks (holdings_of h) distinct (apart (holdings_of h) (holdings-ascending h))
+    ∙ same_sums holding_eq_laws equal_holdings (λ q. row_part f (row_for issue h q)) ks (holdings_of h) distinct (apart (holdings_of h) (holdings-ascending h))
     (λ q none. ap (row_part f) (sym (ap (in_issue issue q) (row_by-history positions h are q)) ∙ others q none))
     (λ q none. ap (row_part f) (ap (in_issue issue q) (no_row h q none) ∙ in_issue-none issue q))
     ∙ sym (filter_map-sum f (row_for issue h) (holdings_of h)) ∙ ap (sum_by f) (rows_for issue h)
@@ -199,7 +184,7 @@ sum_by_holdings issue positions h f ks distinct are others =
 pub sum_by_entries : (issue : Option ℕ) (positions : List (Holding × Position)) (h : List NetEntry) (f : PositionRow → ℕ) → IsDistinct holding_eq (keys_of positions) → ArePositionsOf positions h
     → sum_by (λ (e : Holding × Position). row_part f (row_if issue e.0 (Some e.1))) positions ≡ sum_by f (rows_if issue (rows_of h))
 sum_by_entries issue positions h f unique are =
-    entries-sum (λ q o. row_part f (row_if issue q o)) positions unique
+    entries-sum holding_eq_laws (λ q o. row_part f (row_if issue q o)) positions unique
     ∙ sum_by_holdings issue positions h f (keys_of positions) unique are
     (λ q none. ap (row_if issue q) (none_from_absent (lookup (holding_eq q) positions) (is_some-lookup (holding_eq q) positions ∙ none)) ∙ in_issue-none issue q)
   where

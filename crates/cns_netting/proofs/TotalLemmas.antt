@@ -12,7 +12,7 @@ use Rattle.cns_netting.specs.declared.entry.NetEntry.{NetEntry}
 use Rattle.cns_netting.specs.declared.positions.Position.{Position}
 use Rattle.cns_netting.specs.declared.totals.Totals.{Totals}
 use Rattle.cns_netting.proofs.AddLemmas.{near_there}
-use Rattle.cns_netting.proofs.PutLemmas.{PutsAt, put_holds}
+use Rattle.cns_ids.proofs.ListLemmas.{PutsAt, put_holds}
 use Rattle.cns_netting.proofs.BalanceLemmas.{total-one, total-plus, total-same}
 use Rattle.cns_netting.proofs.PositionLemmas.{one_part, other_part}
 

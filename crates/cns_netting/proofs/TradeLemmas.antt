@@ -1,9 +1,10 @@
 -- Due and undue trades: a trade's part in the sums over them, the dates that nettings reach, and what a netting makes due.
-use Rattle.std.proofs.Common.{◌≡◌, ◌≤◌, ◌+◌, ℕ, List, [], ◌∷◌, ◌++◌, reverse, length, Option, Some, None, Bool, true, false, refl, sym, ◌∙◌, arith, ◌*◌, length-append, ap}
+use Rattle.std.proofs.Common.{◌≡◌, ◌≤◌, ◌+◌, ℕ, List, [], ◌∷◌, length, Option, Some, None, Bool, true, false, refl, sym, ◌∙◌, arith, ◌*◌, length-append, ap}
 use Rattle.std.specs.Prelude.{◌&&◌, ◌||◌, ◌==◌, nat_le, if◌then◌else◌, sum_by}
+use Rattle.std.proofs.Math.Bool.{or-false}
 use Rattle.std.proofs.lemmas.Bool.Decides.{nat_tests}
-use Rattle.std.proofs.lemmas.List.{reverse-append}
 use Rattle.std.proofs.lemmas.List.Sums.{sum_by-cons}
+use Rattle.cns_ids.proofs.ListLemmas.{either-other, either-sum, other-sum}
 use Rattle.cns_trades.specs.declared.trade.Trade.{Trade}
 use Rattle.cns_netting.specs.History.{bought, due_since, is_reached, latest, sold, accepted}
 use Rattle.cns_netting.specs.declared.entry.NetEntry.{NetEntry}
@@ -11,16 +12,6 @@ use Rattle.cns_netting.specs.declared.entry.NetEntry.TheVariants.{Accepted, Nett
 use Rattle.cns_netting.specs.Undue.{if_left, if_settled, waiting_of, undue_since}
 use Rattle.cns_netting.specs.declared.undue.Undue.{Undue}
 use Rattle.cns_netting.specs.Book.{QuantitiesFit}
-
--- a part of nothing
-pub either_none : (b : Bool) (q : ℕ) → q ≡ 0 → (if b then q else 0) ≡ 0
-either_none true q none = none
-either_none false q none = refl
-
--- a number of a trade, where it is due
-pub either-sum : (f : Trade → ℕ) (b : Bool) (t : Trade) (ts : List Trade) → sum_by f (if b then t ∷ ts else ts) ≡ (if b then f t else 0) + sum_by f ts
-either-sum f true t ts = sum_by-cons f t ts
-either-sum f false t ts = omega arith
 
 pub bought-due : (b : Bool) (t : Trade) (ts : List Trade) (m i : ℕ)
     → bought (if b then t ∷ ts else ts) m i ≡ (if b then (if (t.buyer == m) && (t.issue == i) then t.quantity else 0) else 0) + bought ts m i
@@ -32,17 +23,9 @@ pub sold-due : (b : Bool) (t : Trade) (ts : List Trade) (m i : ℕ)
 unfolding sold
 sold-due b t ts m i = either-sum (λ s. if (s.seller == m) && (s.issue == i) then s.quantity else 0) b t ts
 
--- the newest entry and those before it
-pub reverse-last : (before : List NetEntry) (e : NetEntry) → reverse (before ++ e ∷ []) ≡ e ∷ reverse before
-reverse-last before e = reverse-append before (e ∷ [])
-
 -- a netting more reaches the dates up to its own, and those that were reached
 pub is_reached-latest : (reached : Option ℕ) (day settle : ℕ) → is_reached (latest reached day) settle ≡ (nat_le settle day || is_reached reached settle)
 is_reached-latest None day settle = sym (or-false (nat_le settle day))
-  where
-    or-false : (b : Bool) → (b || false) ≡ b
-    or-false true = refl
-    or-false false = refl
 is_reached-latest (Some other) day settle = grind (arith, nat_tests)
 
 -- what one date reaches, the other one reaches too
@@ -62,14 +45,6 @@ reaches_latest a b day more settle h =
 latest-swap : (reached : Option ℕ) (a b : ℕ) → latest (latest reached a) b ≡ latest (latest reached b) a
 latest-swap None a b = grind (arith, nat_tests)
 latest-swap (Some c) a b = grind (arith, nat_tests)
-
-either-other : (b : Bool) (q : ℕ) → (if b then q else 0) + (if b then 0 else q) ≡ q
-either-other true q = omega arith
-either-other false q = omega arith
-
-other-sum : (f : Trade → ℕ) (b : Bool) (t : Trade) (ts : List Trade) → sum_by f (if b then ts else t ∷ ts) ≡ (if b then 0 else f t) + sum_by f ts
-other-sum f true t ts = omega arith
-other-sum f false t ts = sum_by-cons f t ts
 
 -- what a netting of a date makes due are the undue trades that settle by it
 pub due-netting : (f : Undue → ℕ) (reached : Option ℕ) (day : ℕ) (h : List NetEntry)
@@ -111,11 +86,6 @@ pub settled-left : (day : ℕ) (f : Undue → ℕ) (ts : List Undue) → sum_by 
 settled-left day f [] = refl
 settled-left day f (t ∷ ts) =
     omega (arith, sum_by-cons (if_settled day f) t ts, sum_by-cons (if_left day f) t ts, sum_by-cons f t ts, settled-left day f ts, either-other (nat_le t.settle day) (f t))
-
--- how many there are, as a sum
-pub length-sum : (ts : List Trade) → sum_by (λ (t : Trade). 1) ts ≡ length ts
-length-sum [] = refl
-length-sum (t ∷ ts) = omega (arith, sum_by-cons (λ (s : Trade). 1) t ts, length-sum ts)
 
 -- a number of each trade that is at most its shares sums, over the due trades and the undue ones, to at most all accepted shares
 pub accepted-most : (f : Trade → ℕ) → ((t : Trade) → f t ≤ t.quantity) → (reached : Option ℕ) (h : List NetEntry) → QuantitiesFit h

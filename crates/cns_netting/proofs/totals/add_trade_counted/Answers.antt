@@ -4,7 +4,7 @@ use Rattle.cns_ids.specs.Holding.{holding_at}
 use Rattle.cns_netting.specs.Positions.{shares_only_at, StayNear}
 use Rattle.cns_netting.specs.Totals.{longs_at, longs_in, shorts_at, shorts_in}
 use Rattle.cns_netting.proofs.AddLemmas.{both_added, first_near, second_near, still_named}
-use Rattle.cns_netting.proofs.PutLemmas.{puts_again}
+use Rattle.cns_ids.proofs.ListLemmas.{puts_again}
 use Rattle.cns_netting.proofs.TotalLemmas.{can_count, recounts_put, totals_added}
 use Rattle.cns_netting.proofs.totals.add_trade_counted.Goals as goal
 

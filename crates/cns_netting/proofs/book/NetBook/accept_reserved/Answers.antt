@@ -4,7 +4,7 @@ use Rattle.std.specs.List.Sorted.{IsPermutation}
 use Rattle.cns_netting.specs.Positions.{IsNamed}
 use Rattle.cns_netting.proofs.BookLemmas.{book_accepted}
 use Rattle.cns_netting.proofs.KeptLemmas.{kept_accepted}
-use Rattle.cns_netting.proofs.TradeLemmas.{reverse-last}
+use Rattle.std.proofs.lemmas.List.{reverse-append}
 use Rattle.cns_netting.proofs.book.NetBook.accept_reserved.Goals as goal
 
 pub invariant_of-self : goal.invariant_of-self
@@ -16,7 +16,7 @@ invariant_of-self c =
     let waits = c.waiting_of-waiting.ensures in
     let names = c.name_trade.ensures in
     let issues = c.name_issue.ensures in
-    rw (c.write.ensures, reverse-last)
+    rw (c.write.ensures, reverse-append)
     (kept_accepted c.self.invariant c.args.trade.now (book_accepted h c.args.trade.now c.self.invariant.book few quantity) names.adds issues.longs issues.shorts issues.still
     (subst (IsNamed c.name_trade.new.self.entries) waits names.named) issues.named
     (subst (λ t. IsPermutation (t ∷ heap_items c.self.inside.undue) (heap_items c.enter.new.undue)) waits c.enter.ensures.entered) c.enter.ensures.heap)

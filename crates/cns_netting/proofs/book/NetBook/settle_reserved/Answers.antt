@@ -4,7 +4,7 @@ use Rattle.std.proofs.lemmas.Int.{to_z-of_z}
 use Rattle.cns_netting.specs.History.{credit_part, debit_part}
 use Rattle.cns_netting.proofs.BookLemmas.{book_settled}
 use Rattle.cns_netting.proofs.KeptLemmas.{kept_settled, kept_settling}
-use Rattle.cns_netting.proofs.TradeLemmas.{reverse-last}
+use Rattle.std.proofs.lemmas.List.{reverse-append}
 use Rattle.cns_netting.proofs.book.NetBook.settle_reserved.Goals as goal
 
 pub enter_counted-requires-clause-near : goal.enter_counted-requires-clause-near
@@ -22,6 +22,6 @@ invariant_of-self c =
     let after = rw (← same) at c.requires.after in
     let amount = to_z-of_z w64 c.held-amount.result (search rules) ∙ c.held-amount.ensures ∙ to_z-of_z w128 c.args.amount c.ranges.amount in
     let adds = rw (c.brought.ensures ∙ ap credit_part amount, c.taken.ensures ∙ ap debit_part amount) at c.enter_counted.ensures.adds in
-    rw (c.write.ensures, reverse-last, amount)
+    rw (c.write.ensures, reverse-append, amount)
     (kept_settled c.self.invariant c.args.member c.args.issue c.args.amount (book_settled h c.args.member c.args.issue c.args.amount c.self.invariant.book before after)
     adds c.enter_counted.ensures.totals c.enter_counted.ensures.issues)

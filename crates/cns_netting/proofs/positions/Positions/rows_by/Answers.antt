@@ -6,8 +6,7 @@ use Rattle.cns_ids.specs.declared.holding.Holding.{Holding}
 use Rattle.cns_netting.specs.Positions.{AreInOrder, row_if, row_in_place, row_part}
 use Rattle.cns_netting.specs.declared.positions.Position.{Position}
 use Rattle.cns_netting.proofs.PlaceLemmas.{places_kept, rows-sum, rows_in_order}
-use Rattle.cns_netting.proofs.RowLemmas.{rows_by_sums, sum_by_entries}
-use Rattle.cns_netting.proofs.SumLemmas.{filter_map-sum}
+use Rattle.cns_netting.proofs.RowLemmas.{filter_map-sum, rows_by_sums, sum_by_entries}
 use Rattle.cns_netting.proofs.positions.Positions.rows_by.Goals as goal
 
 pub returns-then-count-eq0 : goal.returns-then-count-eq0

@@ -5,8 +5,8 @@ use Rattle.cns_ids.specs.declared.holding.Holding.{Holding}
 use Rattle.cns_netting.specs.Positions.{issue_in, row_if, row_in_place, row_part}
 use Rattle.cns_netting.specs.declared.positions.Position.{Position}
 use Rattle.cns_netting.proofs.PlaceLemmas.{other_issue, rows-sum}
-use Rattle.cns_netting.proofs.RowLemmas.{sum_by_entries}
-use Rattle.cns_netting.proofs.SumLemmas.{filter_map-sum, sum_by-filter}
+use Rattle.cns_netting.proofs.RowLemmas.{filter_map-sum, sum_by_entries}
+use Rattle.cns_ids.proofs.ListLemmas.{sum_by-filter}
 use Rattle.cns_netting.proofs.positions.Positions.rows_by_place.Goals as goal
 
 pub returns : goal.returns
