@@ -1,12 +1,15 @@
 -- The bounds hold as a history and its movements grow, and what follows from them.
 use Rattle.std.proofs.Common.{◌≡◌, ◌≤◌, ◌+◌, ◌*◌, ℕ, zero, suc, List, [], ◌∷◌, length, Option, Some, None, Bool, true, false, cond, refl, ap, arith, Less}
-use Rattle.std.specs.Prelude.{◌&&◌, ◌==◌, All, count_by, ℤ, pos, negsuc, neg_ℤ, ◌-ℤ◌, ◌+ℤ◌, ◌≤ℤ◌, sum_by, if◌then◌else◌}
+use Rattle.std.specs.Prelude.{◌&&◌, ◌==◌, All, IfSome, count_by, ℤ, pos, negsuc, neg_ℤ, ◌-ℤ◌, ◌+ℤ◌, ◌≤ℤ◌, sum_by, if◌then◌else◌}
 use Rattle.std.specs.List.{filter_map, cons_option}
-use Rattle.std.proofs.lemmas.Bool.{and_from, and_parts, eq-eqb, eqb-true, false_from_ne_true}
+use Rattle.std.proofs.Math.Nat.{add-mul, mul-le-mul_right}
+use Rattle.std.proofs.lemmas.Bool.{and_from, cond_both, eq-eqb, eqb-true, false_from_ne_true}
 use Rattle.std.proofs.lemmas.Cmp.{tied_itself}
 use Rattle.std.proofs.lemmas.Int.{ints}
-use Rattle.std.proofs.lemmas.List.Elements.{All-cons, All-head, All-nil, All-tail, All-weaker}
+use Rattle.std.proofs.lemmas.List.Elements.{All-head, All-tail, All-weaker}
 use Rattle.std.proofs.lemmas.List.Sums.{sum_by-cons}
+use Rattle.std.proofs.lemmas.Map.Keys.{sorted_tail}
+use Rattle.std.proofs.lemmas.Map.Views.{All-after_first}
 use Rattle.cns_trades.specs.declared.trade.Trade.{Trade}
 use Rattle.cns_netting.specs.History.{bought, credit, credit_part, debit, debit_part, due, due_since, is_reached, latest, position_of, settled_in, settled_out, sold}
 use Rattle.cns_ids.specs.Holding.{holding_cmp}
@@ -15,6 +18,7 @@ use Rattle.cns_netting.specs.Book.{IsBook, IsWithin}
 use Rattle.cns_netting.specs.declared.entry.NetEntry.{NetEntry}
 use Rattle.cns_netting.specs.declared.entry.NetEntry.TheVariants.{Accepted, Netted, Settled}
 use Rattle.cns_ids.specs.declared.holding.Holding.{Holding}
+use Rattle.cns_ids.proofs.ListLemmas.{All-filter_map, at_most, same_place, share_grows}
 use Rattle.cns_netting.proofs.HoldingLemmas.{AreAscending, holding_order, holdings-ascending}
 use Rattle.cns_netting.proofs.BookLemmas.{book_netted, bought-most, sold-most}
 use Rattle.cns_netting.proofs.TradeLemmas.{Reaches, bought-due, reaches_latest, sold-due}
@@ -43,13 +47,6 @@ bounded_empty = record { covered = λ m i. omega arith; delivered = λ m i. omeg
 pub bounded_accepted : (h : List NetEntry) (book : Orders) (t : Trade) → AreBounded h book → AreBounded (Accepted t ∷ h) book
 unfolding settled_in settled_out
 bounded_accepted h book t bounded = record { covered = λ m i. bounded.covered m i; delivered = λ m i. bounded.delivered m i }
-
--- shares that count where x holds count no less where y holds, if x implies y
-pub share_grows : (x y : Bool) (q : ℕ) → (x ≡ true → y ≡ true) → (if x then q else 0) ≤ (if y then q else 0)
-share_grows true true q f = omega arith
-share_grows true false q f = let no = f refl in cc no
-share_grows false true q f = omega arith
-share_grows false false q f = omega arith
 
 -- a sum over the trades that are due grows as more of them are
 due_grows : (part : List Trade → ℕ) (share : Trade → ℕ) → ((b : Bool) (t : Trade) (ts : List Trade) → part (if b then t ∷ ts else ts) ≡ (if b then share t else 0) + part ts)
@@ -95,9 +92,9 @@ pub other_place : (k x : Holding) → holding_cmp k x ≡ Less → ((x.member ==
 other_place k x less =
     false_from_ne_true _
     (λ e.
-    let same = and_parts (x.member == k.member) (x.issue == k.issue) e in
-    let members = eqb-true x.member k.member same.0 in
-    let issues = eqb-true x.issue k.issue same.1 in
+    let same = same_place x.member k.member x.issue k.issue e in
+    let members = same.0 in
+    let issues = same.1 in
     let itself = tied_itself holding_order k in
     cc)
 
@@ -113,27 +110,21 @@ asked_by-others h book settings k (x ∷ xs) apart =
     at (asked_by-ask_for k.member k.issue x.member x.issue (cover_of h book settings x.member x.issue) (filter_map (cover_ask h book settings) xs)) in
     omega (arith, here, rest)
 
-pub at_most : (b : Bool) (n : ℕ) → (if b then n else 0) ≤ n
-at_most true n = omega arith
-at_most false n = omega arith
-
 -- the covers of a list of holdings, each there once
 asked_by-covers : (h : List NetEntry) (book : Orders) (settings : List Exempted) (ks : List Holding) (m i : ℕ) → AreAscending ks
     → asked_by Cover m i (filter_map (cover_ask h book settings) ks) ≤ cover_of h book settings m i
 unfolding asked_by
 asked_by-covers h book settings [] m i up = omega arith
-asked_by-covers h book settings (k ∷ ks) m i up = by ((k.member == m) && (k.issue == i)) refl (asked_by-covers h book settings ks m i up.1)
+asked_by-covers h book settings (k ∷ ks) m i up = by ((k.member == m) && (k.issue == i)) refl (asked_by-covers h book settings ks m i (sorted_tail holding_cmp k ks up))
   where
     by : (b : Bool) → ((k.member == m) && (k.issue == i)) ≡ b → asked_by Cover m i (filter_map (cover_ask h book settings) ks) ≤ cover_of h book settings m i
         → asked_by Cover m i (filter_map (cover_ask h book settings) (k ∷ ks)) ≤ cover_of h book settings m i
     by true e rest =
-        let same = and_parts (k.member == m) (k.issue == i) e in
-        let members = eqb-true k.member m same.0 in
-        let issues = eqb-true k.issue i same.1 in
-        let none = asked_by-others h book settings k ks up.0 in
+        let same = same_place k.member m k.issue i e in
+        let none = asked_by-others h book settings k ks (All-after_first holding_cmp k ks up) in
         let shares : ℕ = cover_of h book settings k.member k.issue in
         let here = asked_by-ask_for k.member k.issue k.member k.issue shares (filter_map (cover_ask h book settings) ks) in
-        rw (← members, ← issues) (omega (arith, here, none, at_most ((k.member == k.member) && (k.issue == k.issue)) shares))
+        rw (← same.0, ← same.1) (omega (arith, here, none, at_most ((k.member == k.member) && (k.issue == k.issue)) shares))
     by false e rest =
         let here = rw e at (asked_by-ask_for m i k.member k.issue (cover_of h book settings k.member k.issue) (filter_map (cover_ask h book settings) ks)) in
         omega (arith, here, rest)
@@ -146,18 +137,9 @@ covers-sum h book settings cycle m i n =
 
 -- what a cycle orders are covers
 pub covers_are_covers : (h : List NetEntry) (book : Orders) (settings : List Exempted) → All (λ (a : Ask). a.kind ≡ Cover) (covers_of h book settings)
-covers_are_covers h book settings = of_holdings (holdings_of h)
-  where
-    more : (k : Holding) (asks : List Ask) (c : ℕ) (none : Bool) → All (λ (a : Ask). a.kind ≡ Cover) asks
-        → All (λ (a : Ask). a.kind ≡ Cover) (cons_option (if none then None else Some (record { kind = Cover; member = k.member; issue = k.issue; asked = c })) asks)
-    more k asks c true all = all
-    more k asks c false all = All-cons (λ (a : Ask). a.kind ≡ Cover) (record { kind = Cover; member = k.member; issue = k.issue; asked = c }) asks refl all
-
-    of_holdings : (ks : List Holding) → All (λ (a : Ask). a.kind ≡ Cover) (filter_map (cover_ask h book settings) ks)
-    of_holdings [] = All-nil _
-    of_holdings (k ∷ ks) =
-        let c : ℕ = cover_of h book settings k.member k.issue in
-        more k (filter_map (cover_ask h book settings) ks) c (c == 0) (of_holdings ks)
+covers_are_covers h book settings =
+    All-filter_map (cover_ask h book settings) (λ (k : Holding). Unit {0}) (λ (a : Ask). a.kind ≡ Cover)
+    (λ k u. cond_both (cover_of h book settings k.member k.issue == 0) None (Some _) (λ o. IfSome o (λ (a : Ask). a.kind ≡ Cover)) (λ e. tt) (λ e. refl)) (holdings_of h) (λ i d below. tt)
 
 -- after a cycle the bounds hold: its cover is at most what the member sold less what covers brought and still may bring, since
 -- deliveries took no more of its position than it bought
@@ -190,14 +172,6 @@ bounded_cycle h book settings cycle day lawful bounded =
 
 -- ---- deliveries
 
-pub shared_factor : (a b q : ℕ) → (a + b) * q ≡ a * q + b * q
-shared_factor a b q = omega arith
-
-pub at_most_once : (n q : ℕ) → n ≤ 1 → n * q ≤ q
-at_most_once zero q le = omega arith
-at_most_once (suc zero) q le = omega arith
-at_most_once (suc (suc n)) q le = absurd (omega arith)
-
 -- deliveries ask for a member at most what it wants, times the number of those that are to it
 asked_by-counted : (h : List NetEntry) (book : Orders) (issue : ℕ) (asks : List Ask) (m i : ℕ)
     → All (λ (a : Ask). (a.kind ≡ Delivery) × (a.issue ≡ issue) × (a.asked ≤ want_in h book a.member issue)) asks
@@ -214,7 +188,7 @@ asked_by-counted h book issue (a ∷ asks) m i all =
       arith,
       one (same_kind Delivery a.kind) (a.member == m) (a.issue == i) want (λ members issues. most here.1 here.2 (eqb-true a.member m members) (eqb-true a.issue i issues)),
       ap (λ (n : ℕ). n * want) count,
-      shared_factor (cond (a.member == m) 1 0) (count_by (λ (b : Ask). b.member == m) asks) want,
+      add-mul (cond (a.member == m) 1 0) (count_by (λ (b : Ask). b.member == m) asks) want,
       asked_by-counted h book issue asks m i rest,
     )
   where
@@ -235,7 +209,7 @@ asked_by-deliverable : (h : List NetEntry) (book : Orders) (issue : ℕ) (asks :
 asked_by-deliverable h book issue asks m i deliverable =
     let times : ℕ = count_by (λ (a : Ask). a.member == m) asks in
     let counted = asked_by-counted h book issue asks m i deliverable.each in
-    let alone : times * want_in h book m i ≤ want_in h book m i = at_most_once times (want_in h book m i) (deliverable.once m) in
+    let alone : times * want_in h book m i ≤ 1 * want_in h book m i = mul-le-mul_right (want_in h book m i) (deliverable.once m) in
     omega (arith, counted, alone)
 
 -- after deliveries are ordered the bounds hold: one is at most what the member bought less what deliveries took of its position

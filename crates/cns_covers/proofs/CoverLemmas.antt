@@ -1,5 +1,5 @@
 -- Covers of a history, by its positions; and what keeps shorts small.
-use Rattle.std.proofs.Common.{◌≡◌, ◌≤◌, ◌+◌, ◌-◌, ℕ, List, [], ◌∷◌, length, Option, Some, None, Bool, true, false, cond, refl, ap, ◌∙◌, arith}
+use Rattle.std.proofs.Common.{◌≡◌, ◌≤◌, ◌+◌, ◌-◌, ℕ, List, [], ◌∷◌, length, Some, None, Bool, true, false, cond, refl, ap, ◌∙◌, arith}
 use Rattle.std.specs.Prelude.{◌==◌, All, count_by, not, option_and_then, ℤ, pos, negsuc, ◌-ℤ◌, if◌then◌else◌}
 use Rattle.std.specs.List.{filter_map, cons_option}
 use Rattle.std.proofs.lemmas.Bool.{eqb-true}
@@ -11,6 +11,7 @@ use Rattle.cns_netting.specs.Book.{QuantitiesFit}
 use Rattle.cns_netting.specs.declared.entry.NetEntry.{NetEntry}
 use Rattle.cns_netting.specs.declared.entry.NetEntry.TheVariants.{Accepted, Netted, Settled}
 use Rattle.cns_ids.specs.declared.holding.Holding.{Holding}
+use Rattle.cns_ids.proofs.ListLemmas.{filter_map-cons_option}
 use Rattle.cns_netting.specs.declared.position.PositionRow.{PositionRow}
 use Rattle.cns_netting.proofs.BookLemmas.{sold-most}
 use Rattle.cns_movements.specs.Book.{Orders}
@@ -44,11 +45,6 @@ row_ask-open_row h book settings k = by (credit h k.member k.issue == debit h k.
         ≡ cover_ask h book settings k
     by true e = ask_for-level k.member k.issue _ _ _ (eqb-true _ _ e)
     by false e = rw (debit_part-difference (credit h k.member k.issue) (debit h k.member k.issue)) refl
-
-filter_map-cons_option : {X Y : Type 0} (f : X → Option Y) (o : Option X) (xs : List X)
-    → filter_map f (cons_option o xs) ≡ cons_option (option_and_then f o) (filter_map f xs)
-filter_map-cons_option f None xs = refl
-filter_map-cons_option f (Some x) xs = refl
 
 -- the covers of the rows of holdings are the covers of the holdings
 filter_map-rows : (h : List NetEntry) (book : Orders) (settings : List Exempted) (ks : List Holding)

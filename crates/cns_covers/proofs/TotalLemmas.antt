@@ -1,13 +1,13 @@
 -- What orders come to over all members, against all that was traded.
-use Rattle.std.proofs.Common.{◌≡◌, ◌≤◌, ◌<◌, ◌+◌, ◌*◌, ℕ, zero, suc, List, [], ◌∷◌, ◌++◌, length, length-append, Option, None, Bool, true, false, refl, arith, inl, inr}
+use Rattle.std.proofs.Common.{◌≡◌, ◌≤◌, ◌<◌, ◌+◌, ℕ, zero, suc, List, [], ◌∷◌, None, Bool, true, false, refl, arith, inl, inr}
 use Rattle.std.specs.Prelude.{◌&&◌, ◌==◌, sum_by, if◌then◌else◌}
 use Rattle.std.proofs.lemmas.Bool.{cases_eq, cases_lt, eq-eqb, ne_eqb}
 use Rattle.std.proofs.lemmas.List.Sums.{sum_by-cons}
 use Rattle.cns_trades.specs.declared.trade.Trade.{Trade}
-use Rattle.cns_netting.specs.History.{accepted, due, due_since, is_reached, latest, sold}
-use Rattle.cns_netting.specs.Book.{IsBook, QuantitiesFit}
+use Rattle.cns_netting.specs.History.{due, sold}
+use Rattle.cns_netting.specs.Book.{IsBook}
 use Rattle.cns_netting.specs.declared.entry.NetEntry.{NetEntry}
-use Rattle.cns_netting.specs.declared.entry.NetEntry.TheVariants.{Accepted, Netted, Settled}
+use Rattle.cns_netting.proofs.TradeLemmas.{accepted-most}
 use Rattle.cns_movements.specs.declared.order.Order.{Order}
 
 -- the sum of a number for each member below n
@@ -93,19 +93,6 @@ moved_total trades orders f issue each =
     let n : ℕ = above orders in
     omega (arith, parts_in_all orders f n (omega arith), below-most n (part_of f orders) (λ k. sold trades k issue) each, sold_below trades issue n)
 
--- the due trades have at most the shares of as many trades as were accepted
-shares_of-due : (reached : Option ℕ) (h : List NetEntry) → QuantitiesFit h → sum_by (λ (t : Trade). t.quantity) (due_since reached h) ≤ length (accepted h) * 999999999999
-unfolding QuantitiesFit
-shares_of-due reached [] fit = omega arith
-shares_of-due reached (Accepted t ∷ h) fit = by (is_reached reached t.settle) (shares_of-due reached h fit.1)
-  where
-    by : (b : Bool) → sum_by (λ (u : Trade). u.quantity) (due_since reached h) ≤ length (accepted h) * 999999999999
-        → sum_by (λ (u : Trade). u.quantity) (if b then t ∷ due_since reached h else due_since reached h) ≤ length (accepted h ++ t ∷ []) * 999999999999
-    by true rest = let one = fit.0 in omega (arith, sum_by-cons (λ (u : Trade). u.quantity) t (due_since reached h), length-append (accepted h) (t ∷ []))
-    by false rest = omega (arith, length-append (accepted h) (t ∷ []))
-shares_of-due reached (Netted d ∷ h) fit = shares_of-due (latest reached d) h fit
-shares_of-due reached (Settled m i z ∷ h) fit = shares_of-due reached h fit
-
 -- the due trades of a book have at most 10^18 shares in all
 pub sold_all : (h : List NetEntry) → IsBook h → sum_by (λ (t : Trade). t.quantity) (due h) ≤ 1000000000000000000
-sold_all h book = omega (arith, shares_of-due None h book.quantities, book.few)
+sold_all h book = omega (arith, accepted-most (λ (t : Trade). t.quantity) (λ t. omega arith) None h book.quantities, book.few)
