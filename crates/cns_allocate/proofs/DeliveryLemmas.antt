@@ -2,8 +2,9 @@
 use Rattle.std.proofs.Common.{◌≡◌, ◌≤◌, ◌+◌, ℕ, suc, min, cond, List, [], ◌∷◌, length, Bool, true, false, not, Option, None, Some, ap, refl, arith, ◌∙◌}
 use Rattle.std.specs.Prelude.{◌==◌, All, IfSome, count_by, filter, sum_by, if◌then◌else◌}
 use Rattle.std.specs.List.{cons_option}
-use Rattle.std.proofs.lemmas.Bool.{eqb-true}
+use Rattle.std.proofs.lemmas.Bool.{cond_both, eqb-true}
 use Rattle.std.proofs.lemmas.List.Sums.{sum_by-cons}
+use Rattle.cns_ids.proofs.ListLemmas.{All-filter_map, count_by-filter_map}
 use Rattle.cns_pool.specs.declared.ticket.Ticket.{Ticket}
 use Rattle.cns_pool.specs.Tiles.{AreChained, Tiles}
 use Rattle.cns_pool.specs.Pool.{asked_sum, intervals_of}
@@ -11,11 +12,9 @@ use Rattle.cns_pool.proofs.TileLemmas.{AreChained-Tiles}
 use Rattle.cns_movements.specs.Order.{ask_for}
 use Rattle.cns_movements.specs.declared.order.Ask.{Ask}
 use Rattle.cns_movements.specs.declared.order.MoveKind.TheVariants.{Delivery}
-use Rattle.cns_covers.proofs.RowLemmas.{All-filter_map}
 use Rattle.cns_allocate.specs.Deliveries.{deliveries_of}
 use Rattle.cns_allocate.specs.Grants.{grant_of}
 use Rattle.cns_allocate.proofs.GrantLemmas.{sum_by-grant_of}
-use Rattle.cns_allocate.proofs.PlanLemmas.{count_by-filter_map}
 
 -- the delivery of a ticket, where it is granted a share
 abbrev pub delivery_ask : ℕ → ℕ → Ticket → Option Ask
@@ -57,11 +56,7 @@ IsDeliveryWithin issue limit a = (a.kind ≡ Delivery) × (a.issue ≡ issue) ×
 
 -- what holds of the delivery of a ticket's grant
 delivery_ask-holds : (P : Ask → Type 0) (issue poured : ℕ) (t : Ticket) → P (granted_ask issue poured t) → IfSome (delivery_ask issue poured t) P
-delivery_ask-holds P issue poured t holds = by (grant_of poured t == 0)
-  where
-    by : (b : Bool) → IfSome (if b then None else Some (granted_ask issue poured t)) P
-    by true = tt
-    by false = holds
+delivery_ask-holds P issue poured t holds = cond_both (grant_of poured t == 0) None (Some _) (λ o. IfSome o P) (λ e. tt) (λ e. holds)
 
 -- each is of the issue, and within what limits the member's tickets
 pub deliveries_within : (issue poured : ℕ) (tickets : List Ticket) (limit : ℕ → ℕ) → All (λ (t : Ticket). t.asked ≤ limit t.member) tickets

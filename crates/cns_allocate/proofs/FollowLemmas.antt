@@ -1,39 +1,23 @@
 -- Tickets that follow a plan by start.
-use Rattle.std.proofs.Common.{◌≡◌, ℕ, ◌<◌, ◌≤◌, ◌⊎◌, inl, inr, Bool, true, false, List, [], ◌∷◌, ◌++◌, length, get_or, refl, subst, ap, ◌∙◌, arith, append_assoc}
+use Rattle.std.proofs.Common.{◌≡◌, ℕ, ◌≤◌, Bool, true, false, List, [], ◌∷◌, ◌++◌, length, get_or, refl, subst, ap, ◌∙◌, arith, append_assoc}
 use Rattle.std.specs.Prelude.{nat_lt, All, AllPairs, IsPermutation, insert}
 use Rattle.std.specs.List.{AllZip, prefix_len}
 use Rattle.std.specs.List.Sorted.{IsNonDecreasingBy}
-use Rattle.std.proofs.lemmas.Bool.{cases_lt, ltb-false, ltb-true}
+use Rattle.std.proofs.lemmas.Bool.{ltb-false, ltb-true}
 use Rattle.std.proofs.lemmas.List.{append-nil, nil_from_length}
 use Rattle.std.proofs.lemmas.List.Elements.{All-weaker}
 use Rattle.std.proofs.lemmas.List.Sorted.{All-permutation, IsNonDecreasingBy-insert, IsPermutation-append, IsPermutation-append_left, IsPermutation-cons, IsPermutation-insert, IsPermutation-refl, IsPermutation-sym, IsPermutation-trans, length_permutation}
 use Rattle.std.proofs.lemmas.List.Sums.{prefix_len-le-length, prefix_len_passes, prefix_len_stops}
+use Rattle.cns_ids.proofs.ListLemmas.{AllPairs-append_by, AllZip-append, AllZip-insert, IsNonDecreasingBy-append}
 use Rattle.cns_pool.specs.declared.ticket.Ticket.{Ticket}
 use Rattle.cns_allocate.specs.Group.{rank}
 use Rattle.cns_allocate.specs.Served.{AreDrawnOf, IsDrawnBy}
 use Rattle.cns_allocate.specs.Serving.{FollowPlanByStart}
 use Rattle.cns_allocate.specs.declared.planned.Planned.{Planned}
-use Rattle.cns_allocate.proofs.DrawnLemmas.{drawn-count, drawn-none, drawn-permutation, zip-append, zip-insert}
-use Rattle.cns_allocate.proofs.PlanLemmas.{IsNoLater, one_group, pairs-append}
+use Rattle.cns_allocate.proofs.DrawnLemmas.{drawn-count, drawn-none, drawn-permutation}
+use Rattle.cns_allocate.proofs.PlanLemmas.{IsNoLater, one_group}
 
 -- ---- tickets by start
-
--- a ticket starts no later than another
-abbrev StartsNoLater : Ticket → Ticket → Type 0
-StartsNoLater t u = t.start ≤ u.start
-
--- tickets that start up to n, and then tickets from n on
-by_start-append : (n : ℕ) (ts us : List Ticket) → IsNonDecreasingBy (λ (t : Ticket). t.start) ts → All (λ (t : Ticket). t.start ≤ n) ts
-    → IsNonDecreasingBy (λ (t : Ticket). t.start) us → All (λ (t : Ticket). n ≤ t.start) us → IsNonDecreasingBy (λ (t : Ticket). t.start) (ts ++ us)
-by_start-append n ts us first upto then from i j d le below = by (cases_lt i j)
-  where
-    pairs : AllPairs StartsNoLater (ts ++ us)
-    pairs =
-        pairs-append (λ (t : Ticket). t.start) n ts us (λ k l e less within. first k l e (omega arith) within) upto (λ k l e less within. then k l e (omega arith) within) from
-
-    by : (i < j) ⊎ (j ≤ i) → (get_or (ts ++ us) i d).start ≤ (get_or (ts ++ us) j d).start
-    by (inl less) = pairs i j d less below
-    by (inr upto_i) = let same : i ≡ j = omega arith in omega (arith, ap (λ (k : ℕ). (get_or (ts ++ us) k d).start) same)
 
 -- tickets that some of the planned drew, by start
 record AreByStart (planned : List Planned) (tickets : List Ticket) : Type 0 where
@@ -63,7 +47,7 @@ put planned ts p t is before = record {
         IsPermutation-trans (insert drawers place p ++ others) (p ∷ (drawers ++ others)) (p ∷ planned)
         (IsPermutation-append_left others (insert drawers place p) (p ∷ drawers) (IsPermutation-sym (p ∷ drawers) (insert drawers place p) (IsPermutation-insert drawers place p)))
         (IsPermutation-cons p (drawers ++ others) planned before.by.permutation);
-    drawn = zip-insert IsDrawnBy place t p sorted drawers within is before.by.drawn;
+    drawn = AllZip-insert IsDrawnBy place t p sorted drawers within is before.by.drawn;
   };
 }
   where
@@ -116,16 +100,16 @@ follow-group n r done group ts us sealed upto same first before then after whole
   sorted = first.sorted ++ now.sorted;
   permutation = IsPermutation-append ts first.sorted us now.sorted first.permutation now.permutation;
   by_start =
-      by_start-append n first.sorted now.sorted first.by_start (All-permutation (λ (t : Ticket). t.start ≤ n) ts first.sorted first.permutation before) now.by_start
+      IsNonDecreasingBy-append (λ (t : Ticket). t.start) n first.sorted now.sorted first.by_start (All-permutation (λ (t : Ticket). t.start ≤ n) ts first.sorted first.permutation before) now.by_start
       (All-permutation (λ (t : Ticket). n ≤ t.start) us now.sorted now.permutation after);
   follows = record {
     drawers = drawers ++ now.by.drawers;
     others = now.by.others;
     permutation = rw regrouped (IsPermutation-append drawers done rest group all_done rest_is);
-    drawn = zip-append IsDrawnBy first.sorted now.sorted drawers now.by.drawers first.follows.drawn now.by.drawn;
+    drawn = AllZip-append IsDrawnBy first.sorted now.sorted drawers now.by.drawers first.follows.drawn now.by.drawn;
     groups =
         rw regrouped
-        (pairs-append (λ (p : Planned). rank p.group) r drawers rest (rw (← alone) first.follows.groups)
+        (AllPairs-append_by (λ (p : Planned). rank p.group) r drawers rest (rw (← alone) first.follows.groups)
         (All-permutation (λ (p : Planned). rank p.group ≤ r) done drawers (IsPermutation-sym drawers done all_done) upto) (one_group r rest all_same)
         (All-weaker (λ (p : Planned). rank p.group ≡ r) (λ (p : Planned). r ≤ rank p.group) (λ p e. omega arith) rest all_same));
     whole = λ e. nil_from_length now.by.others (omega (arith, whole e, drawn-count group now.sorted now.by, length_permutation us now.sorted now.permutation));
@@ -182,7 +166,7 @@ follow-rest r done rest ts sealed upto from pairs first =
         drawn = by.drawn;
         groups =
             rw (← regrouped)
-            (pairs-append (λ (p : Planned). rank p.group) r order rest by.groups
+            (AllPairs-append_by (λ (p : Planned). rank p.group) r order rest by.groups
             (All-permutation (λ (p : Planned). rank p.group ≤ r) done order (IsPermutation-sym order done by.permutation) upto) pairs from);
         whole = λ e. cc;
       };

@@ -5,7 +5,6 @@ pub mod StartLemmas
 pub mod TotalLemmas
 pub mod DeliveryLemmas
 pub mod TurnLemmas
-pub mod NumberLemmas
 pub mod WaitingLemmas
 pub mod ServedLemmas
 pub mod DealLemmas

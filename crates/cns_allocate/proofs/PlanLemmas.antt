@@ -1,14 +1,16 @@
 -- What holds of each plan.
-use Rattle.std.proofs.Common.{◌≡◌, ◌≤◌, ◌+◌, ◌-◌, ℕ, suc, List, [], ◌∷◌, ◌++◌, Option, Some, None, Bool, true, false, cond, refl, ap, ◌∙◌, arith, append_assoc, Less}
-use Rattle.std.specs.Prelude.{◌&&◌, ◌==◌, nat_lt, All, AllPairs, IfSome, count_by, sum_by, filter, ℤ, pos, negsuc, ◌-ℤ◌, if◌then◌else◌}
-use Rattle.std.specs.List.{filter_map, flat_map, cons_option}
+use Rattle.std.proofs.Common.{◌≡◌, ◌≤◌, ◌+◌, ◌-◌, ℕ, List, [], ◌∷◌, ◌++◌, Some, None, Bool, true, false, cond, refl, ap, ◌∙◌, arith, append_assoc, Less}
+use Rattle.std.specs.Prelude.{◌&&◌, ◌==◌, nat_lt, All, AllPairs, IfSome, count_by, sum_by, filter, ℤ, pos, negsuc, ◌-ℤ◌}
+use Rattle.std.specs.List.{filter_map, flat_map}
 use Rattle.std.proofs.Math.Bool.{and_comm}
-use Rattle.std.proofs.lemmas.Bool.{and_from, and_parts, cond-false, cond-true, eqb-true, ltb-true}
+use Rattle.std.proofs.lemmas.Bool.{and_from, and_parts, cond_both, eqb-true, ltb-true}
 use Rattle.std.proofs.lemmas.Int.{ints}
 use Rattle.std.proofs.lemmas.List.{append-nil}
 use Rattle.std.proofs.lemmas.List.Elements.{All-append, All-filter, All-head, All-nil, All-tail, All-weaker, filter_passes}
-use Rattle.std.proofs.lemmas.List.Kept.{AllPairs-cons}
 use Rattle.std.proofs.lemmas.List.Sums.{sum_by-append, sum_by-cons}
+use Rattle.std.proofs.lemmas.Map.Keys.{sorted_tail}
+use Rattle.std.proofs.lemmas.Map.Views.{All-after_first}
+use Rattle.cns_ids.proofs.ListLemmas.{All-filter_map, AllPairs-append_by, count-no, count-yes, count_by-filter_map, filter_map-filter, same_place}
 use Rattle.cns_netting.specs.History.{credit, credit_part, debit, due, settled_in, sold}
 use Rattle.cns_ids.specs.Holding.{holding_cmp}
 use Rattle.cns_netting.specs.Rows.{holdings_of, is_row_in, open_row, rows_of}
@@ -26,8 +28,8 @@ use Rattle.cns_movements.specs.Book.{Orders}
 use Rattle.cns_covers.specs.Bounds.{AreBounded}
 use Rattle.cns_covers.specs.Covers.{IsUnsettled}
 use Rattle.cns_covers.specs.declared.priorities.Prioritized.{Prioritized}
-use Rattle.cns_covers.proofs.BoundLemmas.{other_place, share_grows}
-use Rattle.cns_covers.proofs.RowLemmas.{All-filter_map, All-rows_of, IfSome-open_row}
+use Rattle.cns_covers.proofs.BoundLemmas.{other_place}
+use Rattle.cns_covers.proofs.RowLemmas.{All-rows_of, IfSome-open_row}
 use Rattle.cns_allocate.specs.Group.{is_in, rank}
 use Rattle.cns_allocate.specs.Plan.{IsPlan, LongsFit, by_group, plan_of, planned_of, want_of}
 use Rattle.cns_allocate.specs.declared.group.Group.{Group}
@@ -64,13 +66,6 @@ settled_in-none (Settled m i z ∷ h) member issue none = absurd none
 pub unsettled_longs : (h : List NetEntry) → IsBook h → IsUnsettled h → LongsFit h
 unsettled_longs h book none = covered_longs h book (λ m i. omega (arith, settled_in-none h m i none))
 
--- ---- what each element gives
-
--- what holds of an element that is given where b is so
-pub IfSome-if : {X : Type 0} (P : X → Type 0) (b : Bool) (x : X) → (b ≡ true → P x) → IfSome (if b then Some x else None) P
-IfSome-if P true x h = h refl
-IfSome-if P false x h = tt
-
 -- all rows are long of at most 10^18 shares where all longs are
 pub rows_of-fit : (h : List NetEntry) → LongsFit h → All (λ (row : PositionRow). credit_part row.position ≤ 1000000000000000000) (rows_of h)
 rows_of-fit h fit =
@@ -85,15 +80,7 @@ rows_in-fit h issue fit = All-filter (is_row_in issue) (λ (row : PositionRow). 
 planned_in : (issue : ℕ) (book : Orders) (settings : List Prioritized) (were_long : List ℕ) (rows : List PositionRow)
     → filter_map (planned_of issue book settings were_long) (filter (is_row_in issue) rows) ≡ filter_map (planned_of issue book settings were_long) rows
 unfolding planned_of
-planned_in issue book settings were_long [] = refl
-planned_in issue book settings were_long (row ∷ rows) = by (row.issue == issue) refl (planned_in issue book settings were_long rows)
-  where
-    by : (b : Bool) → (row.issue == issue) ≡ b
-        → filter_map (planned_of issue book settings were_long) (filter (is_row_in issue) rows) ≡ filter_map (planned_of issue book settings were_long) rows
-        → filter_map (planned_of issue book settings were_long) (cond b (row ∷ filter (is_row_in issue) rows) (filter (is_row_in issue) rows))
-        ≡ filter_map (planned_of issue book settings were_long) (row ∷ rows)
-    by true e rest = ap (cons_option (planned_of issue book settings were_long row)) rest
-    by false e rest = rw e rest
+planned_in issue book settings were_long = filter_map-filter (planned_of issue book settings were_long) (is_row_in issue) (λ row e. rw e refl)
 
 -- those planned in an issue, by member
 abbrev pub wanting : ℕ → List NetEntry → Orders → List Prioritized → List ℕ → List Planned
@@ -110,28 +97,10 @@ unfolding planned_of want_of
 planned_of-asked issue book settings were_long row fit =
     let open_shares : ℕ = open_sum book.orders book.replies Delivery row.member row.issue in
     let want : ℕ = credit_part row.position - open_shares in
-    IfSome-if (λ (p : Planned). IsAsked p.asked) ((row.issue == issue) && nat_lt 0 want) _
-    (λ e. let some = ltb-true 0 want (and_parts (row.issue == issue) (nat_lt 0 want) e).1 in record { from = omega arith; to = omega arith })
+    cond_both ((row.issue == issue) && nat_lt 0 want) (Some _) None (λ o. IfSome o (λ (p : Planned). IsAsked p.asked))
+    (λ e. let some = ltb-true 0 want (and_parts (row.issue == issue) (nat_lt 0 want) e).1 in record { from = omega arith; to = omega arith }) (λ e. tt)
 
 -- ---- each member at most once
-
--- how many pass, by the first
-pub count-yes : {X : Type 0} (test : X → Bool) (x : X) (xs : List X) → test x ≡ true → count_by test (x ∷ xs) ≡ suc (count_by test xs)
-count-yes test x xs e = let one : ◌≡◌ {A = ℕ} (cond (test x) 1 0) 1 = cond-true _ 1 0 e in omega (arith, one, sum_by-cons (λ y. cond (test y) 1 0) x xs)
-
-count-no : {X : Type 0} (test : X → Bool) (x : X) (xs : List X) → test x ≡ false → count_by test (x ∷ xs) ≡ count_by test xs
-count-no test x xs e = let none : ◌≡◌ {A = ℕ} (cond (test x) 1 0) 0 = cond-false _ 1 0 e in omega (arith, none, sum_by-cons (λ y. cond (test y) 1 0) x xs)
-
--- where f gives an element that passes only for one that passes, no more of what it gives pass
-pub count_by-filter_map : {X Y : Type 0} (f : X → Option Y) (q : X → Bool) (p : Y → Bool) → ((x : X) → IfSome (f x) (λ y. p y ≡ true → q x ≡ true))
-    → (xs : List X) → count_by p (filter_map f xs) ≤ count_by q xs
-count_by-filter_map f q p each [] = omega arith
-count_by-filter_map {Y = Y} f q p each (x ∷ xs) =
-    omega (arith, sum_by-cons (λ y. cond (q y) 1 0) x xs, by (f x) (each x), count_by-filter_map f q p each xs)
-  where
-    by : (o : Option Y) → IfSome o (λ y. p y ≡ true → q x ≡ true) → count_by p (cons_option o (filter_map f xs)) ≤ cond (q x) 1 0 + count_by p (filter_map f xs)
-    by None h = omega arith
-    by (Some y) h = omega (arith, sum_by-cons (λ z. cond (p z) 1 0) y (filter_map f xs), share_grows (p y) (q x) 1 h)
 
 -- whether a holding, or a position, is of an issue and a member
 abbrev is_holding_of : ℕ → ℕ → Holding → Bool
@@ -155,14 +124,12 @@ no_other k (x ∷ xs) apart =
 
 holdings_once : (issue member : ℕ) (ks : List Holding) → AreAscending ks → count_by (is_holding_of issue member) ks ≤ 1
 holdings_once issue member [] up = omega arith
-holdings_once issue member (k ∷ ks) up = by (is_holding_of issue member k) refl (holdings_once issue member ks up.1)
+holdings_once issue member (k ∷ ks) up = by (is_holding_of issue member k) refl (holdings_once issue member ks (sorted_tail holding_cmp k ks up))
   where
     by : (b : Bool) → is_holding_of issue member k ≡ b → count_by (is_holding_of issue member) ks ≤ 1 → count_by (is_holding_of issue member) (k ∷ ks) ≤ 1
     by true e rest =
-        let same = and_parts (k.issue == issue) (k.member == member) e in
-        let issues = eqb-true k.issue issue same.0 in
-        let members = eqb-true k.member member same.1 in
-        let none : count_by (is_holding_of issue member) ks ≡ 0 = rw (← issues, ← members) (no_other k ks up.0) in
+        let same = same_place k.issue issue k.member member e in
+        let none : count_by (is_holding_of issue member) ks ≡ 0 = rw (← same.0, ← same.1) (no_other k ks (All-after_first holding_cmp k ks up)) in
         omega (arith, count-yes (is_holding_of issue member) k ks e, none)
     by false e rest = omega (arith, count-no (is_holding_of issue member) k ks e, rest)
 
@@ -178,8 +145,8 @@ planned_of-place : (issue : ℕ) (book : Orders) (settings : List Prioritized) (
 unfolding planned_of
 planned_of-place issue book settings were_long member row =
     let want : ℕ = want_of book row in
-    IfSome-if (λ (p : Planned). is_planned_as member p ≡ true → is_row_of issue member row ≡ true) ((row.issue == issue) && nat_lt 0 want) _
-    (λ e same. and_from (row.issue == issue) (row.member == member) (and_parts (row.issue == issue) (nat_lt 0 want) e).0 same)
+    cond_both ((row.issue == issue) && nat_lt 0 want) (Some _) None (λ o. IfSome o (λ (p : Planned). is_planned_as member p ≡ true → is_row_of issue member row ≡ true))
+    (λ e same. and_from (row.issue == issue) (row.member == member) (and_parts (row.issue == issue) (nat_lt 0 want) e).0 same) (λ e. tt)
 
 -- no member wants shares twice
 pub wanting-once : (issue : ℕ) (h : List NetEntry) (book : Orders) (settings : List Prioritized) (were_long : List ℕ) (member : ℕ)
@@ -229,25 +196,6 @@ All-by_group P ps all = in_groups (Priority ∷ WasLong ∷ Other ∷ [])
 abbrev pub IsNoLater : Planned → Planned → Type 0
 IsNoLater p q = rank p.group ≤ rank q.group
 
--- ---- lists in order
-
--- the first is in order with the later ones, and those are in order
-pub pairs-first : {X : Type 0} (R : X → X → Type 0) (x : X) (xs : List X) → AllPairs R (x ∷ xs) → All (R x) xs
-pairs-first R x xs pairs k d below = pairs 0 (suc k) d (omega arith) (omega arith)
-
-pub pairs-rest : {X : Type 0} (R : X → X → Type 0) (x : X) (xs : List X) → AllPairs R (x ∷ xs) → AllPairs R xs
-pairs-rest R x xs pairs i j d less below = pairs (suc i) (suc j) d (omega arith) (omega arith)
-
--- those of which a number is up to r, and then those of which it is from r on
-pub pairs-append : {X : Type 0} (n : X → ℕ) (r : ℕ) (xs ys : List X) → AllPairs (λ x y. n x ≤ n y) xs → All (λ x. n x ≤ r) xs → AllPairs (λ x y. n x ≤ n y) ys
-    → All (λ y. r ≤ n y) ys → AllPairs (λ x y. n x ≤ n y) (xs ++ ys)
-pairs-append n r [] ys first upto later from = later
-pairs-append n r (x ∷ xs) ys first upto later from =
-    let here = All-head (λ y. n y ≤ r) x xs upto in
-    AllPairs-cons (λ y z. n y ≤ n z) x (xs ++ ys)
-    (All-append (λ y. n x ≤ n y) xs ys (pairs-first (λ y z. n y ≤ n z) x xs first) (All-weaker (λ y. r ≤ n y) (λ y. n x ≤ n y) (λ y le. omega arith) ys from))
-    (pairs-append n r xs ys (pairs-rest (λ y z. n y ≤ n z) x xs first) (All-tail (λ y. n y ≤ r) x xs upto) later from)
-
 -- those of one group
 pub one_group : (r : ℕ) (ps : List Planned) → All (λ (p : Planned). rank p.group ≡ r) ps → AllPairs IsNoLater ps
 one_group r ps same i j d less below = omega (arith, same i d (omega arith), same j d below)
@@ -256,7 +204,7 @@ one_group r ps same i j d less below = omega (arith, same i d (omega arith), sam
 groups-append : (r : ℕ) (ps qs : List Planned) → All (λ (p : Planned). rank p.group ≡ r) ps → All (λ (q : Planned). r ≤ rank q.group) qs → AllPairs IsNoLater qs
     → AllPairs IsNoLater (ps ++ qs)
 groups-append r ps qs same later pairs =
-    pairs-append (λ (p : Planned). rank p.group) r ps qs (one_group r ps same)
+    AllPairs-append_by (λ (p : Planned). rank p.group) r ps qs (one_group r ps same)
     (All-weaker (λ (p : Planned). rank p.group ≡ r) (λ (p : Planned). rank p.group ≤ r) (λ p e. omega arith) ps same) pairs later
 
 in_group : (g : Group) (ps : List Planned) → All (λ (p : Planned). rank p.group ≡ rank g) (filter (is_in g) ps)

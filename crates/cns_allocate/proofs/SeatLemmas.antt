@@ -3,7 +3,7 @@ use Rattle.std.proofs.Common.{◌≡◌, ℕ, zero, suc, ◌+◌, ◌-◌, ◌<�
 use Rattle.std.specs.Prelude.{◌||◌, All, IsPermutation, sum_by}
 use Rattle.std.proofs.Math.Bool.{or-false, or-true, or_assoc, or_self}
 use Rattle.std.proofs.lemmas.Bool.{cases_lt}
-use Rattle.std.proofs.lemmas.List.{append-nil, get_or_append_left, get_or_push, map-id, take_all, take_more}
+use Rattle.std.proofs.lemmas.List.{append-nil, map-id, take_all, take_more}
 use Rattle.std.proofs.lemmas.List.Concat.{flat_map-append}
 use Rattle.std.proofs.lemmas.List.Elements.{All-append, All-cons, All-nil, All-push, All-weaker}
 use Rattle.std.proofs.lemmas.List.Folds.{list_any-append}
@@ -253,21 +253,6 @@ pub parts-sum : (f : List Planned → ℕ) → ((ps qs : List Planned) → f (ps
 parts-sum f append has gap k group parts part are is =
     let next : k + 1 ≡ suc k = omega arith in
     rw next (omega (arith, are, is, sum_by_push has parts part, append (dealt gap k group) (every gap k group)))
-
--- what holds of each seat and its number holds of one seat more
-pub parts-more : (need : ℕ → ℕ) (has : WorkerState → ℕ) (parts : List WorkerState) (part : WorkerState) (n : ℕ) → length parts ≡ n
-    → ((i : ℕ) (d : WorkerState) → i < n → need i ≤ has (get_or parts i d)) → need n ≤ has part
-    → (i : ℕ) (d : WorkerState) → i < n + 1 → need i ≤ has (get_or (parts ++ part ∷ []) i d)
-parts-more need has parts part n count each last i d less = by (cases_lt i n)
-  where
-    by : (i < n) ⊎ (n ≤ i) → need i ≤ has (get_or (parts ++ part ∷ []) i d)
-    by (inl before) =
-        let at : i < length parts = omega arith in
-        rw (get_or_append_left parts (part ∷ []) d i at) (each i d before)
-    by (inr upto) =
-        let at : length parts ≡ i = omega arith in
-        let same : n ≡ i = omega arith in
-        rw (get_or_push parts part d i at) (subst (λ (j : ℕ). need j ≤ has part) same last)
 
 -- ---- seats that are joined
 

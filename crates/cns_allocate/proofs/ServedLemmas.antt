@@ -1,15 +1,15 @@
 -- Tickets that are drawn in turn are those of a lot that may close, and the other way round.
-use Rattle.std.proofs.Common.{◌≡◌, ◌≤◌, ◌<◌, ◌+◌, ℕ, suc, drop, get_or, List, [], ◌∷◌, ◌++◌, length, Bool, true, false, not, cond, Option, None, Some, ap, refl, sym, arith, ◌∙◌}
+use Rattle.std.proofs.Common.{◌≡◌, ◌≤◌, ◌+◌, ℕ, suc, List, [], ◌∷◌, ◌++◌, Bool, true, false, not, cond, Option, None, Some, ap, refl, sym, arith, ◌∙◌}
 use Rattle.std.specs.Prelude.{◌==◌, ◌||◌, ◌&&◌, ◌↔◌, All, AllPairs, IsPermutation, count_by, sum_by, filter, find}
 use Rattle.std.specs.List.{AllZip}
 use Rattle.std.proofs.Math.Bool.{or-false}
 use Rattle.std.proofs.lemmas.Bool.{eq-eqb, true≢false}
-use Rattle.std.proofs.lemmas.List.{drop_more}
 use Rattle.std.proofs.lemmas.List.Elements.{All-cons, All-filter, All-head, All-nil, All-tail, All-weaker, filter_passes}
 use Rattle.std.proofs.lemmas.List.Folds.{list_any-append}
 use Rattle.std.proofs.lemmas.List.Kept.{AllPairs-cons}
 use Rattle.std.proofs.lemmas.List.Sorted.{All-permutation, IsPermutation-cons, IsPermutation-refl, IsPermutation-sym, IsPermutation-trans, sum_by-IsPermutation, sum_by_pushed}
 use Rattle.std.proofs.lemmas.List.Sums.{sum_by-append, sum_by-cons}
+use Rattle.cns_ids.proofs.ListLemmas.{AllPairs-head, AllPairs-tail, count-yes, filter_twice, nat_eq-sym, nil_from_none}
 use Rattle.cns_pool.specs.declared.ticket.Ticket.{Ticket}
 use Rattle.cns_pool.specs.Tiles.{AreChained}
 use Rattle.cns_pool.specs.Pool.{asked_sum, intervals_of}
@@ -19,8 +19,8 @@ use Rattle.cns_allocate.specs.Plan.{IsPlan}
 use Rattle.cns_allocate.specs.Served.{FollowPlan, IsDrawnBy, IsServed, has_ticket, turn_of, waiting, without}
 use Rattle.cns_allocate.specs.declared.planned.Planned.{Planned}
 use Rattle.cns_allocate.specs.declared.turns.Turn.TheVariants.{Next}
-use Rattle.cns_allocate.proofs.PlanLemmas.{IsNoLater, count-yes, is_planned_as, pairs-first, pairs-rest}
-use Rattle.cns_allocate.proofs.TurnLemmas.{IsPlan-without, count_none, filter_twice, find-All, find-none, find-passes, find-without, nat_eq-sym, turn-next, turn-parts}
+use Rattle.cns_allocate.proofs.PlanLemmas.{IsNoLater, is_planned_as}
+use Rattle.cns_allocate.proofs.TurnLemmas.{IsPlan-without, count_none, find-All, find-none, find-passes, find-without, turn-next, turn-parts}
 
 -- ---- those who wait
 
@@ -139,16 +139,12 @@ module _ (p : Planned) (ps plan : List Planned) (same : HaveSame (p ∷ ps) plan
           (All-weaker P (λ (q : Planned). other q ≡ true → P q) (λ q holds e. holds) ps all)))
           k d below (filter_passes other plan k d below)
 
-nobody_left : (plan : List Planned) → All (λ (p : Planned). ⊥) plan → plan ≡ []
-nobody_left [] all = refl
-nobody_left (p ∷ plan) all = absurd (all 0 p (omega arith))
-
 -- tickets that are drawn in an order of the plan, and stand end to end, are drawn in turn; and where there are no others, nobody waits
 follow-in_turn : (plan : List Planned) (n : ℕ) (tickets : List Ticket) (drawers others : List Planned) → IsPlan plan → HaveSame (drawers ++ others) plan
     → AllPairs IsNoLater (drawers ++ others) → AllZip IsDrawnBy tickets drawers → AreChained n (intervals_of tickets)
     → AreInTurn plan n tickets × (others ≡ [] → waiting plan tickets ≡ [])
 follow-in_turn plan n [] [] others is same groups drawn chained =
-    (tt, λ none. waiting-none plan ∙ nobody_left plan (same.each (λ (p : Planned). ⊥) (rw none (All-nil (λ (p : Planned). ⊥)))))
+    (tt, λ none. waiting-none plan ∙ nil_from_none plan (same.each (λ (p : Planned). ⊥) (rw none (All-nil (λ (p : Planned). ⊥)))))
 follow-in_turn plan n [] (p ∷ ps) others is same groups drawn chained = absurd drawn
 follow-in_turn plan n (t ∷ ts) [] others is same groups drawn chained = absurd drawn
 follow-in_turn plan n (t ∷ ts) (p ∷ ps) others is same groups drawn chained =
@@ -157,9 +153,9 @@ follow-in_turn plan n (t ∷ ts) (p ∷ ps) others is same groups drawn chained 
     let rest_same : HaveSame (ps ++ others) left = rw drawn.0.0 (same_rest p (ps ++ others) plan same (is.once p.member)) in
     let first =
     same.each (IsNoLater p)
-    (All-cons (IsNoLater p) p (ps ++ others) (let itself : rank p.group ≤ rank p.group = omega arith in itself) (pairs-first IsNoLater p (ps ++ others) groups)) in
+    (All-cons (IsNoLater p) p (ps ++ others) (let itself : rank p.group ≤ rank p.group = omega arith in itself) (AllPairs-head IsNoLater p (ps ++ others) groups)) in
     let rest =
-    follow-in_turn left (n + t.asked) ts ps others (IsPlan-without t.member plan is) rest_same (pairs-rest IsNoLater p (ps ++ others) groups) drawn.1 chained.1 in
+    follow-in_turn left (n + t.asked) ts ps others (IsPlan-without t.member plan is) rest_same (AllPairs-tail IsNoLater p (ps ++ others) groups) drawn.1 chained.1 in
     ((chained.0, turn-next plan t.member p found first ∙ ap Next (sym drawn.0.1), rest.0), λ none. sym (waiting-first plan t ts) ∙ rest.1 none)
 
 -- tickets from a start on after which a lot may close, while these wait: each is drawn in turn, and where nothing is sealed, nobody waits
@@ -274,7 +270,3 @@ pub served_shares : (plan : List Planned) (tickets : List Ticket) (sealed : Bool
 served_shares plan tickets sealed is s =
     served_each plan tickets sealed (λ (p : Planned). IsAsked p.asked) (λ (t : Ticket). (1 ≤ t.asked) × (t.asked ≤ 1000000000000000000))
     (λ t p drawn asked. rw drawn.1 (asked.from, asked.to)) s is.asked
-
--- the first of the tickets that are left, and those after it
-pub rest-cons : (ts : List Ticket) (i : ℕ) (t : Ticket) → i < length ts → t ≡ get_or ts i t → drop i ts ≡ t ∷ drop (i + 1) ts
-rest-cons ts i t below is = drop_more ts i t below ∙ ap (λ u. u ∷ drop (i + 1) ts) (sym is)

@@ -1,10 +1,12 @@
 -- A plan is served group by group.
 use Rattle.std.proofs.Common.{◌≡◌, ℕ, ◌+◌, ◌-◌, ◌<◌, ◌≤◌, ◌⊎◌, inl, inr, Bool, true, false, List, [], ◌∷◌, ◌++◌, length, take, drop, get_or, refl, sym, ap, ◌∙◌, arith, subst, length-append}
 use Rattle.std.specs.Prelude.{All, AllPairs}
+use Rattle.std.proofs.Math.Seq.{take-add}
 use Rattle.std.proofs.lemmas.Bool.{cases_lt}
-use Rattle.std.proofs.lemmas.List.{append-nil, drop-drop, drop-take, get_or-drop, get_or-take, length-drop, length-take, nil_from_length, take-append-drop, take-take, take_rest}
+use Rattle.std.proofs.lemmas.List.{append-nil, get_or-drop, get_or-take, length-drop, length-take, nil_from_length, take-append-drop, take_rest}
 use Rattle.std.proofs.lemmas.List.Elements.{All-append, All-cons, All-nil, All-weaker}
 use Rattle.std.proofs.lemmas.List.Sorted.{length_permutation}
+use Rattle.cns_ids.proofs.ListLemmas.{drop-add}
 use Rattle.cns_pool.specs.declared.ticket.Ticket.{Ticket}
 use Rattle.cns_pool.specs.WorkerSeat.{EndWithin, WorkerState}
 use Rattle.cns_allocate.specs.Group.{rank}
@@ -44,16 +46,6 @@ pub fault-unmet : (old new : WorkerState) → HasDrawn old [] new → new.seen.s
 fault-unmet old new draws = draws.all (omega (arith, drawn-most [] draws.tickets draws.drawn))
 
 -- ---- where a group stands in the plan
-
--- the places of a plan up to the end of a group
-take-group : (m n : ℕ) (plan : List Planned) → take (m + n) plan ≡ take m plan ++ take n (drop m plan)
-take-group m n plan =
-    sym (take-append-drop m (take (m + n) plan)) ∙ ap (λ (l : List Planned). l ++ drop m (take (m + n) plan)) (take-take m (m + n) plan (omega arith))
-    ∙ ap (λ (l : List Planned). take m plan ++ l) (drop-take m n plan)
-
--- those from a group on
-drop-group : (m n : ℕ) (plan : List Planned) → drop m plan ≡ take n (drop m plan) ++ drop (m + n) plan
-drop-group m n plan = sym (take-append-drop n (drop m plan)) ∙ ap (λ (l : List Planned). take n (drop m plan) ++ l) (drop-drop n m plan)
 
 -- the next group of a plan: the n members from the place m on, as they are read of those that are left
 module _ (plan : List Planned) (m n : ℕ) (is : IsServable plan) (below : m < length plan) (some : 0 < n) (fits : n ≤ length (take (length plan - m) (drop m plan)))
@@ -121,7 +113,7 @@ module _ (plan : List Planned) (m n : ℕ) (is : IsServable plan) (below : m < l
 
       after : (sealed : Bool) → (sealed ≡ false → length draws.tickets ≡ length (take n (drop m plan))) → FollowPlanByStart (take (m + n) plan) new.tickets sealed
       after sealed whole =
-          rw (take-group m n plan, draws.added)
+          rw (take-add m n plan, draws.added)
           (follow-group old.seen.asked r (take m plan) (take n (drop m plan)) old.tickets draws.tickets sealed upto_group same follow
           (ends-start old.seen.asked old.tickets ends) draws.drawn draws.after whole)
 
@@ -149,7 +141,7 @@ module _ (plan : List Planned) (m n : ℕ) (is : IsServable plan) (below : m < l
       group-cut fewer =
           let whole =
           follow-rest r (take (m + n) plan) (drop (m + n) plan) new.tickets true
-          (rw (take-group m n plan)
+          (rw (take-add m n plan)
           (All-append (λ (p : Planned). rank p.group ≤ r) (take m plan) (take n (drop m plan)) upto_group
           (All-weaker (λ (p : Planned). rank p.group ≡ r) (λ (p : Planned). rank p.group ≤ r) (λ p e. omega arith) (take n (drop m plan)) same)))
           (from_group (m + n) (omega arith)) (rest_pairs (m + n)) (after true (λ e. cc)) in
@@ -157,7 +149,7 @@ module _ (plan : List Planned) (m n : ℕ) (is : IsServable plan) (below : m < l
 
       -- what is left of the seat is enough for the others
       pub budget-after : shares_of (drop m plan) ≤ old.budget → shares_of (drop (m + n) plan) ≤ new.budget
-      budget-after enough = omega (arith, enough, draws.budget, ap shares_of (drop-group m n plan), shares_of-append (take n (drop m plan)) (drop (m + n) plan))
+      budget-after enough = omega (arith, enough, draws.budget, ap shares_of (drop-add m n plan), shares_of-append (take n (drop m plan)) (drop (m + n) plan))
 
       pub calls-after : length plan ≤ old.calls + m → length plan ≤ new.calls + (m + n)
       calls-after enough = omega (arith, enough, draws.calls, count)

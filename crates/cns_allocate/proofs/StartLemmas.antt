@@ -3,18 +3,11 @@ use Rattle.std.proofs.Common.{ℕ, suc, ◌≤◌, List, [], ◌∷◌, arith}
 use Rattle.std.specs.Prelude.{All, IsPermutation}
 use Rattle.std.specs.List.Sorted.{IsNonDecreasingBy}
 use Rattle.std.proofs.lemmas.List.Elements.{All-cons, All-head, All-nil, All-tail}
-use Rattle.std.proofs.lemmas.List.Sorted.{All-permutation}
+use Rattle.std.proofs.lemmas.List.Sorted.{All-permutation, IsNonDecreasingBy-drop}
 use Rattle.cns_pool.specs.declared.ticket.Ticket.{Ticket}
 use Rattle.cns_pool.specs.Tiles.{AreChained, Tiles}
 use Rattle.cns_pool.specs.Pool.{HaveShares, intervals_of}
 use Rattle.cns_pool.proofs.ReplyLemmas.{ByStart, StartFrom, Tiles-AreChained}
-
--- the first ticket by start starts first
-pub first_start : (t : Ticket) (ts : List Ticket) → IsNonDecreasingBy (λ (u : Ticket). u.start) (t ∷ ts) → All (λ (u : Ticket). t.start ≤ u.start) ts
-first_start t ts sorted = λ k d below. sorted 0 (suc k) d (omega arith) (omega arith)
-
-pub rest_sorted : (t : Ticket) (ts : List Ticket) → IsNonDecreasingBy (λ (u : Ticket). u.start) (t ∷ ts) → IsNonDecreasingBy (λ (u : Ticket). u.start) ts
-rest_sorted t ts sorted = λ i j d le below. sorted (suc i) (suc j) d (omega arith) (omega arith)
 
 start_from : (n : ℕ) (ts : List Ticket) → All (λ (t : Ticket). n ≤ t.start) ts → HaveShares ts → StartFrom n ts
 start_from n [] from have = tt
@@ -23,7 +16,11 @@ start_from n (t ∷ ts) from have =
 
 by_start : (ts : List Ticket) → IsNonDecreasingBy (λ (u : Ticket). u.start) ts → HaveShares ts → ByStart ts
 by_start [] sorted have = tt
-by_start (t ∷ ts) sorted have = (have.0, start_from t.start ts (first_start t ts sorted) have.1, by_start ts (rest_sorted t ts sorted) have.1)
+by_start (t ∷ ts) sorted have = (
+  have.0,
+  start_from t.start ts (λ k d below. sorted 0 (suc k) d (omega arith) (omega arith)) have.1,
+  by_start ts (IsNonDecreasingBy-drop (λ (u : Ticket). u.start) 1 (t ∷ ts) sorted) have.1,
+)
 
 HaveShares-All : (ts : List Ticket) → HaveShares ts → All (λ (t : Ticket). 1 ≤ t.asked) ts
 HaveShares-All [] have = All-nil _

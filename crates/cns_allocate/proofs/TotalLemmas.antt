@@ -1,9 +1,11 @@
 -- What a plan asks for in all.
 use Rattle.std.proofs.Common.{◌≡◌, ◌≤◌, ◌+◌, ◌*◌, ℕ, List, [], ◌∷◌, Bool, true, false, cond, ap, refl, sym, arith}
-use Rattle.std.specs.Prelude.{◌&&◌, ◌==◌, All, count_by, sum_by, if◌then◌else◌}
+use Rattle.std.specs.Prelude.{◌&&◌, ◌==◌, count_by, sum_by, if◌then◌else◌}
+use Rattle.std.proofs.Math.Nat.{add-mul, mul-le-mul_right}
 use Rattle.std.proofs.lemmas.Bool.{and_parts, eq-eqb, eqb-true}
-use Rattle.std.proofs.lemmas.List.Elements.{All-head, All-tail, All-weaker}
+use Rattle.std.proofs.lemmas.List.Elements.{All-weaker}
 use Rattle.std.proofs.lemmas.List.Sums.{sum_by-cons, sum_by-le}
+use Rattle.cns_ids.proofs.ListLemmas.{sum_by-most, sum_by-plus}
 use Rattle.cns_trades.specs.declared.trade.Trade.{Trade}
 use Rattle.cns_netting.specs.History.{bought, due, settled_in, sold}
 use Rattle.cns_netting.specs.Book.{IsBook}
@@ -11,7 +13,6 @@ use Rattle.cns_netting.specs.declared.entry.NetEntry.{NetEntry}
 use Rattle.cns_movements.specs.Book.{Orders}
 use Rattle.cns_covers.specs.Bounds.{want_in}
 use Rattle.cns_covers.specs.declared.priorities.Prioritized.{Prioritized}
-use Rattle.cns_covers.proofs.BoundLemmas.{at_most_once, shared_factor}
 use Rattle.cns_covers.proofs.TotalLemmas.{sold_all}
 use Rattle.cns_allocate.specs.Plan.{plan_of}
 use Rattle.cns_allocate.specs.declared.planned.Planned.{Planned}
@@ -26,17 +27,6 @@ shares_of trades = sum_by (λ (t : Trade). t.quantity) trades
 abbrev part_of : Trade → ℕ → ℕ → ℕ
 part_of t member issue = if (t.buyer == member) && (t.issue == issue) then t.quantity else 0
 
--- a sum of sums of two parts
-sum_by-plus : {X : Type 0} (f g s : X → ℕ) → ((x : X) → s x ≡ f x + g x) → (xs : List X) → sum_by s xs ≡ sum_by f xs + sum_by g xs
-sum_by-plus f g s each [] = refl
-sum_by-plus f g s each (x ∷ xs) = omega (arith, each x, sum_by-cons s x xs, sum_by-cons f x xs, sum_by-cons g x xs, sum_by-plus f g s each xs)
-
-sum_by-most : {X : Type 0} (f g : X → ℕ) (xs : List X) → All (λ x. f x ≤ g x) xs → sum_by f xs ≤ sum_by g xs
-sum_by-most f g [] all = omega arith
-sum_by-most f g (x ∷ xs) all =
-    let here = All-head (λ y. f y ≤ g y) x xs all in
-    omega (arith, here, sum_by-cons f x xs, sum_by-cons g x xs, sum_by-most f g xs (All-tail (λ y. f y ≤ g y) x xs all))
-
 -- a trade brings its shares to its buyer alone
 parts_most : (t : Trade) (issue : ℕ) (ps : List Planned) → sum_by (λ (p : Planned). part_of t p.member issue) ps ≤ count_by (is_planned_as t.buyer) ps * t.quantity
 parts_most t issue [] = omega arith
@@ -48,7 +38,7 @@ parts_most t issue (p ∷ ps) =
       one ((t.buyer == p.member) && (t.issue == issue)) (is_planned_as t.buyer p) (λ e. same (and_parts (t.buyer == p.member) (t.issue == issue) e).0),
       sum_by-cons (λ (q : Planned). part_of t q.member issue) p ps,
       ap (λ (n : ℕ). n * t.quantity) count,
-      shared_factor (cond (is_planned_as t.buyer p) 1 0) (count_by (is_planned_as t.buyer) ps) t.quantity,
+      add-mul (cond (is_planned_as t.buyer p) 1 0) (count_by (is_planned_as t.buyer) ps) t.quantity,
       parts_most t issue ps,
     )
   where
@@ -71,7 +61,7 @@ bought_by_all (t ∷ trades) issue ps once =
     let parts =
     sum_by-plus (λ (p : Planned). part_of t p.member issue) (λ (p : Planned). bought trades p.member issue) (λ (p : Planned). bought (t ∷ trades) p.member issue)
     (λ p. sum_by-cons (λ (u : Trade). part_of u p.member issue) t trades) ps in
-    let alone : count_by (is_planned_as t.buyer) ps * t.quantity ≤ t.quantity = at_most_once (count_by (is_planned_as t.buyer) ps) t.quantity (once t.buyer) in
+    let alone : count_by (is_planned_as t.buyer) ps * t.quantity ≤ 1 * t.quantity = mul-le-mul_right t.quantity (once t.buyer) in
     omega (arith, parts, parts_most t issue ps, alone, sum_by-cons (λ (u : Trade). u.quantity) t trades, bought_by_all trades issue ps once)
 
 -- a plan asks for at most 10^18 shares in all, where settlements brought no member more than it sold

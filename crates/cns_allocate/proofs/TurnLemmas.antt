@@ -1,18 +1,18 @@
 -- Whose turn it is among those who wait, and what is left of them once it is served.
-use Rattle.std.proofs.Common.{◌≡◌, ◌≤◌, ◌<◌, ◌+◌, ℕ, suc, zero, List, [], ◌∷◌, ◌++◌, length, take, drop, get_or, Bool, true, false, not, Option, Some, None, cond, ap, refl, sym, subst, arith, inl, inr, ◌∙◌}
-use Rattle.std.specs.Prelude.{◌==◌, ◌&&◌, ◌||◌, nat_lt, slice_get, All, AllPairs, IsPermutation, count_by, filter, find, position}
-use Rattle.std.specs.List.{list_any, position_or_len, remove}
-use Rattle.std.proofs.lemmas.Bool.{cases_eq, cond-false, cond-true, eq-eqb, eqb-true, le-ltb, ltb-false, ne_eqb, or_parts}
+use Rattle.std.proofs.Common.{◌≡◌, ◌≤◌, ◌<◌, ◌+◌, ℕ, suc, List, [], ◌∷◌, ◌++◌, length, take, drop, get_or, Bool, true, false, not, Option, Some, None, cond, ap, refl, sym, subst, arith, ◌∙◌}
+use Rattle.std.specs.Prelude.{◌==◌, ◌||◌, nat_lt, slice_get, All, AllPairs, IsPermutation, count_by, filter, find, position}
+use Rattle.std.specs.List.{position_or_len, remove}
+use Rattle.std.proofs.lemmas.Bool.{cond-false, cond-true, eqb-true, le-ltb, ltb-false}
 use Rattle.std.proofs.lemmas.List.{drop-drop, drop_more, length-drop, nil_from_length, take-append-drop}
 use Rattle.std.proofs.lemmas.List.Edits.{length-remove}
-use Rattle.std.proofs.lemmas.List.Elements.{All-cons, All-filter, All-head, All-nil, All-tail, All-weaker, filter-append, filter_passes}
-use Rattle.std.proofs.lemmas.List.Filters.{sum_by-filter_both}
+use Rattle.std.proofs.lemmas.List.Elements.{All-filter, All-head, All-tail, All-weaker, filter-append, filter_passes}
 use Rattle.std.proofs.lemmas.List.Folds.{find_at, list_any_none}
 use Rattle.std.proofs.lemmas.List.Kept.{AllPairs-filter}
 use Rattle.std.proofs.lemmas.List.Quantifiers.{position-Some}
 use Rattle.std.proofs.lemmas.List.Sorted.{IsPermutation-remove, IsPermutation-sym}
 use Rattle.std.proofs.lemmas.List.Sums.{get_or-le-sum_by, length-filter, prefix_len_passes, sum_by-drop_more, sum_by-take-drop}
 use Rattle.std.proofs.lemmas.Option.{get_or_from_slice_get, slice_get_within}
+use Rattle.cns_ids.proofs.ListLemmas.{count_by-filter, drop-remove, find-filter, list_any-false}
 use Rattle.cns_movements.specs.Asked.{IsAsked}
 use Rattle.cns_allocate.specs.Group.{rank}
 use Rattle.cns_allocate.specs.Plan.{IsPlan, IsServable}
@@ -23,32 +23,11 @@ use Rattle.cns_allocate.proofs.PlanLemmas.{is_planned_as}
 
 -- ---- lists
 
-pub nat_eq-sym : (a b : ℕ) → (a == b) ≡ (b == a)
-nat_eq-sym a b =
-    elim (cases_eq a b) [
-      | inl e ↦ eq-eqb a b e ∙ sym (eq-eqb b a (sym e))
-      | inr ne ↦ ne_eqb a b ne ∙ sym (ne_eqb b a (λ e. ne (sym e)))
-    ]
-
--- what passes one test and then another passes both
-pub filter_twice : {X : Type 0} (p q r : X → Bool) → ((x : X) → r x ≡ (q x && p x)) → (xs : List X) → filter p (filter q xs) ≡ filter r xs
-filter_twice p q r each [] = refl
-filter_twice p q r each (x ∷ xs) = rw (each x) (by (q x) (p x) refl (filter_twice p q r each xs))
-  where
-    by : (a b : Bool) → p x ≡ b → filter p (filter q xs) ≡ filter r xs → filter p (cond a (x ∷ filter q xs) (filter q xs)) ≡ cond (a && b) (x ∷ filter r xs) (filter r xs)
-    by true true e rest = cond-true (p x) _ _ e ∙ ap (λ ys. x ∷ ys) rest
-    by true false e rest = cond-false (p x) _ _ e ∙ rest
-    by false b e rest = rest
-
 -- where each passes, all are kept
 pub filter_whole : {X : Type 0} (test : X → Bool) (xs : List X) → All (λ x. test x ≡ true) xs → filter test xs ≡ xs
 filter_whole test [] all = refl
 filter_whole test (x ∷ xs) all =
     cond-true (test x) _ _ (All-head (λ y. test y ≡ true) x xs all) ∙ ap (λ ys. x ∷ ys) (filter_whole test xs (All-tail (λ y. test y ≡ true) x xs all))
-
--- no more of what is kept pass a test
-pub count_by-filter : {X : Type 0} (p q : X → Bool) (xs : List X) → count_by q (filter p xs) ≤ count_by q xs
-count_by-filter p q xs = omega (arith, sum_by-filter_both p (λ x. not (p x)) (λ x. refl) (λ x. cond (q x) 1 0) xs)
 
 -- where none passes, each fails
 pub count_none : {X : Type 0} (p : X → Bool) (xs : List X) → count_by p xs ≡ 0 → All (λ x. p x ≡ false) xs
@@ -63,15 +42,7 @@ kept_whole : {X : Type 0} (p : X → Bool) (xs : List X) → count_by p xs ≡ 0
 kept_whole p xs none =
     filter_whole (λ x. not (p x)) xs (All-weaker (λ x. p x ≡ false) (λ x. not (p x) ≡ true) (λ x e. ap not e) xs (count_none p xs none))
 
--- what is found is the first that passes
-pub find-filter : {X : Type 0} (test : X → Bool) (xs : List X) → find test xs ≡ slice_get (filter test xs) 0
-find-filter test [] = refl
-find-filter {X = X} test (x ∷ xs) = by (test x) (find-filter test xs)
-  where
-    by : (b : Bool) → find test xs ≡ slice_get (filter test xs) 0 → cond b (Some x) (find test xs) ≡ slice_get (cond b (x ∷ filter test xs) (filter test xs)) 0
-    by true rest = refl
-    by false rest = rest
-
+-- what holds of each that passes holds of what is found
 found_kept : {X : Type 0} (P : X → Type 0) (test : X → Bool) (xs : List X) (y : X) → All P (filter test xs) → find test xs ≡ Some y → P y
 found_kept P test xs y all found =
     let first = sym (find-filter test xs) ∙ found in
@@ -90,12 +61,6 @@ find-none {X = X} test xs none = sym (length-filter test xs) ∙ empty (filter t
     empty : (ys : List X) → slice_get ys 0 ≡ None → length ys ≡ 0
     empty [] e = refl
     empty (y ∷ ys) e = cc
-
-list_any-false : {X : Type 0} (test : X → Bool) (xs : List X) → list_any test xs ≡ false → All (λ x. test x ≡ false) xs
-list_any-false test [] none = All-nil _
-list_any-false test (x ∷ xs) none =
-    let parts = or_parts (test x) (list_any test xs) none in
-    All-cons (λ y. test y ≡ false) x xs parts.0 (list_any-false test xs parts.1)
 
 -- one that passes a test that no other passes
 module _ {X : Type 0} (test : X → Bool) (xs : List X) (i : ℕ) (d : X) (once : count_by test xs ≤ 1) (below : i < length xs) (passes : test (get_or xs i d) ≡ true) where
@@ -138,13 +103,6 @@ position-none test xs none = filter_whole (λ x. not (test x)) xs (λ k d below.
     past : (b : Bool) → nat_lt at (length xs) ≡ b → cond b (Some at) None ≡ None → length xs ≤ at
     past true e f = cc
     past false e _ = ltb-false at (length xs) e
-
--- an element is removed behind the first n
-drop-remove : {X : Type 0} (n k : ℕ) (xs : List X) → n ≤ length xs → drop n (remove xs (n + k)) ≡ remove (drop n xs) k
-drop-remove zero k xs within = let same : zero + k ≡ k = omega arith in ap (remove xs) same
-drop-remove (suc n) k [] within = absurd (omega arith)
-drop-remove (suc n) k (x ∷ xs) within =
-    let next : suc n + k ≡ suc (n + k) = omega arith in ap (λ j. drop (suc n) (remove (x ∷ xs) j)) next ∙ drop-remove n k xs (omega arith)
 
 -- ---- a plan without a member
 

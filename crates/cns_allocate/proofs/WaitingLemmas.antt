@@ -1,20 +1,19 @@
 -- Those of a plan who wait, by a table of their places.
-use Rattle.std.proofs.Common.{◌≡◌, ◌≤◌, ◌<◌, ◌+◌, ◌-◌, ℕ, zero, suc, take, drop, get_or, slice_set, replicate, List, [], ◌∷◌, length, Bool, true, false, not, Option, Some, None, Bor, cond, ap, refl, sym, subst, arith, inl, inr, ◌⊎◌, ◌∙◌}
+use Rattle.std.proofs.Common.{◌≡◌, ◌≤◌, ◌<◌, ◌+◌, ◌-◌, ℕ, take, drop, get_or, slice_set, replicate, List, [], ◌∷◌, length, Bool, true, false, not, Some, None, cond, ap, refl, sym, subst, arith, inl, inr, ◌⊎◌, ◌∙◌}
 use Rattle.std.specs.Prelude.{◌==◌, ◌&&◌, slice_get, All, find}
-use Rattle.std.specs.Option.{option_copied}
-use Rattle.std.specs.Slice.{IsItemAt}
+use Rattle.std.proofs.Math.Bool.{and-false, and-true}
 use Rattle.std.proofs.lemmas.Bool.{cases_lt, cond-false, cond-true, eq-eqb, eqb-true, ne_eqb}
-use Rattle.std.proofs.lemmas.List.{drop_all, drop_more, get_or_default, get_or-set_other, get_or-set_same, length-take-le, take_all}
+use Rattle.std.proofs.lemmas.List.{drop_all, drop_more, get_or_default, length-take-le, take_all}
 use Rattle.std.proofs.lemmas.List.Elements.{All-more, All-weaker}
 use Rattle.std.proofs.lemmas.List.Sums.{sum_by-take-le}
-use Rattle.std.proofs.lemmas.Option.{slice_get-get_or, slice_get_past, slice_get_read}
+use Rattle.std.proofs.lemmas.Option.{slice_get-get_or, slice_get_past}
+use Rattle.cns_ids.proofs.ListLemmas.{filter_twice, find-filter, get_or-replicate_default, get_or-set, pigeonhole}
 use Rattle.cns_allocate.specs.Plan.{IsPlan}
 use Rattle.cns_allocate.specs.Served.{without}
 use Rattle.cns_allocate.specs.Waiting.{ArePlaces, AreWaiting, IsPlaceOf, is_placed, placed}
 use Rattle.cns_allocate.specs.declared.planned.Planned.{Planned}
-use Rattle.cns_allocate.proofs.NumberLemmas.{pigeonhole}
 use Rattle.cns_allocate.proofs.PlanLemmas.{is_planned_as}
-use Rattle.cns_allocate.proofs.TurnLemmas.{filter_twice, find-filter, filter_whole, find_one}
+use Rattle.cns_allocate.proofs.TurnLemmas.{filter_whole, find_one}
 
 -- ---- a table of places
 
@@ -34,31 +33,14 @@ first_few plan i is within members =
 pub members_more : (plan : List Planned) (i : ℕ) (p : Planned) → i < length plan → p ≡ get_or plan i p → HasMember p → All HasMember (take i plan) → All HasMember (take (i + 1) plan)
 members_more plan i p within is member members = All-more HasMember plan i p within members (subst HasMember is member)
 
--- what a table has, once one place is written
-place_set : (places : List ℕ) (at value m : ℕ) → at < length places
-    → get_or (slice_set places at value) m 0 ≡ cond (m == at) value (get_or places m 0)
-place_set places at value m within = by (m == at) refl
-  where
-    apart : false ≡ true → ⊥
-    apart h = cc
-
-    by : (b : Bool) → (m == at) ≡ b → get_or (slice_set places at value) m 0 ≡ cond b value (get_or places m 0)
-    by true e = ap (λ (n : ℕ). get_or (slice_set places at value) n 0) (eqb-true m at e) ∙ get_or-set_same places at value 0 within
-    by false e = get_or-set_other places at m value 0 (λ same. apart (sym e ∙ eq-eqb m at same))
-
 -- a table of no places
-no_places : (n m : ℕ) → ◌≡◌ {A = ℕ} (get_or (replicate n 0) m 0) 0
-no_places zero m = refl
-no_places (suc n) zero = refl
-no_places (suc n) (suc m) = no_places n m
-
 pub no_places-are : (plan : List Planned) (n : ℕ) → ArePlaces plan (replicate n 0)
-no_places-are plan n m some = absurd (omega (arith, no_places n m))
+no_places-are plan n m some = absurd (omega (arith, get_or-replicate_default {X = ℕ} n m 0))
 
 -- once one more place is written
 pub places_more : (plan : List Planned) (places : List ℕ) (i member : ℕ) (p : Planned) → i < length plan → p ≡ get_or plan i p → member ≡ p.member → member < length places
     → ArePlaces plan places → ArePlaces plan (slice_set places member (i + 1))
-places_more plan places i member p within is named small are m some = by (m == member) refl (place_set places member (i + 1) m small)
+places_more plan places i member p within is named small are m some = by (m == member) refl (get_or-set places member (i + 1) 0 m small)
   where
     at : (q : Planned) → get_or plan i q ≡ p
     at q = get_or_default plan i q p within ∙ sym is
@@ -89,7 +71,7 @@ placed_more plan places i member p within is named small all =
     not_zero = ap not (ne_eqb (i + 1) 0 (λ e. omega arith))
 
     stays : (q : Planned) → is_placed places q ≡ true → is_placed new q ≡ true
-    stays q e = by (q.member == member) (place_set places member (i + 1) q.member small)
+    stays q e = by (q.member == member) (get_or-set places member (i + 1) 0 q.member small)
       where
         by : (b : Bool) → get_or new q.member 0 ≡ cond b (i + 1) (get_or places q.member 0) → is_placed new q ≡ true
         by true now = ap (λ (k : ℕ). not (k == 0)) now ∙ not_zero
@@ -97,7 +79,7 @@ placed_more plan places i member p within is named small all =
 
     here : is_placed new p ≡ true
     here =
-        ap (λ (k : ℕ). not (k == 0)) (place_set places member (i + 1) p.member small ∙ cond-true (p.member == member) (i + 1) (get_or places p.member 0) (eq-eqb p.member member (sym named)))
+        ap (λ (k : ℕ). not (k == 0)) (get_or-set places member (i + 1) 0 p.member small ∙ cond-true (p.member == member) (i + 1) (get_or places p.member 0) (eq-eqb p.member member (sym named)))
         ∙ not_zero
 
 -- where each is placed, all are
@@ -127,11 +109,6 @@ waits_some (p ∷ plan) places first are none = by (cases_lt first (length (p �
         let no : get_or (p ∷ plan) first p ∷ placed places (drop (first + 1) (p ∷ plan)) ≡ [] = sym some ∙ are.left ∙ none in
         absurd cc
     by (inr past) = omega (arith, are.within)
-
--- what is read at a place is the element there
-pub read_copied : (plan : List Planned) (i : ℕ) (r : Option (Bor Planned)) → IsItemAt plan i r → option_copied r ≡ slice_get plan i
-read_copied plan i None is = sym (slice_get_past plan i is.3)
-read_copied plan i (Some p) is = sym (slice_get_read plan (length plan) i p.now refl is.3.0 is.1)
 
 -- the first place is that of the first of them
 pub waits_first : (plan : List Planned) (places : List ℕ) (first : ℕ) → AreWaiting plan places first → slice_get plan first ≡ slice_get (placed places plan) 0
@@ -191,22 +168,14 @@ placed_without plan places member within =
     sym (filter_twice (λ (p : Planned). not (p.member == member)) (is_placed places) (is_placed (slice_set places member 0)) each plan)
   where
     law : (b : Bool) (k : ℕ) → not (cond b 0 k == 0) ≡ (not (k == 0) && not b)
-    law true k = sym (and_none (not (k == 0)))
-      where
-        and_none : (a : Bool) → (a && false) ≡ false
-        and_none true = refl
-        and_none false = refl
-    law false k = sym (and_all (not (k == 0)))
-      where
-        and_all : (a : Bool) → (a && true) ≡ a
-        and_all true = refl
-        and_all false = refl
+    law true k = sym (and-false (not (k == 0)))
+    law false k = sym (and-true (not (k == 0)))
 
     each : (p : Planned) → is_placed (slice_set places member 0) p ≡ (is_placed places p && not (p.member == member))
-    each p = ap (λ (k : ℕ). not (k == 0)) (place_set places member 0 p.member within) ∙ law (p.member == member) (get_or places p.member 0)
+    each p = ap (λ (k : ℕ). not (k == 0)) (get_or-set places member 0 0 p.member within) ∙ law (p.member == member) (get_or places p.member 0)
 
 places_fewer : (plan : List Planned) (places : List ℕ) (member : ℕ) → member < length places → ArePlaces plan places → ArePlaces plan (slice_set places member 0)
-places_fewer plan places member within are m some = by (m == member) (place_set places member 0 m within)
+places_fewer plan places member within are m some = by (m == member) (get_or-set places member 0 0 m within)
   where
     by : (b : Bool) → get_or (slice_set places member 0) m 0 ≡ cond b 0 (get_or places m 0) → IsPlaceOf plan m (get_or (slice_set places member 0) m 0)
     by true now = absurd (omega (arith, now))

@@ -1,8 +1,9 @@
 use Rattle.std.proofs.Common.{◌≡◌, ℕ, ◌-◌, ◌≤◌, ◌∷◌, [], arith, ap, ◌∙◌, length, length-append, subst}
 use Rattle.cns_pool.specs.WorkerSeat.{EndWithin, WorkerState}
+use Rattle.cns_ids.proofs.ListLemmas.{places_push}
 use Rattle.cns_allocate.specs.Serving.{every, shares_of}
 use Rattle.cns_allocate.proofs.DealLemmas.{shares_of-append}
-use Rattle.cns_allocate.proofs.SeatLemmas.{left-budget, left-calls, parts-more, parts-sum, split-more}
+use Rattle.cns_allocate.proofs.SeatLemmas.{left-budget, left-calls, parts-sum, split-more}
 use Rattle.cns_allocate.proofs.seats.split_seats.Goals as goal
 
 pub of-needs-requires-clause-budget : goal.of-needs-requires-clause-budget
@@ -46,7 +47,7 @@ loop-worker-preserved c =
       room = omega (arith, i.room, c.push_reserved.ensures.capacity);
       budgets = parts-sum shares_of shares_of-append (λ (s : WorkerState). s.budget) gap k group parts part i.budgets budget;
       counts = parts-sum (λ l. length l) (λ ps qs. length-append ps qs) (λ (s : WorkerState). s.calls) gap k group parts part i.counts calls;
-      budget = parts-more (λ j. shares_of (every gap j group)) (λ (s : WorkerState). s.budget) parts part k i.count i.budget (omega (arith, budget));
-      calls = parts-more (λ j. length (every gap j group)) (λ (s : WorkerState). s.calls) parts part k i.count i.calls (omega (arith, calls));
+      budget = places_push (λ j (s : WorkerState). shares_of (every gap j group) ≤ s.budget) parts part k i.count i.budget (omega (arith, budget));
+      calls = places_push (λ j (s : WorkerState). length (every gap j group) ≤ s.calls) parts part k i.count i.calls (omega (arith, calls));
       ends = λ some. subst (λ (s : WorkerState). EndWithin s.seen.asked s.tickets) i.split.rest c.in_ok-part.ensures.ends;
     })

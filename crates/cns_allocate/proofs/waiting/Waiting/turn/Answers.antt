@@ -1,10 +1,11 @@
 use Rattle.std.proofs.Common.{◌∙◌, List, ap, subst}
 use Rattle.std.specs.Prelude.{slice_get}
+use Rattle.cns_ids.proofs.ListLemmas.{read_copied}
 use Rattle.cns_allocate.specs.Plan.{IsPlan}
 use Rattle.cns_allocate.specs.Waiting.{is_placed}
 use Rattle.cns_allocate.specs.declared.planned.Planned.{Planned}
 use Rattle.cns_allocate.proofs.TurnLemmas.{IsPlan-filter}
-use Rattle.cns_allocate.proofs.WaitingLemmas.{read_copied, waits_first}
+use Rattle.cns_allocate.proofs.WaitingLemmas.{waits_first}
 use Rattle.cns_allocate.proofs.waiting.Waiting.turn.Goals as goal
 
 pub returns : goal.returns
