@@ -1,9 +1,10 @@
 -- Tickets that are tested one after another.
-use Rattle.std.proofs.Common.{◌≡◌, ◌≤◌, ◌+◌, ℕ, true, false, List, [], ◌∷◌, length, Decides, refl, sym, ◌∙◌, arith}
+use Rattle.std.proofs.Common.{◌≡◌, ◌+◌, ℕ, true, false, List, [], ◌∷◌, length, Decides, refl, sym, ◌∙◌, arith}
 use Rattle.std.specs.Prelude.{◌==◌, not, cond, count_by}
 use Rattle.std.proofs.lemmas.Bool.{and_parts, not-true}
 use Rattle.std.proofs.lemmas.Bool.Decides.{Decides-and, Decides-eqb, nat_tests}
 use Rattle.std.proofs.lemmas.List.Sums.{sum_by-cons}
+use Rattle.cns_ids.proofs.ListLemmas.{count-none, count-some}
 use Rattle.cns_pool.specs.Pool.{intervals_of}
 use Rattle.cns_pool.specs.Tiles.{AreChained}
 use Rattle.cns_pool.specs.declared.ticket.Ticket.{Ticket}
@@ -27,22 +28,12 @@ times member ts = count_by (λ (t : Ticket). t.member == member) ts
 times-cons : (member : ℕ) (t : Ticket) (ts : List Ticket) → times member (t ∷ ts) ≡ cond (t.member == member) 1 0 + times member ts
 times-cons member t ts = sum_by-cons (λ (u : Ticket). cond (u.member == member) 1 0) t ts
 
--- a member that is found to have none of the tickets has none
-none_times : (member : ℕ) (ts : List Ticket) → has_ticket ts member ≡ false → times member ts ≡ 0
-none_times member [] e = refl
-none_times member (t ∷ ts) e = grind (arith, none_times member ts, times-cons member t ts)
-
--- and one that is found to have some has some
-some_times : (member : ℕ) (ts : List Ticket) → has_ticket ts member ≡ true → 1 ≤ times member ts
-some_times member [] e = absurd cc
-some_times member (t ∷ ts) e = grind (arith, some_times member ts, times-cons member t ts)
-
 -- members that are found to be different are
 apart_found : (ts : List Ticket) → is_apart ts ≡ true → AreApart ts
 apart_found [] e member = omega arith
 apart_found (t ∷ ts) e member =
     let both = and_parts (not (has_ticket ts t.member)) (is_apart ts) e in
-    let none = none_times t.member ts (not-true (has_ticket ts t.member) both.0) in
+    let none = count-none (λ (u : Ticket). u.member == t.member) ts (not-true (has_ticket ts t.member) both.0) in
     let rest = apart_found ts both.1 member in
     grind (arith, nat_tests, none, rest, times-cons member t ts)
 
@@ -51,7 +42,7 @@ apart_all : (ts : List Ticket) → AreApart ts → is_apart ts ≡ true
 apart_all [] h = refl
 apart_all (t ∷ ts) h =
     let rest = apart_all ts (λ member. omega (arith, h member, times-cons member t ts)) in
-    grind (arith, nat_tests, rest, some_times t.member ts, h t.member, times-cons t.member t ts)
+    grind (arith, nat_tests, rest, count-some (λ (u : Ticket). u.member == t.member) ts, h t.member, times-cons t.member t ts)
 
 -- what an allocation that may follow shows to its tests
 pub allocable_parts : (b : Books) (a : Allocation) (ts : List Ticket) → ts ≡ pool_tickets a.drawn → IsAllocable b a → MayFollow b a ts

@@ -1,18 +1,17 @@
 -- The issues that orders name, each once and in order: they are the keys of the sums by issue, in order.
-use Rattle.std.proofs.Common.{◌≡◌, ℕ, suc, Bool, List, [], ◌∷◌, Option, Some, Ordering, Less, Equal, Greater, nat_eq, refl, sym, ap, ◌∙◌, arith}
+use Rattle.std.proofs.Common.{◌≡◌, ℕ, suc, Bool, List, [], ◌∷◌, Option, Some, nat_eq, refl, sym, ap, ◌∙◌, arith}
 use Rattle.std.specs.Prelude.{fold, ◌==◌, ◌||◌}
 use Rattle.std.specs.BTreeSet.{insert_key}
 use Rattle.std.specs.Cmp.{nat_cmp_total}
-use Rattle.std.specs.List.{AllByRecursion, IsDistinct, list_any}
+use Rattle.std.specs.List.{IsDistinct, list_any}
 use Rattle.std.specs.List.Sorted.{IsPermutation, IsSorted, IsStrictlySortedBy}
-use Rattle.std.specs.Ordering.{is_eq, match_ordering, nat_cmp, ordering_reverse}
+use Rattle.std.specs.Ordering.{is_eq, nat_cmp}
 use Rattle.std.proofs.lemmas.Bool.Decides.{nat_tests}
-use Rattle.std.proofs.lemmas.List.Elements.{All-from_recursion, recursion_from_All}
 use Rattle.std.proofs.lemmas.List.Folds.{list_any-append}
 use Rattle.std.proofs.lemmas.List.Sorted.{IsNonDecreasingBy-from_sort, list_any-IsPermutation}
 use Rattle.std.proofs.lemmas.Map.Keys.{IsDistinct-IsPermutation, IsStrictlyIncreasing-from_distinct, sorted_from_strictly_increasing}
 use Rattle.std.proofs.lemmas.Map.Lookups.{btree_set_from_contains, exact_unsigned}
-use Rattle.std.proofs.lemmas.Map.Views.{All-insert_key}
+use Rattle.cns_ids.proofs.ListLemmas.{list_any-insert_key, nat_eq-sym, sorted-insert_key}
 use Rattle.cns_ids.specs.declared.cycle.CycleId.{CycleId}
 use Rattle.cns_movements.specs.Book.{Orders, with_asks}
 use Rattle.cns_movements.specs.Order.{numbered, order_of}
@@ -27,37 +26,9 @@ use Rattle.cns_clearing.specs.PoolSums.{asks_for, is_named}
 abbrev is_in : ℕ → List ℕ → Bool
 is_in n ns = list_any (λ m. is_eq (nat_cmp n m)) ns
 
--- each is above a number
-abbrev AreAbove : ℕ → List ℕ → Type 0
-AreAbove n ns = AllByRecursion (λ m. nat_cmp n m ≡ Less) ns
-
--- what is above a number is above a smaller one
-above_less : (a b : ℕ) (ns : List ℕ) → nat_cmp a b ≡ Less → AreAbove b ns → AreAbove a ns
-above_less a b [] lt h = tt
-above_less a b (n ∷ ns) lt h = (nat_cmp_total.trans a b n lt h.0, above_less a b ns lt h.1)
-
--- and so are all with one more that is
-above_inserted : (a k : ℕ) (ns : List ℕ) → nat_cmp a k ≡ Less → AreAbove a ns → AreAbove a (insert_key nat_cmp ns k)
-above_inserted a k ns lt h =
-    let P : ℕ → Type 0 = λ m. nat_cmp a m ≡ Less in
-    recursion_from_All P _ (All-insert_key nat_cmp k P ns (All-from_recursion P ns h) lt)
-
--- one more at its place leaves them in order
-sorted_inserted : (k : ℕ) (ns : List ℕ) → IsStrictlySortedBy nat_cmp ns → IsStrictlySortedBy nat_cmp (insert_key nat_cmp ns k)
-unfolding IsStrictlySortedBy
-sorted_inserted k [] h = (tt, tt)
-sorted_inserted k (n ∷ ns) h = by (nat_cmp k n) refl (sorted_inserted k ns h.1)
-  where
-    by : (r : Ordering) → nat_cmp k n ≡ r → IsStrictlySortedBy nat_cmp (insert_key nat_cmp ns k)
-        → IsStrictlySortedBy nat_cmp (match_ordering r (k ∷ n ∷ ns) (n ∷ ns) (n ∷ insert_key nat_cmp ns k))
-    by Less e rest = ((e, above_less k n ns e h.0), h)
-    by Equal e rest = h
-    by Greater e rest = (above_inserted n k ns (nat_cmp_total.antisymm n k ∙ ap ordering_reverse e) h.0, rest)
-
 -- one more is the one that is there besides
 in_inserted : (i k : ℕ) (ns : List ℕ) → is_in i (insert_key nat_cmp ns k) ≡ (is_eq (nat_cmp i k) || is_in i ns)
-in_inserted i k [] = refl
-in_inserted i k (n ∷ ns) = grind (arith, nat_tests, in_inserted i k ns)
+in_inserted i k ns = list_any-insert_key nat_cmp (λ m. is_eq (nat_cmp i m)) k ns (λ x e. grind (arith, nat_tests))
 
 -- ---- the issues of orders
 
@@ -68,7 +39,7 @@ with_issues issues orders = fold (λ is (o : Order). insert_key nat_cmp is o.iss
 -- they stand in order, each once, where the others do
 sorted_issues : (issues : List ℕ) (orders : List Order) → IsStrictlySortedBy nat_cmp issues → IsStrictlySortedBy nat_cmp (with_issues issues orders)
 sorted_issues issues [] sorted = sorted
-sorted_issues issues (o ∷ orders) sorted = sorted_issues (insert_key nat_cmp issues o.issue) orders (sorted_inserted o.issue issues sorted)
+sorted_issues issues (o ∷ orders) sorted = sorted_issues (insert_key nat_cmp issues o.issue) orders (sorted-insert_key nat_cmp_total o.issue issues sorted)
 
 -- they are the others and those that the orders name
 in_issues : (i : ℕ) (issues : List ℕ) (orders : List Order) → is_in i (with_issues issues orders) ≡ (is_in i issues || is_named i orders)
@@ -80,17 +51,13 @@ found_alike : (i : ℕ) (ns : List ℕ) → is_in i ns ≡ list_any (nat_eq i) n
 found_alike i [] = refl
 found_alike i (n ∷ ns) = grind (arith, nat_tests, found_alike i ns)
 
--- it is one test either way round
-flip : (a b : ℕ) → nat_eq a b ≡ nat_eq b a
-flip a b = grind (arith, nat_tests)
-
 -- keys that are the issues which orders name, each once, are in order the list of these
 pub issues_by_keys : (keys sorted : List ℕ) (orders : List Order) → IsDistinct nat_eq keys → ((i : ℕ) → list_any (nat_eq i) keys ≡ is_named i orders)
     → IsPermutation keys sorted → IsSorted nat_cmp sorted → sorted ≡ issues_of orders
 unfolding issues_of IsStrictlySortedBy
 issues_by_keys keys sorted orders distinct named moved order =
     btree_set_from_contains nat_cmp_total (record { keys = sorted }) (record { keys = issues_of orders })
-    (sorted_from_strictly_increasing sorted (IsStrictlyIncreasing-from_distinct sorted (IsNonDecreasingBy-from_sort (λ n. n) sorted order) (IsDistinct-IsPermutation nat_eq flip keys sorted moved distinct)))
+    (sorted_from_strictly_increasing sorted (IsStrictlyIncreasing-from_distinct sorted (IsNonDecreasingBy-from_sort (λ n. n) sorted order) (IsDistinct-IsPermutation nat_eq nat_eq-sym keys sorted moved distinct)))
     (sorted_issues [] orders tt)
     (λ i. found_alike i sorted ∙ sym (list_any-IsPermutation (nat_eq i) keys sorted moved) ∙ named i ∙ sym (in_issues i [] orders))
     exact_unsigned

@@ -1,7 +1,6 @@
 pub mod BooksLemmas
 pub mod NodeLemmas
 pub mod PositionLemmas
-pub mod ListLemmas
 pub mod ClosingLemmas
 pub mod ApartLemmas
 pub mod LotLemmas

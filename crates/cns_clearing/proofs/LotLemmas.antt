@@ -5,7 +5,8 @@ use Rattle.std.proofs.lemmas.Bool.{cond_both, eqb-true, not-true}
 use Rattle.std.proofs.lemmas.Bool.Decides.{nat_tests}
 use Rattle.std.proofs.lemmas.List.Elements.{All-append, All-cons, All-filter, All-map, All-nil, All-weaker, filter_passes}
 use Rattle.std.proofs.lemmas.List.Sums.{sum_by-append, sum_by-cons}
-use Rattle.cns_allocate.proofs.TurnLemmas.{count_by-filter, find-All, find-none, find-passes}
+use Rattle.cns_ids.proofs.ListLemmas.{count_by-filter}
+use Rattle.cns_allocate.proofs.TurnLemmas.{find-All, find-none, find-passes}
 use Rattle.cns_records.specs.declared.clear_record.ClearRecord.{ClearRecord}
 use Rattle.cns_records.specs.declared.clear_record.ClearRecord.TheVariants.{Cycle, Allocate}
 use Rattle.cns_clearing.specs.Lots.{AreLots, DoesNotDisturb, IsLot, IsQuiet, avail_in, lots_after, lots_poured, new_lot, refilled}

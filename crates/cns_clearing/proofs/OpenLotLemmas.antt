@@ -7,15 +7,17 @@ use Rattle.std.specs.Map.{lookup}
 use Rattle.std.proofs.Math.Path.{fun_ext}
 use Rattle.std.proofs.lemmas.Bool.{cond-false, cond-true, eqb-true}
 use Rattle.std.proofs.lemmas.Bool.Decides.{nat_tests}
+use Rattle.std.proofs.lemmas.Cmp.{nat_eq_equiv}
 use Rattle.std.proofs.lemmas.List.{length-map, length_push, nil_from_length}
 use Rattle.std.proofs.lemmas.List.Sums.{sum_by-cons}
+use Rattle.std.proofs.lemmas.Map.Made.{nil_from_lookup}
 use Rattle.std.proofs.lemmas.Option.{MatchOption-at_none, MatchOption-at_some}
-use Rattle.cns_allocate.proofs.TurnLemmas.{count_by-filter, find-passes}
+use Rattle.cns_allocate.proofs.TurnLemmas.{find-passes}
 use Rattle.cns_clearing.specs.Lots.{refilled, without_lot}
 use Rattle.cns_clearing.specs.OpenLots.{AreSlotPlaces, AreSlots, filled, is_slot_of}
 use Rattle.cns_clearing.specs.Pools.{lot_of}
 use Rattle.cns_clearing.specs.declared.lot.Lot.{Lot}
-use Rattle.cns_clearing.proofs.ListLemmas.{map_once, position_found, position_map, position_no, position_none, position_push, position_push_other}
+use Rattle.cns_ids.proofs.ListLemmas.{count_by-filter, map_once, position_found, position_map, position_no, position_none, position_push, position_push_other}
 use Rattle.cns_clearing.proofs.LotLemmas.{count_opened, count_refilled, is_lot_of, refilled_issue}
 
 -- ---- the lots of some slots
@@ -106,14 +108,10 @@ pub none_open : {S : Type 0} (slots : List (Option Lot)) (map : HashMap ℕ ℕ 
 none_open slots map are none =
     none_at_all (filled slots) (λ issue. sym (none_got slots issue _ are (ap (lookup (nat_eq issue)) (sym (nil_from_length map.entries none)))))
 
--- a map that has nothing at any number has no entries
-no_entries : (entries : List (ℕ × ℕ)) → ((issue : ℕ) → lookup (nat_eq issue) entries ≡ None) → length entries ≡ 0
-no_entries [] none = refl
-no_entries (e ∷ entries) none = grind (arith, nat_tests, none e.0)
-
--- so where no lot is open no issue has a place
+-- where no lot is open no issue has a place
 pub no_place : {S : Type 0} (slots : List (Option Lot)) (map : HashMap ℕ ℕ S) → AreSlotPlaces slots (λ issue. get nat_eq map issue) → filled slots ≡ [] → hash_map_len map ≡ 0
-no_place slots map are none = no_entries map.entries (λ issue. are.first issue ∙ position_no (is_slot_of issue) slots (none_found issue slots (rw none)))
+no_place slots map are none =
+    ap length (nil_from_lookup nat_eq_equiv map.entries (λ issue. are.first issue ∙ position_no (is_slot_of issue) slots (none_found issue slots (rw none))))
 
 -- ---- the slots that are left
 

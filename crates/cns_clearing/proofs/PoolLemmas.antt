@@ -16,7 +16,7 @@ use Rattle.cns_movements.proofs.ConfirmLemmas.{IsTaken, taken_from_done}
 use Rattle.cns_movements.proofs.ReplyLemmas.{moved_new, moved_of_above, moved_with_reply, open_new, open_with_reply}
 use Rattle.cns_allocate.proofs.DeliveryLemmas.{deliveries_within}
 use Rattle.cns_covers.specs.Bounds.{want_in}
-use Rattle.cns_covers.proofs.BoundLemmas.{at_most}
+use Rattle.cns_ids.proofs.ListLemmas.{at_most}
 use Rattle.cns_records.specs.declared.allocation.Allocation.{Allocation}
 use Rattle.cns_records.specs.declared.clear_record.ClearRecord.{ClearRecord}
 use Rattle.cns_records.specs.declared.clear_record.ClearRecord.TheVariants.{Cycle, Allocate, Confirm}

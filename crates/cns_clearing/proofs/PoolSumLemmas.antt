@@ -19,8 +19,7 @@ use Rattle.cns_clearing.specs.Pools.{asked_of_pool, covered_of, delivered_of, ou
 use Rattle.cns_clearing.specs.PoolSums.{ArePools, AreSumsOf, asks_for, sums_at}
 use Rattle.cns_clearing.specs.declared.pool_sums.PoolSums.{PoolSums}
 use Rattle.cns_movements.proofs.BookLemmas.{with_asks_lawful, with_reply_lawful}
-use Rattle.cns_covers.proofs.BoundLemmas.{at_most}
-use Rattle.cns_netting.proofs.PutLemmas.{PutsAt, put_holds}
+use Rattle.cns_ids.proofs.ListLemmas.{PutsAt, at_most, put_holds}
 use Rattle.cns_clearing.specs.Books.{are_spent, books_of}
 use Rattle.cns_clearing.proofs.BooksLemmas.{lawful_bounded, numbers_suffice}
 use Rattle.cns_clearing.proofs.IssueLemmas.{named_ordered, order_named}
@@ -78,10 +77,6 @@ ask_first a asks issue = grind arith
 -- an issue that an ask names is named by more
 pub ask_named : (a s r some : Bool) → some ≡ (a || s) → (some || r) ≡ (s || (a || r))
 ask_named a s r some e = grind arith
-
--- and one that none names by no more
-pub none_named : (b : Bool) → b ≡ (b || false)
-none_named b = grind arith
 
 -- sums that grew by what the asks ask for are those with their orders
 pub pools_ordered : (old new : ℕ → Option PoolSums) (book : Orders) (cycle : Option CycleId) (asks : List Ask) → ArePools old book → are_spent book (length asks) ≡ false

@@ -1,9 +1,10 @@
-use Rattle.std.proofs.Common.{◌<◌, ◌∙◌, length, length-set, refl, true, arith}
-use Rattle.cns_clearing.proofs.ApartLemmas.{apart_from_none, apart_step, table_none}
+use Rattle.std.proofs.Common.{◌<◌, ◌∙◌, false, length, length-set, refl, true, arith}
+use Rattle.cns_ids.proofs.ListLemmas.{get_or-replicate_default}
+use Rattle.cns_clearing.proofs.ApartLemmas.{apart_from_none, apart_step}
 use Rattle.cns_clearing.proofs.admission.are_apart.Goals as goal
 
 pub loop-ticket-init : goal.loop-ticket-init
-loop-ticket-init c = record { left = apart_from_none _ (table_none 10000) c.args.tickets.now; size = refl }
+loop-ticket-init c = record { left = apart_from_none _ (λ m. get_or-replicate_default 10000 m false) c.args.tickets.now; size = refl }
 
 pub loop-ticket-preserved : goal.loop-ticket-preserved
 loop-ticket-preserved c =

@@ -1,15 +1,16 @@
-use Rattle.std.proofs.Common.{◌≡◌, ◌≤◌, ◌∷◌, ◌∙◌, arith, refl, rules}
+use Rattle.std.proofs.Common.{◌≡◌, ◌≤◌, ◌∷◌, ◌∙◌, arith, refl, rules, sym}
 use Rattle.std.specs.Prelude.{◌==◌, if◌then◌else◌}
+use Rattle.std.proofs.Math.Bool.{or-false}
 use Rattle.std.proofs.lemmas.Bool.{eq-eqb}
 use Rattle.std.proofs.lemmas.List.{nil_from_length}
 use Rattle.std.proofs.lemmas.List.Sums.{sum_by-cons}
 use borrow.Author.Tests.{tests}
 use Rattle.cns_movements.specs.Order.{is_delivery}
 use Rattle.cns_movements.specs.declared.order.Ask.{Ask}
-use Rattle.cns_covers.proofs.BoundLemmas.{at_most}
+use Rattle.cns_ids.proofs.ListLemmas.{at_most}
 use Rattle.cns_clearing.specs.Pools.{asked_of_pool}
 use Rattle.cns_clearing.specs.PoolSums.{asks_for}
-use Rattle.cns_clearing.proofs.PoolSumLemmas.{ask_first, ask_named, none_named}
+use Rattle.cns_clearing.proofs.PoolSumLemmas.{ask_first, ask_named}
 use Rattle.cns_clearing.proofs.pool_sums.ask_all.Goals as goal
 
 pub loop-first-preserved : goal.loop-first-preserved
@@ -36,4 +37,4 @@ unfolding asked_of_pool
 returns-clause-out c = λ i. omega (arith, rw (nil_from_length _ c.in_default.ensures.cases) at (c.loop-first.invariant.out i))
 
 pub returns-clause-named : goal.returns-clause-named
-returns-clause-named c = λ i. none_named _ ∙ (rw (nil_from_length _ c.in_default.ensures.cases) at (c.loop-first.invariant.named i))
+returns-clause-named c = λ i. sym (or-false _) ∙ (rw (nil_from_length _ c.in_default.ensures.cases) at (c.loop-first.invariant.named i))

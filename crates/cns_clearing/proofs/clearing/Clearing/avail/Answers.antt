@@ -1,5 +1,5 @@
 use Rattle.std.proofs.Common.{arith}
-use Rattle.cns_clearing.proofs.DrawnLemmas.{fits}
+use Rattle.cns_ids.proofs.ListLemmas.{some_within}
 use Rattle.cns_clearing.proofs.TotalLemmas.{avail_most}
 use Rattle.cns_clearing.proofs.clearing.Clearing.avail.Goals as goal
 
@@ -12,4 +12,4 @@ pub unreachable-requires : goal.unreachable-requires
 unreachable-requires g c =
     let is = rw c.books.ensures.books at c.avail.ensures in
     let few = avail_most c.args.self.now.log.records c.args.issue c.books.ensures.lawful c.books.ensures.fits in
-    fits c.avail.result 1000000000000000000 _ _ (omega (arith, is, few)) c.new.ensures c.in_default.is
+    some_within c.avail.result 1000000000000000000 _ _ (omega (arith, is, few)) c.new.ensures c.in_default.is
