@@ -1,22 +1,81 @@
 -- The index of the openings as they are added.
-use Rattle.std.proofs.Common.{⊎_elim, ◌≡◌, ℕ, ◌+◌, ◌^◌, ◌≤◌, Bool, false, ◌||◌, List, [], ◌∷◌, ◌++◌, Option, Some, None, refl, sym, ap, ◌∙◌, subst, arith}
-use Rattle.std.specs.Prelude.{unwrap_or, if◌then◌else◌, ◌==◌, is_some}
-use Rattle.std.specs.List.{list_any}
+use Rattle.std.proofs.Common.{⊎_elim, ◌≡◌, ℕ, zero, suc, ◌+◌, ◌^◌, ◌<◌, ◌≤◌, length, get_or, Bool, true, false, ◌&&◌, ◌||◌, List, [], ◌∷◌, ◌++◌, Option, Some, None, refl, sym, ap, ◌∙◌, subst, arith}
+use Rattle.std.specs.Prelude.{map, unwrap_or, if◌then◌else◌, ◌==◌, is_some}
+use Rattle.std.specs.List.{AllByRecursion, IsDistinct, list_any}
+use Rattle.std.specs.Set.{is_member}
 use Rattle.std.proofs.lemmas.Bool.{cases_Bool, eqb-true, or_parts}
+use Rattle.std.proofs.lemmas.Cmp.{nat_eq_equiv}
+use Rattle.std.proofs.lemmas.List.{length-map, map_push}
 use Rattle.std.proofs.lemmas.List.Folds.{list_any-append}
 use Rattle.std.proofs.lemmas.List.Sums.{sum_by-cons, sum_by-append}
+use Rattle.std.proofs.lemmas.Map.Keys.{apart_from_distinct, IsDistinct-head, IsDistinct-push, IsDistinct-tail}
+use Rattle.std.proofs.Math.ListN.{get_or-map}
 use Rattle.cns_trades.specs.declared.opening.Opening.{Opening}
-use Rattle.cns_depository.specs.declared.account.Account.TheVariants.{Member}
+use Rattle.cns_depository.specs.declared.account.Account.{Account}
+use Rattle.cns_depository.specs.declared.account.Account.TheVariants.{Cns, Member}
+use Rattle.cns_depository.specs.declared.account.Side.TheVariants.{At}
+use Rattle.cns_depository.specs.declared.place.Place.{Place}
 use Rattle.cns_ids.specs.Holding.{holding_at}
 use Rattle.cns_ids.specs.declared.holding.Holding.{Holding}
 use Rattle.cns_depository.specs.Openings.{is_opening_of, issue_sum, opening_shares}
 use Rattle.cns_depository.specs.OpeningIndex.{opened_with, IsIndex}
-use Rattle.cns_depository.proofs.OpeningLemmas.{fits_more, issue_sum-more, opening_is, shares_other}
+use Rattle.cns_depository.specs.Places.{is_opened, opened_place}
+use Rattle.cns_depository.specs.Totals.{place_eq}
+use Rattle.cns_depository.proofs.OpeningLemmas.{fits_more, issue_sum-more, opening_is, shares_its, shares_other}
+use Rattle.cns_depository.proofs.PlaceLemmas.{place_equivalence}
+use Rattle.cns_depository.proofs.TotalLemmas.{at_place}
 
 -- a member that has no opening in an issue opens with nothing there
 closed_none : (xs : List Opening) (m i : ℕ) → list_any (is_opening_of m i) xs ≡ false → opening_shares xs (Member m) i ≡ 0
 closed_none [] m i closed = refl
 closed_none (o ∷ xs) m i closed = let both = or_parts (is_opening_of m i o) (list_any (is_opening_of m i) xs) closed in shares_other o xs m i both.0 ∙ closed_none xs m i both.1
+
+-- ---- the places that openings name
+
+-- an opening is of a member and issue exactly where it names their place
+same_opening : (m i : ℕ) (o : Opening) → place_eq (record { issue = i; side = At (Member m) }) (opened_place o) ≡ is_opening_of m i o
+same_opening m i o =
+    at_place (At (Member m)) (At (Member o.member)) i o.issue ∙ ap (λ (b : Bool). b && (i == o.issue)) (nat_eq_equiv.symm m o.member)
+    ∙ ap (λ (b : Bool). (o.member == m) && b) (nat_eq_equiv.symm i o.issue)
+
+pub opened_member : (xs : List Opening) (m i : ℕ) → is_opened xs (record { issue = i; side = At (Member m) }) ≡ list_any (is_opening_of m i) xs
+opened_member [] m i = refl
+opened_member (o ∷ xs) m i =
+    ap (λ (b : Bool). b || is_opened xs (record { issue = i; side = At (Member m) })) (same_opening m i o) ∙ ap (λ (b : Bool). is_opening_of m i o || b) (opened_member xs m i)
+
+-- no opening names the CNS account
+pub cns_unopened : (xs : List Opening) (i : ℕ) → is_opened xs (record { issue = i; side = At Cns }) ≡ false
+cns_unopened [] i = refl
+cns_unopened (o ∷ xs) i =
+    ap (λ (b : Bool). b || is_opened xs (record { issue = i; side = At Cns })) (at_place (At Cns) (At (Member o.member)) i o.issue) ∙ cns_unopened xs i
+
+-- an account that no opening names opens with nothing
+pub unopened_none : (xs : List Opening) (a : Account) (i : ℕ) → is_opened xs (record { issue = i; side = At a }) ≡ false → opening_shares xs a i ≡ 0
+unopened_none xs Cns i other = refl
+unopened_none xs (Member m) i other = closed_none xs m i (sym (opened_member xs m i) ∙ other)
+
+no_member : (k : Place) (ks : List Place) → AllByRecursion (λ y. place_eq k y ≡ false) ks → is_member place_eq ks k ≡ false
+no_member k [] all = refl
+no_member k (x ∷ xs) all = ap (λ (b : Bool). b || is_member place_eq xs k) all.0 ∙ no_member k xs all.1
+
+-- where no two openings name one place, a member opens with the shares of its opening
+pub opened_alone : (os : List Opening) (i : ℕ) (d : Opening) → IsDistinct place_eq (map opened_place os) → i < length os
+    → opening_shares os (Member (get_or os i d).member) (get_or os i d).issue ≡ (get_or os i d).shares
+opened_alone [] i d distinct within = absurd (omega (arith, within))
+opened_alone (o ∷ os) zero d distinct within =
+    let its : is_opening_of o.member o.issue o ≡ true = sym (same_opening o.member o.issue o) ∙ place_equivalence.refl (opened_place o) in
+    let alone = no_member (opened_place o) (map opened_place os) (IsDistinct-head place_eq (opened_place o) (map opened_place os) distinct) in
+    let others : opening_shares os (Member o.member) o.issue ≡ 0 = unopened_none os (Member o.member) o.issue alone in
+    omega (arith, shares_its o os o.member o.issue its, others)
+opened_alone (o ∷ os) (suc i) d distinct within =
+    let x = get_or os i d in
+    let apart : place_eq (opened_place o) (get_or (map opened_place os) i (opened_place d)) ≡ false =
+    apart_from_distinct place_eq (map opened_place (o ∷ os)) 0 (suc i) (opened_place d) distinct (omega arith) (omega (arith, within, length-map (o ∷ os) opened_place)) in
+    let other : is_opening_of x.member x.issue o ≡ false =
+    sym (same_opening x.member x.issue o) ∙ place_equivalence.symm (opened_place x) (opened_place o) ∙ ap (place_eq (opened_place o)) (sym (get_or-map opened_place os i d)) ∙ apart in
+    shares_other o os x.member x.issue other ∙ opened_alone os i d (IsDistinct-tail place_eq (opened_place o) (map opened_place os) distinct) (omega (arith, within))
+
+-- ---- the index
 
 -- the shares that an index has are those of the openings
 pub opened_shares : (xs : List Opening) (m i : ℕ) → unwrap_or (opened_with xs m i) 0 ≡ opening_shares xs (Member m) i
@@ -49,9 +108,10 @@ opened-more xs o m i closed = rw (open-more xs o m i, shares-more xs o m i) (⊎
     (cases_Bool (is_opening_of m i o)))
 
 pub index_none : (held : Holding → Option ℕ) (sums : ℕ → Option ℕ) → ((k : Holding) → held k ≡ None) → ((i : ℕ) → sums i ≡ None) → IsIndex [] held sums
-unfolding issue_sum
+unfolding issue_sum IsDistinct
 index_none held sums no_held no_sums = record {
   fits = λ i. omega arith;
+  places = tt;
   held_is = λ m i. no_held (holding_at i m);
   sum_is = λ i. ap (λ (s : Option ℕ). unwrap_or s 0) (no_sums i);
 }
@@ -60,6 +120,7 @@ pub index_kept : (xs xs' : List Opening) (held held' : Holding → Option ℕ) (
     → ((k : Holding) → held' k ≡ held k) → ((i : ℕ) → sums' i ≡ sums i) → IsIndex xs' held' sums'
 index_kept xs xs' held held' sums sums' n list same_held same_sums = subst (λ (l : List Opening). IsIndex l held' sums') (sym list) (record {
   fits = n.fits;
+  places = n.places;
   held_is = λ m i. same_held (holding_at i m) ∙ n.held_is m i;
   sum_is = λ i. ap (λ (s : Option ℕ). unwrap_or s 0) (same_sums i) ∙ n.sum_is i;
 })
@@ -71,6 +132,9 @@ pub index_more : (xs : List Opening) (o : Opening) (held held' : Holding → Opt
     → IsIndex (xs ++ o ∷ []) held' sums'
 index_more xs o held held' sums sums' n closed within new_held new_sums = record {
   fits = fits_more xs o n.fits within;
+  places =
+      subst (IsDistinct place_eq) (sym (map_push opened_place xs o))
+      (IsDistinct-push place_equivalence (map opened_place xs) (opened_place o) n.places (opened_member xs o.member o.issue ∙ closed));
   held_is = λ m i.
       new_held m i ∙ ap (λ (s : Option ℕ). if is_opening_of m i o then Some o.shares else s) (n.held_is m i) ∙ sym (opened-more xs o m i closed);
   sum_is = λ i. new_sums i ∙ ⊎_elim (λ e. rw e (omega (arith, ap (issue_sum xs) (eqb-true o.issue i e)))) (λ e. rw e (omega (arith, n.sum_is i))) (cases_Bool (o.issue == i)) ∙ sym (issue_sum-more xs o i);

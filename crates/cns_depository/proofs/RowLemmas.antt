@@ -1,13 +1,15 @@
 -- Each balance other than 0 has its row, and the rows ascend.
-use Rattle.std.proofs.Common.{⊎_elim, ◌≡◌, ℕ, List, [], ◌∷◌, Option, Some, None, eqb, refl, sym, ap, ◌∙◌, subst, arith, inl, inr}
+use Rattle.std.proofs.Common.{⊎_elim, ◌≡◌, ℕ, ◌+◌, ◌<◌, length, take, get_or, false, List, [], ◌∷◌, ◌++◌, Option, Some, None, eqb, refl, sym, ap, ◌∙◌, subst, arith, inl, inr}
 use Rattle.std.specs.Prelude.{◌≢◌, ◌⊎◌, ◌&&◌, fold, map}
-use Rattle.std.specs.List.{filter_map, Contains, AllByRecursion}
+use Rattle.std.specs.List.{cons_option, filter_map, Contains, AllByRecursion, IsDistinct}
 use Rattle.std.specs.List.Sorted.{IsStrictlySortedBy}
 use Rattle.std.specs.declared.cmp.Ordering.TheVariants.{Less, Greater}
 use Rattle.std.specs.BTreeSet.{insert_key}
 use Rattle.std.proofs.lemmas.Bool.{and_parts, cases_Bool, cases_eq, eqb-true, ne_eqb}
 use Rattle.std.proofs.lemmas.Option.{none-some, same_Some}
-use Rattle.std.proofs.lemmas.List.Elements.{Contains-append_left, Contains-append_right, Contains-push}
+use Rattle.std.proofs.lemmas.List.{map_push, take_more}
+use Rattle.std.proofs.lemmas.List.Elements.{Contains-append_left, Contains-append_right, Contains-push, filter_map-append}
+use Rattle.std.proofs.lemmas.Map.Keys.{IsDistinct-cons, IsDistinct-head, IsDistinct-tail}
 use Rattle.std.proofs.lemmas.List.Sums.{sum_by-cons}
 use Rattle.cns_records.specs.declared.dep_record.DepRecord.{DepRecord}
 use Rattle.cns_trades.specs.declared.opening.Opening.{Opening}
@@ -19,6 +21,8 @@ use Rattle.cns_depository.specs.declared.place.Place.{Place}
 use Rattle.cns_depository.specs.declared.balances.BalanceRow.{BalanceRow}
 use Rattle.cns_depository.specs.Account.{same_side}
 use Rattle.cns_depository.specs.Openings.{is_opening_of, opening_shares}
+use Rattle.cns_depository.specs.Places.{opened_place}
+use Rattle.cns_depository.specs.Totals.{place_eq}
 use Rattle.cns_depository.specs.Stock.{balance_of, brought_to, moved_in, part_in, transfer_of}
 use Rattle.cns_depository.specs.Balances.{side_row, place_cmp, stock_places, balance_row, balance_rows, row_place, AreComplete, AreAscending}
 use Rattle.cns_depository.proofs.MovementLemmas.{equal_sides}
@@ -95,7 +99,7 @@ row_cases None none some = none refl
 row_cases (Some row) none some = some row refl
 
 -- the row that a place gives is among the rows
-row_among : (f : Place → Option BalanceRow) (ks : List Place) (q : Place) (row : BalanceRow) → IsAmong q ks → f q ≡ Some row → Contains (filter_map f ks) row
+pub row_among : (f : Place → Option BalanceRow) (ks : List Place) (q : Place) (row : BalanceRow) → IsAmong q ks → f q ≡ Some row → Contains (filter_map f ks) row
 row_among f [] q row in' is = absurd in'
 row_among f (x ∷ xs) q row (inl e) is = rw (ap f e ∙ is) (Contains-append_left (row ∷ []) (filter_map f xs) row (Contains-push [] row))
 row_among f (x ∷ xs) q row (inr more) is =
@@ -121,7 +125,7 @@ all_insert : (x k : Place) (xs : List Place) → place_cmp x k ≡ Less → AllB
 all_insert x k [] below after = (below, tt)
 all_insert x k (y ∷ ys) below after = by_order (place_cmp k y) (λ e. rw e (below, after)) (λ e. rw e after) (λ e. rw e (after.0, all_insert x k ys below after.1))
 
-above : (k x : Place) → place_cmp k x ≡ Greater → place_cmp x k ≡ Less
+pub above : (k x : Place) → place_cmp k x ≡ Greater → place_cmp x k ≡ Less
 above k x e = let back = place_total.antisymm x k in rw (back, e) refl
 
 -- an insertion keeps the order
@@ -141,27 +145,49 @@ places_sorted openings [] = opened_sorted openings [] tt
 places_sorted openings (e ∷ p) = sorted_insert _ _ (sorted_insert (stock_places openings p) _ (places_sorted openings p))
 
 -- a place gives a row of its own
-abbrev GivesOwn : (Place → Option BalanceRow) → Type 0
+abbrev pub GivesOwn : (Place → Option BalanceRow) → Type 0
 GivesOwn f = (k : Place) (row : BalanceRow) → f k ≡ Some row → row_place row ≡ k
 
-rows_after : (f : Place → Option BalanceRow) (x : Place) (ks : List Place) → GivesOwn f → AllByRecursion (λ y. place_cmp x y ≡ Less) ks
-    → AllByRecursion (λ y. place_cmp x y ≡ Less) (map row_place (filter_map f ks))
-rows_after f x [] own after = tt
-rows_after f x (k ∷ ks) own after = row_cases (f k) (λ none. rw none (rows_after f x ks own after.1)) (λ row is. rw is (subst (λ (y : Place). place_cmp x y ≡ Less) (sym (own k row is)) after.0, rows_after f x ks own after.1))
+-- what holds of each place holds of those of the rows
+rows_all : (f : Place → Option BalanceRow) (P : Place → Type 0) (ks : List Place) → GivesOwn f → AllByRecursion P ks → AllByRecursion P (map row_place (filter_map f ks))
+rows_all f P [] own all = tt
+rows_all f P (k ∷ ks) own all = row_cases (f k) (λ none. rw none (rows_all f P ks own all.1)) (λ row is. rw is (subst P (sym (own k row is)) all.0, rows_all f P ks own all.1))
 
 rows_sorted : (f : Place → Option BalanceRow) (ks : List Place) → GivesOwn f → IsStrictlySortedBy place_cmp ks → IsStrictlySortedBy place_cmp (map row_place (filter_map f ks))
 unfolding IsStrictlySortedBy
 rows_sorted f [] own sorted = tt
 rows_sorted f (k ∷ ks) own sorted = row_cases (f k) (λ none. rw none (rows_sorted f ks own sorted.1))
-    (λ row is. rw is (subst (λ (x : Place). AllByRecursion (λ y. place_cmp x y ≡ Less) (map row_place (filter_map f ks))) (sym (own k row is)) (rows_after f k ks own sorted.0), rows_sorted f ks own sorted.1))
+    (λ row is. rw is (subst (λ (x : Place). AllByRecursion (λ y. place_cmp x y ≡ Less) (map row_place (filter_map f ks))) (sym (own k row is)) (rows_all f (λ y. place_cmp k y ≡ Less) ks own sorted.0), rows_sorted f ks own sorted.1))
 
-own_row : (openings : List Opening) (p : List DepRecord) → GivesOwn (balance_row openings p)
+pub own_row : (openings : List Opening) (p : List DepRecord) → GivesOwn (balance_row openings p)
 unfolding balance_row
 own_row openings p k row is = by k.side is
   where
     by : (s : Side) → side_row openings p s k.issue ≡ Some row → row_place row ≡ record { issue = k.issue; side = s }
     by Outside is = absurd (none-some row is)
     by (At a) is = ⊎_elim (λ none. absurd (none-some row (rw none at is))) (λ some. ap row_place (sym (same_Some _ row (rw some at is)))) (cases_Bool (eqb (balance_of openings p a k.issue) 0))
+
+-- the rows of places that differ are of places that differ
+pub rows_distinct : (f : Place → Option BalanceRow) (ks : List Place) → GivesOwn f → IsDistinct place_eq ks → IsDistinct place_eq (map row_place (filter_map f ks))
+rows_distinct f [] own distinct = distinct
+rows_distinct f (k ∷ ks) own distinct =
+    let head = IsDistinct-head place_eq k ks distinct in
+    let tail = rows_distinct f ks own (IsDistinct-tail place_eq k ks distinct) in
+    row_cases (f k) (λ none. rw none tail)
+    (λ row is. rw is (IsDistinct-cons place_eq (row_place row) (map row_place (filter_map f ks))
+    (subst (λ (x : Place). AllByRecursion (λ y. place_eq x y ≡ false) (map row_place (filter_map f ks))) (sym (own k row is)) (rows_all f (λ y. place_eq k y ≡ false) ks own head)) tail))
+
+-- a row and those that follow
+pub one_more : {X : Type 0} (found : Option X) (rest : List X) → cons_option found [] ++ rest ≡ cons_option found rest
+one_more None rest = refl
+one_more (Some x) rest = refl
+
+-- one row more, where the next opening has one
+pub opened_more : (f : Place → Option BalanceRow) (os : List Opening) (i : ℕ) (d : Opening) → i < length os
+    → filter_map f (map opened_place (take (i + 1) os)) ≡ filter_map f (map opened_place (take i os)) ++ cons_option (f (opened_place (get_or os i d))) []
+opened_more f os i d within =
+    ap (λ (xs : List Opening). filter_map f (map opened_place xs)) (take_more os i d within) ∙ ap (filter_map f) (map_push opened_place (take i os) (get_or os i d))
+    ∙ filter_map-append f (map opened_place (take i os)) (opened_place (get_or os i d) ∷ [])
 
 -- the rows stand by issue, then account
 pub rows_ascend : (openings : List Opening) (p : List DepRecord) → AreAscending (balance_rows openings p)

@@ -1,6 +1,7 @@
 -- What the records of a depository come to, as there are more of them.
-use Rattle.std.proofs.Common.{◌≡◌, ℕ, ◌+◌, ◌^◌, ◌<◌, ◌≤◌, Bool, true, false, ◌&&◌, List, [], ◌∷◌, ◌++◌, reverse, length, length-append, Option, Some, None, cond, unwrap_or, refl, sym, ap, ◌∙◌, subst, arith}
+use Rattle.std.proofs.Common.{◌≡◌, ℕ, ◌+◌, ◌-◌, ◌^◌, ◌<◌, ◌≤◌, Bool, true, false, ◌&&◌, List, [], ◌∷◌, ◌++◌, reverse, length, length-append, Option, Some, None, cond, unwrap_or, refl, sym, ap, ◌∙◌, subst, arith}
 use Rattle.std.specs.Prelude.{◌==◌, if◌then◌else◌}
+use Rattle.std.specs.HashMap.{get}
 use Rattle.std.specs.List.{slice_get}
 use Rattle.std.proofs.lemmas.Bool.{and_parts, eqb-true}
 use Rattle.cns_journal.proofs.LayoutLemmas.{by_bool}
@@ -8,6 +9,8 @@ use Rattle.std.proofs.lemmas.List.{get_or_append_left, get_or_push, length-rever
 use Rattle.std.proofs.lemmas.List.Sums.{sum_by-cons}
 use Rattle.std.proofs.lemmas.Option.{slice_get-get_or}
 use Rattle.cns_records.specs.declared.dep_record.DepRecord.{DepRecord}
+use Rattle.cns_trades.specs.declared.opening.Opening.{Opening}
+use Rattle.cns_depository.specs.declared.account.Account.{Account}
 use Rattle.cns_depository.specs.declared.account.Account.TheVariants.{Cns, Member}
 use Rattle.cns_depository.specs.declared.account.Side.{Side}
 use Rattle.cns_depository.specs.declared.account.Side.TheVariants.{Outside, At}
@@ -15,9 +18,11 @@ use Rattle.cns_depository.specs.declared.key.Key.{Key}
 use Rattle.cns_depository.specs.declared.moved.Moved.{Moved}
 use Rattle.cns_depository.specs.declared.movement.Transfer.{Transfer}
 use Rattle.cns_depository.specs.declared.place.Place.{Place}
+use Rattle.cns_depository.specs.declared.stock.Stock.{Stock}
 use Rattle.cns_depository.specs.Account.{same_side}
-use Rattle.cns_depository.specs.Stock.{brought_to, part_in, part_out, taken_from, transfer_of}
-use Rattle.cns_depository.specs.Totals.{AreTransferred, AreStockTotals, HasIndex, key_eq, key_of, moved_at, place_eq, record_of}
+use Rattle.cns_depository.specs.Openings.{opening_shares}
+use Rattle.cns_depository.specs.Stock.{balance_of, brought_to, moved_in, moved_out, part_in, part_out, taken_from, transfer_of}
+use Rattle.cns_depository.specs.Totals.{AreTransferred, AreStockTotals, HasIndex, IsStockOf, key_eq, key_of, moved_at, place_eq, record_of}
 use Rattle.cns_depository.proofs.MovementLemmas.{earlier_record, equal_sides, newest_record}
 
 -- ---- the index of a record
@@ -163,6 +168,17 @@ sums_more moved now p e t shares sums few is worth small entered left =
           let most : out a i e ≤ (transfer_of e).shares = at_most (same_side (transfer_of e).giver a && ((transfer_of e).issue == i)) (transfer_of e).shares in
           omega (arith, sums.left_small a i, within, most, sum_by-cons (out a i) e p);
     }
+
+-- a balance by what an account opened with and what was moved into it and out of it
+pub balance_by : (s : Stock) (openings : List Opening) (p : List DepRecord) (a : Account) (issue : ℕ) (m : Moved) (opened balance : ℕ) → IsStockOf s p
+    → m ≡ moved_at (get place_eq s.moved (record { issue = issue; side = At a })) → opened ≡ opening_shares openings a issue → opened ≤ 10 ^ 18
+    → (opened + m.entered < 2 ^ 128 → balance ≡ (opened + m.entered) - m.left) → balance ≡ balance_of openings p a issue
+unfolding balance_of
+balance_by s openings p a issue m opened balance are is opens small adds =
+    let entered : m.entered ≡ moved_in p a issue = ap (λ (x : Moved). x.entered) is ∙ are.sums.entered (At a) issue in
+    let left : m.left ≡ moved_out p a issue = ap (λ (x : Moved). x.left) is ∙ are.sums.left (At a) issue in
+    let most : opened + m.entered < 2 ^ 128 = omega (arith, small, entered, are.sums.few, are.sums.entered_small (At a) issue) in
+    omega (arith, adds most, opens, entered, left)
 
 pub found_more : (indices after : Key → Option ℕ) (p : List DepRecord) (e : DepRecord) → ((k : Key) → HasIndex p k (indices k))
     → ((k : Key) → after k ≡ (if key_eq (key_of e) k then Some (length p) else indices k)) → (k : Key) → HasIndex (e ∷ p) k (after k)

@@ -33,11 +33,13 @@ stock_places openings [] = fold (λ ps o. insert_key place_cmp ps (record { issu
 stock_places openings (e ∷ p) =
     let t = transfer_of e in fold (λ ps s. insert_key place_cmp ps (record { issue = t.issue; side = s })) (stock_places openings p) (t.giver ∷ t.receiver ∷ [])
 
+-- the row of an account that holds so many shares of an issue, where it holds any
+abbrev pub shares_row : ℕ → Account → ℕ → Option BalanceRow
+shares_row issue account shares = if shares == 0 then None else Some (record { issue = issue; account = account; shares = shares })
+
 -- the row of a place that is an account's, where its balance is not 0
 abbrev pub account_row : List Opening → List DepRecord → Account → ℕ → Option BalanceRow
-account_row openings p account issue =
-    if balance_of openings p account issue == 0 then None
-    else Some (record { issue = issue; account = account; shares = balance_of openings p account issue })
+account_row openings p account issue = shares_row issue account (balance_of openings p account issue)
 
 abbrev pub side_row : List Opening → List DepRecord → Side → ℕ → Option BalanceRow
 side_row openings p Outside issue = None

@@ -1,12 +1,19 @@
-ghost use Rattle.std.specs.Prelude.{◌≡◌, ◌++◌, Contains, IfOk, List, map, OnOk};
-ghost use Rattle.std.specs.List.Sorted.{IsStrictlySortedBy};
+ghost use Rattle.std.specs.Prelude.{◌≡◌, ◌++◌, [], IfOk, List, map, OnOk, Some};
+ghost use Rattle.std.specs.HashMap.{get, keys};
+ghost use Rattle.std.specs.List.{cons_option, filter_map, IsDistinct};
+ghost use Rattle.std.specs.List.Sorted.{IsPermutation, IsSortedByKey};
 ghost use Rattle.cns_records.specs.declared.dep_record.DepRecord.{DepRecord};
-ghost use Rattle.cns_depository.specs.Balances.{balance_row as balance_row_of, balance_rows as balance_rows_of, place_cmp};
-ghost use Rattle.cns_depository.specs.Places.{named_places as places_named, opened_place};
-ghost use Rattle.cns_depository.specs.Totals.{IsStockOf};
-ghost use Rattle.cns_depository.specs.declared.place.Place.{Place};
+ghost use Rattle.cns_trades.specs.declared.opening.Opening.{Opening};
+ghost use Rattle.cns_depository.specs.declared.account.Account.TheVariants.{Member};
+ghost use Rattle.cns_depository.specs.declared.stock.Stock.{Stock};
+ghost use Rattle.cns_depository.specs.Balances.{balance_row as balance_row_of, balance_rows as balance_rows_of, place_cmp, row_place, side_rank};
+ghost use Rattle.cns_depository.specs.Balances.{shares_row};
+ghost use Rattle.cns_depository.specs.Openings.{opening_shares};
+ghost use Rattle.cns_depository.specs.Places.{AreNamedRows, opened_place, unopened_row};
+ghost use Rattle.cns_depository.specs.Totals.{IsStockOf, place_eq};
 
 use crate::account::{Account, Side};
+use crate::moved::Moved;
 use crate::openings::Openings;
 use crate::place::Place;
 use crate::stock::Stock;
@@ -50,90 +57,128 @@ impl BalanceRows {
     }
 }
 
-// The places that the openings name.
-fn add_opened(places: &mut Vec<Place>, openings: &[Opening]) -> Result<(), AllocError>
-    ensures { OnOk result (places.new.items ≡ places.old.items ++ map opened_place openings.now) }
-{
-    for opening in openings {
-        places.push(Place {
-            issue: opening.issue,
-            side: Side::At(Account::Member(opening.member)),
-        })?;
+impl BalanceRow {
+    // The issue and the rank of the account. Rows stand by issue, then account.
+    fn key(&self) -> (Cusip, u64)
+        ensures { result ≡ (self.now.issue, side_rank (row_place self.now).side) }
+    {
+        let place = Place {
+            issue: self.issue,
+            side: Side::At(self.account),
+        };
+        place.key()
     }
-    Ok(())
 }
 
-// The places that some opening names, or into which or out of which something was moved: some twice.
-fn named_places(alloc: Global, openings: &Openings, stock: &Stock) -> Result<Vec<Place>, AllocError>
-    ensures { IfOk result (λ v. v.items ≡ places_named openings.now stock.now) }
+// Adds the row of an account that holds so many shares of an issue, where it holds any.
+fn add_row(
+    rows: &mut Vec<BalanceRow>,
+    issue: Cusip,
+    account: Account,
+    shares: u128,
+) -> Result<(), AllocError>
+    ensures { OnOk result (rows.new.items ≡ rows.old.items ++ cons_option (shares_row issue account shares) []) }
 {
-    let opened = openings.as_slice();
-    // Room for all at once, so that no place is moved as they grow.
-    let mut places = Vec::with_capacity(alloc, opened.len() + stock.place_count())?;
-    add_opened(&mut places, opened)?;
-    stock.add_places(&mut places)?;
-    Ok(places)
-}
-
-// Puts places into order, and leaves each once.
-fn sort_places(places: &mut Vec<Place>) -> Result<(), AllocError>
-    ensures order { OnOk result (IsStrictlySortedBy place_cmp places.new.items) }
-    ensures keeps { (place : Place) → Contains places.old.items place → Contains places.new.items place }
-{
-    places.sort_by_cached_key(Place::key)?;
-    places.dedup();
-    Ok(())
-}
-
-// The places that some opening names, or into which or out of which something was moved, each once, in
-// order.
-fn places_in_order(
-    alloc: Global,
-    openings: &Openings,
-    stock: &Stock,
-) -> Result<Vec<Place>, AllocError>
-    ensures order { IfOk result (λ v. IsStrictlySortedBy place_cmp v.items) }
-    ensures named { IfOk result (λ v. (place : Place) → Contains (places_named openings.now stock.now) place → Contains v.items place) }
-{
-    let mut places = named_places(alloc, openings, stock)?;
-    sort_places(&mut places)?;
-    Ok(places)
-}
-
-// The row of a place that is an account's, where its balance is not 0.
-#[tactic(auto, unfolding(crate::specs::Balances::balance_row))]
-fn balance_row(openings: &Openings, stock: &Stock, place: &Place) -> Option<BalanceRow>
-    ensures { (p : List DepRecord) → IsStockOf stock.now p → result ≡ balance_row_of openings.now p place.now }
-{
-    let Side::At(account) = place.side else {
-        return None;
-    };
-    let issue = place.issue;
-    let shares = stock.balance(openings, &account, issue);
     if shares == 0 {
-        return None;
+        return Ok(());
     }
-    Some(BalanceRow {
+    rows.push(BalanceRow {
         issue,
         account,
         shares,
-    })
+    })?;
+    Ok(())
 }
 
-// The rows of the places whose balance is not 0.
-fn rows_of_places(
+// Adds the row of a member's account by its opening, where its balance is not 0.
+fn add_opening(
+    rows: &mut Vec<BalanceRow>,
+    stock: &Stock,
+    opening: &Opening,
+) -> Result<(), AllocError>
+    ensures { (openings : List Opening) (p : List DepRecord) → IsStockOf stock.now p
+        → opening_shares openings (Member opening.now.member) opening.now.issue ≡ opening.now.shares
+        → OnOk result (rows.new.items ≡ rows.old.items ++ cons_option (balance_row_of openings p (opened_place opening.now)) []) }
+{
+    let account = Account::Member(opening.member);
+    let opened = u128::from(opening.shares.count());
+    let shares = stock.balance_from(opened, &account, opening.issue);
+    add_row(rows, opening.issue, account, shares)
+}
+
+// Adds the row of an account that opened with nothing, where its balance is not 0.
+fn add_unopened(
+    rows: &mut Vec<BalanceRow>,
+    openings: &Openings,
+    place: &Place,
+    moved: &Moved,
+) -> Result<(), AllocError>
+    ensures { (s : Stock) (p : List DepRecord) → IsStockOf s p → get place_eq s.moved place.now ≡ Some moved.now
+        → OnOk result (rows.new.items ≡ rows.old.items ++ cons_option (unopened_row openings.now p place.now) []) }
+{
+    match place.side {
+        Side::Outside => Ok(()),
+        Side::At(account) => {
+            if openings.names(&account, place.issue) {
+                return Ok(());
+            }
+            add_row(rows, place.issue, account, moved.balance(0))
+        }
+    }
+}
+
+// Adds the rows of the places that openings name.
+fn add_openings(
+    rows: &mut Vec<BalanceRow>,
+    stock: &Stock,
+    openings: &[Opening],
+) -> Result<(), AllocError>
+    ensures { (p : List DepRecord) → IsStockOf stock.now p → IsDistinct place_eq (map opened_place openings.now)
+        → OnOk result (rows.new.items ≡ rows.old.items ++ filter_map (balance_row_of openings.now p) (map opened_place openings.now)) }
+{
+    for opening in openings {
+        add_opening(rows, stock, opening)?;
+    }
+    Ok(())
+}
+
+// Adds the rows of the other places to or from which something was moved.
+fn add_others(
+    rows: &mut Vec<BalanceRow>,
+    stock: &Stock,
+    openings: &Openings,
+) -> Result<(), AllocError>
+    ensures { (p : List DepRecord) → IsStockOf stock.now p
+        → OnOk result (rows.new.items ≡ rows.old.items ++ filter_map (unopened_row openings.now p) (keys stock.now.moved)) }
+{
+    for (place, moved) in stock.moved() {
+        add_unopened(rows, openings, place, moved)?;
+    }
+    Ok(())
+}
+
+// The rows of the places that an opening names, or to or from which something was moved: each place once.
+fn named_rows(
     alloc: Global,
     openings: &Openings,
     stock: &Stock,
 ) -> Result<Vec<BalanceRow>, AllocError>
-    ensures { (p : List DepRecord) → IsStockOf stock.now p
-        → IfOk result (λ v. v.items ≡ balance_rows_of openings.now p) }
+    ensures { (p : List DepRecord) → IsStockOf stock.now p → IfOk result (λ v. AreNamedRows openings.now stock.now p v.items) }
 {
-    let places = places_in_order(alloc, openings, stock)?;
-    places
-        .iter()
-        .filter_map(|place| balance_row(openings, stock, place))
-        .collect(alloc)
+    let opened = openings.as_slice();
+    // Room for all at once, so that no row is moved as they grow.
+    let mut rows = Vec::with_capacity(alloc, opened.len() + stock.moved().len())?;
+    add_openings(&mut rows, stock, opened)?;
+    add_others(&mut rows, stock, openings)?;
+    Ok(rows)
+}
+
+// Puts rows into order, by issue, then account.
+fn sort_rows(rows: &mut Vec<BalanceRow>)
+    ensures same { IsPermutation rows.old.items rows.new.items }
+    ensures order { IsSortedByKey row_place place_cmp rows.new.items }
+{
+    rows.sort_unstable_by_key(BalanceRow::key);
 }
 
 // The balances other than 0, by issue, then account.
@@ -145,10 +190,7 @@ pub(crate) fn balance_rows(
     ensures { (p : List DepRecord) → IsStockOf stock.now p
         → IfOk result (λ rows. rows ≡ balance_rows_of openings.now p) }
 {
-    if openings.as_slice().is_empty() && stock.is_empty() {
-        let rows = Vec::new(alloc);
-        return Ok(BalanceRows { rows });
-    }
-    let rows = rows_of_places(alloc, openings, stock)?;
+    let mut rows = named_rows(alloc, openings, stock)?;
+    sort_rows(&mut rows);
     Ok(BalanceRows { rows })
 }

@@ -1,4 +1,4 @@
-ghost use Rattle.std.specs.Prelude.{◌≡◌, ◌+◌, ◌^◌, ◌<◌, ◌≤◌, ◌∷◌, List, length, if◌then◌else◌};
+ghost use Rattle.std.specs.Prelude.{◌≡◌, ◌+◌, ◌-◌, ◌^◌, ◌<◌, ◌≤◌, ◌∷◌, List, length, if◌then◌else◌};
 ghost use Rattle.std.specs.HashMap.{get, spare};
 ghost use Rattle.cns_records.specs.declared.dep_record.DepRecord.{DepRecord};
 ghost use Rattle.cns_depository.specs.Totals.{AreTransferred, moved_at, place_eq};
@@ -21,6 +21,14 @@ impl Moved {
         entered: 0,
         left: 0,
     };
+
+    /// What an account holds that opened with so many shares.
+    pub(crate) fn balance(self, opened: u128) -> u128
+        ensures { opened + self.entered < 2 ^ 128 → result ≡ (opened + self.entered) - self.left }
+    {
+        // The sum stays far below the greatest number, so it is exact.
+        opened.saturating_add(self.entered).saturating_sub(self.left)
+    }
 
     // With so many shares more that were brought.
     fn entered_by(self, shares: u128) -> Moved

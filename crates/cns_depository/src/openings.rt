@@ -1,5 +1,9 @@
-ghost use Rattle.std.specs.Prelude.{◌≡◌, ◌^◌, ◌≤◌, []};
+ghost use Rattle.std.specs.Prelude.{◌≡◌, ◌^◌, ◌≤◌, [], map};
+ghost use Rattle.std.specs.List.{IsDistinct};
+ghost use Rattle.cns_depository.specs.declared.account.Side.TheVariants.{At};
 ghost use Rattle.cns_depository.specs.Openings.{OpeningLeaves, issue_sum, opening_shares as shares_of_opening};
+ghost use Rattle.cns_depository.specs.Places.{is_opened, opened_place};
+ghost use Rattle.cns_depository.specs.Totals.{place_eq};
 
 use crate::account::Account;
 use crate::opening_index::{enter, held, is_held, make_room, set_sum, sum_of};
@@ -86,11 +90,22 @@ impl Openings {
         Ok(())
     }
 
-    // The openings, in the order in which they were added.
+    // The openings, in the order in which they were added: no two name one place.
     pub(crate) fn as_slice(&self) -> &[Opening]
-        ensures { result.now ≡ self.now }
+        ensures openings { result.now ≡ self.now }
+        ensures places { IsDistinct place_eq (map opened_place self.now) }
     {
         self.list.as_slice()
+    }
+
+    // Whether an opening names an account in an issue.
+    pub(crate) fn names(&self, account: &Account, issue: Cusip) -> bool
+        ensures { result ≡ is_opened self.now (record { issue = issue; side = At account.now }) }
+    {
+        match account {
+            Account::Cns => false,
+            Account::Member(member) => is_held(&self.shares, *member, issue),
+        }
     }
 
     // The shares of all openings in an issue.

@@ -1,6 +1,8 @@
-ghost use Rattle.std.specs.Prelude.{◌≡◌, ℕ, ◌^◌, ◌<◌, ◌≤◌, ◌↔◌, IsTrue, List, [], ◌∷◌, ◌++◌, Some, OnOk, reverse, length, if◌then◌else◌};
-ghost use Rattle.std.specs.HashMap.{get, keys, spare};
+ghost use Rattle.std.specs.Prelude.{◌≡◌, ℕ, ◌^◌, ◌<◌, ◌≤◌, ◌↔◌, IsTrue, List, [], ◌∷◌, Some, OnOk, reverse, length, if◌then◌else◌};
+ghost use Rattle.std.specs.HashMap.{get, spare};
 ghost use Rattle.cns_records.specs.declared.dep_record.DepRecord.{DepRecord};
+ghost use Rattle.cns_trades.specs.declared.opening.Opening.{Opening};
+ghost use Rattle.cns_depository.specs.Openings.{opening_shares};
 ghost use Rattle.cns_depository.specs.Stock.{balance_of as balance_in, executed_of, held_in, instructed_of, instruction_of, movement as movement_after, movement_of, own_refusal, IsExecutable, IsNextInstruction, IsNextMovement};
 ghost use Rattle.cns_depository.specs.Totals.{HasStockRoom, IsStock, IsStockOf, key_eq, key_of as key_of_record, record_of};
 ghost use Rattle.cns_depository.specs.declared.key.Key.{Key};
@@ -85,12 +87,18 @@ impl Stock {
     pub(crate) fn balance(&self, openings: &Openings, account: &Account, issue: Cusip) -> u128
         ensures { (p : List DepRecord) → IsStockOf self.now p → result ≡ balance_in openings.now p account.now issue }
     {
+        let opened = openings.shares(account, issue);
+        self.balance_from(opened, account, issue)
+    }
+
+    /// The balance of an account in an issue in which it opened with so many shares.
+    pub(crate) fn balance_from(&self, opened: u128, account: &Account, issue: Cusip) -> u128
+        ensures { (openings : List Opening) (p : List DepRecord) → IsStockOf self.now p
+            → opened ≡ opening_shares openings account.now issue → opened ≤ 10 ^ 18 → result ≡ balance_in openings p account.now issue }
+    {
         let side = Side::At(*account);
         let moved = moved_of(&self.moved, &Place { issue, side });
-        let opened = openings.shares(account, issue);
-        // The sum stays far below the greatest number, so it is exact.
-        let held = opened.saturating_add(moved.entered);
-        held.saturating_sub(moved.left)
+        moved.balance(opened)
     }
 
     // The shares of an issue that all accounts hold.
@@ -209,27 +217,10 @@ impl Stock {
         note(&mut self.indices, entry, index);
     }
 
-    /// Whether nothing was moved.
-    pub(crate) fn is_empty(&self) -> bool
-        ensures { IsTrue result ↔ (keys self.now.moved ≡ []) }
+    /// What was moved into each place to or from which something was moved, and out of it.
+    pub(crate) fn moved(&self) -> &HashMap<Place, Moved>
+        ensures { result.now ≡ self.now.moved }
     {
-        self.moved.is_empty()
-    }
-
-    /// How many places something was moved to or from.
-    pub(crate) fn place_count(&self) -> usize
-        ensures { result < 2 ^ 63 }
-    {
-        self.moved.len()
-    }
-
-    /// Adds each place to which or from which something was moved.
-    pub(crate) fn add_places(&self, places: &mut Vec<Place>) -> Result<(), AllocError>
-        ensures { OnOk result (places.new.items ≡ places.old.items ++ keys self.now.moved) }
-    {
-        for place in self.moved.keys() {
-            places.push(*place)?;
-        }
-        Ok(())
+        &self.moved
     }
 }

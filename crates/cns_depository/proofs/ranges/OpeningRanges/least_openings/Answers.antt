@@ -1,4 +1,4 @@
-use Rattle.std.proofs.Common.{◌≡◌, ◌++◌, [], ◌∙◌, ap, sym, refl, subst, List, Option, Some, None}
+use Rattle.std.proofs.Common.{◌≡◌, ◌++◌, [], ◌∙◌, ap, sym, subst, List}
 use Rattle.std.specs.List.{cons_option, filter_map}
 use Rattle.std.specs.Map.Iter.{deref_pair}
 use Rattle.std.proofs.lemmas.List.{append_assoc, append-nil}
@@ -8,11 +8,8 @@ use Rattle.cns_depository.specs.declared.place.Place.{Place}
 use Rattle.cns_depository.specs.declared.ranges.Range.{Range}
 use Rattle.cns_depository.specs.Ranges.{AreEnough, least_opening, standing}
 use Rattle.cns_depository.proofs.LeastOpenings.{least_enough}
+use Rattle.cns_depository.proofs.RowLemmas.{one_more}
 use Rattle.cns_depository.proofs.ranges.OpeningRanges.least_openings.Goals as goal
-
-one_more : (found : Option Opening) (rest : List Opening) → cons_option found [] ++ rest ≡ cons_option found rest
-one_more None rest = refl
-one_more (Some o) rest = refl
 
 pub loop-place-init : goal.loop-place-init
 loop-place-init c =
