@@ -6,8 +6,7 @@ ghost use Rattle.cns_records.specs.declared.dep_record.DepRecord.{DepRecord};
 ghost use Rattle.cns_trades.specs.declared.opening.Opening.{Opening};
 ghost use Rattle.cns_depository.specs.declared.account.Account.TheVariants.{Member};
 ghost use Rattle.cns_depository.specs.declared.stock.Stock.{Stock};
-ghost use Rattle.cns_depository.specs.Balances.{balance_row as balance_row_of, balance_rows as balance_rows_of, place_cmp, row_place, side_rank};
-ghost use Rattle.cns_depository.specs.Balances.{shares_row};
+ghost use Rattle.cns_depository.specs.Balances.{balance_row as balance_row_of, balance_rows as balance_rows_of, place_cmp, row_place, shares_row, side_rank};
 ghost use Rattle.cns_depository.specs.Openings.{opening_shares};
 ghost use Rattle.cns_depository.specs.Places.{AreNamedRows, opened_place, unopened_row};
 ghost use Rattle.cns_depository.specs.Totals.{IsStockOf, place_eq};
@@ -106,7 +105,8 @@ fn add_opening(
     add_row(rows, opening.issue, account, shares)
 }
 
-// Adds the row of an account that opened with nothing, where its balance is not 0.
+// Adds the row of a place that no opening names, where it is an account's whose balance is not 0: one that is
+// named has its row by its opening.
 fn add_unopened(
     rows: &mut Vec<BalanceRow>,
     openings: &Openings,
@@ -157,7 +157,8 @@ fn add_others(
     Ok(())
 }
 
-// The rows of the places that an opening names, or to or from which something was moved: each place once.
+// The rows of the places that an opening names, or to or from which something was moved: each place once, so
+// that none is looked up, sorted or taken out twice.
 fn named_rows(
     alloc: Global,
     openings: &Openings,

@@ -27,7 +27,8 @@ impl Moved {
         ensures { opened + self.entered < 2 ^ 128 → result ≡ (opened + self.entered) - self.left }
     {
         // The sum stays far below the greatest number, so it is exact.
-        opened.saturating_add(self.entered).saturating_sub(self.left)
+        let held = opened.saturating_add(self.entered);
+        held.saturating_sub(self.left)
     }
 
     // With so many shares more that were brought.

@@ -1,6 +1,6 @@
-use Rattle.std.proofs.Common.{◌≡◌, ◌++◌, ◌∙◌, List, ap, map, subst, sym}
+use Rattle.std.proofs.Common.{◌++◌, ◌∙◌, List, ap, map, subst, sym}
 use Rattle.std.specs.List.{filter_map, IsDistinct}
-use Rattle.std.specs.HashMap.{keys, IsUnique}
+use Rattle.std.specs.HashMap.{keys}
 use Rattle.cns_trades.specs.declared.opening.Opening.{Opening}
 use Rattle.cns_depository.specs.declared.balances.BalanceRow.{BalanceRow}
 use Rattle.cns_depository.specs.Balances.{balance_row}
