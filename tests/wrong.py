@@ -3,17 +3,17 @@
 
     tests/wrong.py [CRATE..] [--lanes N] [--only WORD] [--alone] [--anew]
 
-Edits of wrong-bodies/CRATE (of every crate, where none is named) are set into copies of the crate, several at once where
-they change different functions, and `rt check` must say of each of these functions that a goal of its own is not proved. An
-edit of which that is not said (the text cannot be read, a callee is not proved, it changes no single function) is tried
-up to three times more so, with fewer others or none, and then by itself by `rt must-fail`, which has the last word; with --alone each is. All goes on in
-as many lanes as there are processors and memory; --only takes the edits whose names have WORD. A crate's edits are tried as soon as it
-is checked and the libraries below it are built, from what earlier checks of the tree left where that is up to date; a library
-goes before an edit, and an edit of a higher crate before those of lower ones. As `rt ci` does with proofs, it keeps on this machine which
-edits were refused, by a checksum of the kit, of this script, of the edit and of all files of its crate and of those below: a later run,
-in any clone, tries only the others, and all of them with --anew. Prints each edit that is refused, then for each
-crate its edits, how many of them were kept, minutes and processor minutes. The last line is `N passed, M failed`; the exit status is 0
-where M is 0 and N is not.
+Edits of wrong-bodies/CRATE (of every crate, where none is named) are set into copies of the crate, several at once where they change
+different functions, and `rt check` must say of each of these functions that a goal of its own is not proved. An edit of which that is not
+said (the text cannot be read, a callee is not proved, it changes no single function) is tried up to three times more so, with fewer others
+or none, and then by itself by `rt must-fail`, which has the last word, but where a proof file only lacks a name that the edit took away:
+that shows nothing, and counts as failed; with --alone each is. All goes on in as many lanes as there are processors and memory; --only
+takes the edits whose names have WORD. A crate's edits are tried as soon as it is checked and the libraries below it are built, from what
+earlier checks of the tree left where that is up to date; a library goes before an edit, and an edit of a higher crate before those of lower
+ones. As `rt ci` does with proofs, it keeps on this machine which edits were refused, by a checksum of the kit, of this script, of the edit
+and of all files of its crate and of those below: a later run, in any clone, tries only the others, and all of them with --anew. Prints each
+edit that is refused, then for each crate its edits, how many of them were kept, minutes and processor minutes. The last line is `N passed,
+M failed`; the exit status is 0 where M is 0 and N is not.
 """
 import argparse
 import hashlib
@@ -334,6 +334,13 @@ def try_crate(name, found, tree, lanes, ready, alone, kept):
     return len(found) - len(failed), failed, seconds, used
 
 
+def is_refused(said, label):
+    """Whether `rt must-fail` said that an edit is refused, and not only since a proof file names what the edit took away."""
+    refused = f"must-fail {label}: refused, as it must be"
+    told = [line.partition(refused)[2].removeprefix(": ") for line in said.splitlines() if refused in line]
+    return bool(told) and not any(map(NAMES.match, told))
+
+
 def try_edits(job):
     """Tries some edits of a crate in a tree of their own.
 
@@ -349,10 +356,11 @@ def try_edits(job):
         status, said, used = run(["rt", "must-fail", name], room)
     passed, failed = [], []
     for edit in found:
-        label = f"must-fail {name}/{os.path.basename(edit)}: refused, as it must be"
-        if label in said:
+        if is_refused(said, f"{name}/{os.path.basename(edit)}"):
             kept.keep(edit)
-        (passed if label in said else failed).append(os.path.basename(edit))
+            passed.append(os.path.basename(edit))
+        else:
+            failed.append(os.path.basename(edit))
     with SAYING:
         for line in said.splitlines():
             if line.startswith("rt:") or failed:
