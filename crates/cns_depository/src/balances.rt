@@ -167,8 +167,12 @@ fn named_rows(
     ensures { (p : List DepRecord) → IsStockOf stock.now p → IfOk result (λ v. AreNamedRows openings.now stock.now p v.items) }
 {
     let opened = openings.as_slice();
+    let count = opened.len() + stock.moved().len();
+    if count == 0 {
+        return Ok(Vec::new(alloc));
+    }
     // Room for all at once, so that no row is moved as they grow.
-    let mut rows = Vec::with_capacity(alloc, opened.len() + stock.moved().len())?;
+    let mut rows = Vec::with_capacity(alloc, count)?;
     add_openings(&mut rows, stock, opened)?;
     add_others(&mut rows, stock, openings)?;
     Ok(rows)
