@@ -6,14 +6,14 @@
 Edits of wrong-bodies/CRATE (of every crate, where none is named) are set into copies of the crate, several at once where they change
 different functions, and `rt check` must say of each of these functions that a goal of its own is not proved. An edit of which that is not
 said (the text cannot be read, a callee is not proved, it changes no single function) is tried up to three times more so, with fewer others
-or none, and then by itself by `rt must-fail`, which has the last word, but where a proof file only lacks a name that the edit took away:
-that shows nothing, and counts as failed; with --alone each is. All goes on in as many lanes as there are processors and memory; --only
-takes the edits whose names have WORD. A crate's edits are tried as soon as it is checked and the libraries below it are built, from what
-earlier checks of the tree left where that is up to date; a library goes before an edit, and an edit of a higher crate before those of lower
-ones. As `rt ci` does with proofs, it keeps on this machine which edits were refused, by a checksum of the kit, of this script, of the edit
-and of all files of its crate and of those below: a later run, in any clone, tries only the others, and all of them with --anew. Prints each
-edit that is refused, then for each crate its edits, how many of them were kept, minutes and processor minutes. The last line is `N passed,
-M failed`; the exit status is 0 where M is 0 and N is not.
+or none, and then by itself by `rt must-fail`, which has the last word; with --alone each is. A line `NOTE` names an edit that it refused
+only because a proof names what the edit took away, which shows nothing of the contract. All goes on in as many lanes as there are
+processors and memory; --only takes the edits whose names have WORD. A crate's edits are tried as soon as it is checked and the libraries
+below it are built, from what earlier checks of the tree left where that is up to date; a library goes before an edit, and an edit of a
+higher crate before those of lower ones. As `rt ci` does with proofs, it keeps on this machine which edits were refused, by a checksum of
+the kit, of this script, of the edit and of all files of its crate and of those below: a later run, in any clone, tries only the others, and
+all of them with --anew. Prints each edit that is refused, then for each crate its edits, how many of them were kept, minutes and processor
+minutes. The last line is `N passed, M failed`; the exit status is 0 where M is 0 and N is not.
 """
 import argparse
 import hashlib
@@ -334,11 +334,10 @@ def try_crate(name, found, tree, lanes, ready, alone, kept):
     return len(found) - len(failed), failed, seconds, used
 
 
-def is_refused(said, label):
-    """Whether `rt must-fail` said that an edit is refused, and not only since a proof file names what the edit took away."""
+def refusal_of(said, label):
+    """What `rt must-fail` said of an edit that is refused; None where it is not."""
     refused = f"must-fail {label}: refused, as it must be"
-    told = [line.partition(refused)[2].removeprefix(": ") for line in said.splitlines() if refused in line]
-    return bool(told) and not any(map(NAMES.match, told))
+    return next((line.partition(refused)[2].removeprefix(": ") for line in said.splitlines() if refused in line), None)
 
 
 def try_edits(job):
@@ -354,17 +353,23 @@ def try_edits(job):
         for edit in found:
             shutil.copyfile(edit, f"{room}/crates/{name}/must-fail/{os.path.basename(edit)}")
         status, said, used = run(["rt", "must-fail", name], room)
-    passed, failed = [], []
+    passed, failed, notes = [], [], []
     for edit in found:
-        if is_refused(said, f"{name}/{os.path.basename(edit)}"):
-            kept.keep(edit)
-            passed.append(os.path.basename(edit))
-        else:
+        label = f"{name}/{os.path.basename(edit)}"
+        refusal = refusal_of(said, label)
+        if refusal is None:
             failed.append(os.path.basename(edit))
+            continue
+        kept.keep(edit)
+        passed.append(os.path.basename(edit))
+        if NAMES.match(refusal):
+            notes.append(f"NOTE {label}: a proof names what it takes away, which shows nothing")
     with SAYING:
         for line in said.splitlines():
             if line.startswith("rt:") or failed:
                 print(line, flush=True)
+        for note in notes:
+            print(note, flush=True)
     return name, len(passed), failed, time.monotonic() - began, used
 
 
