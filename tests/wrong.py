@@ -190,6 +190,8 @@ IMPL = re.compile(r"impl(?:<.*?>)? (?:(?:\w+::)*(\w+)(?:<.*?>)? for )?(\w+)")
 FUNCTION = re.compile(r"\s*(?:pub(?:\([a-z]+\))? )?(?:const )?fn (\w+)")
 # What a proof file says where an edit took a name away: that tells nothing of the contract.
 NAMES = re.compile(r"(note: )?(\./)?proofs/.*(has no field|is not in scope|has no `|was not admitted)")
+# What `rt must-fail` says where nothing else refused the edit.
+ONLY_NAMES = "only because a proof file names what the edit took away"
 # Where a message says that a goal of a function is not proved.
 IN_PROOFS = re.compile(r"(?:note: )?(?:\./)?proofs/([\w/+]+)/(?:Answers|Invariants|Proof)\.antt:\d+:\d+: error")
 IN_SOURCE = re.compile(r"note: (?:\./)?(src/[\w/]+\.rt):(\d+):\d+: it is not proved that")
@@ -362,7 +364,7 @@ def try_edits(job):
             continue
         kept.keep(edit)
         passed.append(os.path.basename(edit))
-        if NAMES.match(refusal):
+        if ONLY_NAMES in refusal:
             notes.append(f"NOTE {label}: a proof names what it takes away, which shows nothing")
     with SAYING:
         for line in said.splitlines():
