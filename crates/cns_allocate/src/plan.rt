@@ -61,7 +61,7 @@ impl Plan {
         let rows = book.rows_in(issue)?;
         let were_long = WereLong::of(alloc, were_long)?;
         let planned = planned_rows(alloc, &rows, issue, orders, priorities, &were_long)?;
-        let mut list = Vec::new(alloc);
+        let mut list = Vec::with_capacity(alloc, planned.len())?;
         add_group(&mut list, &planned, Group::Priority)?;
         add_group(&mut list, &planned, Group::WasLong)?;
         add_group(&mut list, &planned, Group::Other)?;
@@ -122,9 +122,11 @@ fn planned_rows(
         IfOk result (λ planned. planned.items
         ≡ filter_map (planned_of issue orders.now.book settings were_long.now) rows.now) }
 {
-    rows.iter()
-        .filter_map(|row| Planned::of_row(row, issue, orders, priorities, were_long))
-        .collect(alloc)
+    let mut planned = Vec::with_capacity(alloc, rows.len())?;
+    planned.extend(
+        rows.iter().filter_map(|row| Planned::of_row(row, issue, orders, priorities, were_long)),
+    )?;
+    Ok(planned)
 }
 
 // Adds the members of a group, in their order.

@@ -1,3 +1,4 @@
 pub mod BracketLemmas
 pub mod ReadLemmas
 pub mod SectionLemmas
+pub mod CommandLemmas

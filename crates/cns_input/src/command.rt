@@ -1,13 +1,14 @@
-ghost use Rattle.std.specs.Prelude.{◌≡◌, ◌==◌, ◌∷◌, [], true, false, drop, length, MatchOption, Some, None, if◌then◌else◌};
+ghost use Rattle.std.specs.Prelude.{◌≡◌, ◌==◌, ◌∷◌, [], true, false, drop, length, IsSome, MatchOption, Some, None, unwrap_or, if◌then◌else◌};
 ghost use Rattle.cns_trades.specs.Fields.{same_text};
 ghost use Rattle.cns_words.specs.Words.{words_behind};
-ghost use Rattle.cns_input.specs.Script.{by_table, command_of as command_of_line, commands, events, none as none_of, own_in, cusip_in, member_in, move_no_in, asked_in, node_in, place_in, take_in};
+ghost use Rattle.cns_input.specs.declared.command.Command.TheVariants as command;
+ghost use Rattle.cns_input.specs.Script.{by_table, command_of as command_of_line, commands, events, own_in, cusip_in, member_in, move_no_in, asked_in, node_in, place_in, take_in};
 
 use cns_ids::{Cusip, CycleId, CycleKind, Day, MemberNo, Shares, read_number};
 use cns_movements::{Asked, MoveNo};
 use cns_records::{Instruction, Sort};
 use cns_system::{Event, NodeName};
-use cns_words::{none_behind, split_word};
+use cns_words::split_word;
 
 /// A line of the script.
 #[derive(Clone, Copy)]
@@ -232,9 +233,7 @@ fn read_event(word: &[u8], rest: Option<&[u8]>) -> Option<Event>
     }
 }
 
-// The command that a word with others behind it is. It stands by itself, so that the commands that come
-// most often set no room aside for what it reads.
-#[inline(never)]
+// The command that a word with others behind it is, where it is none of the link.
 fn read_longer(word: &[u8], rest: Option<&[u8]>) -> Option<Command>
     ensures { result ≡ by_table (drop 5 commands) (word.now ∷ words_behind rest.entry) }
 {
@@ -263,43 +262,24 @@ fn read_longer(word: &[u8], rest: Option<&[u8]>) -> Option<Command>
     }
 }
 
-// The same, with no look at the table for a word that stands alone.
-fn read_with_others(word: &[u8], rest: Option<&[u8]>) -> Option<Command>
-    ensures { result ≡ by_table (drop 5 commands) (word.now ∷ words_behind rest.entry) }
-{
-    match rest {
-        Some(_) => read_longer(word, rest),
-        None => None,
-    }
-}
-
-// A command, where no word is behind its own.
-fn alone(command: Command, rest: Option<&[u8]>) -> Option<Command>
-    ensures { result ≡ none_of command (words_behind rest.entry) }
-{
-    if none_behind(rest) {
-        Some(command)
-    } else {
-        None
-    }
-}
-
-// The command that a word and those behind it are, where it is none of the link.
-#[inline(always)]
+// The command that a word and others behind it are, where it is none of the link. It stands by itself, so that those of
+// the link set no room aside for what it reads.
+#[inline(never)]
+#[tactic(auto, using(crate::proofs::CommandLemmas::none_with_others))]
 fn read_other(word: &[u8], rest: Option<&[u8]>) -> Option<Command>
+    requires { IsSome rest }
     ensures { result ≡ by_table (drop 3 commands) (word.now ∷ words_behind rest.entry) }
 {
-    if is_word(word, b"PUMP") {
-        alone(Command::Pump, rest)
-    } else if is_word(word, b"REPORT") {
-        alone(Command::Report, rest)
-    } else {
-        read_with_others(word, rest)
+    // These two stand alone.
+    if is_word(word, b"PUMP") || is_word(word, b"REPORT") {
+        return None;
     }
+    read_longer(word, rest)
 }
 
-// The command that a word and those behind it are: `SEND n`, `ORDER k`, `REPLY k`, or another.
+// The command that a word and others behind it are: `SEND n`, `ORDER k`, `REPLY k`, or another.
 fn read_command(word: &[u8], rest: Option<&[u8]>) -> Option<Command>
+    requires { IsSome rest }
     ensures { result ≡ by_table commands (word.now ∷ words_behind rest.entry) }
 {
     if is_word(word, b"SEND") {
@@ -316,6 +296,31 @@ fn read_command(word: &[u8], rest: Option<&[u8]>) -> Option<Command>
     }
 }
 
+// The command that a word with others behind it is; a bad one where it is none.
+#[inline(never)]
+fn command_with(word: &[u8], rest: Option<&[u8]>) -> Command
+    requires { IsSome rest }
+    ensures { result ≡ unwrap_or (by_table commands (word.now ∷ words_behind rest.entry)) command.Bad }
+{
+    match read_command(word, rest) {
+        Some(command) => command,
+        None => Command::Bad,
+    }
+}
+
+// The command that a word alone is; a bad one where it is none.
+fn command_alone(word: &[u8]) -> Command
+    ensures { result ≡ unwrap_or (by_table commands (word.now ∷ [])) command.Bad }
+{
+    if is_word(word, b"PUMP") {
+        Command::Pump
+    } else if is_word(word, b"REPORT") {
+        Command::Report
+    } else {
+        Command::Bad
+    }
+}
+
 /// The command that a line of the script is.
 #[tactic(auto, unfolding(crate::specs::Script::command_of))]
 pub fn command_of(line: &[u8]) -> Command
@@ -324,9 +329,8 @@ pub fn command_of(line: &[u8]) -> Command
     if line.is_empty() || line[0] == b'#' {
         return Command::Skip;
     }
-    let (word, rest) = split_word(line);
-    match read_command(word, rest) {
-        Some(command) => command,
-        None => Command::Bad,
+    match split_word(line) {
+        (word, None) => command_alone(word),
+        (word, rest) => command_with(word, rest),
     }
 }

@@ -277,7 +277,8 @@ impl NetBook {
     /// Puts the holdings into order, so that rows are listed without a sort until new holdings are named.
     /// Where there is no memory for it they stay as they are.
     ///
-    /// Costs a sort of all holdings where one was named since the last time, and nothing otherwise.
+    /// Costs a sort of the holdings that were named since the last time and a pass over all, and nothing where
+    /// none was.
     pub fn put_in_order(&mut self)
         ensures same { self.new.history ≡ self.old.history }
         ensures left { self.old.room ≤ self.new.room }

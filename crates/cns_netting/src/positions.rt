@@ -1,4 +1,4 @@
-ghost use Rattle.std.specs.Prelude.{◌≡◌, ◌+◌, ◌*◌, ◌^◌, ◌%◌, ◌++◌, ◌≤◌, ◌<◌, [], IfOk, IsOk, IsSome, OnErr, OnOk, length, map, List, ℕ, slice_get, take};
+ghost use Rattle.std.specs.Prelude.{◌≡◌, ◌+◌, ◌*◌, ◌^◌, ◌%◌, ◌++◌, ◌≤◌, ◌<◌, [], IfOk, IsOk, IsSome, OnOk, length, map, List, ℕ, slice_get};
 ghost use Rattle.std.specs.Map.{keys_of, lookup};
 ghost use Rattle.std.specs.List.Sorted.{IsPermutation};
 ghost use Rattle.cns_ids.specs.Holding.{holding_at, holding_eq};
@@ -124,42 +124,89 @@ fn placed_from(
     Ok(list)
 }
 
-// Adds the places in some numbers, in their order.
-fn push_places(order: &mut Vec<u32>, placed: &[u128]) -> Result<(), AllocError>
-    ensures pushed { OnOk result (order.new.items ≡ order.old.items ++ map placed_at placed.now) }
-    ensures kept { take (length order.old.items) order.new.items ≡ order.old.items }
+// How far into some places those may stand that have a holding in front of this one, where they stand in order: looked
+// for in steps that double.
+fn reach_of(all: &IndexMap<Holding, Position>, order: &[u32], holding: &Option<Holding>) -> usize
+    ensures { result ≤ length order.now }
 {
-    order.reserve(placed.len())?;
-    for one in placed {
-        order.push_reserved(place_of(*one));
+    for step in 0..32u32 {
+        let reach = 1usize << step;
+        if reach >= order.len() {
+            return order.len();
+        }
+        if holding_in(all, order[reach]) >= *holding {
+            return reach;
+        }
     }
-    Ok(())
+    order.len()
 }
 
-// Adds the places behind those in order, by the holdings in them: a sort of numbers costs less than one that looks
-// each holding up.
-fn add_places(all: &IndexMap<Holding, Position>, order: &mut Vec<u32>) -> Result<(), AllocError>
-    requires len { length order.old.items ≤ length all.now.entries }
-    requires most { length all.now.entries ≤ 2 ^ 32 }
-    requires each { IsPermutation (places_below (length order.old.items)) order.old.items }
-    ensures each { OnOk result (IsPermutation (places_below (length all.now.entries)) order.new.items) }
-    ensures kept { take (length order.old.items) order.new.items ≡ order.old.items }
+// How many of some places have a holding in front of this one, where they stand in order.
+fn count_before(
+    all: &IndexMap<Holding, Position>,
+    order: &[u32],
+    holding: &Option<Holding>,
+) -> usize
+    ensures { result ≤ length order.now }
 {
-    let mut behind = placed_from(*order.allocator(), all, order.len())?;
+    let near = &order[..reach_of(all, order, holding)];
+    near.partition_point(|place| holding_in(all, *place) < *holding)
+}
+
+// Some places, with those in some numbers among them, each behind the ones that have a holding in front of its own:
+// two lists in order make one.
+fn with_places(
+    alloc: Global,
+    all: &IndexMap<Holding, Position>,
+    order: &[u32],
+    placed: &[u128],
+) -> Result<Vec<u32>, AllocError>
+    ensures { IfOk result (λ places. IsPermutation (order.now ++ map placed_at placed.now) places.items) }
+{
+    let mut places = Vec::with_capacity(alloc, order.len() + placed.len())?;
+    let mut rest = order;
+    for one in placed {
+        let place = place_of(*one);
+        let (front, behind) = rest.split_at(count_before(all, rest, &holding_in(all, place)));
+        places.extend_from_slice(front)?;
+        places.push(place)?;
+        rest = behind;
+    }
+    places.extend_from_slice(rest)?;
+    Ok(places)
+}
+
+// The places of all holdings, those in order with the others among them. The others are sorted as numbers first, which
+// costs less than a sort that looks each holding up.
+fn all_places(
+    alloc: Global,
+    all: &IndexMap<Holding, Position>,
+    order: &[u32],
+) -> Result<Vec<u32>, AllocError>
+    requires len { length order.now ≤ length all.now.entries }
+    requires most { length all.now.entries ≤ 2 ^ 32 }
+    requires each { IsPermutation (places_below (length order.now)) order.now }
+    ensures { IfOk result (λ places. IsPermutation (places_below (length all.now.entries)) places.items) }
+{
+    let mut behind = placed_from(alloc, all, order.len())?;
     behind.sort_unstable();
-    push_places(order, behind.as_slice())
+    with_places(alloc, all, order, behind.as_slice())
 }
 
-// Puts the places of all holdings into order: two runs, each in order, of which the sort makes one. Without
-// memory for it, those that were in order may have others behind them.
-fn sort_places(all: &IndexMap<Holding, Position>, order: &mut Vec<u32>) -> Result<(), AllocError>
-    requires before { ArePlacesInOrder order.old.items all.now.entries }
+// The places of all holdings in order. `all_places` gives them so; that they are is known from the sort alone, which
+// makes one pass over a list in order.
+fn sorted_places(
+    alloc: Global,
+    all: &IndexMap<Holding, Position>,
+    order: &[u32],
+) -> Result<Vec<u32>, AllocError>
+    requires before { ArePlacesInOrder order.now all.now.entries }
     requires most { length all.now.entries ≤ 2 ^ 32 }
-    ensures ok { OnOk result (ArePlacesInOrder order.new.items all.now.entries) }
-    ensures err { OnErr result (take (length order.old.items) order.new.items ≡ order.old.items) }
+    ensures { IfOk result (λ places. ArePlacesInOrder places.items all.now.entries) }
 {
-    add_places(all, order)?;
-    order.sort_by_key(|place| holding_in(all, *place))
+    let mut places = all_places(alloc, all, order)?;
+    places.sort_by_key(|place| holding_in(all, *place))?;
+    Ok(places)
 }
 
 // Puts the places of all holdings into order. Where there is no memory for it the order stays as it was.
@@ -167,13 +214,12 @@ fn order_places(all: &IndexMap<Holding, Position>, order: &mut Vec<u32>)
     requires { ArePlacesInOrder order.old.items all.now.entries }
     ensures { ArePlacesInOrder order.new.items all.now.entries }
 {
-    let known = order.len();
     let count = all.len();
-    if known == count || count > MOST_PLACES {
+    if order.len() == count || count > MOST_PLACES {
         return;
     }
-    if sort_places(all, order).is_err() {
-        order.truncate(known);
+    if let Ok(places) = sorted_places(*order.allocator(), all, order.as_slice()) {
+        *order = places;
     }
 }
 

@@ -173,8 +173,8 @@ impl Positions {
     fn rows_by_place(&self, alloc: Global, issue: Cusip) -> Result<Vec<PositionRow>, AllocError>
         ensures { IfOk result (λ rows. HaveRowsOf (Some issue) self.now.entries rows.items) }
     {
-        let mut rows = Vec::new(alloc);
         let places = places_in(&self.all, &self.order, issue);
+        let mut rows = Vec::with_capacity(alloc, places.len())?;
         put_places(&mut rows, &self.all, places, &Some(issue))?;
         let (_, behind) = self.all.as_slice().split_at(self.order.len());
         put_rows(&mut rows, &behind, &Some(issue))?;

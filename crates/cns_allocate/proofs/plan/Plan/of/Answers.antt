@@ -14,8 +14,8 @@ invariant_of-result c =
     let planned : c.in_ok-planned.planned.items ≡ wanting c.args.issue h book settings c.args.were_long.now =
     cc (c.in_ok-planned.ensures, c.in_ok-were_long.ensures, c.deref.ensures.value, c.in_ok-rows.ensures, wanting-rows_in c.args.issue h book settings c.args.were_long.now) in
     let all =
-    groups_added c.args.issue h book settings c.args.were_long.now c.in_ok-planned.planned.items c.new-list.result.items c.add_group.new.list.items
-    c.add_group-2.new.list.items c.add_group-3.new.list.items planned c.new-list.ensures.items (cc c.in_ok-add_group.ensures) (cc c.in_ok-add_group-2.ensures)
+    groups_added c.args.issue h book settings c.args.were_long.now c.in_ok-planned.planned.items c.in_ok-list.list.items c.add_group.new.list.items
+    c.add_group-2.new.list.items c.add_group-3.new.list.items planned c.in_ok-list.ensures.items (cc c.in_ok-add_group.ensures) (cc c.in_ok-add_group-2.ensures)
     (cc c.in_ok-add_group-3.ensures) in
     subst IsPlan (sym all) (IsPlan-plan_of c.args.issue h book settings c.args.were_long.now c.requires.long)
 
@@ -26,6 +26,6 @@ returns c =
     let settings = c.args.priorities.now.settings in
     let planned : c.in_ok-planned.planned.items ≡ wanting c.args.issue h book settings c.args.were_long.now =
     cc (c.in_ok-planned.ensures, c.in_ok-were_long.ensures, c.deref.ensures.value, c.in_ok-rows.ensures, wanting-rows_in c.args.issue h book settings c.args.were_long.now) in
-    groups_added c.args.issue h book settings c.args.were_long.now c.in_ok-planned.planned.items c.new-list.result.items c.add_group.new.list.items
-    c.add_group-2.new.list.items c.add_group-3.new.list.items planned c.new-list.ensures.items (cc c.in_ok-add_group.ensures) (cc c.in_ok-add_group-2.ensures)
+    groups_added c.args.issue h book settings c.args.were_long.now c.in_ok-planned.planned.items c.in_ok-list.list.items c.add_group.new.list.items
+    c.add_group-2.new.list.items c.add_group-3.new.list.items planned c.in_ok-list.ensures.items (cc c.in_ok-add_group.ensures) (cc c.in_ok-add_group-2.ensures)
     (cc c.in_ok-add_group-3.ensures)

@@ -19,7 +19,7 @@ returns c = rw (← c.self.view_is) (λ h are f.
     let in_issue : ℕ → Bool = λ p. issue_in all c.args.issue p == c.args.issue in
     let others : (p : ℕ) → in_issue p ≡ false → weight p ≡ 0 = λ p other. ap (row_part f) (other_issue all c.args.issue p other) in
     let found = ap (sum_by weight) (rw c.deref.ensures.value at c.places_in-places.ensures) ∙ sum_by-filter weight weight in_issue (λ p same. refl) others order ∙ rows-sum (Some c.args.issue) all order c.self.invariant.places f in
-    let put = ap (sum_by f) (rw c.new-rows.ensures.items at c.in_ok-put_places.ensures) ∙ filter_map-sum f row c.places_in-places.result.now in
+    let put = ap (sum_by f) (rw c.in_ok-rows.ensures.items at c.in_ok-put_places.ensures) ∙ filter_map-sum f row c.places_in-places.result.now in
     let part : Holding × Position → ℕ = λ e. row_part f (row_if (Some c.args.issue) e.0 (Some e.1)) in
     let behind = ap (sum_by part) (rw len at c.split_at-behind.ensures.back ∙ ap (drop (length order)) c.as_slice.ensures.entries) in
     omega (arith, c.in_ok-put_rows.ensures f, put, found, behind, sum_by-take-drop part all (length order), sum_by_entries (Some c.args.issue) all h f c.as_slice.ensures.unique are))
