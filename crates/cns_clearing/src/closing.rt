@@ -38,7 +38,7 @@ fn drawn_list(alloc: Global, tickets: &[Ticket]) -> Result<DrawnList, AllocError
     requires { AreRecordable tickets.now }
     ensures { IfOk result (λ drawn. drawn ≡ map recorded_ticket tickets.now) }
 {
-    let mut list = Vec::new(alloc);
+    let mut list = Vec::with_capacity(alloc, tickets.len())?;
     for ticket in tickets {
         list.push(drawn(ticket))?;
     }
