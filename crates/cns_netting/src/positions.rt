@@ -124,6 +124,13 @@ fn placed_from(
     Ok(list)
 }
 
+// The places in some numbers, in their order.
+fn places_of(alloc: Global, placed: &[u128]) -> Result<Vec<u32>, AllocError>
+    ensures { IfOk result (λ places. places.items ≡ map placed_at placed.now) }
+{
+    placed.iter().map(|one| place_of(*one)).collect(alloc)
+}
+
 // How far into some places those may stand that have a holding in front of this one, where they stand in order: looked
 // for in steps that double.
 fn reach_of(all: &IndexMap<Holding, Position>, order: &[u32], holding: &Option<Holding>) -> usize
@@ -190,6 +197,10 @@ fn all_places(
 {
     let mut behind = placed_from(alloc, all, order.len())?;
     behind.sort_unstable();
+    // Where none stood in order there is nothing to search.
+    if order.is_empty() {
+        return places_of(alloc, behind.as_slice());
+    }
     with_places(alloc, all, order, behind.as_slice())
 }
 
