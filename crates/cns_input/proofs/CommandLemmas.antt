@@ -1,6 +1,6 @@
 -- Commands that stand alone.
-use Rattle.std.proofs.Common.{Bor, ◌≡◌, ℕ, List, Option, Some, None, refl, sym, length}
-use Rattle.std.specs.Prelude.{◌==◌, IsSome}
+use Rattle.std.proofs.Common.{Bor, ◌≡◌, ℕ, List, Option, Some, None, refl, sym}
+use Rattle.std.specs.Prelude.{IsSome}
 use Rattle.cns_words.specs.Words.{words_behind}
 use Rattle.cns_words.proofs.WordLemmas.{behind_is_none}
 use Rattle.cns_input.specs.Script.{none}
