@@ -4,16 +4,16 @@
     tests/wrong.py [CRATE..] [--lanes N] [--only WORD] [--alone] [--anew]
 
 Edits of wrong-bodies/CRATE (of every crate, where none is named) are set into copies of the crate, several at once where they change
-different functions, and `rt check` must say of each of these functions that a goal of its own is not proved. An edit of which that is not
-said (the text cannot be read, a callee is not proved, it changes no single function) is tried up to three times more so, with fewer others
-or none, and then by itself by `rt must-fail`, which has the last word; with --alone each is. A line `NOTE` names an edit that it refused
-only because a proof names what the edit took away, which shows nothing of the contract. All goes on in as many lanes as there are
-processors and memory; --only takes the edits whose names have WORD. A crate's edits are tried as soon as it is checked and the libraries
-below it are built, from what earlier checks of the tree left where that is up to date; a library goes before an edit, and an edit of a
-higher crate before those of lower ones. As `rt ci` does with proofs, it keeps on this machine which edits were refused, by a checksum of
-the kit, of this script, of the edit and of all files of its crate and of those below: a later run, in any clone, tries only the others, and
-all of them with --anew. Prints each edit that is refused, then for each crate its edits, how many of them were kept, minutes and processor
-minutes. The last line is `N passed, M failed`; the exit status is 0 where M is 0 and N is not.
+different functions, and `rt check` of these functions must say of each that a goal of its own is not proved. An edit of which that is not
+said (a callee is not proved, the text cannot be read, it changes no single function) is tried so once more, with fewer others, then by
+itself, where any goal that is not proved refuses it, and then by `rt must-fail`, which has the last word; with --alone each is. A line
+`NOTE` names an edit that is refused only because a proof names what the edit took away, which shows nothing of the contract. All goes on
+in as many lanes as there are processors and memory; --only takes the edits whose names have WORD. A crate's edits are tried as soon as it
+is checked and the libraries below it are built, from what earlier checks of the tree left where that is up to date; a library goes before
+an edit, and an edit of a higher crate before those of lower ones. As `rt ci` does with proofs, it keeps on this machine which edits were
+refused, by a checksum of the kit, of this script, of the edit and of all files of its crate and of those below: a later run, in any clone,
+tries only the others, and all of them with --anew. Prints each edit that is refused, then for each crate its edits, how many of them were
+kept, minutes and processor minutes. The last line is `N passed, M failed`; the exit status is 0 where M is 0 and N is not.
 """
 import argparse
 import hashlib
@@ -38,7 +38,7 @@ MEMORY_OF_A_LANE = 4 << 30
 LEAST_OF_A_LANE = 12
 # How many edits a check tries at once at most, and how often an edit is tried so.
 MOST_AT_ONCE = 16
-ROUNDS = 4
+ROUNDS = 2
 PARTS = ("src", "specs", "proofs")
 LIBRARY = "out/rlib"
 
@@ -146,7 +146,7 @@ class Lanes:
 
 
 def make_ready(name, wanted, tree, lanes, ready):
-    """Once those below a crate are ready, checks it where it is wanted, and builds its library where one above it is."""
+    """Once those below a crate are ready, checks it where it is wanted, and builds its library where one above it is; answers its functions as a check names them."""
     stands_on = below()
     for one in stands_on[name]:
         ready[one].result()
@@ -157,19 +157,23 @@ def make_ready(name, wanted, tree, lanes, ready):
         if status:
             lanes.close()
             raise NotProved(said)
+        return NAMED.findall(said)
+    return []
 
 
 def make_in_room(name, steps, tree):
     """Takes these steps for a crate in a tree of its own, since a check keeps all others out of its crate and of those below; what they make is kept."""
+    told = ""
     with tempfile.TemporaryDirectory(prefix="wrong-") as room:
         room_for(name, tree, room)
         for words in steps:
             status, said, _ = run(words, f"{room}/crates/{name}")
             if status:
                 return status, said
+            told += said
         shutil.rmtree(f"{tree}/crates/{name}/out", ignore_errors=True)
         shutil.move(f"{room}/crates/{name}/out", f"{tree}/crates/{name}/out")
-    return 0, ""
+    return 0, told
 
 
 def all_below(name, stands_on):
@@ -195,6 +199,15 @@ ONLY_NAMES = "only because a proof file names what the edit took away"
 # Where a message says that a goal of a function is not proved.
 IN_PROOFS = re.compile(r"(?:note: )?(?:\./)?proofs/([\w/+]+)/(?:Answers|Invariants|Proof)\.antt:\d+:\d+: error")
 IN_SOURCE = re.compile(r"note: (?:\./)?(src/[\w/]+\.rt):(\d+):\d+: it is not proved that")
+# How a check names a function that it has proved.
+NAMED = re.compile(r"^fn (\S+): proved", re.M)
+# What a check says once it has come to the proofs, and where it could not read the source before.
+VERDICT = re.compile(r"^(?:logic|only)=", re.M)
+UNREAD_IN = re.compile(r"^(?:\./)?(src/[\w/]+\.rt):(\d+):\d+: error", re.M)
+# A message with its place; an error in source or definitions; and the words of one that says of a text that it could not be read.
+TOLD = re.compile(r"(?:note: )?\S+:\d+:\d+:")
+IN_TEXT = re.compile(r"(?:\./)?(?:src|specs)/\S+?:\d+:\d+: error: (?:(`[^`]*`): )?(.*)")
+OF_READING = re.compile(r"is not in scope|has no field|is no name|operand is missing|expected the end|cannot continue")
 
 
 def type_at(lines, number):
@@ -296,39 +309,122 @@ def refused_in(said, folder, functions):
     return all((path, type_name, name) in told or (type_name, name) in methods for path, type_name, name in functions)
 
 
+def set_into(part, name, folder, paths):
+    """Sets edits of different functions into a copy of a crate: each file with the lines of all that change it."""
+    after = {}
+    for path in paths:
+        with open(os.path.join(TOP, "crates", name, path), encoding="utf-8") as source:
+            after[path] = source.read().split("\n")
+    for edit, _ in part:
+        for path, left, right in texts_of(edit, name):
+            for number, (old, new) in enumerate(zip(left.split("\n"), right.split("\n"))):
+                if old != new and not differ_by_spaces(old, new):
+                    after[path][number] = new
+    for path, lines in after.items():
+        with open(f"{folder}/{path}", "w", encoding="utf-8") as out:
+            out.write("\n".join(lines))
+
+
+def spoiling(part, said, folder):
+    """The edits of which a check says that their functions cannot be read, where it came to no proof for that."""
+    if VERDICT.search(said):
+        return []
+    told = set()
+    for path, number in UNREAD_IN.findall(said):
+        with open(f"{folder}/{path}", encoding="utf-8") as lines:
+            function = function_told(lines.read().split("\n"), int(number) - 1)
+        told |= {(path, *function[:2])} if function else set()
+    return [edit for edit, functions in part if functions & told]
+
+
+def only_these(part, name, named):
+    """The words by which a check looks at the functions of these edits and what they call, and not at their callers; none where one of them cannot be told."""
+    words = []
+    for path, type_name, function in sorted({one for _, functions in part for one in functions}, key=str):
+        if type_name:
+            found = [one for one in named if one.endswith(f"::{type_name}::{function}")]
+        else:
+            module = path.removeprefix("src/").removesuffix(".rt").split("/")
+            found = [one for one in named if one == "::".join([name, *(module if module != ["lib"] else []), function])]
+        if len(found) != 1:
+            return []
+        words += ["--only", found[0]]
+    return words
+
+
 def try_batch(job):
     """Tries edits of different functions at once; answers those that were refused, and what it cost."""
-    name, part, tree, kept = job
+    name, part, tree, named, kept = job
+    began, used = time.monotonic(), 0.0
+    with tempfile.TemporaryDirectory(prefix="wrong-") as room:
+        room_for(name, tree, room)
+        folder = f"{room}/crates/{name}"
+        paths = {path for _, functions in part for path, *_ in functions}
+        while True:
+            set_into(part, name, folder, paths)
+            status, said, taken = run(["rt", "check", "--jobs", "1", *only_these(part, name, named)], folder)
+            used += taken
+            spoilt = spoiling(part, said, folder)
+            if not spoilt:
+                break
+            part = [it for it in part if it[0] not in spoilt]
+        good = [edit for edit, functions in part if status and refused_in(said, folder, functions)]
+    for edit in good:
+        tell_refused(name, edit, kept, "refused at its function")
+    return good, time.monotonic() - began, used
+
+
+def tell_refused(name, edit, kept, how):
+    """Keeps and prints that an edit was refused."""
+    with SAYING:
+        kept.keep(edit)
+        print(f"{name}/{os.path.basename(edit)}: {how}", flush=True)
+
+
+def try_alone(job):
+    """Tries one edit by itself, over what earlier checks of its crate left; answers whether it was refused, and what it cost.
+
+    Where nothing else was changed, any goal that is not proved refuses it, in whatever function.
+    """
+    name, edit, tree, kept = job
     began = time.monotonic()
     with tempfile.TemporaryDirectory(prefix="wrong-") as room:
         room_for(name, tree, room)
         folder = f"{room}/crates/{name}"
-        for edit, _ in part:
-            for path, _, after in texts_of(edit, name, folder):
-                with open(f"{folder}/{path}", "w", encoding="utf-8") as out:
-                    out.write(after)
+        for path, _, after in texts_of(edit, name):
+            with open(f"{folder}/{path}", "w", encoding="utf-8") as out:
+                out.write(after)
         status, said, used = run(["rt", "check", "--jobs", "1"], folder)
-        good = [edit for edit, functions in part if status and refused_in(said, folder, functions)]
-    with SAYING:
-        for edit in good:
-            kept.keep(edit)
-            print(f"{name}/{os.path.basename(edit)}: refused at its function", flush=True)
-    return good, time.monotonic() - began, used
+    lines = said.splitlines()
+    told = [line for line in lines if TOLD.match(line) and (": error" in line or line.startswith("note: "))]
+    good = status == 1 and "logic=not-proved" in lines and not any(map(is_unread, lines)) and not all(map(NAMES.match, told))
+    if good:
+        tell_refused(name, edit, kept, "refused by itself")
+    return [edit] if good else [], time.monotonic() - began, used
+
+
+def is_unread(line):
+    """Whether a line says that a text could not be read, as `rt must-fail` tells it: then no contract was tried."""
+    found = IN_TEXT.match(line)
+    return bool(found) and (not found[1] or bool(OF_READING.search(re.sub(r"`[^`]*`", "", found[2]))))
 
 
 def try_crate(name, found, tree, lanes, ready, alone, kept):
     """Tries a crate's edits once it is ready; answers how many were refused, the others' names, seconds and processor seconds."""
-    ready[name].result()
+    named = ready[name].result()
     rank, left, seconds, used = len(crates()) - crates().index(name), list(found), 0.0, 0.0
     for _ in range(0 if alone else ROUNDS):
         parts, _ = batches(left, name)
         before = len(left)
-        for good, spent, taken in lanes.each(rank, try_batch, [(name, part, tree, kept) for part in parts]):
+        for good, spent, taken in lanes.each(rank, try_batch, [(name, part, tree, named, kept) for part in parts]):
             left = [edit for edit in left if edit not in good]
             seconds, used = seconds + spent, used + taken
         # Where no part had two edits, all that a check of the crate's changes tells is told.
         if len(left) == before or all(len(part) < 2 for part in parts):
             break
+    for good, spent, taken in [] if alone else lanes.each(rank, try_alone, [(name, edit, tree, kept) for edit in left]):
+        left = [edit for edit in left if edit not in good]
+        seconds, used = seconds + spent, used + taken
     failed = []
     for _, _, bad, spent, taken in lanes.each(rank, try_edits, [(name, part, tree, kept) for part in split(left, lanes.count) if part]):
         failed += bad

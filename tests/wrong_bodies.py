@@ -38,15 +38,15 @@ def edits(folder):
     return [os.path.join(folder, name) for name in names if name.endswith(".edit")]
 
 
-def texts_of(edit, crate, folder=None):
-    """The files that an edit changes, each with its text before and after; of the crate, or of a copy in a folder."""
+def texts_of(edit, crate):
+    """The files of its crate that an edit changes, each with its text before and after."""
     path, old, texts = None, None, {}
     with open(edit, encoding="utf-8") as lines:
         for line in lines.read().split("\n"):
             if line.startswith("file: "):
                 path = line[len("file: "):].strip()
                 if path not in texts:
-                    with open(os.path.join(folder or os.path.join(TOP, "crates", crate), path), encoding="utf-8") as source:
+                    with open(os.path.join(TOP, "crates", crate, path), encoding="utf-8") as source:
                         before = source.read()
                     texts[path] = before, before
             elif line.startswith("old: "):
