@@ -7,7 +7,8 @@ PROGRAM takes JOURNAL_TRADES trades (2,000 where it is not set), of which each i
 journals in a new folder within FOLDER; PLAIN then commits the records of that journal to another file of the
 same folder by the same calls. Each runs JOURNAL_ROUNDS times (5), one after the other. The program's time
 is that of its whole run less one that takes no trade: it reads the input, judges each trade and tells it as
-well. Then a journal of JOURNAL_RECORDS accepted trades (1,000,000) is made, and the program opens it for a
+well. Where there is valgrind, it counts how many instructions of its own a record takes more in files than in memory.
+Then a journal of JOURNAL_RECORDS accepted trades (1,000,000) is made, and the program opens it for a
 script of one report.
 The exit status is 0, or 1 where a run fails.
 """
@@ -18,6 +19,8 @@ import statistics
 import subprocess
 import sys
 import time
+
+from works import COLLECTED
 
 TRADES = int(os.environ.get("JOURNAL_TRADES", "2000"))
 ROUNDS = int(os.environ.get("JOURNAL_ROUNDS", "5"))
@@ -87,6 +90,24 @@ def commits(program, folder, plain):
         print(f"  ratio of the program's time: {statistics.median(a / b for a, b in zip(spent, beside)):.2f}")
 
 
+def instructions(words, text):
+    """How many instructions of its own a run takes: those of the system behind its calls are not counted."""
+    ran = subprocess.run(["valgrind", "--tool=callgrind", "--callgrind-out-file=/dev/null", *words], input=text.encode(),
+                         stdout=subprocess.DEVNULL, stderr=subprocess.PIPE, check=True)
+    return int(COLLECTED.search(ran.stderr)[1])
+
+
+def instructions_a_record(program, folder):
+    """Prints how many instructions more a record takes in files than in memory."""
+    text = HEAD + trades(TRADES) + "[script]\n"
+    taken = []
+    for script in ("", "TAKE ALL\n"):
+        in_files = instructions([program, "run", "--journal", fresh(folder, "journals")], text + script)
+        taken.append(in_files - instructions([program, "run"], text + script))
+    shutil.rmtree(os.path.join(folder, "journals"))
+    print(f"instructions a record, above those in memory: {(taken[1] - taken[0]) / TRADES:,.0f}")
+
+
 def reopening(program, folder):
     """Prints what it takes to open a long journal."""
     journals = fresh(folder, "journals")
@@ -107,6 +128,8 @@ def reopening(program, folder):
 def main():
     program, folder = os.path.abspath(sys.argv[1]), sys.argv[2]
     commits(program, folder, sys.argv[3] if len(sys.argv) > 3 else None)
+    if shutil.which("valgrind"):
+        instructions_a_record(program, folder)
     reopening(program, folder)
 
 
