@@ -1,9 +1,9 @@
 -- What a journal on a disk keeps after a call, over plain values.
-use Rattle.std.proofs.Common.{◌≡◌, inl, inr, ℕ, ◌≤◌, Bool, true, List, [], ◌∷◌, ◌++◌, take, Option, None, sym, ◌∙◌, ap, arith, refl}
+use Rattle.std.proofs.Common.{◌≡◌, inl, inr, ℕ, ◌≤◌, Bool, true, List, [], ◌∷◌, ◌++◌, take, Option, Some, None, sym, ◌∙◌, ap, arith, refl}
 use Rattle.cns_journal.specs.Keeper.{Journal, IsReopened}
 use Rattle.cns_journal.specs.Disk.{EachImage}
 use Rattle.cns_journal.specs.DiskJournal.{IsJournal, Stands, fallen, kept_of}
-use Rattle.cns_journal.specs.Layout.{IsSettled, journal_of, size_of}
+use Rattle.cns_journal.specs.Layout.{HasWithOrWithout, IsSettled, journal_of, size_of}
 use Rattle.cns_journal.specs.declared.disk_journal.Stage.{Stage}
 use Rattle.cns_journal.specs.declared.disk_journal.Stage.TheVariants.{Unread, Up, Down}
 use Rattle.cns_journal.proofs.AppendLemmas.{below-end}
@@ -69,6 +69,25 @@ pub commit_keeps : {journal : Journal} (stage : Stage) (file : List ℕ) (images
 commit_keeps stage file images end payload {undecided = undecided} is stage_is stands none settled more =
     let before : IsSettled file images end = rw stage_is at stands in
     rw (← is, stage_is) (none, ap (λ l. record { kept = l; undecided = undecided }) (sym (settled_kept settled) ∙ more ∙ ap (λ l. l ++ payload ∷ []) (settled_kept before)))
+
+-- after a commit at which the device failed
+reopened_of : {kept kept' : List (List ℕ)} {payload aside : List ℕ} (file : List ℕ) → kept ≡ kept' → payload ≡ aside → HasWithOrWithout kept payload file
+    → IsReopened (record { kept = kept'; undecided = Some aside }) (journal_of file)
+reopened_of file kept_is payload_is (inl same) = inl (same ∙ kept_is)
+reopened_of {aside = aside} file kept_is payload_is (inr more) = inr (aside, refl, more ∙ (λ i. kept_is i ++ payload_is i ∷ []))
+
+pub failed_holds : (honest : Bool) (file file' : List ℕ) (images images' : List ℕ → Type 0) (end count : ℕ) (payload aside : List ℕ)
+    → (honest ≡ true → IsSettled file images end) → (honest ≡ true → take end file' ≡ take end file) → (honest ≡ true → HasWithOrWithout (journal_of file) payload file')
+    → payload ≡ aside → count ≤ end → end ≤ 4611686018427387904 → IsJournal honest file' images' (Down end) count (Some aside)
+failed_holds honest file file' images images' end count payload aside settled front left is few within =
+    let kept : honest ≡ true → journal_of file ≡ kept_of (Down end) file' = λ sure. settled_kept (settled sure) ∙ ap (λ l. journal_of (l ++ 0 ∷ [])) (sym (front sure)) in
+    record {
+      within = within;
+      few = few;
+      decided = λ up. grind (arith, up);
+      stands = λ sure. (settled sure).end_is ∙ ap size_of (kept sure);
+      found = λ sure. reopened_of file' (kept sure) is (left sure);
+    }
 
 -- after a reopening that succeeded
 pub reopen_keeps : {journal : Journal} (stage : Stage) (file : List ℕ) {file' : List ℕ} {images' : List ℕ → Type 0} {end' : ℕ} {undecided : Option (List ℕ)} {given : List (List ℕ)}

@@ -10,9 +10,10 @@ ghost use Rattle.cns_journal.specs.DiskJournal.{AnyCalls, AnyCallsDoNoDamage, Co
 
 use crate::disk::Disk;
 use crate::keeper::{KeepFault, Keeper, MAX_PAYLOAD, NotPlanned};
-use crate::record_file::{Records, append, closed_record, reread};
+use crate::record_file::{Records, append, close_record, reread, take_in};
 use std::alloc::Global;
 use std::marker::Model;
+use std::mem;
 
 // Whether the file was read, whether the journal is up, and where its records end: there stands the gate
 // that the next commit opens.
@@ -39,12 +40,17 @@ impl Stage {
 ///
 /// After a crash at any moment the file stands for the acknowledged records, and then at most the one
 /// whose commit was under way or had failed. (This project's own rules.)
+///
+/// Two lists keep their memory from commit to commit, and stand for nothing between two: what a commit writes
+/// behind its gate, and its payload, which is there if the device fails.
 #[derive(Drop)]
 pub struct DiskJournal<D: Disk> {
     disk: D,
     stage: Stage,
     count: u64,
     undecided: Option<Vec<u8>>,
+    behind_gate: Vec<u8>,
+    payload: Vec<u8>,
     alloc: Global,
 }
 
@@ -79,6 +85,8 @@ impl<D: Disk> DiskJournal<D> {
             stage: Stage::Unread,
             count: 0,
             undecided: None,
+            behind_gate: Vec::new(alloc),
+            payload: Vec::new(alloc),
             alloc,
         }
     }
@@ -100,9 +108,9 @@ impl<D: Disk> DiskJournal<D> {
         let Stage::Up(end) = self.stage else {
             return Err(KeepFault::Down);
         };
-        let behind_gate = closed_record(self.alloc, payload)?;
-        let copy = payload.to_vec(self.alloc)?;
-        match append(&mut self.disk, end, payload, behind_gate.as_slice()) {
+        close_record(&mut self.behind_gate, payload)?;
+        take_in(&mut self.payload, payload)?;
+        match append(&mut self.disk, end, payload, self.behind_gate.as_slice()) {
             Ok(()) => {
                 self.stage = Stage::Up(end + 5 + payload.len() as u64);
                 self.count += 1;
@@ -110,7 +118,7 @@ impl<D: Disk> DiskJournal<D> {
             }
             Err(_) => {
                 self.stage = Stage::Down(end);
-                self.undecided = Some(copy);
+                self.undecided = Some(mem::replace(&mut self.payload, Vec::new(self.alloc)));
                 Err(KeepFault::Device)
             }
         }

@@ -55,16 +55,23 @@ pub fn append<D: Disk>(
     write_through(disk, end, &[OPEN])
 }
 
-// The bytes of a record behind its gate, and the next gate, closed.
-pub fn closed_record(alloc: Global, payload: &[u8]) -> Result<Vec<u8>, AllocError>
-    requires { length payload.now ≤ MAX_PAYLOAD }
-    ensures { IfOk result (λ bytes. vec_items bytes ≡ closed_record payload.now) }
+// Puts these bytes in the place of those that a list has, and keeps its memory.
+pub fn take_in(list: &mut Vec<u8>, bytes: &[u8]) -> Result<(), AllocError>
+    ensures { OnOk result (vec_items list.new ≡ bytes.now) }
 {
-    let mut bytes = Vec::with_capacity(alloc, payload.len() + 5)?;
-    bytes.extend_from_slice(&(payload.len() as u32).to_be_bytes())?;
-    bytes.extend_from_slice(payload)?;
-    bytes.push(CLOSED)?;
-    Ok(bytes)
+    list.clear();
+    list.extend_from_slice(bytes)
+}
+
+// Puts in the place of what a list has the bytes of a record behind its gate, and the next gate, closed.
+pub fn close_record(list: &mut Vec<u8>, payload: &[u8]) -> Result<(), AllocError>
+    requires { length payload.now ≤ MAX_PAYLOAD }
+    ensures { OnOk result (vec_items list.new ≡ closed_record payload.now) }
+{
+    take_in(list, &(payload.len() as u32).to_be_bytes())?;
+    list.extend_from_slice(payload)?;
+    list.push(CLOSED)?;
+    Ok(())
 }
 
 // Cuts the file, and waits until that is on the disk.
