@@ -7,8 +7,8 @@ Runs each work of make_works.py (all, where none is named) at a sixty-fourth, a 
 `valgrind --tool=callgrind`, and prints the millions of instructions; the growth exponent (1 where twice the work
 costs twice as much); and how many times those of a plain Rust program of the same rules they are, which has running
 values, and no journals, proofs or room for want of memory (its figures were taken once; it is no part of this
-repository). With --full each work is run once at its full size too, for its processor seconds, its peak memory, and
-that of plain Rust.
+repository). With --full each work is run once at its full size too, for its processor seconds, its peak memory (by
+tell_usage.c, which `cc` compiles), and that of plain Rust.
 
 With --peers the programs FOLDER/NAME/target/release/cnsd, which answer the same on the same works, are run beside it in their
 place: for each of them there is a column that says what part of its instructions, and with --full of its memory, the
@@ -30,7 +30,8 @@ import tempfile
 
 from make_works import WORKS
 
-MAKE_WORKS = os.path.join(os.path.dirname(os.path.abspath(__file__)), 'make_works.py')
+HERE = os.path.dirname(os.path.abspath(__file__))
+MAKE_WORKS = os.path.join(HERE, 'make_works.py')
 SCALES = [fractions.Fraction(1, parts) for parts in (64, 32, 16)]
 # Of plain Rust: millions of instructions at these scales, and MiB at full size, where they were taken.
 PLAIN = {
@@ -54,10 +55,10 @@ class Failed(Exception):
     """A run that ended in a fault."""
 
 
-def run(words, work, out=subprocess.DEVNULL):
+def run(words, work, out=subprocess.DEVNULL, more=None):
     """Runs a command on a work, whose text goes to a file where one is given; answers what it said beside it, and what it used."""
     with tempfile.TemporaryFile() as said, open(work, 'rb') as text:
-        started = subprocess.Popen(words, stdin=text, stdout=out, stderr=said)
+        started = subprocess.Popen(words, stdin=text, stdout=out, stderr=said, env={**os.environ, **(more or {})})
         _, status, used = os.wait4(started.pid, 0)
         started.returncode = os.waitstatus_to_exitcode(status)
         said.seek(0)
@@ -73,8 +74,19 @@ def instructions(program, work, out=subprocess.DEVNULL):
     return int(COLLECTED.search(said).group(1))
 
 
+def usage(program, work, out):
+    """The processor seconds that a program takes for a work, and the KiB of its peak memory: the system's own count has in it what this script holds."""
+    with tempfile.TemporaryDirectory() as folder:
+        library, told = os.path.join(folder, 'tell_usage.so'), os.path.join(folder, 'told')
+        subprocess.run([os.environ.get('CC') or 'cc', '-shared', '-fPIC', '-O1', '-o', library, os.path.join(HERE, 'tell_usage.c'), '-ldl'], check=True)
+        _, used = run([program, 'run'], work, out, {'LD_PRELOAD': library, 'TELL_USAGE': told})
+        with open(told, encoding='ascii') as numbers:
+            _threads, peak = map(int, numbers.read().split())
+    return used.ru_utime + used.ru_stime, peak
+
+
 def write_work(name, scale, path):
-    """Writes a work, in a process of its own: what this one ever held counts for the peak memory of all that it starts."""
+    """Writes a work, in a process of its own, since a text of 64 MiB takes some time to make and much memory."""
     with open(path, 'wb') as out:
         subprocess.run([sys.executable, MAKE_WORKS, name, '--scale', str(scale)], stdout=out, check=True)
 
@@ -84,7 +96,7 @@ class Measured:
 
     def __init__(self, programs, file):
         self.programs, self.rows = programs, csv.writer(file, lineterminator='\n') if file else None
-        commit = subprocess.run(['git', 'rev-parse', '--short', 'HEAD'], cwd=os.path.dirname(MAKE_WORKS), capture_output=True, text=True)
+        commit = subprocess.run(['git', 'rev-parse', '--short', 'HEAD'], cwd=HERE, capture_output=True, text=True)
         self.begins = [datetime.date.today().isoformat(), commit.stdout.strip()]
 
     def write(self, program, name, scale, cells):
@@ -113,8 +125,7 @@ class Measured:
 
     def whole(self, name, path):
         """The processor seconds and the KiB of each program on a whole work."""
-        used = self.each(name, 1, path, lambda at, out: run([at, 'run'], path, out)[1])
-        found = [(it.ru_utime + it.ru_stime, it.ru_maxrss) for it in used]
+        found = self.each(name, 1, path, lambda at, out: usage(at, path, out))
         for (program, _), (seconds, memory) in zip(self.programs, found):
             self.write(program, name, 1, ['', '%.2f' % seconds, memory])
         return found
