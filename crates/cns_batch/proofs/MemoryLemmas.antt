@@ -1,6 +1,7 @@
 -- Over honest keepers of which all is known, an event that is not refused for want of memory comes to what it does where nothing comes between.
 use Rattle.std.proofs.Common.{◌≡◌, ◌≢◌, ◌⊎◌, Bool, true, false, List, Option, Some, None, Result, Ok, Err, inl, inr, refl, sym, ap, ◌∙◌, subst}
 use Rattle.std.specs.Prelude.{IfOk, unwrap_or}
+use Rattle.cns_journal.specs.RecordLog.{LogShown}
 use Rattle.cns_ids.specs.Steps.{◌>>=◌}
 use Rattle.cns_journal.specs.Keeper.{Forecast, Unforeseen, Succeeds, Fails}
 use Rattle.cns_records.specs.Call.{Deed}
@@ -18,7 +19,7 @@ use Rattle.cns_system.specs.Devices.{node_of}
 use Rattle.cns_system.specs.Happens.{Change, Leaves, Grows, Commits, Restarts, Decision, Goes, NoMemory, DeviceFails, ClearReads, DepotReads, by_order, by_own, clear_deed, happens, judged, decided}
 use Rattle.cns_system.specs.Lot.{LotState}
 use Rattle.cns_system.specs.Scene.{Chance, ComesBack, Decides, Forgets, Scene, Sight, after_commit, comes_to, event_decision, given_back, is_foreseen, known_after, known_of, restart_decision, with_known}
-use Rattle.cns_system.specs.Shown.{LogShown, Shown}
+use Rattle.cns_system.specs.Shown.{Shown}
 use Rattle.cns_system.specs.declared.event.Event.{Event}
 use Rattle.cns_system.specs.declared.event.Event.TheVariants as event
 use Rattle.cns_system.specs.declared.event.NodeName.{NodeName}

@@ -11,13 +11,13 @@ use Rattle.cns_trades.specs.declared.fault.CsvFault.TheVariants as rows
 use Rattle.cns_trades.specs.declared.opening.Opening.{Opening}
 use Rattle.cns_trades.specs.declared.row.Row.{Row}
 use Rattle.cns_journal.specs.Keeper.{Succeeds, KeeperState}
-use Rattle.cns_journal.specs.RecordLog.{IsGivenUp}
+use Rattle.cns_journal.specs.RecordLog.{IsGivenUp, LogShown}
 use Rattle.cns_system.specs.Scene.{Chance, Scene, Sight, scene_of}
 use Rattle.cns_records.specs.Clear.{spelling}
 use Rattle.cns_records.specs.Dep.{dep_spelling}
 use Rattle.cns_records.specs.declared.clear_record.ClearRecord.{ClearRecord}
 use Rattle.cns_records.specs.declared.dep_record.DepRecord.{DepRecord}
-use Rattle.cns_system.specs.Shown.{LogShown, Shown}
+use Rattle.cns_system.specs.Shown.{Shown}
 use Rattle.cns_journal.specs.declared.record_log.ReplayFault.TheVariants as replay
 use Rattle.cns_system.specs.Start.{IsNotOpened, IsStarted}
 use Rattle.cns_system.specs.declared.fault.StartFault.{StartFault}

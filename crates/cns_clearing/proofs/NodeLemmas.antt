@@ -14,11 +14,10 @@ use Rattle.cns_records.proofs.DrawnLaws.{by_start-sound}
 use Rattle.cns_records.specs.Clear.{spelling, HasPayload, IsWritable}
 use Rattle.cns_records.specs.declared.clear_record.ClearRecord.{ClearRecord}
 use Rattle.cns_records.specs.declared.clear_record.ClearRecord.TheVariants.{Accept, Allocate}
-use Rattle.cns_journal.proofs.LogLemmas.{committed_lawful, planned_lawful, restarted_lawful}
-use Rattle.cns_journal.specs.RecordLog.{IsLawfulLog, LogCommits, LogRestarts, LogState}
+use Rattle.cns_journal.proofs.LogLemmas.{committed_lawful, planned_lawful, restarted_lawful, unread_records}
+use Rattle.cns_journal.specs.RecordLog.{IsLawfulLog, LogCommits, LogState}
 use Rattle.cns_journal.specs.declared.keeper.NotPlanned.{NotPlanned}
 use Rattle.cns_journal.specs.declared.record_log.ReplayFault.{ReplayFault}
-use Rattle.cns_journal.specs.declared.record_log.ReplayFault.TheVariants.{OutOfMemory}
 use Rattle.cns_journal.specs.declared.record_log.Restarted.{Restarted}
 use Rattle.cns_clearing.specs.Books.{Allows, AreBooksOf, AreSound, Books, IsAllowed, books_of, pool_tickets, with_record}
 use Rattle.cns_clearing.specs.Lots.{AreLots, DoesNotDisturb, lots_after}
@@ -102,13 +101,8 @@ without_lots b new are law none = record {
 pub node_restarted : (b b' : Books) (old new : ClearNode) (done : Restarted) → IsNode b old → RestartLeaves (Ok done) old new → AreBooksOf b' new.log.records → IsNode b' new
 node_restarted b b' old new done n left are = without_lots b' new are (restarted_lawful IsAllowed spelling HasPayload (Ok done) old.log new.log n.log left.0) left.1
 
--- a restart that is refused leaves the records
-unread_records : (fault : ReplayFault) (old new : LogState ClearRecord) → LogRestarts spelling IsAllowed HasPayload (Err fault) old new → new.records ≡ old.records
-unread_records OutOfMemory old new left = ap (λ (l : LogState ClearRecord). l.records) left.0
-unread_records _ old new left = ap (λ (l : LogState ClearRecord). l.records) left.0
-
--- so the node is as it was, without its lots
+-- one whose restart was refused is as it was, without its lots
 pub node_unread : (b : Books) (old new : ClearNode) (fault : ReplayFault) → IsNode b old → RestartLeaves (Err fault) old new → IsNode b new
 node_unread b old new fault n left =
-    let same = unread_records fault old.log new.log left.0 in
+    let same = unread_records IsAllowed spelling HasPayload fault old.log new.log left.0 in
     without_lots b new (subst (AreBooksOf b) (sym same) (node_books b old n)) (restarted_lawful IsAllowed spelling HasPayload (Err fault) old.log new.log n.log left.0) left.1

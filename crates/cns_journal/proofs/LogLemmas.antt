@@ -7,7 +7,7 @@ use Rattle.std.proofs.lemmas.Option.{none-some}
 use Rattle.cns_journal.specs.Keeper.{Running, Journal, Foresight, IsReopened, PlanLeaves, ReopenKeeps, StandsAsForeseen, KeeperState}
 use Rattle.cns_journal.specs.declared.keeper.NotPlanned.{NotPlanned}
 use Rattle.std.specs.Prelude.{◌==◌}
-use Rattle.cns_journal.specs.RecordLog.{GivesBack, FitsTried, IsLawfulLog, IsLog, IsGivenUp, LogCommits, LogPlanned, LogState, LogRestarts, MayStand, Restarts}
+use Rattle.cns_journal.specs.RecordLog.{GivesBack, FitsTried, IsLawfulLog, IsLog, IsGivenUp, IsReadBack, LogCommits, LogPlanned, LogShown, LogState, LogRestarts, MayStand, log_shown}
 use Rattle.cns_journal.specs.Replay.{Reread, AreAllowed, AreFit, AreReplayed, IsBadPlace, AdmitLeaves, ReplayGives, Rejects}
 use Rattle.cns_journal.specs.declared.record_log.CommitFault.{CommitFault}
 use Rattle.cns_journal.specs.declared.record_log.CommitFault.TheVariants as commit
@@ -118,23 +118,29 @@ module _ {R : Type 0} (spelling : R → List ℕ) (allows : List R → R → Typ
         → IsLog spelling fits items tried down old → IsLawfulLog allows (state_of items tried down rejected old)
         → Reread spelling allows fits (Err fault) rejected' old new → Rejects {A = List R} (Err fault) rejected rejected'
         → LogRestarts spelling allows fits (Err fault) (state_of items tried down rejected old) (state_of items tried true rejected' new)
-    restart_refused items tried down rejected rejected' old new Device n law r same = (rw (r.honest, r.foreseen.1, same) refl, r.leaves.1, r.foreseen.0)
+    restart_refused items tried down rejected rejected' old new Device n law r same = (Err Device, refl, r.honest, (same, r.leaves.1, r.foreseen.1, r.foreseen.0))
     restart_refused items tried down rejected rejected' old new (BadJournal place) n law r same = (
-      rw (r.0.leaves.0, r.0.honest, r.0.foreseen) refl,
-      r.1,
-      λ h. gives_back_good items tried rejected' place law.allowed n.all_fit law.tried n.tried_fits (n.journal_down h rejected' (r.0.keeps h).0) r.1,
+      Err (BadJournal place),
+      refl,
+      r.0.honest,
+      (
+        ap (λ (x : Running). x.failures) r.0.leaves.0,
+        r.0.foreseen,
+        r.1,
+        λ h. gives_back_good items tried rejected' place law.allowed n.all_fit law.tried n.tried_fits (n.journal_down h rejected' (r.0.keeps h).0) r.1,
+      ),
     )
     restart_refused items tried down rejected rejected' old new OutOfMemory n law r same =
         elim r [
-          | inl none ↦ (rw (none.leaves, none.honest, same) refl, ap (λ (f : Foresight). f.next) none.foreseen)
-          | inr some ↦ (rw (some.1.leaves.0, some.1.honest, same) refl, ap (λ (f : Foresight). f.next) some.1.foreseen)
+          | inl none ↦ (Err OutOfMemory, refl, none.honest, (same, ap (λ (x : Running). x.failures) none.leaves, inl none.foreseen))
+          | inr some ↦ (Err OutOfMemory, refl, some.1.honest, (same, ap (λ (x : Running). x.failures) some.1.leaves.0, inr some.1.foreseen))
         ]
 
     -- one more record came back, or none
     restarts : (items items' : List R) (tried : Option R) (down : Bool) (rejected : List (List ℕ)) (old new : KeeperState) (kept : Bool)
         → AreFit fits items → AreFit fits items' → FitsTried fits tried → GivesBack spelling items tried (map spelling items')
         → kept ≡ (length items' == length items + 1)
-        → Restarts kept (state_of items tried down rejected old) (state_of items' None false [] new)
+        → IsReadBack kept (state_of items tried down rejected old) (reverse items')
     restarts items items' tried down rejected old new kept fit fit' tried_fits gives test =
         elim gives [
           | inl same ↦
@@ -166,13 +172,21 @@ module _ {R : Type 0} (spelling : R → List ℕ) (allows : List R → R → Typ
         → LogRestarts spelling allows fits (Ok (record { records = n; kept = a == b + 1 })) (state_of items tried down rejected old) (state_of items' None false [] new)
     restart_accepted items items' tried down rejected old new a b n log r a_is b_is n_is =
         let test : (a == b + 1) ≡ (length items' == length items + 1) = rw (a_is, b_is) refl in (
-          rw (r.0.leaves.0, r.0.honest, r.0.foreseen) refl,
-          n_is ∙ sym (length-reverse items'),
-          rw (length-reverse items', length-reverse items) test,
-          r.1.allowed,
-          λ h. restarts items items' tried down rejected old new (a == b + 1) log.all_fit r.1.all_fit log.tried_fits
-              (log.journal_down h (map spelling items') (r.0.keeps h).0) test,
-          λ h stands is. kept_as_foreseen items items' tried old.journal old.foresight.stands (a == b + 1) stands (log.foreseen h) (r.0.stands h) test is,
+          Ok (reverse items'),
+          rw (length-reverse items', length-reverse items, n_is, test) refl,
+          r.0.honest,
+          (
+            refl,
+            ap (λ (x : Running). x.failures) r.0.leaves.0,
+            r.0.foreseen,
+            r.1.allowed,
+            λ h. (
+              a == b + 1,
+              restarts items items' tried down rejected old new (a == b + 1) log.all_fit r.1.all_fit log.tried_fits
+                  (log.journal_down h (map spelling items') (r.0.keeps h).0) test,
+              λ stands is. kept_as_foreseen items items' tried old.journal old.foresight.stands (a == b + 1) stands (log.foreseen h) (r.0.stands h) test is,
+            ),
+          ),
         )
 
   -- a log whose keeper has the same journal, and knows the same beforehand of the record whose commit failed
@@ -265,10 +279,25 @@ module _ {R : Type 0} (allows : List R → R → Type 0) where
       → LogPlanned stands result old new → IsLawfulLog allows new
   planned_lawful stands result old new law left = rw left.1 (record { allowed = law.allowed; tried = law.tried; up = law.up })
 
+  -- a log that shows what a lawful one may
+  lawful_of : (new : LogState R) (shown : LogShown R) → shown ≡ log_shown new → AreAllowed allows shown.records → MayStand allows shown.records shown.tried
+      → (shown.down ≡ false → shown.tried ≡ None) → IsLawfulLog allows new
+  lawful_of new shown is allowed tried up = record {
+    allowed = subst (λ (s : LogShown R). AreAllowed allows s.records) is allowed;
+    tried = subst (λ (s : LogShown R). MayStand allows s.records s.tried) is tried;
+    up = subst (λ (s : LogShown R). s.down ≡ false → s.tried ≡ None) is up;
+  }
+
   -- a restart
   pub restarted_lawful : (spelling : R → List ℕ) (fits : R → Type 0) (result : Result Restarted ReplayFault) (old new : LogState R)
       → IsLawfulLog allows old → LogRestarts spelling allows fits result old new → IsLawfulLog allows new
-  restarted_lawful spelling fits (Ok done) old new law left = rw left.0 (record { allowed = left.3; tried = tt; up = λ up. refl })
-  restarted_lawful spelling fits (Err OutOfMemory) old new law left = rw left.0 (record { allowed = law.allowed; tried = law.tried; up = λ now. cc })
-  restarted_lawful spelling fits (Err (BadJournal place)) old new law left = rw left.0 (record { allowed = law.allowed; tried = law.tried; up = λ now. cc })
-  restarted_lawful spelling fits (Err Device) old new law left = rw left.0 (record { allowed = law.allowed; tried = law.tried; up = λ now. cc })
+  restarted_lawful spelling fits result old new law (Ok records, is, honest, left) =
+      lawful_of new (record { records = records; tried = None; down = false }) (ap (λ (p : Result Restarted ReplayFault × LogShown R). p.1) is) left.3 tt (λ up. refl)
+  restarted_lawful spelling fits result old new law (Err fault, is, honest, left) =
+      lawful_of new (record (log_shown old) { down = true }) (ap (λ (p : Result Restarted ReplayFault × LogShown R). p.1) is) law.allowed law.tried (λ up. absurd cc)
+
+  -- one that is refused leaves the records
+  pub unread_records : (spelling : R → List ℕ) (fits : R → Type 0) (fault : ReplayFault) (old new : LogState R)
+      → LogRestarts spelling allows fits (Err fault) old new → new.records ≡ old.records
+  unread_records spelling fits fault old new (Ok records, is, honest, left) = let told = ap (λ (p : Result Restarted ReplayFault × LogShown R). p.0) is in absurd cc
+  unread_records spelling fits fault old new (Err other, is, honest, left) = sym (ap (λ (p : Result Restarted ReplayFault × LogShown R). p.1.records) is)

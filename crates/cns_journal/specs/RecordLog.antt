@@ -21,6 +21,15 @@ pub record LogState (R : Type 0) : Type 0 where
   pub honest : Bool
   pub foresight : Foresight
 
+-- what a log shows but what it tells of its keeper: the records, the newest first; the record whose commit failed; and whether the node is down
+pub record LogShown (R : Type 0) : Type 0 where
+  pub records : List R
+  pub tried : Option R
+  pub down : Bool
+
+abbrev pub log_shown : {R : Type 0} → LogState R → LogShown R
+log_shown log = record { records = log.records; tried = log.tried; down = log.down }
+
 -- no two records have one payload
 abbrev pub HaveOwnPayloads : {R : Type 0} → (R → List ℕ) → (R → Type 0) → Type 0
 HaveOwnPayloads spelling fits = (a b : _) → fits a → fits b → spelling a ≡ spelling b → a ≡ b
@@ -64,26 +73,38 @@ pub record IsLawfulLog {R : Type 0} (allows : List R → R → Type 0) (log : Lo
   pub tried : MayStand allows log.records log.tried
   pub up : log.down ≡ false → log.tried ≡ None
 
--- where the keeper is honest: the records are as before, and then the one whose commit failed, where so answered
-abbrev pub Restarts : {R : Type 0} → Bool → LogState R → LogState R → Type 0
-Restarts false old new = new.records ≡ old.records
-Restarts true old new = (r : _) × (old.tried ≡ Some r) × (new.records ≡ r ∷ old.records)
+-- the records are as before, and then the one whose commit failed, where that came back
+abbrev pub IsReadBack : {R : Type 0} → Bool → LogState R → List R → Type 0
+IsReadBack false log records = records ≡ log.records
+IsReadBack true log records = (r : _) × (log.tried ≡ Some r) × (records ≡ r ∷ log.records)
 
--- what a restart leaves, by its answer: a refused one puts the log down, and changes nothing else that it shows but what is known
--- beforehand of the record whose commit failed, and the payloads that it read where one of them is bad
-abbrev pub LogRestarts : {R : Type 0} → (R → List ℕ) → (List R → R → Type 0) → (R → Type 0) → Result Restarted ReplayFault → LogState R → LogState R → Type 0
-LogRestarts spelling allows fits (Ok r) old new =
-    (new ≡ record old { records = new.records; tried = None; down = false; rejected = []; foresight = record old.foresight { stands = None } })
-    × (r.records ≡ length new.records) × (r.kept ≡ (length new.records == length old.records + 1)) × AreAllowed allows new.records
-    × (old.honest ≡ true → Restarts r.kept old new)
-    × (old.honest ≡ true → (stands : Bool) → old.foresight.stands ≡ Some stands → r.kept ≡ stands)
-LogRestarts spelling allows fits (Err replay.OutOfMemory) old new =
-    (new ≡ record old { down = true; foresight = new.foresight }) × (new.foresight.next ≡ old.foresight.next)
-LogRestarts spelling allows fits (Err (replay.BadJournal place)) old new =
-    (new ≡ record old { down = true; rejected = new.rejected; foresight = record old.foresight { stands = None } })
+-- what a restart answers and leaves of a log, by what reading its journal again gave, the newest record first: how many records there are, and whether
+-- there is just one more than before; where the reading was refused, the log is down, also if it was up, with its records and the one whose commit failed
+abbrev pub restarted : {R : Type 0} → Result (List R) ReplayFault → LogShown R → Result Restarted ReplayFault × LogShown R
+restarted (Ok records) log =
+    (Ok (record { records = length records; kept = length records == length log.records + 1 }), record { records = records; tried = None; down = false })
+restarted (Err fault) log = (Err fault, record log { down = true })
+
+-- what reading the journal again may give, and what it leaves besides: the payloads of a bad reading, how often the device failed, and what is known
+-- beforehand. (Where memory is wanting for the records, the keeper may have read its journal all the same, and decided what became of an undecided one.)
+abbrev pub ReadingLeaves : {R : Type 0} → (R → List ℕ) → (List R → R → Type 0) → (R → Type 0) → Result (List R) ReplayFault → LogState R → LogState R → Type 0
+ReadingLeaves spelling allows fits (Ok records) old new =
+    (new.rejected ≡ []) × (new.failures ≡ old.failures) × (new.foresight ≡ record old.foresight { stands = None }) × AreAllowed allows records
+    × (old.honest ≡ true → (back : Bool) × IsReadBack back old records × ((stands : Bool) → old.foresight.stands ≡ Some stands → back ≡ stands))
+ReadingLeaves spelling allows fits (Err replay.OutOfMemory) old new =
+    (new.rejected ≡ old.rejected) × (new.failures ≡ old.failures)
+    × ((new.foresight ≡ old.foresight) ⊎ (new.foresight ≡ record old.foresight { stands = None }))
+ReadingLeaves spelling allows fits (Err (replay.BadJournal place)) old new =
+    (new.failures ≡ old.failures) × (new.foresight ≡ record old.foresight { stands = None })
     × IsBadPlace spelling allows fits new.rejected place × (old.honest ≡ true → ⊥)
-LogRestarts spelling allows fits (Err replay.Device) old new =
-    (new ≡ record old { down = true; failures = new.failures }) × HasRisen old.failures new.failures × (old.foresight.next ≡ Unforeseen)
+ReadingLeaves spelling allows fits (Err replay.Device) old new =
+    (new.rejected ≡ old.rejected) × HasRisen old.failures new.failures × (new.foresight ≡ old.foresight) × (old.foresight.next ≡ Unforeseen)
+
+-- a restart: by something that reading the journal again gave it answers and leaves the log; its keeper stays as honest as it was
+abbrev pub LogRestarts : {R : Type 0} → (R → List ℕ) → (List R → R → Type 0) → (R → Type 0) → Result Restarted ReplayFault → LogState R → LogState R → Type 0
+LogRestarts {R} spelling allows fits result old new =
+    (reading : Result (List R) ReplayFault) × (restarted reading (log_shown old) ≡ (result, log_shown new)) × (new.honest ≡ old.honest)
+    × ReadingLeaves spelling allows fits reading old new
 
 -- what an opening gives: a log that is up, with the records that its keeper gave, each of which has a payload of its own
 pub record IsOpened {R : Type 0} (spelling : R → List ℕ) (allows : List R → R → Type 0) (fits : R → Type 0) (keeper : KeeperState) (log : LogState R) : Type 0 where

@@ -1,7 +1,7 @@
 -- What the call of a node leaves is what an event comes to.
 use Rattle.std.proofs.Common.{◌≡◌, List, Result, Ok, Err, refl, ap}
 use Rattle.cns_ids.specs.Steps.{◌>>=◌}
-use Rattle.cns_journal.specs.RecordLog.{LogState}
+use Rattle.cns_journal.specs.RecordLog.{LogShown, LogState, log_shown}
 use Rattle.cns_journal.specs.declared.record_log.CommitFault.{CommitFault}
 use Rattle.cns_journal.specs.declared.record_log.CommitFault.TheVariants as commit
 use Rattle.cns_records.specs.Call.{CallLeaves, Deed, answered}
@@ -16,7 +16,7 @@ use Rattle.cns_system.specs.Happens.{by_clear, clear_deed, judged, outcome_of}
 use Rattle.cns_system.specs.Lot.{LotState}
 use Rattle.cns_system.specs.Numbered.{IsNumberedCommit, NumberedNode}
 use Rattle.cns_system.specs.Scene.{Comes, Sight, scene_of, sight_of}
-use Rattle.cns_system.specs.Shown.{LogShown, clear_failed, log_shown, shown_of}
+use Rattle.cns_system.specs.Shown.{clear_failed, shown_of}
 use Rattle.cns_system.specs.World.{World}
 use Rattle.cns_system.specs.declared.event.Event.{Event}
 use Rattle.cns_system.specs.declared.event.NodeName.TheVariants as node

@@ -1,5 +1,5 @@
 -- What holds of each change that an event may come to: one lemma for each kind of event, over any property of what is told and left. A refusal needs no case.
-use Rattle.std.proofs.Common.{◌≡◌, ◌∙◌, ◌+◌, ◌++◌, [], ◌∷◌, ℕ, Bool, true, false, List, length, Option, Some, None, Result, Ok, Err, ap, refl}
+use Rattle.std.proofs.Common.{◌≡◌, ◌∙◌, ◌+◌, ◌++◌, [], ◌∷◌, ℕ, Bool, true, false, List, length, Option, Some, None, Result, Ok, Err, ap, not, refl}
 use Rattle.std.specs.Prelude.{IfOk, nat_lt}
 use Rattle.std.specs.Option.{is_none, ok_or, option_flatten}
 use Rattle.cns_ids.specs.Steps.{◌>>=◌, ◌>>◌, need}
@@ -8,6 +8,7 @@ use Rattle.cns_movements.specs.declared.order.Order.{Order}
 use Rattle.cns_movements.specs.declared.order.Reply.{Reply}
 use Rattle.cns_movements.proofs.AgreeLemmas.{agree_fields}
 use Rattle.cns_pool.specs.declared.ticket.Ticket.{Ticket}
+use Rattle.cns_allocate.specs.declared.planned.Planned.{Planned}
 use Rattle.cns_wire.specs.Packet.{at_number}
 use Rattle.cns_records.specs.Call.{Deed}
 use Rattle.cns_records.specs.Call as call
@@ -18,7 +19,7 @@ use Rattle.cns_records.specs.declared.dep_record.DepRecord.TheVariants as dep
 use Rattle.cns_records.specs.declared.instruction.Instruction.{Instruction}
 use Rattle.cns_records.specs.declared.refusal.Refusal.{Refusal}
 use Rattle.cns_records.specs.declared.refusal.Refusal.TheVariants as refusal
-use Rattle.cns_clearing.specs.Answers.{reply_call, need_up}
+use Rattle.cns_clearing.specs.Answers.{need_up, open_call, pour_call, reply_call}
 use Rattle.cns_clearing.specs.Books.{orders_of}
 use Rattle.cns_clearing.specs.Lots.{lots_poured, new_lot}
 use Rattle.cns_clearing.specs.Pools.{free_of, lot_of}
@@ -46,7 +47,7 @@ use Rattle.cns_system.proofs.LotsLemmas.{IsGoing, going_parts}
 use Rattle.cns_system.proofs.NumberedLemmas.{IsDrawn, ticket_parts}
 use Rattle.cns_system.proofs.OrderDeeds.{IsOrderDeed, IsOwnDeed, order_deeds, own_deeds}
 use Rattle.cns_system.proofs.RecordedLemmas.{Commits, IsClose, Recorded, allocated, close_records, ok_up, reply_records}
-use Rattle.cns_system.proofs.StepLemmas.{ok_found, ok_then, steps_by}
+use Rattle.cns_system.proofs.StepLemmas.{ok_found, ok_needed, ok_then, steps_by}
 
 -- the packet of a number spells this order, or this reply
 abbrev pub Arrives : {A : Type 0} → List (Option A) → ℕ → A → Type 0
@@ -84,17 +85,18 @@ module _ (P : Outcome → Shown → Type 0) (d : Decision) (w : Shown) where
       → (lot_of w.open_lots issue ≡ None → let lot = new_lot w.clear.records issue in
       P (outcomes.LotOpened (record { number = length w.lots + 1; poured = lot.poured; plan = lot.plan })) (with_new_lot lot w))
       → Holding (judged (event.LotOpen issue) w)
-  unfolding judged numbered_open
+  unfolding judged numbered_open open_call
   open_holds issue opens = by w.clear.down (lot_of w.open_lots issue) refl (nat_lt (length w.lots) 1000000)
     where
       lot : Lot
       lot = new_lot w.clear.records issue
 
-      opened : Result (Opened × Lot) Refusal
-      opened = Ok (record { number = length w.lots + 1; poured = lot.poured; plan = lot.plan }, lot)
+      numbered : List Planned → Result (Opened × Lot) Refusal
+      numbered plan = Ok (record { number = length w.lots + 1; poured = lot.poured; plan = plan }, lot)
 
       by : (down : Bool) (found : Option Lot) → lot_of w.open_lots issue ≡ found → (few : Bool)
-          → Holding (need_up down >> (need (is_none found) refusal.LotAlready >> (need few refusal.LotsSpent >> opened)) >>= λ o. Ok (Grows (outcomes.LotOpened o.0) (with_new_lot o.1 w)))
+          → Holding (((need_up down >> need (is_none found) refusal.LotAlready >> Ok (lot.plan, w.open_lots ++ lot ∷ [])) >>= λ (o : List Planned × List Lot). need few refusal.LotsSpent >> numbered o.0)
+          >>= λ o. Ok (Grows (outcomes.LotOpened o.0) (with_new_lot o.1 w)))
       by true found is few = tt
       by false None is false = tt
       by false None is true = opens is
@@ -105,12 +107,15 @@ module _ (P : Outcome → Shown → Type 0) (d : Decision) (w : Shown) where
       → ((lot : LotState) → IsGoing w.lots number lot
       → P (outcomes.Poured (free_of (orders_of w.clear.records) w.open_lots lot.issue)) (record w { open_lots = lots_poured w.clear.records lot.issue w.open_lots }))
       → Holding (judged (event.LotPour number) w)
-  unfolding judged numbered_pour
+  unfolding judged numbered_pour pour_call
   pour_holds number pours =
       let told : ℕ × List Lot → Result Change Refusal = λ poured. Ok (Leaves (outcomes.Poured poured.0) (record w { open_lots = poured.1 })) in
+      let Held : ℕ × List Lot → Type 0 = λ poured. IfOk (told poured) (Holds P d w) in
+      let has : LotState → Bool = λ lot. not (is_none (lot_of w.open_lots lot.issue)) in
       let poured : LotState → Result (ℕ × List Lot) Refusal = λ lot. Ok (free_of (orders_of w.clear.records) w.open_lots lot.issue, lots_poured w.clear.records lot.issue w.open_lots) in
-      steps_by (Holds P d w) (going_lot w.lots number) (λ lot. need_up w.clear.down >> poured lot) told
-      (λ lot going. ok_up (λ (p : ℕ × List Lot). IfOk (told p) (Holds P d w)) w.clear.down (poured lot) (λ up. pours lot (going_parts w.lots number lot going)))
+      steps_by (Holds P d w) (going_lot w.lots number) (λ lot. pour_call lot.issue w.clear.down w.clear.records w.open_lots) told
+      (λ lot going. ok_up Held w.clear.down (need (has lot) refusal.NoLot >> poured lot) (λ up.
+      ok_needed Held (has lot) refusal.NoLot (poured lot) (λ is. pours lot (going_parts w.lots number lot going))))
 
   pub reserve_holds : (number member : ℕ)
       → ((lot : LotState) (t : Ticket) → IsGoing w.lots number lot → IsDrawn lot member t

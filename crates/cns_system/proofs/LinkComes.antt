@@ -4,7 +4,7 @@ use Rattle.std.specs.Option.{option_flatten}
 use Rattle.std.proofs.lemmas.List.{length-append, length-map, map-append}
 use Rattle.std.proofs.lemmas.Option.{same_Some, slice_get-map}
 use Rattle.std.proofs.Common.{zero, suc, ◌≡◌, ◌∙◌, ◌+◌, ◌++◌, [], ◌∷◌, ℕ, Bool, true, false, List, length, Option, Some, None, Result, Ok, Err, inl, inr, refl, sym, ap, subst}
-use Rattle.cns_journal.specs.RecordLog.{LogState}
+use Rattle.cns_journal.specs.RecordLog.{LogShown, LogState, log_shown}
 use Rattle.cns_journal.specs.declared.record_log.CommitFault.{CommitFault}
 use Rattle.cns_journal.specs.declared.record_log.CommitFault.TheVariants as commit
 use Rattle.cns_movements.specs.Order.{AgreesWith, order_of}
@@ -42,7 +42,7 @@ use Rattle.cns_system.specs.Devices.{node_of}
 use Rattle.cns_system.specs.Happens.{Commits, Grows, NoMemory, answer_told, answer_reply, by_order, by_own, judged, outcome_of, own_told, decided, taken_told}
 use Rattle.cns_system.specs.Numbered.{NumberedNode}
 use Rattle.cns_system.specs.Scene.{Comes, Sight, scene_of, sight_of}
-use Rattle.cns_system.specs.Shown.{LogShown, Shown, depot_failed, log_shown, shown_of}
+use Rattle.cns_system.specs.Shown.{Shown, depot_failed, shown_of}
 use Rattle.cns_system.specs.World.{AreFrames, IsOrderFrame, World, order_in_packet, order_spelt, reply_in_packet, reply_spelt}
 use Rattle.cns_system.specs.declared.event.Event.{Event}
 use Rattle.cns_system.specs.declared.event.Event.TheVariants as event

@@ -43,7 +43,7 @@ use Rattle.cns_wire.specs.Packet.{at_number}
 use Rattle.cns_system.specs.Lots.{change_call, going_lot, turn_ticket, reserve_call, with_lot}
 use Rattle.cns_system.specs.Numbered.{AreTied, IsNumberedCommit, NumberedNode, numbered_close, lots_ended, numbered_open, opening_call, numbered_pour, with_opened}
 use Rattle.cns_system.proofs.LotsLemmas.{IsGoing, going_parts}
-use Rattle.cns_system.proofs.RecordedLemmas.{IsMet, Recorded, is_met}
+use Rattle.cns_system.proofs.RecordedLemmas.{IsCloseOf, IsMet, Recorded, close_record, is_met}
 use Rattle.cns_system.proofs.StepLemmas.{ok_found, ok_needed, ok_then}
 use Rattle.cns_system.proofs.TiedLemmas.{ended_lots, found_poured, found_without, poured_keeps, tied_changed, tied_more}
 
@@ -172,11 +172,11 @@ open_tied old new lots after issue plan lot are none opened is_plan lawful is_lo
     (tied_more old.lots lots (node.new_lot old.log.records issue) lot are (ap (λ (l : LotState). lot_of old.lots l.issue) is_lot ∙ none) (ap (λ (l : LotState). l.issue) (sym is_lot)) one))
 
 pub opening_down : (issue : ℕ) (n : NumberedNode) → n.clear.log.down ≡ true → opening_call issue n ≡ Err refusal.Down
-unfolding numbered_open
+unfolding numbered_open clear.open_call
 opening_down issue n is = rw is refl
 
 pub opening_again : (issue : ℕ) (n : NumberedNode) → n.clear.log.down ≡ false → IsSome (lot_of n.clear.lots issue) → opening_call issue n ≡ Err refusal.LotAlready
-unfolding numbered_open
+unfolding numbered_open clear.open_call
 opening_again issue n up some = by (lot_of n.clear.lots issue) refl some
   where
     by : (o : Option Lot) → lot_of n.clear.lots issue ≡ o → IsSome o → opening_call issue n ≡ Err refusal.LotAlready
@@ -184,13 +184,13 @@ opening_again issue n up some = by (lot_of n.clear.lots issue) refl some
     by (Some lot) found some = rw (up, found) refl
 
 pub opening_spent : (issue : ℕ) (n : NumberedNode) → n.clear.log.down ≡ false → lot_of n.clear.lots issue ≡ None → 1000000 ≤ length n.lots → opening_call issue n ≡ Err refusal.LotsSpent
-unfolding numbered_open
+unfolding numbered_open clear.open_call
 opening_spent issue n up none spent = let full : nat_lt (length n.lots) 1000000 ≡ false = grind (arith, nat_tests, spent) in rw (up, none, full) refl
 
 pub opening_goes : (issue : ℕ) (n : NumberedNode) → n.clear.log.down ≡ false → lot_of n.clear.lots issue ≡ None → length n.lots < 1000000
     → let lot = node.new_lot n.clear.log.records issue in
     opening_call issue n ≡ Ok (record { number = length n.lots + 1; poured = lot.poured; plan = lot.plan }, with_opened lot n)
-unfolding numbered_open
+unfolding numbered_open clear.open_call
 opening_goes issue n up none room = let few : nat_lt (length n.lots) 1000000 ≡ true = grind (arith, nat_tests, room) in rw (up, none, few) refl
 
 -- ---- a pour
@@ -214,12 +214,9 @@ unfolding numbered_pour
 poured_of number node lots l new shares are going up h =
     let at = going_parts lots number l going in
     let twin = are.each number l at.found at.going in
-    let free = free_of (orders_of node.log.records) node.lots l.issue in
-    let left : (Ok shares ≡ Ok free) × (new ≡ lots_poured node.log.records l.issue node.lots) =
-    rw (pours l.issue node.log.down node.log.records node.lots twin.twin up twin.found) at h in (
-      changed (numbered_pour number node.log.down node.log.records node.lots lots) free (lots_poured node.log.records l.issue node.lots) (Ok shares) node.lots new (rw (going, up) refl) left.0 left.1,
-      left.1,
-    )
+    let left : (Ok shares ≡ Ok (free_of (orders_of node.log.records) node.lots l.issue)) × (new ≡ lots_poured node.log.records l.issue node.lots) =
+    rw (pours l.issue node.log.down node.log.records node.lots twin.twin up twin.found) at h in
+    (rw going h, left.1)
 
 pub pour_none : (number : ℕ) (down : Bool) (c : List ClearRecord) (open_lots : List Lot) (lots : List LotState) (r : Refusal) → going_lot lots number ≡ Err r
     → numbered_pour number down c open_lots lots ≡ Err r
@@ -228,7 +225,7 @@ pour_none number down c open_lots lots r none = rw none refl
 
 pub pour_down : (number : ℕ) (down : Bool) (c : List ClearRecord) (open_lots : List Lot) (lots : List LotState) (l : LotState) → going_lot lots number ≡ Ok l → down ≡ true
     → numbered_pour number down c open_lots lots ≡ Err refusal.Down
-unfolding numbered_pour
+unfolding numbered_pour clear.pour_call
 pour_down number down c open_lots lots l going is = rw (going, is) refl
 
 -- the node never refuses it
@@ -288,7 +285,7 @@ served_by number open_lots lots l are at met = λ twin found.
 -- the close of the lot of a number is that of the node's lot of its issue
 pub close_is : (number : ℕ) (down : Bool) (c : List ClearRecord) (open_lots : List Lot) (lots : List LotState) (l : LotState) → going_lot lots number ≡ Ok l → down ≡ false → IsMet l
     → numbered_close number down c open_lots lots ≡ clear.close_call l.issue l.tickets l.sealed down c open_lots
-unfolding numbered_close clear.close_call
+unfolding numbered_close
 close_is number down c open_lots lots l going up met = rw (going, up, met_told l met) refl
 
 pub close_none : (number : ℕ) (down : Bool) (c : List ClearRecord) (open_lots : List Lot) (lots : List LotState) (r : Refusal) → going_lot lots number ≡ Err r
@@ -305,22 +302,6 @@ pub close_unserved : (number : ℕ) (down : Bool) (c : List ClearRecord) (open_l
     → (IsMet l → ⊥) → numbered_close number down c open_lots lots ≡ Err refusal.Unserved
 unfolding numbered_close
 close_unserved number down c open_lots lots l going up waits = rw (going, up, not_met l waits) refl
-
--- what the node's close comes to where it is not refused: the record of its lot
-pub record IsCloseOf (issue : ℕ) (tickets : List Ticket) (sealed : Bool) (c : List ClearRecord) (lots : List Lot) (d : Deed ClearRecord Closed) : Type 0 where
-  pub lot : Lot
-  pub found : lot_of lots issue ≡ Some lot
-  pub is : d ≡ call.Commits (entry.Allocate (closing_allocation lot tickets sealed)) (closed_of lot tickets sealed c)
-
-pub close_record : (issue : ℕ) (tickets : List Ticket) (sealed down : Bool) (c : List ClearRecord) (lots : List Lot)
-    → IfOk (clear.close_call issue tickets sealed down c lots) (IsCloseOf issue tickets sealed c lots)
-unfolding clear.close_call
-close_record issue tickets sealed true c lots = tt
-close_record issue tickets sealed false c lots =
-    let Q = IsCloseOf issue tickets sealed c lots in
-    ok_found Q (lot_of lots issue) refusal.NoLot (close_deed tickets sealed c) (λ lot found.
-    ok_needed Q (not (are_spent (orders_of c) (length (deliveries_by lot tickets sealed)))) refusal.NumbersSpent
-    (Ok (call.Commits (entry.Allocate (closing_allocation lot tickets sealed)) (closed_of lot tickets sealed c))) (λ few. record { lot = lot; found = found; is = refl }))
 
 -- the end of a lot that has not ended
 pub end_is : (lots after : List LotState) (number : ℕ) (l : LotState) (r : Result (Unit {0}) Refusal) → going_lot lots number ≡ Ok l → Changes (change_call with_end number lots) r lots after

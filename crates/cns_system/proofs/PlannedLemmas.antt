@@ -2,11 +2,12 @@
 use Rattle.std.proofs.Common.{◌≡◌, ◌≢◌, ◌∙◌, Bool, true, Result, Ok, Err, ap, refl, sym, subst}
 use Rattle.cns_journal.specs.Keeper.{Forecast, Foresight, Unforeseen}
 use Rattle.cns_journal.specs.declared.keeper.NotPlanned.{NotPlanned}
+use Rattle.cns_journal.specs.RecordLog.{log_shown}
 use Rattle.cns_system.specs.Accord.{Accord, IsInAccord}
 use Rattle.cns_system.specs.Headline.{AreStrict}
 use Rattle.cns_system.specs.Readers.{PlanStep}
 use Rattle.cns_system.specs.Scene.{Plans, Scene, is_foreseen, scene_of, sight_of}
-use Rattle.cns_system.specs.Shown.{Shown, log_shown, shown_of}
+use Rattle.cns_system.specs.Shown.{Shown, shown_of}
 use Rattle.cns_system.specs.World.{World}
 use Rattle.cns_system.specs.declared.event.NodeName.{NodeName}
 use Rattle.cns_system.specs.declared.event.NodeName.TheVariants as node

@@ -2,6 +2,7 @@
 use Rattle.std.proofs.Common.{◌≡◌, ◌==◌, ◌||◌, ℕ, Bool, length, true, false, List, Some, Result, Ok, Err, [], ◌∷◌, arith, inl, inr, not, refl}
 use Rattle.std.specs.Prelude.{◌⊎◌, IfOk}
 use Rattle.std.proofs.lemmas.Bool.Decides.{nat_tests}
+use Rattle.std.proofs.lemmas.Result.{IfOk-weaker}
 use Rattle.std.specs.Option.{ok_or}
 use Rattle.cns_ids.specs.Steps.{◌>>=◌, ◌>>◌, need}
 use Rattle.cns_ids.specs.declared.cycle.CycleId.{CycleId}
@@ -17,8 +18,9 @@ use Rattle.cns_records.specs.declared.clear_record.ClearRecord.{ClearRecord}
 use Rattle.cns_records.specs.declared.clear_record.ClearRecord.TheVariants as entry
 use Rattle.cns_records.specs.declared.refusal.Refusal.{Refusal}
 use Rattle.cns_records.specs.declared.refusal.Refusal.TheVariants as refusal
+use Rattle.cns_pool.specs.declared.ticket.Ticket.{Ticket}
 use Rattle.cns_allocate.specs.declared.planned.Planned.{Planned}
-use Rattle.cns_clearing.specs.Answers.{closing_allocation, answer_in, close_deed, closed_of, covers_in, cycle_call, cycled_of, deliveries_by, reply_call, setting_call, trade_call, need_up, verdict_in}
+use Rattle.cns_clearing.specs.Answers.{closing_allocation, answer_in, close_call, close_deed, closed_of, covers_in, cycle_call, cycled_of, deliveries_by, reply_call, setting_call, trade_call, need_up, verdict_in}
 use Rattle.cns_clearing.specs.Books.{are_spent, is_later, latest_of, orders_of}
 use Rattle.cns_clearing.specs.Pools.{lot_of}
 use Rattle.cns_clearing.specs.declared.answer.Closed.{Closed}
@@ -121,18 +123,32 @@ allocated close = entry.Allocate (closing_allocation close.twin close.lot.ticket
 abbrev pub Closes : ℕ → Bool → List Lot → List LotState → Deed ClearRecord Closed → Type 0
 Closes number down open_lots lots d = Recorded down (λ x. ⊥) (λ r x. (close : IsClose number open_lots lots) × (r ≡ allocated close)) d
 
+-- what the node's close comes to where it is not refused: the record of its lot
+pub record IsCloseOf (issue : ℕ) (tickets : List Ticket) (sealed : Bool) (c : List ClearRecord) (lots : List Lot) (d : Deed ClearRecord Closed) : Type 0 where
+  pub lot : Lot
+  pub found : lot_of lots issue ≡ Some lot
+  pub is : d ≡ call.Commits (entry.Allocate (closing_allocation lot tickets sealed)) (closed_of lot tickets sealed c)
+
+pub close_record : (issue : ℕ) (tickets : List Ticket) (sealed down : Bool) (c : List ClearRecord) (lots : List Lot)
+    → IfOk (close_call issue tickets sealed down c lots) (IsCloseOf issue tickets sealed c lots)
+unfolding close_call
+close_record issue tickets sealed true c lots = tt
+close_record issue tickets sealed false c lots =
+    let Q = IsCloseOf issue tickets sealed c lots in
+    ok_found Q (lot_of lots issue) refusal.NoLot (close_deed tickets sealed c) (λ lot found.
+    ok_needed Q (not (are_spent (orders_of c) (length (deliveries_by lot tickets sealed)))) refusal.NumbersSpent
+    (Ok (call.Commits (entry.Allocate (closing_allocation lot tickets sealed)) (closed_of lot tickets sealed c))) (λ few. record { lot = lot; found = found; is = refl }))
+
 pub close_records : (number : ℕ) (down : Bool) (c : List ClearRecord) (open_lots : List Lot) (lots : List LotState)
     → IfOk (numbered_close number down c open_lots lots) (Closes number down open_lots lots)
 unfolding numbered_close
 close_records number down c open_lots lots =
     let Q = Closes number down open_lots lots in
-    let deed : LotState → Lot → Result (Deed ClearRecord Closed) Refusal = λ lot twin. close_deed lot.tickets lot.sealed c twin in
-    let twin : LotState → Result (Deed ClearRecord Closed) Refusal = λ lot. ok_or (lot_of open_lots lot.issue) refusal.NoLot >>= deed lot in
+    let close : LotState → Result (Deed ClearRecord Closed) Refusal = λ lot. close_call lot.issue lot.tickets lot.sealed down c open_lots in
     let served : LotState → Bool = λ lot. lot.sealed || (length lot.turns == 0) in
-    ok_then Q (going_lot lots number) (λ lot. need_up down >> (need (served lot) refusal.Unserved >> twin lot)) (λ lot going.
-    ok_up Q down (need (served lot) refusal.Unserved >> twin lot) (λ up.
-    ok_needed Q (served lot) refusal.Unserved (twin lot) (λ met.
-    ok_found Q (lot_of open_lots lot.issue) refusal.NoLot (deed lot) (λ k found.
-    ok_needed Q (not (are_spent (orders_of c) (length (deliveries_by k lot.tickets lot.sealed)))) refusal.NumbersSpent
-    (Ok (call.Commits (entry.Allocate (closing_allocation k lot.tickets lot.sealed)) (closed_of k lot.tickets lot.sealed c))) (λ few.
-    let close : IsClose number open_lots lots = record { lot = lot; at = going_parts lots number lot going; met = is_met lot met; twin = k; found = found } in (up, (close, refl)))))))
+    ok_then Q (going_lot lots number) (λ lot. need_up down >> (need (served lot) refusal.Unserved >> close lot)) (λ lot going.
+    ok_up Q down (need (served lot) refusal.Unserved >> close lot) (λ up.
+    ok_needed Q (served lot) refusal.Unserved (close lot) (λ met.
+    IfOk-weaker (close lot) (IsCloseOf lot.issue lot.tickets lot.sealed c open_lots) Q (λ d is.
+    let of_lot : IsClose number open_lots lots = record { lot = lot; at = going_parts lots number lot going; met = is_met lot met; twin = is.lot; found = is.found } in
+    rw (is.is) (up, (of_lot, refl))) (close_record lot.issue lot.tickets lot.sealed down c open_lots))))

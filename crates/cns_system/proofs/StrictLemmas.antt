@@ -1,6 +1,6 @@
 -- Records of which each allocation closes a lot.
 use Rattle.std.proofs.Common.{◌≡◌, ◌∷◌, ℕ, true, false, List, Some, None, refl, inl, inr}
-use Rattle.cns_journal.specs.RecordLog.{IsLawfulLog, LogState, MayStand}
+use Rattle.cns_journal.specs.RecordLog.{IsLawfulLog, LogShown, LogState, MayStand, log_shown}
 use Rattle.cns_journal.specs.Replay.{AreAllowed}
 use Rattle.cns_records.specs.declared.clear_record.ClearRecord.{ClearRecord}
 use Rattle.cns_clearing.specs.Lots.{AreLots, ClosesLot}
@@ -9,7 +9,6 @@ use Rattle.cns_clearing.proofs.LotLemmas.{lot_found}
 use Rattle.cns_clearing.specs.declared.lot.Lot.{Lot}
 use Rattle.cns_system.specs.Lot.{LotState}
 use Rattle.cns_system.specs.Numbered.{AreTied}
-use Rattle.cns_system.specs.Shown.{LogShown, log_shown}
 use Rattle.cns_system.proofs.HonestLemmas.{AreBack}
 use Rattle.cns_system.proofs.NumberedLemmas.{served_by}
 use Rattle.cns_system.proofs.RecordedLemmas.{IsClose, allocated}

@@ -1,8 +1,12 @@
 -- What happens at each event, as a function of what the surroundings decide (this project's own rules). Each event has one case, which tells
--- its refusals in their order; a refusal leaves all as it was, but for `Device`, which puts the node down and leaves its record undecided, and
--- for a refused restart. (A keeper is who keeps a node's journal; it is honest where its journal reads back what it acknowledged.)
+-- the refusals by the state in their order; want of memory and the device come after these, by the decision. A refusal leaves all as it was, but for
+-- `Device` at a commit, which puts the node down and leaves its record undecided, and for a refused restart.
 use Rattle.std.specs.Prelude.{ℕ, ◌+◌, ◌==◌, true, false, List, [], ◌∷◌, ◌++◌, length, map, Some, None, Result, Ok, Err}
 use Rattle.std.specs.Option.{ok_or, option_flatten}
+use Rattle.cns_journal.specs.RecordLog.{LogShown, restarted}
+use Rattle.cns_journal.specs.declared.record_log.ReplayFault.{ReplayFault}
+use Rattle.cns_journal.specs.declared.record_log.ReplayFault.TheVariants as replay
+use Rattle.cns_journal.specs.declared.record_log.Restarted.{Restarted}
 use Rattle.cns_ids.specs.Steps.{◌>>=◌, ◌>>◌}
 use Rattle.cns_movements.specs.Order.{order_of}
 use Rattle.cns_movements.specs.declared.order.Reply.{Reply}
@@ -10,6 +14,7 @@ use Rattle.cns_wire.specs.Packet.{at_number}
 use Rattle.cns_pool.specs.Pool.{asked_sum}
 use Rattle.cns_records.specs.Call.{Deed}
 use Rattle.cns_records.specs.Call as call
+use Rattle.cns_records.specs.Refusals.{replay_refusal}
 use Rattle.cns_records.specs.declared.clear_record.ClearRecord.{ClearRecord}
 use Rattle.cns_records.specs.declared.clear_record.ClearRecord.TheVariants as entry
 use Rattle.cns_records.specs.declared.dep_record.DepRecord.{DepRecord}
@@ -33,7 +38,7 @@ use Rattle.cns_depository.specs.declared.fault.OwnFault.{OwnFault}
 use Rattle.cns_system.specs.Lot.{LotState, with_end, with_seal}
 use Rattle.cns_system.specs.Lots.{change_call, going_lot, reserve_call}
 use Rattle.cns_system.specs.Numbered.{numbered_close, lots_ended, numbered_open, numbered_pour}
-use Rattle.cns_system.specs.Shown.{Shown, LogShown, clear_added, clear_failed, depot_added, depot_failed, with_new_lot}
+use Rattle.cns_system.specs.Shown.{Shown, clear_added, clear_failed, depot_added, depot_failed, with_new_lot}
 use Rattle.cns_system.specs.declared.event.Event.{Event}
 use Rattle.cns_system.specs.declared.event.Event.TheVariants as event
 use Rattle.cns_system.specs.declared.event.NodeName.{NodeName}
@@ -46,7 +51,7 @@ use Rattle.cns_system.specs.declared.outcome.Outcome.TheVariants as outcomes
 -- what an event that is not refused by the state of the nodes and the link tells and leaves:
 --   `Leaves`: so it is in any case, without memory and without a record
 --   `Grows`: so it is where there is memory for it; it has no record
---   `Commits`: so it is once its record is acknowledged; where the commit fails at the device, the last world is left
+--   `Commits`: so it is once its record is acknowledged; where the commit fails at the device, the second `Shown` is left
 --   `Restarts`: the node reads its journal again
 pub data Change : Type 0 where
   Leaves : Outcome → Shown → Change
@@ -75,8 +80,8 @@ abbrev pub answer_reply : Answer → Reply
 answer_reply a = elim a [ answer.Done r ↦ r | answer.Again r ↦ r ]
 
 abbrev pub answer_told : ℕ → Answer → Outcome
-answer_told packet (answer.Done r) = outcomes.Executed r packet
-answer_told packet (answer.Again r) = outcomes.ExecutedAgain r packet
+answer_told reply_packet (answer.Done r) = outcomes.Executed r reply_packet
+answer_told reply_packet (answer.Again r) = outcomes.ExecutedAgain r reply_packet
 
 abbrev pub order_deed : Shown → Deed DepRecord Answer → Change
 order_deed w (call.Tells a) = Grows (answer_told (length w.reply_packets + 1) a) (with_reply_put (answer_reply a) w)
@@ -111,6 +116,7 @@ by_own i w deed = elim deed [ Err fault ↦ Err (own_fault_refusal fault) | Ok d
 --   ReplyIn         NoPacket, Down, UnknownMove, Conflict, TooMuch
 --   Own             Down, Conflict, IssueSum or TooFew
 --   Restart         none
+-- The node's own `NoLot`, of an issue that has no open lot, comes at no pour and no close by number: a lot that has not ended is one of the node's (`AreTied`).
 -- A ticket, a seal and a look do not ask whether the clearing node is up: a node that restarts ends its lots. `LotBusy` is of a floor alone, and
 -- `BadTickets` of a close whose tickets are not those that were drawn.
 unfoldable pub judged : Event → Shown → Result Change Refusal
@@ -150,7 +156,7 @@ outcome_of told (Err r) = outcomes.Refused r
 
 -- what the surroundings decide at an event, and nothing else does:
 --   `Goes`: nothing is in the way
---   `NoMemory`: there is none; what takes none goes on all the same
+--   `NoMemory`: there is none, or the journal is full; what takes none goes on all the same
 --   `DeviceFails`: the device fails, at a commit or a restart; what has neither goes on all the same
 --   `ClearReads`, `DepotReads`: at a restart of that node its journal gives these records, the newest first; else as `Goes`
 --   `FindsBad`: at a restart the journal's payload in this place is the first that is bad; else as `Goes`
@@ -162,18 +168,27 @@ pub data Decision : Type 0 where
   DepotReads : List DepRecord → Decision
   FindsBad : ℕ → Decision
 
--- a restart of a node with this log, whose journal gives these records, and what is left by the log; where it is refused, the node is down
-abbrev pub restarted : {R : Type 0} → Decision → LogShown R → List R → (LogShown R → Shown) → Outcome × Shown
-restarted NoMemory log read left = (outcomes.Refused refusal.OutOfMemory, left (record log { down = true }))
-restarted DeviceFails log read left = (outcomes.Refused refusal.Device, left (record log { down = true }))
-restarted (FindsBad place) log read left = (outcomes.Refused (refusal.BadJournal place), left (record log { down = true }))
-restarted _ log read left = (outcomes.Restarted (length read) (length read == length log.records + 1), left (record { records = read; tried = None; down = false }))
+-- what reading a journal again comes to by the decision, where these are the records that it would give
+abbrev pub reading_by : {R : Type 0} → Decision → List R → Result (List R) ReplayFault
+reading_by NoMemory records = Err replay.OutOfMemory
+reading_by DeviceFails records = Err replay.Device
+reading_by (FindsBad place) records = Err (replay.BadJournal place)
+reading_by _ records = Ok records
 
--- a restart of the clearing node ends all lots, also where it is refused
+-- what is told of the answer of a restarted log
+abbrev pub restart_told : Result Restarted ReplayFault → Outcome
+restart_told (Ok done) = outcomes.Restarted done.records done.kept
+restart_told (Err fault) = outcomes.Refused (replay_refusal fault)
+
+-- a restart of a node with this log, whose journal would give these records; `left` is all that is left, by the log
+abbrev pub restart_by : {R : Type 0} → Decision → LogShown R → List R → (LogShown R → Shown) → Outcome × Shown
+restart_by d log records left = let done = restarted (reading_by d records) log in (restart_told done.0, left done.1)
+
+-- a restart of the clearing node ends all lots, also where it is refused; what the other node's journal would give decides nothing
 abbrev pub restarts : Decision → NodeName → Shown → Outcome × Shown
 restarts d node.Clear w =
-    restarted d w.clear (elim d [ ClearReads c ↦ c | _ ↦ w.clear.records ]) (λ log. record w { clear = log; open_lots = []; lots = map with_end w.lots })
-restarts d node.Depot w = restarted d w.depot (elim d [ DepotReads p ↦ p | _ ↦ w.depot.records ]) (λ log. record w { depot = log })
+    restart_by d w.clear (elim d [ ClearReads c ↦ c | _ ↦ w.clear.records ]) (λ log. record w { clear = log; open_lots = []; lots = map with_end w.lots })
+restarts d node.Depot w = restart_by d w.depot (elim d [ DepotReads p ↦ p | _ ↦ w.depot.records ]) (λ log. record w { depot = log })
 
 -- what becomes of a change
 abbrev pub changed : Decision → Shown → Change → Outcome × Shown

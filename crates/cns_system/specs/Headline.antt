@@ -39,14 +39,14 @@ reckoned c movements member issue =
     pos (bought (due_in c) member issue + confirmed_sum movements (confirmed_of c) Cover member issue)
     -ℤ pos (sold (due_in c) member issue + confirmed_sum movements (confirmed_of c) Delivery member issue)
 
--- the shares of an issue in the pool: those that are free, those that are lent to its open lot, and those on their way to members
+-- the shares of an issue in the pool, by what the clearing node has acknowledged: those that are free, those that are lent to its open lot, and those on their way to members
 abbrev pub pool_shares : List ClearRecord → List Lot → ℕ → ℕ
 pool_shares c lots issue = free_of (orders_of c) lots issue + lent_of lots issue + out_of (orders_of c) issue
 
--- the clearing node's records and its open lots, the depository's openings and records, and the packets that were put on the link of
--- orders and on that of replies. A cover brings shares from a member's account to the CNS account, a delivery takes them from there to a
+-- the records that the clearing node has acknowledged (an undecided one is not among them, so this holds while a node is down too) and its open lots, the
+-- depository's openings and its records likewise, and the packets that were put on the link of orders and on that of replies. A cover brings shares from a member's account to the CNS account, a delivery takes them from there to a
 -- member's; a movement is confirmed once the clearing node has the depository's reply, and an order is open until then
-pub record Headline (c : List ClearRecord) (lots : List Lot) (openings : List Opening) (p : List DepRecord) (order_packets reply_packets : List (List ℕ)) : Type 0 where
+pub record Headline (c : List ClearRecord) (open_lots : List Lot) (openings : List Opening) (p : List DepRecord) (order_packets reply_packets : List (List ℕ)) : Type 0 where
   -- Same: each executed movement agrees with the order of its number at the clearing node, so it has its kind, member, issue and quantity,
   -- and its cycle, where both have one; a delivery moved all that it asks for, and a cover no more than it. Each confirmed movement was
   -- executed, and moved so much.
@@ -67,13 +67,13 @@ pub record Headline (c : List ClearRecord) (lots : List Lot) (openings : List Op
   pub one_position : (member issue : ℕ) → position_of (history_of c) member issue ≡ position_in c member issue
   -- Pool: in each issue the longs are the shorts and the pool; the pool, with what confirmed deliveries moved, is what confirmed covers
   -- brought; and what confirmed deliveries moved, with what open ones ask for, is no more than executed covers brought.
-  pub pool : (issue : ℕ) → longs_of (history_of c) issue ≡ shorts_of (history_of c) issue + pool_shares c lots issue
-  pub whole : (issue : ℕ) → pool_shares c lots issue + delivered_of (orders_of c) issue ≡ covered_of (orders_of c) issue
+  pub pool : (issue : ℕ) → longs_of (history_of c) issue ≡ shorts_of (history_of c) issue + pool_shares c open_lots issue
+  pub whole : (issue : ℕ) → pool_shares c open_lots issue + delivered_of (orders_of c) issue ≡ covered_of (orders_of c) issue
   pub backed : (issue : ℕ) → delivered_of (orders_of c) issue + out_of (orders_of c) issue ≤ moved_in p Cns issue
-  -- Available: nothing is cut off in the two differences that the pool is made of. What confirmed deliveries took, with what open ones ask
+  -- Available: no difference is cut off at 0 in the two that the pool is made of. What confirmed deliveries took, with what open ones ask
   -- for, is no more than confirmed covers brought, so what is available of an issue is just the rest of it; and no more is lent than that.
   pub available : (issue : ℕ) → delivered_of (orders_of c) issue + out_of (orders_of c) issue ≤ covered_of (orders_of c) issue
-  pub lent : (issue : ℕ) → lent_of lots issue ≤ avail_of (orders_of c) issue
+  pub lent : (issue : ℕ) → lent_of open_lots issue ≤ avail_of (orders_of c) issue
 
 -- the headline of both nodes, where both keepers are honest: where each one's journal reads back what it acknowledged
 abbrev pub IsAgreed : World → Type 0

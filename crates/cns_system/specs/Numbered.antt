@@ -1,7 +1,6 @@
 -- A clearing node with its lots by number, and what each call of it comes to, by whether the node is down, its records, its open lots and the lots
 -- by number (this project's own rules). The first refusal that applies is told.
 use Rattle.std.specs.Prelude.{◌≡◌, ℕ, ◌+◌, ◌==◌, ◌||◌, nat_lt, Bool, false, List, [], ◌∷◌, ◌++◌, length, Some, None, Result, Ok, Err}
-use Rattle.std.specs.Option.{is_none, ok_or}
 use Rattle.cns_ids.specs.Steps.{◌>>=◌, ◌>>◌, need}
 use Rattle.cns_journal.specs.declared.record_log.CommitFault.{CommitFault}
 use Rattle.cns_wire.specs.Packet.{at_number}
@@ -10,12 +9,11 @@ use Rattle.cns_records.specs.Call.{Deed}
 use Rattle.cns_records.specs.declared.clear_record.ClearRecord.{ClearRecord}
 use Rattle.cns_records.specs.declared.refusal.Refusal.{Refusal}
 use Rattle.cns_records.specs.declared.refusal.Refusal.TheVariants as refusal
-use Rattle.cns_clearing.specs.Answers.{close_deed, need_up}
-use Rattle.cns_clearing.specs.Books.{orders_of}
-use Rattle.cns_clearing.specs.Lots.{lots_poured, new_lot}
+use Rattle.cns_clearing.specs.Answers.{close_call, need_up, open_call, pour_call}
+use Rattle.cns_clearing.specs.Lots.{new_lot}
 use Rattle.cns_clearing.specs.Node.{ClearNode}
 use Rattle.cns_clearing.specs.Node as node
-use Rattle.cns_clearing.specs.Pools.{free_of, lent_of, lot_of}
+use Rattle.cns_clearing.specs.Pools.{lent_of, lot_of}
 use Rattle.cns_clearing.specs.declared.lot.Lot.{Lot}
 use Rattle.cns_clearing.specs.declared.answer.Closed.{Closed}
 use Rattle.cns_system.specs.Lot.{LotState, IsOfPlan, with_end}
@@ -40,14 +38,14 @@ pub record AreTied (open_lots : List Lot) (lots : List LotState) : Type 0 where
   pub each : (number : ℕ) (lot : LotState) → at_number lots number ≡ Some lot → lot.ended ≡ false → IsTied open_lots lot
   pub once : (m n : ℕ) (k l : LotState) → at_number lots m ≡ Some k → at_number lots n ≡ Some l → k.ended ≡ false → l.ended ≡ false → k.issue ≡ l.issue → m ≡ n
 
--- a lot is opened: what is told of it, and the lot
+-- a lot is opened, as the node opens one of the issue, where there is a number for it (a lot that has ended keeps its own, also over a restart): what is told of
+-- it, and the lot
 unfoldable pub numbered_open : ℕ → Bool → List ClearRecord → List Lot → List LotState → Result (Opened × Lot) Refusal
 numbered_open issue down c open_lots lots = do
-  need_up down
-  need (is_none (lot_of open_lots issue)) refusal.LotAlready
+  opened ← open_call issue down c open_lots
   need (nat_lt (length lots) 1000000) refusal.LotsSpent
   let lot = new_lot c issue
-  Ok (record { number = length lots + 1; poured = lot.poured; plan = lot.plan }, lot)
+  Ok (record { number = length lots + 1; poured = lot.poured; plan = opened.0 }, lot)
 
 -- the node with this lot opened
 abbrev pub with_opened : Lot → NumberedNode → NumberedNode
@@ -60,21 +58,19 @@ with_opened lot n = record {
 abbrev pub opening_call : ℕ → NumberedNode → Result (Opened × NumberedNode) Refusal
 opening_call issue n = numbered_open issue n.clear.log.down n.clear.log.records n.clear.lots n.lots >>= λ opened. Ok (opened.0, with_opened opened.1 n)
 
--- what the lot of a number gets that is poured into, and the open lots then
+-- the lot of a number is poured into, as the node pours into its lot of the issue: what it gets, and the open lots then. (A seal
+-- does not keep shares out.)
 unfoldable pub numbered_pour : ℕ → Bool → List ClearRecord → List Lot → List LotState → Result (ℕ × List Lot) Refusal
-numbered_pour number down c open_lots lots = do
-  lot ← going_lot lots number
-  need_up down
-  Ok (free_of (orders_of c) open_lots lot.issue, lots_poured c lot.issue open_lots)
+numbered_pour number down c open_lots lots = going_lot lots number >>= λ lot. pour_call lot.issue down c open_lots
 
--- the lot of a number is closed with the tickets that were drawn of it, where it is sealed, or nobody waits for a ticket of it
+-- the lot of a number is closed, as the node closes its lot of the issue, with the tickets that were drawn of it, where it is sealed, or nobody waits
+-- for a ticket of it
 unfoldable pub numbered_close : ℕ → Bool → List ClearRecord → List Lot → List LotState → Result (Deed ClearRecord Closed) Refusal
 numbered_close number down c open_lots lots = do
   lot ← going_lot lots number
   need_up down
   need (lot.sealed || (length lot.turns == 0)) refusal.Unserved
-  twin ← ok_or (lot_of open_lots lot.issue) refusal.NoLot
-  close_deed lot.tickets lot.sealed c twin
+  close_call lot.issue lot.tickets lot.sealed down c open_lots
 
 -- the lots once that of a number has ended
 abbrev pub lots_ended : ℕ → List LotState → List LotState

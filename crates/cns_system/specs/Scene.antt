@@ -1,4 +1,4 @@
--- Both nodes and the link with what is known beforehand of the two keepers, and what an event comes to by what comes between (this
+-- A keeper is who keeps a node's journal; it is honest where its journal reads back what it acknowledged. Both nodes and the link with what is known beforehand of the two keepers, and what an event comes to by what comes between (this
 -- project's own rules).
 use Rattle.std.specs.Prelude.{◌≡◌, Bool, true, false, not, List, ◌∷◌, Option, Some, None, Result, Ok, Err, if◌then◌else◌, unwrap_or}
 use Rattle.cns_journal.specs.Keeper.{Foresight, Forecast, Unforeseen, Succeeds, Fails}
@@ -43,7 +43,7 @@ abbrev pub with_known : NodeName → Foresight → Scene → Scene
 with_known node.Clear f s = record s { clear = record s.clear { foresight = f } }
 with_known node.Depot f s = record s { depot = record s.depot { foresight = f } }
 
--- what comes between at an event:
+-- what memory and the devices do at an event, as far as it is not known beforehand:
 --   `ComesBack`: at a restart of an honest keeper of whose undecided record nothing is known, that record comes back
 --   `Forgets`: at a restart there is no memory, and of the undecided record this is known from then on
 --   `Decides`: the surroundings decide so, `Goes` where nothing comes between: at an event that is no restart and of whose commit something is known,

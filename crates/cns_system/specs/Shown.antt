@@ -1,6 +1,6 @@
 -- Both nodes and the link as events change them: all that contracts see of them but what they tell of the keepers' devices.
 use Rattle.std.specs.Prelude.{Bool, true, List, [], ◌∷◌, ◌++◌, map, Option, Some}
-use Rattle.cns_journal.specs.RecordLog.{LogState}
+use Rattle.cns_journal.specs.RecordLog.{LogShown, log_shown}
 use Rattle.cns_trades.specs.declared.opening.Opening.{Opening}
 use Rattle.cns_movements.specs.declared.order.Order.{Order}
 use Rattle.cns_movements.specs.declared.order.Reply.{Reply}
@@ -11,12 +11,6 @@ use Rattle.cns_clearing.specs.declared.lot.Lot.{Lot}
 use Rattle.cns_system.specs.Lot.{LotState}
 use Rattle.cns_system.specs.Lot.{numbered_lot}
 use Rattle.cns_system.specs.World.{World, order_spelt, reply_spelt}
-
--- a node's records, the newest first; the record whose commit failed; and whether the node is down
-pub record LogShown (R : Type 0) : Type 0 where
-  pub records : List R
-  pub tried : Option R
-  pub down : Bool
 
 -- the clearing node's log, its open lots by issue, and all lots in the order of their numbers; the depository's openings, and its log; and the packets
 -- that were put on the link of orders and on that of replies, the oldest first, each as what it spells (`None` for a packet that is no frame: no event
@@ -29,9 +23,6 @@ pub record Shown : Type 0 where
   pub depot : LogShown DepRecord
   pub order_packets : List (Option Order)
   pub reply_packets : List (Option Reply)
-
-abbrev pub log_shown : {R : Type 0} → LogState R → LogShown R
-log_shown log = record { records = log.records; tried = log.tried; down = log.down }
 
 abbrev pub shown_of : World → Shown
 shown_of w = record {
