@@ -195,7 +195,8 @@ given_of log s = given_back log.tried (unwrap_or s.foresight.stands false) log.r
 
 restart_either : {R : Type 0} (reads : List R → Decision) (log : LogShown R) (s : Sight) (chance : Chance) → IsKnown log s
     → (restart_decision reads s log.tried log.records chance ≡ NoMemory) ⊎ (restart_decision reads s log.tried log.records chance ≡ reads (given_of log s))
-restart_either reads log s (Forgets stands) known = inl refl
+restart_either reads log s Forgets known = inl refl
+restart_either reads log s (Decides NoMemory) known = inl refl
 restart_either reads log s ComesBack known = inr (rw known.honest (ap reads (back_same log.tried s.foresight.stands log.records true false known.stands)))
 restart_either reads log s (Decides DeviceFails) known = inr (rw (known.honest, known.foreseen) refl)
 restart_either reads log s (Decides d) known = inr (rw known.honest refl)

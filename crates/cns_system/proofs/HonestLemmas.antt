@@ -28,8 +28,9 @@ module _ {R : Type 0} (reads : List R → Decision) (s : Sight) (tried : Option 
   failing false = goes false
 
   pub honestly : (chance : Chance) → P (restart_decision reads s tried records chance)
-  honestly (Forgets known) = short
+  honestly Forgets = short
   honestly ComesBack = rw honest (goes true)
+  honestly (Decides NoMemory) = short
   honestly (Decides DeviceFails) = rw honest (failing (restart_fails s.foresight.next (Decides DeviceFails)))
   honestly (Decides _) = rw honest (goes false)
 

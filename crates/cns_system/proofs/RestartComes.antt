@@ -1,8 +1,8 @@
 -- A restart of a node comes to what its log leaves.
-use Rattle.std.specs.Prelude.{◌⊎◌, map, unwrap_or}
+use Rattle.std.specs.Prelude.{map, unwrap_or}
 use Rattle.std.proofs.lemmas.Bool.{false_from_ne_true}
 use Rattle.std.proofs.Common.{◌≡◌, ◌∙◌, [], Bool, true, false, List, length, ℕ, Option, Some, None, Result, Ok, Err, inl, inr, refl, sym, ap, subst}
-use Rattle.cns_journal.specs.Keeper.{Foresight, Unforeseen}
+use Rattle.cns_journal.specs.Keeper.{Unforeseen}
 use Rattle.cns_journal.specs.RecordLog.{IsReadBack, LogRestarts, LogShown, LogState, ReadingLeaves, log_shown, restarted}
 use Rattle.cns_journal.specs.Replay.{AreAllowed}
 use Rattle.cns_journal.specs.declared.record_log.ReplayFault.{ReplayFault}
@@ -29,7 +29,8 @@ use Rattle.cns_system.proofs.ComesLemmas.{by_chance, untouched_refl}
 -- of a keeper that is not honest, the surroundings decide
 decides : {R : Type 0} (reads : List R → Decision) (d : Decision) (s : Sight) (tried : Option R) (records : List R) → s.honest ≡ false
     → restart_decision reads s tried records (Decides d) ≡ d
-decides reads d s tried records dishonest = rw dishonest refl
+decides reads NoMemory s tried records dishonest = refl
+decides reads _ s tried records dishonest = rw dishonest refl
 
 -- the device of a keeper fails of which nothing is known
 fails_unknown : {R : Type 0} (reads : List R → Decision) (s : Sight) (tried : Option R) (records : List R) → s.foresight.next ≡ Unforeseen
@@ -75,11 +76,6 @@ reread reads log records gave = by log.honest refl
               ∙ ap reads (given_when back log records read),
         )
 
--- of the next commit as much is known as before
-next_same : {f g : Foresight} → (f ≡ g) ⊎ (f ≡ record g { stands = None }) → f.next ≡ g.next
-next_same (inl is) = ap (λ (f : Foresight). f.next) is
-next_same (inr is) = ap (λ (f : Foresight). f.next) is
-
 -- how a restart of a log is decided, and what it comes to
 record Rereads {R : Type 0} (spelling : R → List ℕ) (allows : List R → R → Type 0) (fits : R → Type 0) (reads : List R → Decision) (read_by : Decision → List R)
     (result : Result Restarted ReplayFault) (old new : LogState R) : Type 0 where
@@ -92,6 +88,20 @@ record Rereads {R : Type 0} (spelling : R → List ℕ) (allows : List R → R �
 
 module _ {R : Type 0} (spelling : R → List ℕ) (allows : List R → R → Type 0) (fits : R → Type 0) (reads : List R → Decision) (read_by : Decision → List R)
     (found : (c : List R) → read_by (reads c) ≡ c) (goes : (c : List R) → reading_by (reads c) c ≡ Ok c) (old new : LogState R) where
+  -- there was no memory
+  short : (chance : Chance) → record (log_shown old) { down = true } ≡ log_shown new → new.honest ≡ old.honest → new.rejected ≡ old.rejected → new.failures ≡ old.failures
+      → restart_decision reads (sight_of old) old.tried old.records chance ≡ NoMemory
+      → new.foresight ≡ after_restart chance (restart_told (Err replay.OutOfMemory)) old.foresight
+      → Rereads spelling allows fits reads read_by (Err replay.OutOfMemory) old new
+  short chance shown honest rejected failures decided known = record {
+    chance = chance;
+    decision = NoMemory;
+    decided = decided;
+    settles = λ l. ap (λ (log : LogShown R). (restart_told (Err replay.OutOfMemory), l log)) shown;
+    sight = rw (honest, known) refl;
+    devices = record { failures = failures; rejected = rejected };
+  }
+
   -- by what was read
   by_reading : (reading : Result (List R) ReplayFault) → (restarted reading (log_shown old)).1 ≡ log_shown new → new.honest ≡ old.honest → ReadingLeaves spelling allows fits reading old new
       → Rereads spelling allows fits reads read_by (restarted reading (log_shown old)).0 old new
@@ -105,14 +115,10 @@ module _ {R : Type 0} (spelling : R → List ℕ) (allows : List R → R → Typ
         sight = rw (honest, left.2) refl;
         devices = (left.1, left.0, subst (λ (log : LogShown R). AreAllowed allows log.records) shown left.3);
       }
-  by_reading (Err replay.OutOfMemory) shown honest left = record {
-    chance = Forgets new.foresight.stands;
-    decision = NoMemory;
-    decided = refl;
-    settles = λ l. ap (λ (log : LogShown R). (restart_told (Err replay.OutOfMemory), l log)) shown;
-    sight = rw (honest, ← next_same left.2) refl;
-    devices = record { failures = left.1; rejected = left.0 };
-  }
+  by_reading (Err replay.OutOfMemory) shown honest left = elim left.2 [
+    | inl same ↦ short (Decides NoMemory) shown honest left.0 left.1 refl same
+    | inr unknown ↦ short Forgets shown honest left.0 left.1 refl unknown
+  ]
   by_reading (Err (replay.BadJournal place)) shown honest left = record {
     chance = Decides (FindsBad place);
     decision = FindsBad place;

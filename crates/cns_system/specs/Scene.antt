@@ -45,12 +45,12 @@ with_known node.Depot f s = record s { depot = record s.depot { foresight = f } 
 
 -- what memory and the devices do at an event, as far as it is not known beforehand:
 --   `ComesBack`: at a restart of an honest keeper of whose undecided record nothing is known, that record comes back
---   `Forgets`: at a restart there is no memory, and of the undecided record this is known from then on
+--   `Forgets`: at a restart there is no memory once the journal was read, so that nothing is known of the undecided record any more
 --   `Decides`: the surroundings decide so, `Goes` where nothing comes between: at an event that is no restart and of whose commit something is known,
---   only that there is no memory; at a restart of an honest keeper, only that its device fails, where nothing is known of it
+--   only that there is no memory; at a restart of an honest keeper that too, and, where nothing is known of the keeper, that its device fails
 pub data Chance : Type 0 where
   ComesBack : Chance
-  Forgets : Option Bool → Chance
+  Forgets : Chance
   Decides : Decision → Chance
 
 -- the decision at an event that is no restart, by what is known of its commit; where nothing is, whatever it is
@@ -72,10 +72,11 @@ given_back tried comes records = if comes then elim tried [ None ↦ records | S
 abbrev pub restart_fails : Forecast → Chance → Bool
 restart_fails next chance = elim chance [ Decides DeviceFails ↦ not (is_foreseen next) | _ ↦ false ]
 
--- the decision at a restart: the device of an honest keeper fails, or it gives its records back, with the undecided one where that is
+-- the decision at a restart: there is no memory, the device of an honest keeper fails, or it gives its records back, with the undecided one where that is
 -- known to stand, or comes back; a keeper that is not honest may give anything
 abbrev pub restart_decision : {R : Type 0} → (List R → Decision) → Sight → Option R → List R → Chance → Decision
-restart_decision reads s tried records (Forgets known) = NoMemory
+restart_decision reads s tried records Forgets = NoMemory
+restart_decision reads s tried records (Decides NoMemory) = NoMemory
 restart_decision reads s tried records chance =
     if not s.honest then elim chance [ Decides d ↦ d | _ ↦ Goes ] else
     if restart_fails s.foresight.next chance then DeviceFails else
@@ -91,11 +92,11 @@ abbrev pub after_commit : Decision → Foresight → Foresight
 after_commit DeviceFails f = elim f.next [ Fails stands ↦ record { next = Succeeds; stands = Some stands } | next ↦ record { next = next; stands = None } ]
 after_commit _ f = f
 
--- nothing is known of an undecided record once the journal was read; where there was no memory for that, what `Forgets` says
+-- nothing is known of an undecided record once the journal was read, also where there was no memory for what it gave
 abbrev pub after_restart : Chance → Outcome → Foresight → Foresight
 after_restart chance (outcomes.Restarted records kept) f = record f { stands = None }
 after_restart chance (outcomes.Refused (refusal.BadJournal place)) f = record f { stands = None }
-after_restart (Forgets known) (outcomes.Refused refusal.OutOfMemory) f = record f { stands = known }
+after_restart Forgets (outcomes.Refused refusal.OutOfMemory) f = record f { stands = None }
 after_restart chance _ f = f
 
 -- what is known of the keeper of an event's node after it, by what the event comes to by what there is
