@@ -54,12 +54,23 @@ pub record IsLog {R : Type 0} (spelling : R → List ℕ) (fits : R → Type 0) 
   pub foreseen : keeper.honest ≡ true → (stands : Bool) → keeper.foresight.stands ≡ Some stands
       → (r : R) × (tried ≡ Some r) × (keeper.journal ≡ record { kept = map spelling items; undecided = Some (spelling r) })
 
--- what the commit of a record leaves, by its answer
+-- a record is committed: it is added; or the device fails, so that it is undecided and the node is down
+abbrev pub with_added : {R : Type 0} → R → LogShown R → LogShown R
+with_added r log = record log { records = r ∷ log.records }
+
+abbrev pub with_undecided : {R : Type 0} → R → LogShown R → LogShown R
+with_undecided r log = record log { tried = Some r; down = true }
+
+-- a log that shows this, and tells of its keeper as before
+abbrev pub showing : {R : Type 0} → LogShown R → LogState R → LogState R
+showing shown log = record log { records = shown.records; tried = shown.tried; down = shown.down }
+
+-- what the commit of a record leaves, by its answer, and what that says of the keeper's device
 abbrev pub LogCommits : {R : Type 0} → R → Result (Unit {0}) CommitFault → LogState R → LogState R → Type 0
-LogCommits r (Ok _) old new = (new ≡ record old { records = r ∷ old.records }) × MaySucceed old.foresight.next
+LogCommits r (Ok _) old new = (new ≡ showing (with_added r (log_shown old)) old) × MaySucceed old.foresight.next
 LogCommits r (Err OutOfMemory) old new = new ≡ old
 LogCommits r (Err Device) old new =
-    (new ≡ record old { tried = Some r; down = true; failures = new.failures; foresight = new.foresight })
+    (new ≡ record (showing (with_undecided r (log_shown old)) old) { failures = new.failures; foresight = new.foresight })
     × HasRisen old.failures new.failures × HasFailed old.foresight new.foresight
 
 -- the record whose commit failed may stand after the others

@@ -1,6 +1,6 @@
 -- Both nodes and the link as events change them: all that contracts see of them but what they tell of the keepers' devices.
-use Rattle.std.specs.Prelude.{Bool, true, List, [], ◌∷◌, ◌++◌, map, Option, Some}
-use Rattle.cns_journal.specs.RecordLog.{LogShown, log_shown}
+use Rattle.std.specs.Prelude.{List, [], ◌∷◌, ◌++◌, map, Option}
+use Rattle.cns_journal.specs.RecordLog.{LogShown, log_shown, with_added, with_undecided}
 use Rattle.cns_trades.specs.declared.opening.Opening.{Opening}
 use Rattle.cns_movements.specs.declared.order.Order.{Order}
 use Rattle.cns_movements.specs.declared.order.Reply.{Reply}
@@ -35,19 +35,19 @@ shown_of w = record {
   reply_packets = map reply_spelt w.reply_packets;
 }
 
--- a record of the clearing node is added, or it is undecided and the node is down
+-- a record of the clearing node is added, with what becomes of the open lots by it, or it is undecided and the node is down
 abbrev pub clear_added : ClearRecord → Shown → Shown
-clear_added r w = record w { clear = record w.clear { records = r ∷ w.clear.records }; open_lots = lots_after r w.open_lots }
+clear_added r w = record w { clear = with_added r w.clear; open_lots = lots_after r w.open_lots }
 
 abbrev pub clear_failed : ClearRecord → Shown → Shown
-clear_failed r w = record w { clear = record w.clear { tried = Some r; down = true } }
+clear_failed r w = record w { clear = with_undecided r w.clear }
 
 -- a record of the depository likewise
 abbrev pub depot_added : DepRecord → Shown → Shown
-depot_added e w = record w { depot = record w.depot { records = e ∷ w.depot.records } }
+depot_added e w = record w { depot = with_added e w.depot }
 
 abbrev pub depot_failed : DepRecord → Shown → Shown
-depot_failed e w = record w { depot = record w.depot { tried = Some e; down = true } }
+depot_failed e w = record w { depot = with_undecided e w.depot }
 
 -- a lot is opened
 abbrev pub with_new_lot : Lot → Shown → Shown
