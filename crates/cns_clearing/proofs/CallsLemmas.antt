@@ -1,5 +1,7 @@
 -- What the calls of a clearing node come to, in each case.
-use Rattle.std.proofs.Common.{◌≡◌, ◌≢◌, ◌-◌, ◌++◌, [], ◌∷◌, ℕ, Bool, true, false, List, length, map, Some, None, Result, Ok, Err, ap, refl}
+use Rattle.std.proofs.Common.{◌≡◌, ◌≢◌, ◌-◌, ◌++◌, [], ◌∷◌, ℕ, Bool, true, false, List, length, map, Option, Some, None, Result, Ok, Err, ap, refl}
+use Rattle.std.specs.Option.{ok_or}
+use Rattle.cns_ids.specs.Steps.{◌>>=◌, ◌>>◌, need}
 use Rattle.std.specs.Prelude.{IsSome, if◌then◌else◌}
 use Rattle.std.proofs.lemmas.Bool.{ne_eqb}
 use Rattle.std.proofs.lemmas.List.{nil_from_length}
@@ -20,12 +22,13 @@ use Rattle.cns_records.specs.declared.clear_record.ClearRecord.TheVariants as en
 use Rattle.cns_records.specs.declared.refusal.Refusal.{Refusal}
 use Rattle.cns_records.specs.declared.refusal.Refusal.TheVariants as refusal
 use Rattle.cns_records.proofs.CallLemmas.{changed, committed, refused}
-use Rattle.cns_clearing.specs.Answers.{Closes, ClosesNone, IsPoured, NodeLeaves, closing_allocation, answer_in, close_call, closed_of, covers_in, cycle_call, cycled_of, open_call, pour_call, reply_call, trade_call, verdict_in}
+use Rattle.cns_clearing.specs.Answers.{Closes, ClosesNone, IsPoured, NodeLeaves, closing_allocation, answer_in, close_call, close_deed, closed_of, covers_in, cycle_call, cycled_of, need_up, open_call, pour_call, reply_call, tested_close_call, trade_call, verdict_in}
 use Rattle.cns_clearing.specs.Books.{IsLawful, are_spent, is_later, latest_of, orders_of}
 use Rattle.cns_clearing.specs.Lots.{AreLots, avail_in, lots_poured, new_lot, refilled}
 use Rattle.cns_clearing.specs.Node.{AddLeaves, ClearNode, IsCommitted}
 use Rattle.cns_clearing.specs.Pools.{free_of, lot_of}
 use Rattle.cns_clearing.specs.declared.lot.Lot.{Lot}
+use Rattle.cns_clearing.specs.declared.answer.Closed.{Closed}
 use Rattle.cns_clearing.specs.declared.answer.Taken.TheVariants.{Done, Again}
 use Rattle.cns_clearing.proofs.PouredLemmas.{pour_adds}
 
@@ -147,6 +150,25 @@ pub close_goes : (node : ClearNode) (issue : ℕ) (tickets : List Ticket) (seale
     → close_call issue tickets sealed node.log.down node.log.records node.lots ≡ Ok (Commits (entry.Allocate (closing_allocation lot tickets sealed)) (closed_of lot tickets sealed node.log.records))
 unfolding close_call
 close_goes node issue tickets sealed lot up closes = rw (up, closes.found, closes.numbers) refl
+
+-- tickets that are tested are refused where they do not serve the plan
+pub tested_bad : (node : ClearNode) (issue : ℕ) (tickets : List Ticket) (sealed : Bool) (lot : Lot) → node.log.down ≡ false → lot_of node.lots issue ≡ Some lot
+    → NodeLeaves (tested_close_call false issue tickets sealed node.log.down node.log.records node.lots) (Err refusal.BadTickets) node node
+unfolding tested_close_call
+tested_bad node issue tickets sealed lot up found = rw (up, found) (refl, refl)
+
+-- and close the lot where they do
+pub tested_good : (issue : ℕ) (tickets : List Ticket) (sealed : Bool) (result : Result Closed Refusal) (old new : ClearNode)
+    → NodeLeaves (close_call issue tickets sealed old.log.down old.log.records old.lots) result old new
+    → NodeLeaves (tested_close_call true issue tickets sealed old.log.down old.log.records old.lots) result old new
+unfolding tested_close_call close_call
+tested_good issue tickets sealed result old new left = by old.log.down (lot_of old.lots issue) left
+  where
+    by : (down : Bool) (found : Option Lot) → NodeLeaves (need_up down >> ok_or found refusal.NoLot >>= close_deed tickets sealed old.log.records) result old new
+        → NodeLeaves (need_up down >> (ok_or found refusal.NoLot >>= λ lot. need true refusal.BadTickets >> close_deed tickets sealed old.log.records lot)) result old new
+    by true found left = left
+    by false None left = left
+    by false (Some lot) left = left
 
 -- ---- replies
 

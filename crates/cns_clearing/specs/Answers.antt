@@ -1,6 +1,7 @@
 -- What each call of a clearing node comes to, by whether the node is down, its records and its open lots, and what it leaves (this project's own
 -- rules). The first refusal that applies is told.
-use Rattle.std.specs.Prelude.{◌≡◌, ◌⊎◌, ℕ, ◌+◌, ◌^◌, ◌≤◌, ◌==◌, min, not, Bool, true, false, List, [], ◌∷◌, ◌++◌, length, map, Some, None, Result, Ok, Err}
+use Rattle.std.specs.Bool.{Decides}
+use Rattle.std.specs.Prelude.{◌≡◌, ℕ, ◌+◌, ◌^◌, ◌≤◌, ◌==◌, min, not, Bool, true, false, List, [], ◌∷◌, ◌++◌, length, map, Some, None, Result, Ok, Err}
 use Rattle.std.specs.Option.{is_none, ok_or}
 use Rattle.cns_ids.specs.Steps.{◌>>=◌, ◌>>◌, need}
 use Rattle.cns_ids.specs.declared.cycle.CycleId.{CycleId}
@@ -146,18 +147,17 @@ close_call issue tickets sealed down c lots = need_up down >> ok_or (lot_of lots
 abbrev pub AreServed : List Lot → ℕ → List Ticket → Bool → Type 0
 AreServed lots issue tickets sealed = (lot : Lot) → lot_of lots issue ≡ Some lot → IsServed lot.plan tickets sealed
 
--- the node is up, and has a lot of the issue whose plan these tickets do not serve
-pub record HasBad (node : ClearNode) (issue : ℕ) (tickets : List Ticket) (sealed : Bool) : Type 0 where
-  pub up : node.log.down ≡ false
-  pub lot : Lot
-  pub found : lot_of node.lots issue ≡ Some lot
-  pub bad : IsServed lot.plan tickets sealed → ⊥
+-- whether these tickets serve it is asked of a node that is up alone
+abbrev pub TellsServed : Bool → ClearNode → ℕ → List Ticket → Bool → Type 0
+TellsServed serve node issue tickets sealed = node.log.down ≡ false → Decides serve (AreServed node.lots issue tickets sealed)
 
--- what the close of a lot with any tickets leaves
-abbrev pub LotCloseLeaves : ℕ → List Ticket → Bool → Result Closed Refusal → ClearNode → ClearNode → Type 0
-LotCloseLeaves issue tickets sealed result old new =
-    (HasBad old issue tickets sealed × (result ≡ Err refusal.BadTickets) × (new ≡ old))
-    ⊎ ((HasBad old issue tickets sealed → ⊥) × NodeLeaves (close_call issue tickets sealed old.log.down old.log.records old.lots) result old new)
+-- the lot of an issue closes with tickets that are tested first, of which this says whether they serve its plan
+unfoldable pub tested_close_call : Bool → ℕ → List Ticket → Bool → Bool → List ClearRecord → List Lot → Result (Deed ClearRecord Closed) Refusal
+tested_close_call serve issue tickets sealed down c lots = do
+  need_up down
+  lot ← ok_or (lot_of lots issue) refusal.NoLot
+  need serve refusal.BadTickets
+  close_deed tickets sealed c lot
 
 -- ---- orders and replies
 

@@ -1,4 +1,4 @@
-ghost use Rattle.std.specs.Prelude.{◌≡◌, ◌≢◌, ◌↔◌, ℕ, ◌≤◌, ◌^◌, ◌+◌, ◌++◌, ◌∷◌, IsTrue, true, false, [], length, map, vec_items, option_map, IfOk, IfErr, None, OnErr, OnOk, if◌then◌else◌};
+ghost use Rattle.std.specs.Prelude.{◌≡◌, ◌≢◌, ◌↔◌, ℕ, ◌≤◌, ◌^◌, ◌+◌, ◌++◌, ◌∷◌, Bool, IsTrue, true, false, [], length, map, vec_items, option_map, IfOk, IfErr, None, OnErr, OnOk, if◌then◌else◌};
 ghost use Rattle.cns_records.specs.declared.clear_record.ClearRecord.TheVariants.{Exempt, Priority};
 ghost use Rattle.cns_records.specs.Clear.{AreWritable, spelling};
 ghost use Rattle.cns_movements.specs.Book.{next_orders};
@@ -11,7 +11,7 @@ ghost use Rattle.cns_clearing.specs.Lots.{AreLots, DoesNotDisturb, avail_in, new
 ghost use Rattle.cns_clearing.specs.Position.{IsBetween, due_in, position_in};
 ghost use Rattle.cns_clearing.specs.Pools.{covered_of as covered_in, delivered_of as delivered_in, free_of as free_in, lent_of as lent_in, lot_of, out_of as out_in, rows_of_pools};
 ghost use Rattle.cns_records.specs.Call.{Changes, Grows};
-ghost use Rattle.cns_clearing.specs.Answers.{close_call, covers_in, cycle_call, open_call, order_call, pour_call, reply_call, setting_call, trade_call, AreServed, Closes, ClosesNone, IsPoured, NodeLeaves, LotCloseLeaves};
+ghost use Rattle.cns_clearing.specs.Answers.{close_call, covers_in, cycle_call, open_call, order_call, pour_call, reply_call, setting_call, trade_call, tested_close_call, AreServed, Closes, ClosesNone, IsPoured, NodeLeaves, TellsServed};
 ghost use Rattle.cns_clearing.specs.Node.{AddLeaves, IsOpened, IsUnread, NodePlanned, RestartLeaves};
 ghost use Rattle.cns_clearing.specs.declared.lot.Lot.{Lot};
 ghost use Rattle.cns_journal.specs.RecordLog.{IsGivenUp};
@@ -264,7 +264,8 @@ impl<K: Keeper> Clearing<K> {
         tickets: &[Ticket],
         sealed: bool,
     ) -> Result<Closed, Refusal>
-        ensures { LotCloseLeaves issue tickets.now sealed result self.old self.new }
+        ensures { (serve : Bool) × TellsServed serve self.old issue tickets.now sealed
+            × NodeLeaves (tested_close_call serve issue tickets.now sealed self.old.log.down self.old.log.records self.old.lots) result self.old self.new }
     {
         self.up()?;
         if !self.is_served(issue, tickets, sealed) {
