@@ -15,7 +15,7 @@ use std::rt::Env;
 use std::{env, io};
 
 /// Where a text comes from.
-#[derive(PartialEq, Eq, Debug, Drop)]
+#[derive(Drop)]
 pub(crate) enum Source {
     /// Standard input.
     Standard,
@@ -26,7 +26,7 @@ pub(crate) enum Source {
 }
 
 /// The names of a file of openings, of files of trades and of a file of a script.
-#[derive(PartialEq, Eq, Debug, Drop)]
+#[derive(Drop)]
 pub(crate) struct Names {
     pub(crate) openings: Option<String>,
     pub(crate) trades: Vec<String>,
@@ -47,7 +47,7 @@ impl Names {
 /// number where one is given. Where it is strict, the lines that tell of what was not taken are counted. How far
 /// it is, is told on standard error where that was asked for once and is a terminal, or was asked for twice. Where it is
 /// to be intact, journals with damage, and openings other than those of the first such run in the folder, are refused.
-#[derive(PartialEq, Eq, Debug, Drop)]
+#[derive(Drop)]
 pub(crate) struct Manner {
     pub(crate) journal: Option<String>,
     pub(crate) workers: usize,
@@ -58,14 +58,14 @@ pub(crate) struct Manner {
 }
 
 /// A folder of journals, and the file of the openings where one is named.
-#[derive(PartialEq, Eq, Debug, Drop)]
+#[derive(Drop)]
 pub(crate) struct Folder {
     pub(crate) name: String,
     pub(crate) openings: Option<String>,
 }
 
 /// What is to be read from journals.
-#[derive(PartialEq, Eq, Debug, Drop)]
+#[derive(Drop)]
 pub(crate) enum Audit {
     /// `cnsd journal dump FILE`: what the file of a journal holds, as CSV or in lines.
     Dump {
@@ -86,7 +86,7 @@ pub(crate) enum Audit {
 }
 
 /// What the command line asks for.
-#[derive(PartialEq, Eq, Debug, Drop)]
+#[derive(Drop)]
 pub(crate) enum Request {
     /// `cnsd run`: one batch of a text to standard output.
     Run { source: Source, manner: Manner },
