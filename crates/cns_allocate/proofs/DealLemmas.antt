@@ -5,7 +5,7 @@ use Rattle.std.proofs.Math.Nat.{le_refl}
 use Rattle.std.proofs.lemmas.List.{append-nil}
 use Rattle.std.proofs.lemmas.List.Sums.{sum_by-append, sum_by-cons}
 use Rattle.std.proofs.lemmas.List.Sorted.{IsPermutation-append_comm, IsPermutation-cons, IsPermutation-refl, IsPermutation-trans, length_permutation, sum_by-IsPermutation}
-use Rattle.cns_allocate.specs.Serving.{every, places_of, shares_of}
+use Rattle.cns_allocate.specs.Serving.{every, places_of, asked_in_plan}
 use Rattle.cns_allocate.specs.declared.planned.Planned.{Planned}
 
 -- the first of the places of which each comes after `gap` others, and the later ones
@@ -19,7 +19,7 @@ every-step gap (suc k) n (p ∷ ps) d below is =
 -- a worker's places of a group are the one at which p stands and the later ones
 pub record IsPlaceStep (workers place : ℕ) (group : List Planned) (p : Planned) : Type 0 where
   pub places : places_of workers place group ≡ p ∷ places_of workers (place + workers) group
-  pub shares : shares_of (places_of workers place group) ≡ p.asked + shares_of (places_of workers (place + workers) group)
+  pub shares : asked_in_plan (places_of workers place group) ≡ p.asked + asked_in_plan (places_of workers (place + workers) group)
   pub calls : length (places_of workers place group) ≡ suc (length (places_of workers (place + workers) group))
 
 pub place-step : (workers place : ℕ) (group : List Planned) (p : Planned) → 0 < workers → place < length group → p ≡ get_or group place p → IsPlaceStep workers place group p
@@ -27,7 +27,7 @@ place-step workers place group p some below is =
     let later : List Planned = places_of workers (place + workers) group in
     let places : places_of workers place group ≡ p ∷ later =
     every-step (workers - 1) place workers group p below (omega arith) ∙ ap (λ (q : Planned). q ∷ later) (sym is) in
-    record { places = places; shares = ap shares_of places ∙ sum_by-cons (λ (q : Planned). q.asked) p later; calls = ap length places }
+    record { places = places; shares = ap asked_in_plan places ∙ sum_by-cons (λ (q : Planned). q.asked) p later; calls = ap length places }
 
 -- past the group there are none
 pub every-past : (gap k : ℕ) (ps : List Planned) → length ps ≤ k → every gap k ps ≡ []
@@ -87,11 +87,11 @@ module _ (f : List Planned → ℕ) (append : (ps qs : List Planned) → f (ps +
         reordered (dealt gap (suc gap) ps) ps (dealt-all gap ps),
       )
 
-pub shares_of-append : (ps qs : List Planned) → shares_of (ps ++ qs) ≡ shares_of ps + shares_of qs
+pub shares_of-append : (ps qs : List Planned) → asked_in_plan (ps ++ qs) ≡ asked_in_plan ps + asked_in_plan qs
 shares_of-append ps qs = sum_by-append (λ (p : Planned). p.asked) ps qs
 
-pub shares-next : (gap k : ℕ) (ps : List Planned) → k ≤ gap → shares_of (dealt gap k ps) + shares_of (every gap k ps) ≤ shares_of ps
-shares-next = dealt_next shares_of shares_of-append (sum_by-IsPermutation (λ (p : Planned). p.asked))
+pub shares-next : (gap k : ℕ) (ps : List Planned) → k ≤ gap → asked_in_plan (dealt gap k ps) + asked_in_plan (every gap k ps) ≤ asked_in_plan ps
+shares-next = dealt_next asked_in_plan shares_of-append (sum_by-IsPermutation (λ (p : Planned). p.asked))
 
 pub length-next : (gap k : ℕ) (ps : List Planned) → k ≤ gap → length (dealt gap k ps) + length (every gap k ps) ≤ length ps
 length-next = dealt_next (λ (l : List Planned). length l) (λ ps qs. length-append ps qs) (λ ps qs same. length_permutation ps qs same)

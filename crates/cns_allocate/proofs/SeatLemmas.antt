@@ -12,7 +12,7 @@ use Rattle.std.proofs.lemmas.List.Sums.{sum_by-append, sum_by-cons, sum_by_more_
 use Rattle.cns_pool.specs.declared.ticket.Ticket.{Ticket}
 use Rattle.cns_pool.specs.WorkerSeat.{WorkerState, DrawsTicket, Joins, MeetsSeal, after_split, room_taken, split_off}
 use Rattle.cns_allocate.specs.Served.{AreDrawnOf}
-use Rattle.cns_allocate.specs.Serving.{HasDrawn, HasJoined, HasSplit, budgets_of, calls_of, every, have_seen_seal, made_by, places_of, rooms_of, shares_of, tickets_of}
+use Rattle.cns_allocate.specs.Serving.{HasDrawn, HasJoined, HasSplit, budgets_of, calls_of_workers, every, have_seen_seal, made_by, places_of, rooms_of, asked_in_plan, tickets_of}
 use Rattle.cns_allocate.specs.declared.planned.Planned.{Planned}
 use Rattle.cns_allocate.proofs.DealLemmas.{dealt, length-next, lists_of, shares-next}
 use Rattle.cns_allocate.proofs.DrawnLemmas.{drawn-append, drawn-cons, drawn-most, drawn-none, drawn-permutation}
@@ -85,10 +85,10 @@ seat-cons old p ps ticket then new some draws rest = record {
 pub record HaveDrawn (seat : WorkerState) (planned : List Planned) (parts others : List WorkerState) : Type 0 where
   pub drawn : AreDrawnOf planned (tickets_of others)
   pub after : All (λ (t : Ticket). seat.seen.asked ≤ t.start) (tickets_of others)
-  pub made : made_by others + calls_of others ≡ calls_of parts
-  pub used : length (tickets_of others) + calls_of others ≤ calls_of parts
-  pub calls : calls_of parts ≤ calls_of others + length planned
-  pub budget : budgets_of parts ≤ budgets_of others + shares_of planned
+  pub made : made_by others + calls_of_workers others ≡ calls_of_workers parts
+  pub used : length (tickets_of others) + calls_of_workers others ≤ calls_of_workers parts
+  pub calls : calls_of_workers parts ≤ calls_of_workers others + length planned
+  pub budget : budgets_of parts ≤ budgets_of others + asked_in_plan planned
   pub all : length (tickets_of others) ≡ length planned → (seat.seen.sealed || have_seen_seal others) ≡ seat.seen.sealed
   pub met : length (tickets_of others) < length planned → (seat.seen.sealed || have_seen_seal others) ≡ true
 
@@ -171,10 +171,10 @@ have-more seat ps qs parts others part other split before last = record {
     pushed-made : made_by (others ++ other ∷ []) ≡ made_by others + other.made
     pushed-made = sum_by_push (λ (s : WorkerState). s.made) others other
 
-    pushed-calls : calls_of (others ++ other ∷ []) ≡ calls_of others + other.calls
+    pushed-calls : calls_of_workers (others ++ other ∷ []) ≡ calls_of_workers others + other.calls
     pushed-calls = sum_by_push (λ (s : WorkerState). s.calls) others other
 
-    parts-calls : calls_of (parts ++ part ∷ []) ≡ calls_of parts + part.calls
+    parts-calls : calls_of_workers (parts ++ part ∷ []) ≡ calls_of_workers parts + part.calls
     parts-calls = sum_by_push (λ (s : WorkerState). s.calls) parts part
 
     any : (seat.seen.sealed || have_seen_seal (others ++ other ∷ [])) ≡ ((seat.seen.sealed || have_seen_seal others) || other.seen.sealed)
@@ -212,15 +212,15 @@ split-more old mid new part parts budget calls before fits lasts after is = reco
   calls = omega (arith, lasts, before.calls, mid_calls, counts);
   rest =
       let left : mid.budget - budget ≡ old.budget - budgets_of (parts ++ part ∷ []) = omega (arith, mid_budget, budgets) in
-      let more : mid.calls - calls ≡ old.calls - calls_of (parts ++ part ∷ []) = omega (arith, mid_calls, counts) in
-      let rooms : mid.room + calls ≡ old.room + calls_of (parts ++ part ∷ []) = omega (arith, ap (λ (s : WorkerState). s.room) before.rest, counts) in
+      let more : mid.calls - calls ≡ old.calls - calls_of_workers (parts ++ part ∷ []) = omega (arith, mid_calls, counts) in
+      let rooms : mid.room + calls ≡ old.room + calls_of_workers (parts ++ part ∷ []) = omega (arith, ap (λ (s : WorkerState). s.room) before.rest, counts) in
       after ∙ (λ i. record (before.rest i) { budget = left i; calls = more i; room = rooms i });
 }
   where
     mid_budget : mid.budget ≡ old.budget - budgets_of parts
     mid_budget = ap (λ (s : WorkerState). s.budget) before.rest
 
-    mid_calls : mid.calls ≡ old.calls - calls_of parts
+    mid_calls : mid.calls ≡ old.calls - calls_of_workers parts
     mid_calls = ap (λ (s : WorkerState). s.calls) before.rest
 
     its_budget : part.budget ≡ budget
@@ -232,8 +232,8 @@ split-more old mid new part parts budget calls before fits lasts after is = reco
     budgets : budgets_of (parts ++ part ∷ []) ≡ budgets_of parts + budget
     budgets = sum_by_push (λ (s : WorkerState). s.budget) parts part ∙ ap (λ (n : ℕ). budgets_of parts + n) its_budget
 
-    counts : calls_of (parts ++ part ∷ []) ≡ calls_of parts + calls
-    counts = sum_by_push (λ (s : WorkerState). s.calls) parts part ∙ ap (λ (n : ℕ). calls_of parts + n) its_calls
+    counts : calls_of_workers (parts ++ part ∷ []) ≡ calls_of_workers parts + calls
+    counts = sum_by_push (λ (s : WorkerState). s.calls) parts part ∙ ap (λ (n : ℕ). calls_of_workers parts + n) its_calls
 
     whole : part ≡ split_off old part.budget part.calls
     whole =
@@ -241,10 +241,10 @@ split-more old mid new part parts budget calls before fits lasts after is = reco
 
 -- what is left of a seat is enough for the next worker's places, where the whole was enough for the group
 module _ (old rest : WorkerState) (parts : List WorkerState) (gap k : ℕ) (group : List Planned) (split : HasSplit old parts rest) (le : k ≤ gap) where
-  pub left-budget : budgets_of parts ≡ shares_of (dealt gap k group) → shares_of group ≤ old.budget → shares_of (every gap k group) ≤ rest.budget
+  pub left-budget : budgets_of parts ≡ asked_in_plan (dealt gap k group) → asked_in_plan group ≤ old.budget → asked_in_plan (every gap k group) ≤ rest.budget
   left-budget are enough = omega (arith, are, enough, ap (λ (s : WorkerState). s.budget) split.rest, shares-next gap k group le)
 
-  pub left-calls : calls_of parts ≡ length (dealt gap k group) → length group ≤ old.calls → length (every gap k group) ≤ rest.calls
+  pub left-calls : calls_of_workers parts ≡ length (dealt gap k group) → length group ≤ old.calls → length (every gap k group) ≤ rest.calls
   left-calls are enough = omega (arith, are, enough, ap (λ (s : WorkerState). s.calls) split.rest, length-next gap k group le)
 
 -- what the parts have is what their lists come to, with one part more
@@ -313,7 +313,7 @@ have-joined seat rest new planned group parts others same split have joined = re
     long : length group ≡ length planned
     long = length_permutation planned group same
 
-    rest_calls : rest.calls ≡ seat.calls - calls_of parts
+    rest_calls : rest.calls ≡ seat.calls - calls_of_workers parts
     rest_calls = ap (λ (s : WorkerState). s.calls) split.rest
 
     sealed : new.seen.sealed ≡ (seat.seen.sealed || have_seen_seal others)
@@ -351,7 +351,7 @@ pub room_for : (seat rest : WorkerState) (planned : List Planned) (parts others 
     → rooms_of others ≤ rest.room
 room_for seat rest planned parts others split have = omega (arith, rooms others, have.used, ap (λ (s : WorkerState). s.room) split.rest)
   where
-    rooms : (seats : List WorkerState) → rooms_of seats ≡ calls_of seats + length (tickets_of seats)
+    rooms : (seats : List WorkerState) → rooms_of seats ≡ calls_of_workers seats + length (tickets_of seats)
     rooms [] = refl
     rooms (s ∷ seats) =
         omega (

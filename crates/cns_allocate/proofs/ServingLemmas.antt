@@ -11,7 +11,7 @@ use Rattle.cns_pool.specs.declared.ticket.Ticket.{Ticket}
 use Rattle.cns_pool.specs.WorkerSeat.{EndWithin, WorkerState}
 use Rattle.cns_allocate.specs.Group.{rank}
 use Rattle.cns_allocate.specs.Plan.{IsServable}
-use Rattle.cns_allocate.specs.Serving.{FollowPlanByStart, HasDrawn, shares_of}
+use Rattle.cns_allocate.specs.Serving.{FollowPlanByStart, HasDrawn, asked_in_plan}
 use Rattle.cns_allocate.specs.declared.planned.Planned.{Planned}
 use Rattle.cns_allocate.proofs.DealLemmas.{shares_of-append}
 use Rattle.cns_allocate.proofs.DrawnLemmas.{drawn-count, drawn-most, follow-drawn}
@@ -148,8 +148,8 @@ module _ (plan : List Planned) (m n : ℕ) (is : IsServable plan) (below : m < l
           (subst (λ (l : List Planned). FollowPlanByStart l new.tickets true) (take-append-drop (m + n) plan) whole, draws.met (omega (arith, fewer, tickets_then, count)))
 
       -- what is left of the seat is enough for the others
-      pub budget-after : shares_of (drop m plan) ≤ old.budget → shares_of (drop (m + n) plan) ≤ new.budget
-      budget-after enough = omega (arith, enough, draws.budget, ap shares_of (drop-add m n plan), shares_of-append (take n (drop m plan)) (drop (m + n) plan))
+      pub budget-after : asked_in_plan (drop m plan) ≤ old.budget → asked_in_plan (drop (m + n) plan) ≤ new.budget
+      budget-after enough = omega (arith, enough, draws.budget, ap asked_in_plan (drop-add m n plan), shares_of-append (take n (drop m plan)) (drop (m + n) plan))
 
       pub calls-after : length plan ≤ old.calls + m → length plan ≤ new.calls + (m + n)
       calls-after enough = omega (arith, enough, draws.calls, count)

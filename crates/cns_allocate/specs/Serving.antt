@@ -18,15 +18,15 @@ abbrev pub places_of : ℕ → ℕ → List Planned → List Planned
 places_of workers worker group = every (workers - 1) worker group
 
 -- how many shares they ask for
-abbrev pub shares_of : List Planned → ℕ
-shares_of planned = sum_by (λ (p : Planned). p.asked) planned
+abbrev pub asked_in_plan : List Planned → ℕ
+asked_in_plan planned = sum_by (λ (p : Planned). p.asked) planned
 
 -- the budgets, the calls left, the calls made and the tickets of some seats, and whether one of them has seen the seal
 abbrev pub budgets_of : List WorkerState → ℕ
 budgets_of seats = sum_by (λ (seat : WorkerState). seat.budget) seats
 
-abbrev pub calls_of : List WorkerState → ℕ
-calls_of seats = sum_by (λ (seat : WorkerState). seat.calls) seats
+abbrev pub calls_of_workers : List WorkerState → ℕ
+calls_of_workers seats = sum_by (λ (seat : WorkerState). seat.calls) seats
 
 abbrev pub made_by : List WorkerState → ℕ
 made_by seats = sum_by (λ (seat : WorkerState). seat.made) seats
@@ -59,7 +59,7 @@ pub record HasDrawn (old : WorkerState) (planned : List Planned) (new : WorkerSt
   pub made : new.made + new.calls ≡ old.made + old.calls
   pub used : length tickets + new.calls ≤ old.calls
   pub calls : old.calls ≤ new.calls + length planned
-  pub budget : old.budget ≤ new.budget + shares_of planned
+  pub budget : old.budget ≤ new.budget + asked_in_plan planned
   pub all : length tickets ≡ length planned → new.seen.sealed ≡ old.seen.sealed
   pub met : length tickets < length planned → new.seen.sealed ≡ true
 
@@ -67,8 +67,8 @@ pub record HasDrawn (old : WorkerState) (planned : List Planned) (new : WorkerSt
 pub record HasSplit (old : WorkerState) (parts : List WorkerState) (new : WorkerState) : Type 0 where
   pub each : All (λ (part : WorkerState). part ≡ split_off old part.budget part.calls) parts
   pub budget : budgets_of parts ≤ old.budget
-  pub calls : calls_of parts ≤ old.calls
-  pub rest : new ≡ record old { budget = old.budget - budgets_of parts; calls = old.calls - calls_of parts; room = old.room + calls_of parts }
+  pub calls : calls_of_workers parts ≤ old.calls
+  pub rest : new ≡ record old { budget = old.budget - budgets_of parts; calls = old.calls - calls_of_workers parts; room = old.room + calls_of_workers parts }
 
 -- what a seat has once these seats were joined into it
 pub record HasJoined (old : WorkerState) (others : List WorkerState) (new : WorkerState) : Type 0 where
@@ -76,7 +76,7 @@ pub record HasJoined (old : WorkerState) (others : List WorkerState) (new : Work
   pub given : new.given ≡ old.given
   pub tickets : new.tickets ≡ old.tickets ++ tickets_of others
   pub budget : new.budget ≡ old.budget + budgets_of others
-  pub calls : new.calls ≡ old.calls + calls_of others
+  pub calls : new.calls ≡ old.calls + calls_of_workers others
   pub made : new.made ≡ old.made + made_by others
   pub sealed : new.seen.sealed ≡ (old.seen.sealed || have_seen_seal others)
 

@@ -2,7 +2,7 @@
 
 ghost use Rattle.std.specs.Prelude.{◌≡◌, ℕ, ◌+◌, ◌-◌, ◌^◌, ◌<◌, ◌≤◌, [], length, slice_index_or, vec_capacity, vec_len, All, OnErr, OnOk};
 ghost use Rattle.cns_pool.specs.WorkerSeat.{EndWithin, WorkerState};
-ghost use Rattle.cns_allocate.specs.Serving.{HasDrawn, HasJoined, HasSplit, places_of, rooms_of, shares_of};
+ghost use Rattle.cns_allocate.specs.Serving.{HasDrawn, HasJoined, HasSplit, places_of, rooms_of, asked_in_plan};
 ghost use Rattle.cns_allocate.specs.declared.planned.Planned.{Planned};
 
 use crate::gate::Gate;
@@ -26,8 +26,8 @@ impl Needs {
     // The shares are taken off the budget one by one, so their sum is known to fit.
     fn of(budget: u64, group: &[Planned], worker: usize, workers: usize) -> Needs
         requires workers { (0 < workers) × (workers ≤ MAX_WORKERS) }
-        requires budget { shares_of (places_of workers worker group.now) ≤ budget }
-        ensures shares { result.shares ≡ shares_of (places_of workers worker group.now) }
+        requires budget { asked_in_plan (places_of workers worker group.now) ≤ budget }
+        ensures shares { result.shares ≡ asked_in_plan (places_of workers worker group.now) }
         ensures calls { result.calls ≡ length (places_of workers worker group.now) }
     {
         let mut left = budget;
@@ -58,11 +58,11 @@ pub(crate) fn split_seats(
     requires none { seats.old.items ≡ [] }
     requires room { workers ≤ vec_capacity seats.old }
     requires workers { (0 < workers) × (workers ≤ MAX_WORKERS) }
-    requires budget { shares_of group.now ≤ seat.old.budget }
+    requires budget { asked_in_plan group.now ≤ seat.old.budget }
     requires calls { length group.now ≤ seat.old.calls }
     ensures split { HasSplit seat.old seats.new.items seat.new }
     ensures count { OnOk result (length seats.new.items ≡ workers) }
-    ensures budget { OnOk result ((i : ℕ) (d : WorkerState) → i < workers → shares_of (places_of workers i group.now) ≤ (slice_index_or seats.new.items i d).budget) }
+    ensures budget { OnOk result ((i : ℕ) (d : WorkerState) → i < workers → asked_in_plan (places_of workers i group.now) ≤ (slice_index_or seats.new.items i d).budget) }
     ensures calls { OnOk result ((i : ℕ) (d : WorkerState) → i < workers → length (places_of workers i group.now) ≤ (slice_index_or seats.new.items i d).calls) }
     ensures ends { OnOk result (EndWithin seat.old.seen.asked seat.old.tickets) }
 {
@@ -86,7 +86,7 @@ pub(crate) fn draw<G: Gate>(
     requires cell { seat.old.cell ≡ cell.now }
     requires workers { (0 < workers) × (workers ≤ MAX_WORKERS) }
     requires asks { All (λ (p : Planned). 1 ≤ p.asked) group.now }
-    requires budget { shares_of (places_of workers worker group.now) ≤ seat.old.budget }
+    requires budget { asked_in_plan (places_of workers worker group.now) ≤ seat.old.budget }
     requires calls { length (places_of workers worker group.now) ≤ seat.old.calls }
     ensures { HasDrawn seat.old (places_of workers worker group.now) seat.new }
 {
@@ -114,7 +114,7 @@ pub(crate) fn draw_all<G: Gate + Sync, R: Threads + Sync>(
     requires cell { All (λ (s : WorkerState). s.cell ≡ cell.now) seats.old }
     requires workers { (0 < length seats.old) × (length seats.old ≤ MAX_WORKERS) }
     requires asks { All (λ (p : Planned). 1 ≤ p.asked) group.now }
-    requires budget { (i : ℕ) (d : WorkerState) → i < length seats.old → shares_of (places_of (length seats.old) i group.now) ≤ (slice_index_or seats.old i d).budget }
+    requires budget { (i : ℕ) (d : WorkerState) → i < length seats.old → asked_in_plan (places_of (length seats.old) i group.now) ≤ (slice_index_or seats.old i d).budget }
     requires calls { (i : ℕ) (d : WorkerState) → i < length seats.old → length (places_of (length seats.old) i group.now) ≤ (slice_index_or seats.old i d).calls }
     ensures { (i : ℕ) (d : WorkerState) → i < length seats.old → HasDrawn (slice_index_or seats.old i d) (places_of (length seats.old) i group.now) (slice_index_or seats.new i d) }
 {

@@ -2,7 +2,7 @@ ghost use Rattle.std.specs.Prelude.{◌≡◌, ◌↔◌, ◌⊎◌, ℕ, ◌<�
 ghost use Rattle.cns_pool.specs.WorkerSeat.{EndWithin};
 ghost use Rattle.cns_allocate.specs.Group.{rank};
 ghost use Rattle.cns_allocate.specs.Plan.{IsServable};
-ghost use Rattle.cns_allocate.specs.Serving.{HasDrawn, Serves, shares_of};
+ghost use Rattle.cns_allocate.specs.Serving.{HasDrawn, Serves, asked_in_plan};
 ghost use Rattle.cns_allocate.specs.declared.planned.Planned.{Planned};
 ghost use Rattle.cns_allocate.specs.declared.serving.ServeCause.TheVariants.{OutOfMemory, TooManyWorkers};
 
@@ -63,7 +63,7 @@ pub fn serve<G: Gate + Sync, R: Threads + Sync>(
     requires cell { seat.cell ≡ cell.now }
     requires none { seat.tickets ≡ [] }
     requires plan { IsServable plan.now }
-    requires budget { shares_of plan.now ≤ seat.budget }
+    requires budget { asked_in_plan plan.now ≤ seat.budget }
     requires calls { length plan.now ≤ seat.calls }
     ensures served { IfOk result (λ served. Serves plan.now seat served.seat served.sealed) }
     ensures sealed { IfOk result (λ served. served.seat.seen.sealed ≡ (served.sealed || seat.seen.sealed)) }
@@ -103,7 +103,7 @@ fn serve_groups<G: Gate + Sync, R: Threads + Sync>(
     requires none { seat.old.tickets ≡ [] }
     requires workers { (0 < workers) × (workers ≤ MAX_WORKERS) }
     requires plan { IsServable plan.now }
-    requires budget { shares_of plan.now ≤ seat.old.budget }
+    requires budget { asked_in_plan plan.now ≤ seat.old.budget }
     requires calls { length plan.now ≤ seat.old.calls }
     ensures served { IfOk result (λ sealed. Serves plan.now seat.old seat.new sealed) }
     ensures sealed { IfOk result (λ sealed. seat.new.seen.sealed ≡ (sealed || seat.old.seen.sealed)) }
@@ -166,7 +166,7 @@ fn serve_group<G: Gate + Sync, R: Threads + Sync>(
     requires workers { (0 < workers) × (workers ≤ MAX_WORKERS) }
     requires some { 0 < length group.now }
     requires asks { All (λ (p : Planned). 1 ≤ p.asked) group.now }
-    requires budget { shares_of group.now ≤ seat.old.budget }
+    requires budget { asked_in_plan group.now ≤ seat.old.budget }
     requires calls { length group.now ≤ seat.old.calls }
     ensures drawn { OnOk result (HasDrawn seat.old group.now seat.new) }
     ensures ends { OnOk result (EndWithin seat.old.seen.asked seat.old.tickets) }

@@ -3,7 +3,7 @@ use Rattle.std.specs.Prelude.{◌≡◌, ℕ, Bool, true, false, List}
 use Rattle.cns_trades.specs.declared.opening.Opening.{Opening}
 use Rattle.cns_journal.specs.DiskJournal.{nothing_known}
 use Rattle.cns_journal.specs.Keeper.{KeeperState}
-use Rattle.cns_file.specs.Copy.{CopyState, kept_by, running_of}
+use Rattle.cns_file.specs.Copy.{CopyState, kept_by, copy_running}
 use Rattle.cns_system.specs.Start.{IsNotOpened, IsStarted}
 use Rattle.cns_system.specs.declared.fault.StartFault.{StartFault}
 use Rattle.cns_system.specs.declared.fault.StartFault.TheVariants as start
@@ -17,7 +17,7 @@ abbrev pub unread : List ℕ → CopyState
 unread file = record { file = file; count = 0 }
 
 abbrev pub copy_of : List ℕ → KeeperState
-copy_of file = record { honest = true; run = running_of (unread file); journal = kept_by (unread file); foresight = nothing_known }
+copy_of file = record { honest = true; run = copy_running (unread file); journal = kept_by (unread file); foresight = nothing_known }
 
 -- whether a fault is one of memory or of a device, and not of what the journals say
 abbrev pub is_of_reading : ReplayFault → Bool

@@ -11,8 +11,8 @@ pub record CopyState : Type 0 where
   pub count : ℕ
 
 -- what every keeper shows of this one: it is up, and its device has never failed
-abbrev pub running_of : CopyState → Running
-running_of copy = record { down = false; failures = 0; count = copy.count }
+abbrev pub copy_running : CopyState → Running
+copy_running copy = record { down = false; failures = 0; count = copy.count }
 
 -- it keeps the records of the file
 abbrev pub kept_by : CopyState → Journal

@@ -15,13 +15,13 @@ pub record IsRead {D : Type 0} (seen : D → List ℕ) (images : D → List ℕ 
   pub time : Elapses (moment old) (moment new) (left_since old) (left_since new) (images new)
 
 -- what stood behind a place of the file, if anything did, is kept with that place, behind all that was kept before
-abbrev pub IsKept : ℕ → List ℕ → List (ℕ × List ℕ) → List (ℕ × List ℕ) → Type 0
-IsKept at file old new = (length file ≤ at) ⊎ (new ≡ old ++ (at, drop at file) ∷ [])
+abbrev pub IsCutKept : ℕ → List ℕ → List (ℕ × List ℕ) → List (ℕ × List ℕ) → Type 0
+IsCutKept at file old new = (length file ≤ at) ⊎ (new ≡ old ++ (at, drop at file) ∷ [])
 
 -- a cut lost nothing: the file is as it was, or what stood behind the place is kept
 abbrev pub LosesNothing : ℕ → List ℕ → List ℕ → List (ℕ × List ℕ) → List (ℕ × List ℕ) → Type 0
-LosesNothing at file after old new = (after ≡ file) ⊎ IsKept at file old new
+LosesNothing at file after old new = (after ≡ file) ⊎ IsCutKept at file old new
 
 -- nor does a crash then: it leaves nothing that it could not have left before, or what stood behind the place is kept
 abbrev pub CrashLosesNothing : ℕ → List ℕ → (List ℕ → Type 0) → (List ℕ → Type 0) → List (ℕ × List ℕ) → List (ℕ × List ℕ) → Type 0
-CrashLosesNothing at file before after old new = EachImage after before ⊎ IsKept at file old new
+CrashLosesNothing at file before after old new = EachImage after before ⊎ IsCutKept at file old new

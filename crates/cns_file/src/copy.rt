@@ -5,7 +5,7 @@ ghost use Rattle.cns_journal.specs.DiskJournal.{nothing_known};
 ghost use Rattle.cns_journal.specs.Keeper.{CommitForeseen, CommitKeeps, CommitLeaves, PlanLeaves, ReopenForeseen, ReopenKeeps, ReopenLeaves, given_by};
 ghost use Rattle.cns_journal.specs.Layout.{journal_of};
 ghost use Rattle.cns_journal.specs.declared.keeper.KeepFault.TheVariants.{Memory};
-ghost use Rattle.cns_file.specs.Copy.{CopyReopen, kept_by, running_of};
+ghost use Rattle.cns_file.specs.Copy.{CopyReopen, kept_by, copy_running};
 
 use crate::record::first_record;
 use cns_journal::{KeepFault, Keeper, MAX_RECORDS, NotPlanned};
@@ -63,11 +63,11 @@ impl<'a> FileCopy<'a> {
 }
 
 impl Keeper for FileCopy<'_> {
-    ghost state = { λ c. record { honest = true; run = running_of c; journal = kept_by c; foresight = nothing_known } };
+    ghost state = { λ c. record { honest = true; run = copy_running c; journal = kept_by c; foresight = nothing_known } };
 
     /// Always answers `Memory`, and changes nothing: a copy takes no record.
     fn commit(&mut self, _payload: &[u8]) -> Result<(), KeepFault>
-        ensures leaves { CommitLeaves result (running_of self.old) (running_of self.new) }
+        ensures leaves { CommitLeaves result (copy_running self.old) (copy_running self.new) }
         ensures keeps { CommitKeeps _payload.now result (kept_by self.old) (kept_by self.new) }
         ensures foreseen { CommitForeseen result nothing_known nothing_known }
         ensures refused { result ≡ Err Memory }
@@ -79,7 +79,7 @@ impl Keeper for FileCopy<'_> {
     /// Gives the records of the copy, the oldest first. Refused only for want of memory, and then nothing
     /// has changed.
     fn reopen(&mut self) -> Result<Vec<Vec<u8>>, KeepFault>
-        ensures leaves { ReopenLeaves (given_by result) (running_of self.old) (running_of self.new) }
+        ensures leaves { ReopenLeaves (given_by result) (copy_running self.old) (copy_running self.new) }
         ensures keeps { ReopenKeeps (given_by result) (kept_by self.old) (kept_by self.new) }
         ensures foreseen { ReopenForeseen (given_by result) nothing_known nothing_known }
         ensures exact { CopyReopen (given_by result) self.old self.new }

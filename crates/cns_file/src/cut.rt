@@ -3,7 +3,7 @@
 ghost use Rattle.std.specs.Prelude.{◌≡◌, ℕ, ◌+◌, ◌<◌, ◌≤◌, Bool, true, List, [], ◌∷◌, ◌++◌, length, take, drop, vec_items, IfOk, OnOk};
 ghost use Rattle.cns_journal.specs.Disk.{CountsFailure, DoesNothing, Elapses, Follows, Shortened};
 ghost use Rattle.cns_journal.specs.Keeper.{HasRisen};
-ghost use Rattle.cns_file.specs.Cut.{CrashLosesNothing, IsKept, IsRead, LosesNothing};
+ghost use Rattle.cns_file.specs.Cut.{CrashLosesNothing, IsCutKept, IsRead, LosesNothing};
 
 use cns_journal::{Disk, DiskFault};
 use std::alloc::Global;
@@ -61,7 +61,7 @@ fn keep_behind<D: Disk, S: Scraps>(
     ensures honest { D.honest disk.new ≡ D.honest disk.old }
     ensures reads { D.honest disk.old ≡ true → IsRead D.seen D.images D.moment D.left_since disk.old disk.new }
     ensures kept { D.honest disk.old ≡ true → S.honest scraps.old ≡ true
-        → OnOk result (IsKept at (D.seen disk.old) (S.pieces scraps.old) (S.pieces scraps.new)) }
+        → OnOk result (IsCutKept at (D.seen disk.old) (S.pieces scraps.old) (S.pieces scraps.new)) }
     ensures scraps_honest { S.honest scraps.new ≡ S.honest scraps.old }
     ensures untouched { D.honest disk.old ≡ true → length (D.seen disk.old) ≤ at → scraps.new ≡ scraps.old }
 {
@@ -93,7 +93,7 @@ fn cut_kept<D: Disk, S: Scraps>(
     ensures crash_loses_nothing { D.honest disk.old ≡ true → S.honest scraps.old ≡ true
         → CrashLosesNothing len (D.seen disk.old) (D.images disk.old) (D.images disk.new) (S.pieces scraps.old) (S.pieces scraps.new) }
     ensures kept { D.honest disk.old ≡ true → S.honest scraps.old ≡ true
-        → OnOk result (IsKept len (D.seen disk.old) (S.pieces scraps.old) (S.pieces scraps.new)) }
+        → OnOk result (IsCutKept len (D.seen disk.old) (S.pieces scraps.old) (S.pieces scraps.new)) }
     ensures scraps_honest { S.honest scraps.new ≡ S.honest scraps.old }
     ensures untouched { D.honest disk.old ≡ true → length (D.seen disk.old) ≤ len → scraps.new ≡ scraps.old }
 {
@@ -203,7 +203,7 @@ impl<D: Disk, S: Scraps> Disk for CutsKept<D, S> {
         ensures crash_loses_nothing { D.honest self.old.disk ≡ true → S.honest self.old.scraps ≡ true
             → CrashLosesNothing len (D.seen self.old.disk) (D.images self.old.disk) (D.images self.new.disk) (S.pieces self.old.scraps) (S.pieces self.new.scraps) }
         ensures kept { D.honest self.old.disk ≡ true → S.honest self.old.scraps ≡ true
-            → OnOk result (IsKept len (D.seen self.old.disk) (S.pieces self.old.scraps) (S.pieces self.new.scraps)) }
+            → OnOk result (IsCutKept len (D.seen self.old.disk) (S.pieces self.old.scraps) (S.pieces self.new.scraps)) }
         ensures scraps_honest { S.honest self.new.scraps ≡ S.honest self.old.scraps }
         ensures untouched { D.honest self.old.disk ≡ true → length (D.seen self.old.disk) ≤ len → self.new.scraps ≡ self.old.scraps }
     {

@@ -7,7 +7,7 @@ use Rattle.cns_trades.specs.declared.trade.Trade.{Trade}
 use Rattle.cns_netting.specs.History.{accepted, bought, credit, credit_part, debit, debit_part, due_since, position_of, settled_in, settled_out, sold}
 use Rattle.cns_netting.specs.Positions.{bought_by, sold_by}
 use Rattle.cns_netting.specs.Undue.{waiting_of, undue}
-use Rattle.cns_netting.specs.Book.{AmountsFit, IsBook, IsSettled, IsWithin, QuantitiesFit}
+use Rattle.cns_netting.specs.Book.{AmountsFit, IsBook, AreSettlementsBounded, IsWithin, QuantitiesFit}
 use Rattle.cns_netting.specs.declared.entry.NetEntry.{NetEntry}
 use Rattle.cns_netting.specs.declared.entry.NetEntry.TheVariants.{Accepted, Netted, Settled}
 use Rattle.cns_netting.proofs.TradeLemmas.{accepted-most}
@@ -91,7 +91,7 @@ book_settled h m i z book before after =
     }
   where
     by : (k j : ℕ) (b : Bool) → ((m == k) && (i == j)) ≡ b → AreSettled (credit_part z + settled_in h m i) (debit_part z + settled_out h m i)
-        → IsSettled (Settled m i z ∷ h) k j
+        → AreSettlementsBounded (Settled m i z ∷ h) k j
     by k j true e s =
         let same = same_place m k i j e in
         record {

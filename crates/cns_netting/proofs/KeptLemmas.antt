@@ -9,7 +9,7 @@ use Rattle.std.proofs.lemmas.List.Recursion.{is_sum_by}
 use Rattle.std.proofs.lemmas.List.Sorted.{All-permutation, sum_by_pushed}
 use Rattle.std.proofs.lemmas.List.Sums.{sum_by-cons}
 use Rattle.cns_trades.specs.declared.trade.Trade.{Trade}
-use Rattle.cns_netting.specs.Book.{IsBook, IsKept, IsWithin}
+use Rattle.cns_netting.specs.Book.{IsBook, IsKeptBook, IsWithin}
 use Rattle.cns_netting.specs.History.{becoming_due, bought, credit_part, debit_part, due, longs_of, position_of, settled_in, settled_out, shorts_of, sold}
 use Rattle.cns_netting.specs.Rows.{holdings_of, rows_of}
 use Rattle.cns_netting.specs.Positions.{Adds, ArePositionsOf, bought_by, bought_in, brought_due, credit_among, debit_among, IsNamed, no_shares, shares_only_at, sold_by, sold_in, StayNear, taken_due}
@@ -39,7 +39,7 @@ near_by day waiting near = record {
 }
 
 module _ {T : Type 0} where
-  pub kept_empty : (totals : HashMap ℕ Totals T) (waiting : List Undue) → totals.entries ≡ [] → waiting ≡ [] → IsHeap earlier waiting → IsKept [] [] totals waiting
+  pub kept_empty : (totals : HashMap ℕ Totals T) (waiting : List Undue) → totals.entries ≡ [] → waiting ≡ [] → IsHeap earlier waiting → IsKeptBook [] [] totals waiting
   unfolding bought sold settled_in settled_out
   kept_empty totals waiting uncounted empty heap = record {
     book = book_empty;
@@ -57,9 +57,9 @@ module _ {T : Type 0} where
   issues_stay : (totals next : HashMap ℕ Totals T) → KeepIssues totals next → (waiting : List Undue) → All (HasIssue totals) waiting → All (HasIssue next) waiting
   issues_stay totals next keep = All-weaker (HasIssue totals) (HasIssue next) (λ t one. keep _ one)
 
-module _ {T : Type 0} {h : List NetEntry} {old : List (Holding × Position)} {totals : HashMap ℕ Totals T} {waiting : List Undue} (kept : IsKept h old totals waiting) where
+module _ {T : Type 0} {h : List NetEntry} {old : List (Holding × Position)} {totals : HashMap ℕ Totals T} {waiting : List Undue} (kept : IsKeptBook h old totals waiting) where
   -- positions that are what they were, as when what was added is taken back
-  pub kept_back : {new : List (Holding × Position)} → Adds no_shares no_shares old new → IsKept h new totals waiting
+  pub kept_back : {new : List (Holding × Position)} → Adds no_shares no_shares old new → IsKeptBook h new totals waiting
   kept_back adds = record {
     book = kept.book;
     positions = record { balance = λ m i. omega (arith, adds.balance m i, kept.positions.balance m i) };
@@ -72,7 +72,7 @@ module _ {T : Type 0} {h : List NetEntry} {old : List (Holding × Position)} {to
 
   pub kept_accepted : (t : Trade) {new : List (Holding × Position)} {next : HashMap ℕ Totals T} {queue : List Undue} → IsBook (Accepted t ∷ h) → Adds no_shares no_shares old new
       → ((i : ℕ) → longs_in next i ≡ longs_in totals i) → ((i : ℕ) → shorts_in next i ≡ shorts_in totals i) → KeepIssues totals next
-      → IsNamed new (waiting_of t) → HasIssue next (waiting_of t) → IsPermutation (waiting_of t ∷ waiting) queue → IsHeap earlier queue → IsKept (Accepted t ∷ h) new next queue
+      → IsNamed new (waiting_of t) → HasIssue next (waiting_of t) → IsPermutation (waiting_of t ∷ waiting) queue → IsHeap earlier queue → IsKeptBook (Accepted t ∷ h) new next queue
   unfolding settled_in settled_out
   kept_accepted t {new} {next} {queue} book adds longs shorts keep named issue perm heap = record {
     book = book;
@@ -86,7 +86,7 @@ module _ {T : Type 0} {h : List NetEntry} {old : List (Holding × Position)} {to
 
   pub kept_settled : (member issue : ℕ) (z : ℤ) {new : List (Holding × Position)} {next : HashMap ℕ Totals T} → IsBook (Settled member issue z ∷ h)
       → Adds (shares_only_at member issue (credit_part z)) (shares_only_at member issue (debit_part z)) old new → AreTotalsOf next new → KeepIssues totals next
-      → IsKept (Settled member issue z ∷ h) new next waiting
+      → IsKeptBook (Settled member issue z ∷ h) new next waiting
   unfolding settled_in settled_out
   kept_settled member issue z {new} {next} book adds are keep = record {
     book = book;
@@ -112,7 +112,7 @@ module _ {T : Type 0} {h : List NetEntry} {old : List (Holding × Position)} {to
 
   pub kept_netted : (day : ℕ) {new : List (Holding × Position)} {next : HashMap ℕ Totals T} {queue : List Undue} → IsBook (Netted day ∷ h)
       → ((f : Undue → ℕ) → sum_by f queue ≡ sum_by (if_left day f) waiting) → Adds (brought_due Add day waiting) (taken_due Add day waiting) old new
-      → AreTotalsOf next new → All (IsNamed new) queue → All (HasIssue next) queue → IsHeap earlier queue → IsKept (Netted day ∷ h) new next queue
+      → AreTotalsOf next new → All (IsNamed new) queue → All (HasIssue next) queue → IsHeap earlier queue → IsKeptBook (Netted day ∷ h) new next queue
   kept_netted day book left adds are named issues heap = record {
     book = book;
     positions = positions_netted refl adds;

@@ -23,7 +23,7 @@ use Rattle.cns_ids.specs.Member.{IsMember}
 use Rattle.cns_ids.specs.declared.holding.Holding.{Holding}
 use Rattle.cns_ids.proofs.HoldingLemmas.{Puts}
 use Rattle.cns_ids.proofs.ListLemmas.{AllPairs-filter_map, IsSortedByKey-alike}
-use Rattle.cns_netting.specs.Positions.{AreInOrder, AreListed, ArePlacesInOrder, holding_of, IsFrontOf, IsNotBefore, issue_in, issue_or, places_below, position_found, row_at, row_by, row_if, row_in_place, row_part}
+use Rattle.cns_netting.specs.Positions.{AreInOrder, AreListed, ArePlacesInOrder, holding_of, IsFrontOf, IsNotBefore, issue_in, issue_or, places_below, position_found, row_of_entry, row_by, row_if, row_in_place, row_part}
 use Rattle.cns_netting.specs.History.{credit_part, debit_part}
 use Rattle.cns_netting.specs.declared.position.PositionRow.{PositionRow}
 use Rattle.cns_netting.specs.declared.positions.Position.{Position}
@@ -180,7 +180,7 @@ pub rows-sum : (issue : Option ℕ) (positions : List (Holding × Position)) (or
     → sum_by (λ (p : ℕ). row_part f (row_in_place issue positions p)) order ≡ sum_by (λ (e : Holding × Position). row_part f (row_if issue e.0 (Some e.1))) (take (length order) positions)
 rows-sum issue positions order places f =
     sum_by-IsPermutation (λ (p : ℕ). row_part f (row_in_place issue positions p)) (places_below (length order)) order places.each
-    ∙ first_sum (λ (o : Option (Holding × Position)). row_part f (row_at issue o)) positions (length order) places.most
+    ∙ first_sum (λ (o : Option (Holding × Position)). row_part f (row_of_entry issue o)) positions (length order) places.most
 
 -- a holding of another issue has no row in it
 pub other_issue : (positions : List (Holding × Position)) (issue p : ℕ) → (issue_in positions issue p == issue) ≡ false → row_in_place (Some issue) positions p ≡ None
@@ -188,7 +188,7 @@ other_issue positions issue p other =
     by (slice_get positions p) (ap (λ (o : Option Holding). issue_or issue o == issue) (sym (slice_get-map (λ (e : Holding × Position). e.0) positions p)) ∙ other)
   where
     by : (o : Option (Holding × Position)) → (issue_or issue (option_map (λ (e : Holding × Position). e.0) o) == issue) ≡ false
-        → row_at (Some issue) o ≡ None
+        → row_of_entry (Some issue) o ≡ None
     by None e = refl
     by (Some x) e = ap (λ b. if b then row_by x.0 (Some x.1) else None) e
 
@@ -199,7 +199,7 @@ rows_in_order issue positions order places =
     AllPairs-filter_map (λ (p q : ℕ). is_lt (option_cmp holding_cmp (slice_get (keys_of positions) q) (slice_get (keys_of positions) p)) ≡ false) IsNotBefore (row_in_place issue positions) not_before order
     (λ i j d less below. far positions order places i j d (omega (arith, less)) below)
   where
-    by : (o : Option (Holding × Position)) (row : PositionRow) → row_at issue o ≡ Some row
+    by : (o : Option (Holding × Position)) (row : PositionRow) → row_of_entry issue o ≡ Some row
         → option_map (λ (e : Holding × Position). e.0) o ≡ Some (holding_of row)
     by None row e = cc e
     by (Some x) row e = ap (λ (k : Holding). Some k) (sym (in_issue-holding issue x.0 (row_by x.0 (Some x.1)) row (row_by-holding x.0 (Some x.1) row) e))

@@ -38,7 +38,7 @@ AmountsFit (Netted d ∷ h) = AmountsFit h
 AmountsFit (Settled m i z ∷ h) = (credit_part z ≤ 2000000000000000000) × (debit_part z ≤ 2000000000000000000) × AmountsFit h
 
 -- the settlements of a member in an issue come to at most 2 * 10^18 either way
-pub record IsSettled (h : List NetEntry) (member issue : ℕ) : Type 0 where
+pub record AreSettlementsBounded (h : List NetEntry) (member issue : ℕ) : Type 0 where
   pub in_most : settled_in h member issue ≤ settled_out h member issue + 2000000000000000000
   pub out_most : settled_out h member issue ≤ settled_in h member issue + 2000000000000000000
 
@@ -47,11 +47,11 @@ pub record IsBook (h : List NetEntry) : Type 0 where
   pub few : length (accepted h) ≤ 1000000
   pub quantities : QuantitiesFit h
   pub amounts : AmountsFit h
-  pub settled : (member issue : ℕ) → IsSettled h member issue
+  pub settled : (member issue : ℕ) → AreSettlementsBounded h member issue
 
 -- what a book keeps beside its history: the position of each holding, the totals of each issue, and of the trades that are not due
 -- what netting needs, in a heap; the holdings and the issue of each such trade are named
-pub record IsKept {T : Type 0} (h : List NetEntry) (holdings : List (Holding × Position)) (issues : HashMap ℕ Totals T) (waiting : List Undue) : Type 0 where
+pub record IsKeptBook {T : Type 0} (h : List NetEntry) (holdings : List (Holding × Position)) (issues : HashMap ℕ Totals T) (waiting : List Undue) : Type 0 where
   pub book : IsBook h
   pub positions : ArePositionsOf holdings h
   pub totals : AreTotalsOf issues holdings

@@ -135,12 +135,12 @@ abbrev pub row_if : Option ℕ → Holding → Option Position → Option Positi
 row_if issue k o = in_issue issue k (row_by k o)
 
 -- the row of what stands in a place, where something does
-abbrev pub row_at : Option ℕ → Option (Holding × Position) → Option PositionRow
-row_at issue None = None
-row_at issue (Some e) = row_if issue e.0 (Some e.1)
+abbrev pub row_of_entry : Option ℕ → Option (Holding × Position) → Option PositionRow
+row_of_entry issue None = None
+row_of_entry issue (Some e) = row_if issue e.0 (Some e.1)
 
 abbrev pub row_in_place : Option ℕ → List (Holding × Position) → ℕ → Option PositionRow
-row_in_place issue entries place = row_at issue (slice_get entries place)
+row_in_place issue entries place = row_of_entry issue (slice_get entries place)
 
 -- the issue of a holding; one after this issue where there is none
 abbrev pub issue_or : ℕ → Option Holding → ℕ

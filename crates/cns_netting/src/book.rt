@@ -39,7 +39,7 @@ impl Model for NetBook {
     ghost use Rattle.std.specs.Prelude.{◌-◌, length, reverse, vec_capacity};
     ghost use Rattle.std.specs.BinaryHeap.{heap_capacity, heap_items, heap_len};
     ghost use Rattle.std.specs.HashMap.{spare};
-    ghost use Rattle.cns_netting.specs.Book.{IsKept, NetRoom, room_of};
+    ghost use Rattle.cns_netting.specs.Book.{IsKeptBook, NetRoom, room_of};
 
     ghost Value = { NetRoom };
 
@@ -48,7 +48,7 @@ impl Model for NetBook {
       room = room_of (vec_capacity b.entries - length b.entries.items) b.positions.room (spare b.totals) (heap_capacity b.undue - heap_len b.undue);
     } };
 
-    ghost invariant = { λ b. IsKept (reverse b.entries.items) b.positions.entries b.totals (heap_items b.undue) };
+    ghost invariant = { λ b. IsKeptBook (reverse b.entries.items) b.positions.entries b.totals (heap_items b.undue) };
 }
 
 // Takes the memory that any entry needs.

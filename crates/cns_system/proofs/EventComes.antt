@@ -14,7 +14,7 @@ use Rattle.cns_clearing.specs.declared.lot.Lot.{Lot}
 use Rattle.cns_system.specs.Happens.{Leaves as Left, judged, outcome_of}
 use Rattle.cns_system.specs.Lot.{LotState, with_seal}
 use Rattle.cns_system.specs.Lots.{HasLot, HasNone, change_call, going_lot, reserve_call}
-use Rattle.cns_system.specs.Numbered.{IsNumberedCommit, NumberedNode, numbered_close, lots_ended, numbered_open, opening_call, numbered_pour, shown, with_opened}
+use Rattle.cns_system.specs.Numbered.{IsNumberedCommit, NumberedNode, numbered_close, with_lot_ended, numbered_open, opening_call, numbered_pour, shown, with_opened}
 use Rattle.cns_system.specs.Scene.{Comes}
 use Rattle.cns_system.specs.Shown.{Shown, shown_of, with_new_lot}
 use Rattle.cns_system.specs.World.{World}
@@ -79,12 +79,12 @@ module _ (old : World) (n : NumberedNode) where
           rw (answer, same) (not_grown (event.LotOpen issue) old (λ c. refl) (outcomes.LotOpened opened.0) (with_new_lot opened.1 (shown_of old)) (rw is refl))
 
   pub close_comes : (number : ℕ) (result : Result Closed Refusal)
-      → CallLeaves commit_refusal (IsNumberedCommit (lots_ended number)) (numbered_close number old.clear.clear.log.down old.clear.clear.log.records old.clear.clear.lots old.clear.lots) result
+      → CallLeaves commit_refusal (IsNumberedCommit (with_lot_ended number)) (numbered_close number old.clear.clear.log.down old.clear.clear.log.records old.clear.clear.lots old.clear.lots) result
       old.clear n
       → Comes (event.LotClose number) (outcome_of (λ (done : Closed). outcomes.Closed done) result) old (record old { clear = n })
   unfolding judged
   close_comes number result left =
-      clear_comes (event.LotClose number) (λ (done : Closed). outcomes.Closed done) (lots_ended number) old n (λ c. refl) refl (λ x. tt) _ result refl left
+      clear_comes (event.LotClose number) (λ (done : Closed). outcomes.Closed done) (with_lot_ended number) old n (λ c. refl) refl (λ x. tt) _ result refl left
 
 -- ---- looks
 

@@ -36,7 +36,7 @@ use Rattle.cns_depository.specs.declared.movement.Movement.{Movement}
 use Rattle.cns_system.specs.Happens.{Change, Decision, Grows, Leaves, by_clear, by_order, by_own, clear_deed, judged, taken_told, with_reply_put}
 use Rattle.cns_system.specs.Lot.{LotState, with_seal, with_ticket}
 use Rattle.cns_system.specs.Lots.{going_lot, turn_ticket, with_lot}
-use Rattle.cns_system.specs.Numbered.{lots_ended, numbered_close, numbered_open, numbered_pour}
+use Rattle.cns_system.specs.Numbered.{with_lot_ended, numbered_close, numbered_open, numbered_pour}
 use Rattle.cns_system.specs.Shown.{Shown, clear_added, clear_failed, depot_added, depot_failed, with_new_lot}
 use Rattle.cns_system.specs.declared.event.Event.TheVariants as event
 use Rattle.cns_system.specs.declared.numbered.Opened.{Opened}
@@ -138,11 +138,11 @@ module _ (P : Outcome → Shown → Type 0) (d : Decision) (w : Shown) where
       (λ lot going. seals lot (going_parts w.lots number lot going))
 
   pub close_holds : (number : ℕ)
-      → ((done : Closed) (close : IsClose number w.open_lots w.lots) → w.clear.down ≡ false → Added (outcomes.Closed done) (allocated close) (lots_ended number w.lots))
+      → ((done : Closed) (close : IsClose number w.open_lots w.lots) → w.clear.down ≡ false → Added (outcomes.Closed done) (allocated close) (with_lot_ended number w.lots))
       → Holding (judged (event.LotClose number) w)
   unfolding judged
   close_holds number closes =
-      by_record (λ (done : Closed). outcomes.Closed done) (lots_ended number) (numbered_close number w.clear.down w.clear.records w.open_lots w.lots) _ _
+      by_record (λ (done : Closed). outcomes.Closed done) (with_lot_ended number) (numbered_close number w.clear.down w.clear.records w.open_lots w.lots) _ _
       (close_records number w.clear.down w.clear.records w.open_lots w.lots) (λ done no. absurd no) (λ r done up is. rw (is.1) (closes done is.0 up))
 
   -- a look tells of such a lot, and changes nothing

@@ -20,7 +20,7 @@ use Rattle.cns_system.specs.Floor.{lot_changed}
 use Rattle.cns_system.specs.Happens.{ClearReads, Decision, DepotReads, DeviceFails, FindsBad, NoMemory, judged, restarts}
 use Rattle.cns_system.specs.Headline.{AreStrict}
 use Rattle.cns_system.specs.Lot.{LotState, with_end, with_seal, with_ticket}
-use Rattle.cns_system.specs.Numbered.{AreTied, lots_ended}
+use Rattle.cns_system.specs.Numbered.{AreTied, with_lot_ended}
 use Rattle.cns_system.specs.Scene.{Chance, Comes, Scene, decision_at, scene_of}
 use Rattle.cns_system.specs.Shown.{Shown, clear_added, clear_failed, shown_of}
 use Rattle.cns_system.specs.World.{World}
@@ -164,7 +164,7 @@ accepted s chance (event.Seal number) =
     (λ lot at. of_lots s (event.Seal number) _ _ (updates_one s.shown _ number lot (with_seal lot) at refl (λ other differ. refl)))
 accepted s chance (event.LotClose number) =
     close_holds (Kept s (event.LotClose number)) _ s.shown number
-    (λ done close up. adds s (event.LotClose number) (allocated close) (lots_ended number s.shown.lots) up (λ b. tt)
+    (λ done close up. adds s (event.LotClose number) (allocated close) (with_lot_ended number s.shown.lots) up (λ b. tt)
     (λ b. close_closes number s.shown.clear.records s.shown.open_lots s.shown.lots b.lots b.tied close) (closes_one s.shown number close))
 accepted s chance (event.LookPoured number) =
     look_holds (Kept s (event.LookPoured number)) _ s.shown number (λ lot. outcomes.LookedPoured (lent_of s.shown.open_lots lot.issue)) (λ outcome. same s (event.LookPoured number))

@@ -41,7 +41,7 @@ use Rattle.cns_clearing.specs.declared.lot.Lot.{Lot}
 use Rattle.cns_system.specs.Lot.{LotState, IsOfPlan, numbered_lot, planned_sum, ticket_in, with_end, with_seal, with_ticket}
 use Rattle.cns_wire.specs.Packet.{at_number}
 use Rattle.cns_system.specs.Lots.{change_call, going_lot, turn_ticket, reserve_call, with_lot}
-use Rattle.cns_system.specs.Numbered.{AreTied, IsNumberedCommit, NumberedNode, numbered_close, lots_ended, numbered_open, opening_call, numbered_pour, with_opened}
+use Rattle.cns_system.specs.Numbered.{AreTied, IsNumberedCommit, NumberedNode, numbered_close, with_lot_ended, numbered_open, opening_call, numbered_pour, with_opened}
 use Rattle.cns_system.proofs.LotsLemmas.{IsGoing, going_parts}
 use Rattle.cns_system.proofs.RecordedLemmas.{IsCloseOf, IsMet, Recorded, close_record, is_met}
 use Rattle.cns_system.proofs.StepLemmas.{ok_found, ok_needed, ok_then}
@@ -305,7 +305,7 @@ close_unserved number down c open_lots lots l going up waits = rw (going, up, no
 
 -- the end of a lot that has not ended
 pub end_is : (lots after : List LotState) (number : ℕ) (l : LotState) (r : Result (Unit {0}) Refusal) → going_lot lots number ≡ Ok l → Changes (change_call with_end number lots) r lots after
-    → after ≡ lots_ended number lots
+    → after ≡ with_lot_ended number lots
 end_is lots after number l r going h =
     let at = going_parts lots number l going in
     let left : (r ≡ Ok tt) × (after ≡ with_lot number (with_end l) lots) = rw going at h in
@@ -314,8 +314,8 @@ end_is lots after number l r going h =
 -- what the node's close leaves is what that of the lot's number does, where the lot ends just where the close is not refused
 pub closed_by : (number : ℕ) (old : NumberedNode) (l : LotState) (result : Result Closed Refusal) (new : ClearNode) (after : List LotState) → going_lot old.lots number ≡ Ok l
     → old.clear.log.down ≡ false → IsMet l → NodeLeaves (clear.close_call l.issue l.tickets l.sealed old.clear.log.down old.clear.log.records old.clear.lots) result old.clear new
-    → IfOk result (λ _. after ≡ lots_ended number old.lots) → IfErr result (λ _. after ≡ old.lots)
-    → CallLeaves commit_refusal (IsNumberedCommit (lots_ended number)) (numbered_close number old.clear.log.down old.clear.log.records old.clear.lots old.lots) result old
+    → IfOk result (λ _. after ≡ with_lot_ended number old.lots) → IfErr result (λ _. after ≡ old.lots)
+    → CallLeaves commit_refusal (IsNumberedCommit (with_lot_ended number)) (numbered_close number old.clear.log.down old.clear.log.records old.clear.lots old.lots) result old
     (record { clear = new; lots = after })
 closed_by number old l result new after going up met left ended kept =
     rw (close_is number old.clear.log.down old.clear.log.records old.clear.lots old.lots l going up met)
@@ -323,7 +323,7 @@ closed_by number old l result new after going up met left ended kept =
     (close_record l.issue l.tickets l.sealed old.clear.log.down old.clear.log.records old.clear.lots) left)
   where
     by : (d : Result (Deed ClearRecord Closed) Refusal) → IfOk d (IsCloseOf l.issue l.tickets l.sealed old.clear.log.records old.clear.lots) → NodeLeaves d result old.clear new
-        → CallLeaves commit_refusal (IsNumberedCommit (lots_ended number)) d result old (record { clear = new; lots = after })
+        → CallLeaves commit_refusal (IsNumberedCommit (with_lot_ended number)) d result old (record { clear = new; lots = after })
     by (Err r) is (answer, same) = (answer, rw (same, rw answer at kept) refl)
     by (Ok (call.Tells x)) is left = absurd (cc is.is)
     by (Ok (call.Commits r x)) is (Ok u, answer, left) = (Ok u, answer, (left, rw answer at ended))
@@ -349,7 +349,7 @@ close_lots old new l result left =
 
 -- and the lots by number stay tied to them
 pub close_tied : (old new : ClearNode) (lots after : List LotState) (number : ℕ) (l : LotState) → AreTied old.lots lots → going_lot lots number ≡ Ok l
-    → new.lots ≡ without_lot l.issue old.lots → after ≡ lots_ended number lots → AreTied new.lots after
+    → new.lots ≡ without_lot l.issue old.lots → after ≡ with_lot_ended number lots → AreTied new.lots after
 close_tied old new lots after number l are going taken ended =
     let at = going_parts lots number l going in
     subst (λ (ls : List Lot). AreTied ls after) (sym taken)

@@ -10,7 +10,7 @@ use Rattle.cns_clearing.proofs.LotLemmas.{found_issue}
 use Rattle.cns_system.specs.Floor.{has_not_ended, is_open}
 use Rattle.cns_system.specs.Lot.{LotState, numbered_lot, with_end}
 use Rattle.cns_system.specs.Lots.{with_lot}
-use Rattle.cns_system.specs.Numbered.{AreTied, lots_ended}
+use Rattle.cns_system.specs.Numbered.{AreTied, with_lot_ended}
 use Rattle.cns_system.specs.Shown.{Shown, clear_added, with_new_lot}
 use Rattle.cns_system.proofs.LotsLemmas.{IsGoing}
 use Rattle.cns_system.proofs.NumberedLemmas.{others_poured}
@@ -85,7 +85,7 @@ ends_all w left is = record {
 
 -- the lot of a number is closed
 pub closes_one : (w : Shown) (number : ℕ) (close : IsClose number w.open_lots w.lots)
-    → KeepsLots (Some number) w (record (clear_added (allocated close) w) { lots = lots_ended number w.lots })
+    → KeepsLots (Some number) w (record (clear_added (allocated close) w) { lots = with_lot_ended number w.lots })
 closes_one w number close =
     let lot = close.lot in
     let issue : close.twin.issue ≡ lot.issue = found_issue w.open_lots lot.issue close.twin close.found in

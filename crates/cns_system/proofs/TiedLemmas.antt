@@ -14,7 +14,7 @@ use Rattle.cns_records.specs.declared.clear_record.ClearRecord.{ClearRecord}
 use Rattle.cns_system.specs.Lot.{LotState, IsOfPlan, with_end}
 use Rattle.cns_wire.specs.Packet.{at_number}
 use Rattle.cns_system.specs.Lots.{ArePlanned, with_lot}
-use Rattle.cns_system.specs.Numbered.{AreTied, IsTied, lots_ended}
+use Rattle.cns_system.specs.Numbered.{AreTied, IsTied, with_lot_ended}
 
 -- ---- the node's lot of an issue
 
@@ -204,7 +204,7 @@ tied_more open_lots lots new x are none issue is = record {
     once m p k j up_k up_j same (inr h) (inr g) = h.0 ∙ sym g.0
 
 -- the lots once that of a number has ended, where it is found
-pub ended_lots : (lots : List LotState) (number : ℕ) (l : LotState) → at_number lots number ≡ Some l → lots_ended number lots ≡ with_lot number (with_end l) lots
+pub ended_lots : (lots : List LotState) (number : ℕ) (l : LotState) → at_number lots number ≡ Some l → with_lot_ended number lots ≡ with_lot number (with_end l) lots
 ended_lots lots number l found = ap (λ (o : Option LotState). elim o [ None ↦ lots | Some k ↦ with_lot number (with_end k) lots ]) found
 
 -- lots that have all ended

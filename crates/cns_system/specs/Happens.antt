@@ -37,7 +37,7 @@ use Rattle.cns_depository.specs.declared.fault.Own.TheVariants as own
 use Rattle.cns_depository.specs.declared.fault.OwnFault.{OwnFault}
 use Rattle.cns_system.specs.Lot.{LotState, with_end, with_seal}
 use Rattle.cns_system.specs.Lots.{change_call, going_lot, reserve_call}
-use Rattle.cns_system.specs.Numbered.{numbered_close, lots_ended, numbered_open, numbered_pour}
+use Rattle.cns_system.specs.Numbered.{numbered_close, with_lot_ended, numbered_open, numbered_pour}
 use Rattle.cns_system.specs.Shown.{Shown, clear_added, clear_failed, depot_added, depot_failed, with_new_lot}
 use Rattle.cns_system.specs.declared.event.Event.{Event}
 use Rattle.cns_system.specs.declared.event.Event.TheVariants as event
@@ -133,7 +133,7 @@ judged (event.LookPoured number) w = going_lot w.lots number >>= λ lot. Ok (Lea
 judged (event.LookAsked number) w = going_lot w.lots number >>= λ lot. Ok (Leaves (outcomes.LookedAsked (asked_sum lot.tickets) lot.sealed) w)
 judged (event.Seal number) w = change_call with_seal number w.lots >>= λ sealed. Ok (Leaves outcomes.Done (record w { lots = sealed.1 }))
 judged (event.LotClose number) w =
-    numbered_close number w.clear.down w.clear.records w.open_lots w.lots >>= λ d. Ok (clear_deed (λ (done : Closed). outcomes.Closed done) (lots_ended number) w d)
+    numbered_close number w.clear.down w.clear.records w.open_lots w.lots >>= λ d. Ok (clear_deed (λ (done : Closed). outcomes.Closed done) (with_lot_ended number) w d)
 judged (event.Send number) w = do
   need_up w.clear.down
   o ← ok_or (order_of (orders_of w.clear.records).orders number) refusal.UnknownMove

@@ -73,13 +73,13 @@ numbered_close number down c open_lots lots = do
   close_call lot.issue lot.tickets lot.sealed down c open_lots
 
 -- the lots once that of a number has ended
-abbrev pub lots_ended : ℕ → List LotState → List LotState
-lots_ended number lots = elim (at_number lots number) [ None ↦ lots | Some lot ↦ with_lot number (with_end lot) lots ]
+abbrev pub with_lot_ended : ℕ → List LotState → List LotState
+with_lot_ended number lots = elim (at_number lots number) [ None ↦ lots | Some lot ↦ with_lot number (with_end lot) lots ]
 
 -- what the commit of a record leaves of the node with its lots, by its answer; once it is acknowledged, this becomes of the lots by number
 abbrev pub IsNumberedCommit : (List LotState → List LotState) → ClearRecord → Result (Unit {0}) CommitFault → NumberedNode → NumberedNode → Type 0
-IsNumberedCommit lots_after r done old new =
-    node.IsCommitted r done old.clear new.clear × (new.lots ≡ elim done [ Ok _ ↦ lots_after old.lots | Err _ ↦ old.lots ])
+IsNumberedCommit ends r done old new =
+    node.IsCommitted r done old.clear new.clear × (new.lots ≡ elim done [ Ok _ ↦ ends old.lots | Err _ ↦ old.lots ])
 
 -- what a lot shows beside the node's open lots: the shares that are lent to it, those of its tickets, and its seal
 abbrev pub shown : List Lot → LotState → Look

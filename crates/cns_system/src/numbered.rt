@@ -9,7 +9,7 @@ ghost use Rattle.cns_clearing.specs.Node.{NodePlanned, RestartLeaves};
 ghost use Rattle.cns_clearing.specs.Pools.{lent_of};
 ghost use Rattle.cns_system.specs.Lot.{planned_sum, with_end, with_seal};
 ghost use Rattle.cns_system.specs.Lots.{HasLot, HasNone, change_call, reserve_call};
-ghost use Rattle.cns_system.specs.Numbered.{AreTied, IsNumberedCommit, numbered_close, lots_ended, opening_call, numbered_pour, shown};
+ghost use Rattle.cns_system.specs.Numbered.{AreTied, IsNumberedCommit, numbered_close, with_lot_ended, opening_call, numbered_pour, shown};
 ghost use Rattle.cns_system.specs.Readers.{unconfirmed};
 
 use crate::entry::Look;
@@ -206,7 +206,7 @@ impl<K: Keeper> NumberedClearing<K> {
     /// restarted. (This project's own rule.)
     pub fn lot_close(&mut self, number: u64) -> Result<Closed, Refusal>
         ensures { let node = self.old.clear in
-            CallLeaves commit_refusal (IsNumberedCommit (lots_ended number)) (numbered_close number node.log.down node.log.records node.lots self.old.lots) result self.old self.new }
+            CallLeaves commit_refusal (IsNumberedCommit (with_lot_ended number)) (numbered_close number node.log.down node.log.records node.lots self.old.lots) result self.old self.new }
     {
         let lot = self.lots.find(number)?;
         if self.node.is_down() {

@@ -9,7 +9,7 @@ use Rattle.std.specs.Option.{option_map}
 use Rattle.cns_trades.specs.Listed.{same_trade, trade_in}
 use Rattle.cns_trades.specs.declared.list.Terms.{Terms}
 use Rattle.cns_trades.specs.Fields.{same_text}
-use Rattle.cns_trades.specs.Verdicts.{judged, known, verdict}
+use Rattle.cns_trades.specs.Verdicts.{verdict_by, known, verdict}
 use Rattle.cns_trades.specs.declared.trade.Trade.{Trade}
 use Rattle.cns_trades.specs.declared.list.Verdict.TheVariants as verdicts
 
@@ -47,7 +47,7 @@ not_found id es none = by (lookup (same_text id) es) (sym (known-lookup id es) �
 pub new-unknown : (held : List Trade) (t : Trade) → verdict held t ≡ verdicts.New → known t.id held ≡ None
 new-unknown held t h = by (t.buyer == t.seller) (known t.id held) h
   where
-    by : (b : Bool) (o : Option Trade) → (if b then verdicts.SameMember else judged held t o) ≡ verdicts.New → o ≡ None
+    by : (b : Bool) (o : Option Trade) → (if b then verdicts.SameMember else verdict_by held t o) ≡ verdicts.New → o ≡ None
     by true o e = cc e
     by false None e = refl
     by false (Some u) e = same (same_trade u t) e
@@ -71,7 +71,7 @@ new-few held t h = by (t.buyer == t.seller) (known t.id held) h
     at_limit true is e = ltb-true _ _ is
     at_limit false is e = cc e
 
-    by : (b : Bool) (o : Option Trade) → (if b then verdicts.SameMember else judged held t o) ≡ verdicts.New → length held < 1000000
+    by : (b : Bool) (o : Option Trade) → (if b then verdicts.SameMember else verdict_by held t o) ≡ verdicts.New → length held < 1000000
     by true o e = cc e
     by false None e = at_limit (nat_lt (length held) 1000000) refl e
     by false (Some u) e = same (same_trade u t) e

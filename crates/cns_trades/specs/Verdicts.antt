@@ -10,10 +10,10 @@ use Rattle.cns_trades.specs.declared.list.Verdict.TheVariants as verdicts
 abbrev pub known : List ℕ → List Trade → Option Trade
 known id ts = find (λ (t : Trade). same_text id t.id) ts
 
-abbrev pub judged : List Trade → Trade → Option Trade → Verdict
-judged held t (Some u) = if same_trade u t then verdicts.Same else verdicts.Conflict
-judged held t None = if nat_lt (length held) 1000000 then verdicts.New else verdicts.Full
+abbrev pub verdict_by : List Trade → Trade → Option Trade → Verdict
+verdict_by held t (Some u) = if same_trade u t then verdicts.Same else verdicts.Conflict
+verdict_by held t None = if nat_lt (length held) 1000000 then verdicts.New else verdicts.Full
 
 -- the verdict on a trade: buyer and seller, then a known id, then the limit
 abbrev pub verdict : List Trade → Trade → Verdict
-verdict held t = if t.buyer == t.seller then verdicts.SameMember else judged held t (known t.id held)
+verdict held t = if t.buyer == t.seller then verdicts.SameMember else verdict_by held t (known t.id held)

@@ -18,9 +18,9 @@ use Rattle.cns_wire.specs.declared.frame.Frame.{Frame}
 use Rattle.cns_wire.specs.declared.frame.Frame.TheVariants as frame
 use Rattle.cns_wire.specs.declared.frame.FrameFault.TheVariants.{Field}
 use Rattle.cns_wire.specs.Frame.{header, kind_byte, order_frame, reply_frame, frame_text, IsInRange}
-use Rattle.cns_wire.specs.ReadFrame.{order_in, reply_in, with_order, with_reply, read_frame_of}
+use Rattle.cns_wire.specs.ReadFrame.{order_in, reply_in, as_order_frame, as_reply_frame, read_frame_of}
 
-by_kind : (kind : MoveKind) (o : Order) → read_frame_of (header (version_of o) (kind_byte kind) ++ order_bytes o) ≡ with_order (ok_or (read_order (version_of o) kind (order_bytes o)) Field)
+by_kind : (kind : MoveKind) (o : Order) → read_frame_of (header (version_of o) (kind_byte kind) ++ order_bytes o) ≡ as_order_frame (ok_or (read_order (version_of o) kind (order_bytes o)) Field)
 unfolding read_frame_of order_in order_bytes
 by_kind kind o = by kind o.cycle
   where
@@ -28,7 +28,7 @@ by_kind kind o = by kind o.cycle
     fields cycle = to_be_bytes w64 o.number ++ cycle_part cycle ++ to_be_bytes w16 o.member ++ cusip_text o.issue ++ to_be_bytes w64 o.asked
 
     by : (kind : MoveKind) (cycle : Option CycleId) → read_frame_of (header (version_with cycle) (kind_byte kind) ++ fields cycle)
-        ≡ with_order (ok_or (read_order (version_with cycle) kind (fields cycle)) Field)
+        ≡ as_order_frame (ok_or (read_order (version_with cycle) kind (fields cycle)) Field)
     by Cover None = refl
     by Cover (Some id) = refl
     by Delivery None = refl
@@ -37,15 +37,15 @@ by_kind kind o = by kind o.cycle
 -- an order's frame is read back as the order
 pub read_frame_of-order_frame : (o : Order) → IsOrderInRange o → read_frame_of (order_frame o) ≡ Ok (frame.Order o)
 unfolding order_frame
-read_frame_of-order_frame o h = by_kind o.kind o ∙ ap (λ (r : Option Order). with_order (ok_or r Field)) (read_order-order_bytes o h)
+read_frame_of-order_frame o h = by_kind o.kind o ∙ ap (λ (r : Option Order). as_order_frame (ok_or r Field)) (read_order-order_bytes o h)
 
-by_reply : (r : Reply) → read_frame_of (reply_frame r) ≡ with_reply (ok_or (read_reply (reply_bytes r)) Field)
+by_reply : (r : Reply) → read_frame_of (reply_frame r) ≡ as_reply_frame (ok_or (read_reply (reply_bytes r)) Field)
 unfolding read_frame_of reply_frame reply_in reply_bytes
 by_reply r = refl
 
 -- a reply's frame is read back as the reply
 pub read_frame_of-reply_frame : (r : Reply) → IsReplyInRange r → read_frame_of (reply_frame r) ≡ Ok (frame.Reply r)
-read_frame_of-reply_frame r h = by_reply r ∙ ap (λ (x : Option Reply). with_reply (ok_or x Field)) (read_reply-reply_bytes r h)
+read_frame_of-reply_frame r h = by_reply r ∙ ap (λ (x : Option Reply). as_reply_frame (ok_or x Field)) (read_reply-reply_bytes r h)
 
 -- a frame's bytes are read back as the frame
 pub read_frame_of-frame_text : (f : Frame) → IsInRange f → read_frame_of (frame_text f) ≡ Ok f

@@ -20,7 +20,7 @@ use Rattle.cns_wire.specs.declared.frame.Frame.TheVariants as frame
 use Rattle.cns_wire.specs.declared.frame.FrameFault.{FrameFault}
 use Rattle.cns_wire.specs.declared.frame.FrameFault.TheVariants.{Short, Long, Field}
 use Rattle.cns_wire.specs.Frame.{header, kind_byte, order_frame, reply_frame, IsFrame}
-use Rattle.cns_wire.specs.ReadFrame.{fields_of, of_kind, of_version, order_in, reply_in, reply_of, with_order, with_reply, read_frame_of}
+use Rattle.cns_wire.specs.ReadFrame.{fields_of, of_kind, of_version, order_in, reply_in, reply_of, as_order_frame, as_reply_frame, read_frame_of}
 
 -- ---- fields
 
@@ -78,11 +78,11 @@ header_is (a ∷ b ∷ w ∷ c ∷ rest) v k long magic version kind =
     let second = and_parts (eqb 68 b) _ first.1 in
     rw (← eqb-true 67 a first.0, ← eqb-true 68 b second.0, version, eqb-true c k kind) refl
 
-of_order : (bytes : List ℕ) (r : Result Order FrameFault) → ((o : Order) → r ≡ Ok o → IsFrame bytes (frame.Order o)) → IfOk (with_order r) (IsFrame bytes)
+of_order : (bytes : List ℕ) (r : Result Order FrameFault) → ((o : Order) → r ≡ Ok o → IsFrame bytes (frame.Order o)) → IfOk (as_order_frame r) (IsFrame bytes)
 of_order bytes (Ok o) h = h o refl
 of_order bytes (Err fault) h = tt
 
-of_reply : (bytes : List ℕ) (r : Result Reply FrameFault) → ((o : Reply) → r ≡ Ok o → IsFrame bytes (frame.Reply o)) → IfOk (with_reply r) (IsFrame bytes)
+of_reply : (bytes : List ℕ) (r : Result Reply FrameFault) → ((o : Reply) → r ≡ Ok o → IsFrame bytes (frame.Reply o)) → IfOk (as_reply_frame r) (IsFrame bytes)
 of_reply bytes (Ok o) h = h o refl
 of_reply bytes (Err fault) h = tt
 

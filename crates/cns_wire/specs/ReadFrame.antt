@@ -32,24 +32,24 @@ unfoldable pub reply_in : List ℕ → Result Reply FrameFault
 reply_in bytes = fields_of 16 bytes >>= λ fields. ok_or (read_reply fields) Field
 
 -- what was read, as a frame
-abbrev pub with_order : Result Order FrameFault → Result Frame FrameFault
-with_order (Ok order) = Ok (frame.Order order)
-with_order (Err fault) = Err fault
+abbrev pub as_order_frame : Result Order FrameFault → Result Frame FrameFault
+as_order_frame (Ok order) = Ok (frame.Order order)
+as_order_frame (Err fault) = Err fault
 
-abbrev pub with_reply : Result Reply FrameFault → Result Frame FrameFault
-with_reply (Ok reply) = Ok (frame.Reply reply)
-with_reply (Err fault) = Err fault
+abbrev pub as_reply_frame : Result Reply FrameFault → Result Frame FrameFault
+as_reply_frame (Ok reply) = Ok (frame.Reply reply)
+as_reply_frame (Err fault) = Err fault
 
 -- bytes of this version as a reply's frame: there are none in the second version
 abbrev pub reply_of : Version → List ℕ → Result Frame FrameFault
-reply_of One bytes = with_reply (reply_in bytes)
+reply_of One bytes = as_reply_frame (reply_in bytes)
 reply_of Two bytes = Err Kind
 
 -- bytes of this version and kind as a frame
 abbrev pub of_kind : Version → ℕ → List ℕ → Result Frame FrameFault
 of_kind version kind bytes =
-    if kind == 1 then with_order (order_in version Cover bytes)
-    else if kind == 2 then with_order (order_in version Delivery bytes)
+    if kind == 1 then as_order_frame (order_in version Cover bytes)
+    else if kind == 2 then as_order_frame (order_in version Delivery bytes)
     else if kind == 3 then reply_of version bytes
     else Err Kind
 

@@ -1,7 +1,7 @@
 use Rattle.std.proofs.Common.{◌≡◌, ℕ, ◌-◌, ◌≤◌, ◌∷◌, [], arith, ap, ◌∙◌, length, length-append, subst}
 use Rattle.cns_pool.specs.WorkerSeat.{EndWithin, WorkerState}
 use Rattle.cns_ids.proofs.ListLemmas.{places_push}
-use Rattle.cns_allocate.specs.Serving.{every, shares_of}
+use Rattle.cns_allocate.specs.Serving.{every, asked_in_plan}
 use Rattle.cns_allocate.proofs.DealLemmas.{shares_of-append}
 use Rattle.cns_allocate.proofs.SeatLemmas.{left-budget, left-calls, parts-sum, split-more}
 use Rattle.cns_allocate.proofs.seats.split_seats.Goals as goal
@@ -32,7 +32,7 @@ loop-worker-preserved c =
     let k : ℕ = c.loop-worker.worker in
     let group = c.args.group.now in
     let is = c.in_ok-part.ensures.part in
-    let budget : part.budget ≡ shares_of (every gap k group) = ap (λ (s : WorkerState). s.budget) is ∙ c.of-needs.ensures.shares in
+    let budget : part.budget ≡ asked_in_plan (every gap k group) = ap (λ (s : WorkerState). s.budget) is ∙ c.of-needs.ensures.shares in
     let calls : part.calls ≡ length (every gap k group) = ap (λ (s : WorkerState). s.calls) is ∙ c.of-needs.ensures.calls in
     let fits : c.of-needs.result.shares ≤ c.loop-worker.seat.budget =
     omega (arith, c.of-needs.ensures.shares, left-budget c.args.seat.now c.loop-worker.seat parts gap k group i.split (omega arith) i.budgets c.requires.budget) in
@@ -45,9 +45,9 @@ loop-worker-preserved c =
           c.in_ok-part.ensures.rest is;
       count = omega (arith, i.count, length-append parts (part ∷ []));
       room = omega (arith, i.room, c.push_reserved.ensures.capacity);
-      budgets = parts-sum shares_of shares_of-append (λ (s : WorkerState). s.budget) gap k group parts part i.budgets budget;
+      budgets = parts-sum asked_in_plan shares_of-append (λ (s : WorkerState). s.budget) gap k group parts part i.budgets budget;
       counts = parts-sum (λ l. length l) (λ ps qs. length-append ps qs) (λ (s : WorkerState). s.calls) gap k group parts part i.counts calls;
-      budget = places_push (λ j (s : WorkerState). shares_of (every gap j group) ≤ s.budget) parts part k i.count i.budget (omega (arith, budget));
+      budget = places_push (λ j (s : WorkerState). asked_in_plan (every gap j group) ≤ s.budget) parts part k i.count i.budget (omega (arith, budget));
       calls = places_push (λ j (s : WorkerState). length (every gap j group) ≤ s.calls) parts part k i.count i.calls (omega (arith, calls));
       ends = λ some. subst (λ (s : WorkerState). EndWithin s.seen.asked s.tickets) i.split.rest c.in_ok-part.ensures.ends;
     })

@@ -1,5 +1,5 @@
 use Rattle.std.proofs.Common.{◌-◌, arith, length, ap}
-use Rattle.cns_allocate.specs.Serving.{shares_of}
+use Rattle.cns_allocate.specs.Serving.{asked_in_plan}
 use Rattle.cns_allocate.specs.declared.planned.Planned.{Planned}
 use Rattle.cns_allocate.proofs.DealLemmas.{every-most, every-past, place-step}
 use Rattle.cns_allocate.proofs.seats.Needs.of.Goals as goal
@@ -28,7 +28,7 @@ returns-clause-shares c =
       arith,
       c.loop-place.invariant.shares,
       c.requires.budget,
-      ap shares_of (every-past (c.args.workers - 1) c.loop-place.place c.args.group.now c.loop-place-test.false),
+      ap asked_in_plan (every-past (c.args.workers - 1) c.loop-place.place c.args.group.now c.loop-place-test.false),
     )
 
 pub returns-clause-calls : goal.returns-clause-calls
@@ -41,5 +41,5 @@ overflow_sub-result c =
       arith,
       c.loop-place.invariant.shares,
       c.requires.budget,
-      ap shares_of (every-past (c.args.workers - 1) c.loop-place.place c.args.group.now c.loop-place-test.false),
+      ap asked_in_plan (every-past (c.args.workers - 1) c.loop-place.place c.args.group.now c.loop-place-test.false),
     )

@@ -4,26 +4,26 @@ use Rattle.cns_records.specs.declared.refusal.Refusal.TheVariants as refusal
 use Rattle.cns_records.proofs.CallLemmas.{refused}
 use Rattle.cns_system.specs.Lots.{going_lot}
 use Rattle.cns_clearing.specs.declared.lot.Lot.{Lot}
-use Rattle.cns_system.specs.Numbered.{AreTied, IsNumberedCommit, lots_ended}
+use Rattle.cns_system.specs.Numbered.{AreTied, IsNumberedCommit, with_lot_ended}
 use Rattle.cns_system.proofs.NumberedLemmas.{close_down, close_lots, close_none, close_tied, close_unserved, closed_by, end_is, served_by}
 use Rattle.cns_system.proofs.LotsLemmas.{going_parts}
 use Rattle.cns_system.proofs.numbered.NumberedClearing.lot_close.Goals as goal
 
 pub returns-in_err-lot : goal.returns-in_err-lot
 returns-in_err-lot g c =
-    refused commit_refusal (IsNumberedCommit (lots_ended c.args.number)) _ c.in_err-lot.field-0.0 _ c.args.self.now _
+    refused commit_refusal (IsNumberedCommit (with_lot_ended c.args.number)) _ c.in_err-lot.field-0.0 _ c.args.self.now _
     (close_none c.args.number _ _ _ c.args.self.now.lots c.in_err-lot.field-0.0 (search rules)) (search rules) (search rules)
 
 pub returns-then-is_down : goal.returns-then-is_down
 returns-then-is_down g c =
     rw (← c.self.view_is)
-    (refused commit_refusal (IsNumberedCommit (lots_ended c.args.number)) _ refusal.Down _ _ _
+    (refused commit_refusal (IsNumberedCommit (with_lot_ended c.args.number)) _ refusal.Down _ _ _
     (close_down c.args.number _ _ _ c.self.inside.lots.lots c.in_ok-lot.lot.now (search rules) (search rules)) refl refl)
 
 pub returns-then-not-is_served : goal.returns-then-not-is_served
 returns-then-not-is_served g c =
     rw (← c.self.view_is)
-    (refused commit_refusal (IsNumberedCommit (lots_ended c.args.number)) _ refusal.Unserved _ _ _
+    (refused commit_refusal (IsNumberedCommit (with_lot_ended c.args.number)) _ refusal.Unserved _ _ _
     (close_unserved c.args.number _ _ _ c.self.inside.lots.lots c.in_ok-lot.lot.now (search rules) (search rules) (search rules)) refl refl)
 
 pub lot_close_served-requires : goal.lot_close_served-requires
