@@ -87,11 +87,11 @@ module _ (f : List Planned → ℕ) (append : (ps qs : List Planned) → f (ps +
         reordered (dealt gap (suc gap) ps) ps (dealt-all gap ps),
       )
 
-pub shares_of-append : (ps qs : List Planned) → asked_in_plan (ps ++ qs) ≡ asked_in_plan ps + asked_in_plan qs
-shares_of-append ps qs = sum_by-append (λ (p : Planned). p.asked) ps qs
+pub asked_in_plan-append : (ps qs : List Planned) → asked_in_plan (ps ++ qs) ≡ asked_in_plan ps + asked_in_plan qs
+asked_in_plan-append ps qs = sum_by-append (λ (p : Planned). p.asked) ps qs
 
 pub shares-next : (gap k : ℕ) (ps : List Planned) → k ≤ gap → asked_in_plan (dealt gap k ps) + asked_in_plan (every gap k ps) ≤ asked_in_plan ps
-shares-next = dealt_next asked_in_plan shares_of-append (sum_by-IsPermutation (λ (p : Planned). p.asked))
+shares-next = dealt_next asked_in_plan asked_in_plan-append (sum_by-IsPermutation (λ (p : Planned). p.asked))
 
 pub length-next : (gap k : ℕ) (ps : List Planned) → k ≤ gap → length (dealt gap k ps) + length (every gap k ps) ≤ length ps
 length-next = dealt_next (λ (l : List Planned). length l) (λ ps qs. length-append ps qs) (λ ps qs same. length_permutation ps qs same)

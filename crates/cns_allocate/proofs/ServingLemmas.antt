@@ -13,7 +13,7 @@ use Rattle.cns_allocate.specs.Group.{rank}
 use Rattle.cns_allocate.specs.Plan.{IsServable}
 use Rattle.cns_allocate.specs.Serving.{FollowPlanByStart, HasDrawn, asked_in_plan}
 use Rattle.cns_allocate.specs.declared.planned.Planned.{Planned}
-use Rattle.cns_allocate.proofs.DealLemmas.{shares_of-append}
+use Rattle.cns_allocate.proofs.DealLemmas.{asked_in_plan-append}
 use Rattle.cns_allocate.proofs.DrawnLemmas.{drawn-count, drawn-most, follow-drawn}
 use Rattle.cns_allocate.proofs.FollowLemmas.{follow-group, follow-rest}
 use Rattle.cns_allocate.proofs.PlanLemmas.{IsNoLater}
@@ -149,7 +149,7 @@ module _ (plan : List Planned) (m n : ℕ) (is : IsServable plan) (below : m < l
 
       -- what is left of the seat is enough for the others
       pub budget-after : asked_in_plan (drop m plan) ≤ old.budget → asked_in_plan (drop (m + n) plan) ≤ new.budget
-      budget-after enough = omega (arith, enough, draws.budget, ap asked_in_plan (drop-add m n plan), shares_of-append (take n (drop m plan)) (drop (m + n) plan))
+      budget-after enough = omega (arith, enough, draws.budget, ap asked_in_plan (drop-add m n plan), asked_in_plan-append (take n (drop m plan)) (drop (m + n) plan))
 
       pub calls-after : length plan ≤ old.calls + m → length plan ≤ new.calls + (m + n)
       calls-after enough = omega (arith, enough, draws.calls, count)

@@ -20,8 +20,8 @@ use Rattle.cns_allocate.proofs.PlanLemmas.{is_planned_as, sum_by-by_group, wanti
 use Rattle.cns_allocate.proofs.WantLemmas.{wanting-wants}
 
 -- the shares of trades
-abbrev asked_in_plan : List Trade → ℕ
-asked_in_plan trades = sum_by (λ (t : Trade). t.quantity) trades
+abbrev shares_of : List Trade → ℕ
+shares_of trades = sum_by (λ (t : Trade). t.quantity) trades
 
 -- the shares that a trade brings a member in an issue
 abbrev part_of : Trade → ℕ → ℕ → ℕ
@@ -53,7 +53,7 @@ parts_most t issue (p ∷ ps) =
 
 -- members that are planned once each bought no more together than was traded
 bought_by_all : (trades : List Trade) (issue : ℕ) (ps : List Planned) → ((member : ℕ) → count_by (is_planned_as member) ps ≤ 1)
-    → sum_by (λ (p : Planned). bought trades p.member issue) ps ≤ asked_in_plan trades
+    → sum_by (λ (p : Planned). bought trades p.member issue) ps ≤ shares_of trades
 unfolding bought
 bought_by_all [] issue ps once =
     let none : sum_by (λ (p : Planned). 0) ps ≤ 0 = omega (arith, sum_by-le (λ (p : Planned). 0) 0 ps (λ i d below. omega arith)) in none

@@ -147,11 +147,11 @@ close_call issue tickets sealed down c lots = need_up down >> ok_or (lot_of lots
 abbrev pub AreServed : List Lot → ℕ → List Ticket → Bool → Type 0
 AreServed lots issue tickets sealed = (lot : Lot) → lot_of lots issue ≡ Some lot → IsServed lot.plan tickets sealed
 
--- whether these tickets serve it is asked of a node that is up alone
+-- `serve` says whether these tickets serve that plan, where the node is up: of one that is down it says nothing
 abbrev pub TellsServed : Bool → ClearNode → ℕ → List Ticket → Bool → Type 0
 TellsServed serve node issue tickets sealed = node.log.down ≡ false → Decides serve (AreServed node.lots issue tickets sealed)
 
--- the lot of an issue closes with tickets that are tested first, of which this says whether they serve its plan
+-- the lot of an issue closes with tickets that are tested first; `serve` says whether they serve its plan
 unfoldable pub tested_close_call : Bool → ℕ → List Ticket → Bool → Bool → List ClearRecord → List Lot → Result (Deed ClearRecord Closed) Refusal
 tested_close_call serve issue tickets sealed down c lots = do
   need_up down

@@ -2,7 +2,7 @@ use Rattle.std.proofs.Common.{◌≡◌, ℕ, ◌-◌, ◌≤◌, ◌∷◌, [],
 use Rattle.cns_pool.specs.WorkerSeat.{EndWithin, WorkerState}
 use Rattle.cns_ids.proofs.ListLemmas.{places_push}
 use Rattle.cns_allocate.specs.Serving.{every, asked_in_plan}
-use Rattle.cns_allocate.proofs.DealLemmas.{shares_of-append}
+use Rattle.cns_allocate.proofs.DealLemmas.{asked_in_plan-append}
 use Rattle.cns_allocate.proofs.SeatLemmas.{left-budget, left-calls, parts-sum, split-more}
 use Rattle.cns_allocate.proofs.seats.split_seats.Goals as goal
 
@@ -45,7 +45,7 @@ loop-worker-preserved c =
           c.in_ok-part.ensures.rest is;
       count = omega (arith, i.count, length-append parts (part ∷ []));
       room = omega (arith, i.room, c.push_reserved.ensures.capacity);
-      budgets = parts-sum asked_in_plan shares_of-append (λ (s : WorkerState). s.budget) gap k group parts part i.budgets budget;
+      budgets = parts-sum asked_in_plan asked_in_plan-append (λ (s : WorkerState). s.budget) gap k group parts part i.budgets budget;
       counts = parts-sum (λ l. length l) (λ ps qs. length-append ps qs) (λ (s : WorkerState). s.calls) gap k group parts part i.counts calls;
       budget = places_push (λ j (s : WorkerState). asked_in_plan (every gap j group) ≤ s.budget) parts part k i.count i.budget (omega (arith, budget));
       calls = places_push (λ j (s : WorkerState). length (every gap j group) ≤ s.calls) parts part k i.count i.calls (omega (arith, calls));
