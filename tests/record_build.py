@@ -1,7 +1,7 @@
 #!/usr/bin/env python3
 """record_build.py PROGRAM WORDS: has a program say WORDS in brackets behind its version, in place of that nothing is recorded.
 
-The text stands in the program once (crates/cnsd/src/version.rt), with room behind it, and its length stays. The status is 1
+The text stands in the program once (crates/cns_command_line/src/version.rt), with room behind it, and its length stays. The status is 1
 where it does not stand there just once or the words do not fit, and then the program is left as it was.
 """
 import re

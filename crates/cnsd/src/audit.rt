@@ -1,8 +1,8 @@
 //! What is read from journals: dumps, checks and explanations. Files are opened for reading alone.
 
-use crate::arguments::{Audit, Folder};
 use crate::locks::tell_holder;
 use cns_audit::{Asked, CLEAR, DEPOT, Holder, Journals, OPENINGS, check_journals, explain};
+use cns_command_line::{Audit, Folder};
 use cns_dump::{Form, write_dump};
 use cns_ids::{Cusip, MemberNo};
 use cns_input::BatchFault;

@@ -2,9 +2,9 @@
 
 ghost use Rattle.std.specs.Prelude.{◌≡◌, ◌<◌};
 
-use crate::arguments::{Names, Source};
 use crate::source::{AWAITED, Texts, named_fault, open_file, tell_awaited, texts_of_names};
 use cns_check::{Findings, check, count_line, found_line, repeat_line, repeats, repeats_line};
+use cns_command_line::{Names, Source};
 use cns_input::{BatchFault, Steps, read_input};
 use cns_named::text_of_files;
 use std::alloc::{AllocError, Global};

@@ -1,8 +1,7 @@
 //! One batch, of whatever text and in whatever manner.
 
-ghost use Rattle.std.specs.Prelude.{◌≡◌, ◌<◌};
+ghost use Rattle.std.specs.Prelude.{◌≡◌, ◌<◌, ◌==◌, ◌&&◌, is_none};
 
-use crate::arguments::{Manner, Names, Source};
 use crate::intact::{check_openings, check_tails};
 use crate::journal::{FileJournal, Journals, open_journals};
 use crate::progress::Progress;
@@ -10,6 +9,7 @@ use crate::source::{AWAITED, open_file, tell_awaited, text_of_names};
 use crate::strict::{status_of, tell_counts};
 use cns_allocate::OpenGate;
 use cns_batch::{Pace, run_batch, run_batch_kept, run_paced};
+use cns_command_line::{Manner, Names, Source};
 use cns_input::{BatchFault, Steps, read_input};
 use cns_journal::{Keeper, ListKeeper};
 use cns_tally::Tally;
@@ -30,7 +30,9 @@ fn pace_of(manner: &Manner) -> Pace {
 }
 
 // Whether a batch has no workers, and is not shaken.
-fn is_plain(manner: &Manner) -> bool {
+fn is_plain(manner: &Manner) -> bool
+    ensures { result ≡ (manner.now.workers == 0) && is_none manner.now.shake }
+{
     manner.workers == 0 && manner.shake.is_none()
 }
 

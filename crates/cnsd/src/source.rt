@@ -1,6 +1,6 @@
 //! Files by name, and the text that they make.
 
-use crate::arguments::Names;
+use cns_command_line::Names;
 use cns_input::{BatchFault, Steps, read_input};
 use cns_named::{NamedFault, text_of_files};
 use std::fs::File;

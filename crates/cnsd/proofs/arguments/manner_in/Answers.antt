@@ -1,6 +1,0 @@
-use Rattle.cnsd.specs.CommandLine.{IsMannerIn}
-use Rattle.cnsd.proofs.arguments.manner_in.Goals as goal
-
-pub returns : goal.returns
-unfolding IsMannerIn
-returns c = (c.in_ok-owned_in.ensures, c.workers_in.ensures, c.shake_in.ensures, c.is_set.ensures, c.times_in.ensures, c.is_set-2.ensures)
