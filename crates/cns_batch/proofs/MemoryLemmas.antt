@@ -18,7 +18,7 @@ use Rattle.cns_depository.specs.declared.fault.OwnFault.{OwnFault}
 use Rattle.cns_system.specs.Devices.{node_of}
 use Rattle.cns_system.specs.Happens.{Change, Leaves, Grows, Commits, Restarts, Decision, Goes, NoMemory, DeviceFails, ClearReads, DepotReads, by_order, by_own, clear_deed, happens, judged, decided}
 use Rattle.cns_system.specs.Lot.{LotState}
-use Rattle.cns_system.specs.Scene.{Chance, ComesBack, Decides, Forgets, Scene, Sight, after_commit, comes_to, event_decision, given_back, is_foreseen, known_after, known_of, restart_decision, with_known}
+use Rattle.cns_system.specs.Scene.{Chance, ComesBack, Decides, Forgets, Scene, KeeperKnowledge, after_commit, comes_to, event_decision, given_back, is_foreseen, known_after, known_of, restart_decision, with_known}
 use Rattle.cns_system.specs.Shown.{Shown}
 use Rattle.cns_system.specs.declared.event.Event.{Event}
 use Rattle.cns_system.specs.declared.event.Event.TheVariants as event
@@ -31,7 +31,7 @@ use Rattle.cns_system.proofs.StepLemmas.{ok_then}
 -- ---- what is known of both keepers
 
 -- an honest keeper of which it is known how its next commit ends, and whether an undecided record stands
-pub record IsKnown {R : Type 0} (log : LogShown R) (s : Sight) : Type 0 where
+pub record IsKnown {R : Type 0} (log : LogShown R) (s : KeeperKnowledge) : Type 0 where
   pub honest : s.honest ≡ true
   pub foreseen : is_foreseen s.foresight.next ≡ true
   pub stands : (log.tried ≡ None) ⊎ ((stands : Bool) × (s.foresight.stands ≡ Some stands))
@@ -40,15 +40,15 @@ abbrev pub AreKnown : Scene → Type 0
 AreKnown s = IsKnown s.shown.clear s.clear × IsKnown s.shown.depot s.depot
 
 -- another log with the same record undecided
-known_same : {R : Type 0} {old new : LogShown R} {s : Sight} → new.tried ≡ old.tried → IsKnown old s → IsKnown new s
+known_same : {R : Type 0} {old new : LogShown R} {s : KeeperKnowledge} → new.tried ≡ old.tried → IsKnown old s → IsKnown new s
 known_same same known = record { honest = known.honest; foreseen = known.foreseen; stands = rw same known.stands }
 
 -- a commit failed, as was planned
-failed_known : {R : Type 0} {log : LogShown R} (s : Sight) (stands : Bool) → s.honest ≡ true → s.foresight.next ≡ Fails stands → IsKnown log (record s { foresight = after_commit DeviceFails s.foresight })
+failed_known : {R : Type 0} {log : LogShown R} (s : KeeperKnowledge) (stands : Bool) → s.honest ≡ true → s.foresight.next ≡ Fails stands → IsKnown log (record s { foresight = after_commit DeviceFails s.foresight })
 failed_known s stands is next = record { honest = is; foreseen = rw next refl; stands = inr (stands, rw next refl) }
 
 -- a journal was read again
-reread_known : {R : Type 0} {log read : LogShown R} {s : Sight} → read.tried ≡ None → IsKnown log s → IsKnown read (record s { foresight = record s.foresight { stands = None } })
+reread_known : {R : Type 0} {log read : LogShown R} {s : KeeperKnowledge} → read.tried ≡ None → IsKnown log s → IsKnown read (record s { foresight = record s.foresight { stands = None } })
 reread_known none known = record { honest = known.honest; foreseen = known.foreseen; stands = inl none }
 
 known_of_is : (name : NodeName) (s : Scene) → AreKnown s → is_foreseen (known_of name s).next ≡ true
@@ -190,10 +190,10 @@ back_same tried stands records a b (inl none) = rw none (back_none (unwrap_or st
 back_same tried stands records a b (inr (known, is)) = rw is refl
 
 -- the records that a journal gives back
-abbrev given_of : {R : Type 0} → LogShown R → Sight → List R
+abbrev given_of : {R : Type 0} → LogShown R → KeeperKnowledge → List R
 given_of log s = given_back log.tried (unwrap_or s.foresight.stands false) log.records
 
-restart_either : {R : Type 0} (reads : List R → Decision) (log : LogShown R) (s : Sight) (chance : Chance) → IsKnown log s
+restart_either : {R : Type 0} (reads : List R → Decision) (log : LogShown R) (s : KeeperKnowledge) (chance : Chance) → IsKnown log s
     → (restart_decision reads s log.tried log.records chance ≡ NoMemory) ⊎ (restart_decision reads s log.tried log.records chance ≡ reads (given_of log s))
 restart_either reads log s Forgets known = inl refl
 restart_either reads log s (Decides NoMemory) known = inl refl
@@ -201,7 +201,7 @@ restart_either reads log s ComesBack known = inr (rw known.honest (ap reads (bac
 restart_either reads log s (Decides DeviceFails) known = inr (rw (known.honest, known.foreseen) refl)
 restart_either reads log s (Decides d) known = inr (rw known.honest refl)
 
-restart_goes : {R : Type 0} (reads : List R → Decision) (log : LogShown R) (s : Sight) → IsKnown log s
+restart_goes : {R : Type 0} (reads : List R → Decision) (log : LogShown R) (s : KeeperKnowledge) → IsKnown log s
     → restart_decision reads s log.tried log.records (Decides Goes) ≡ reads (given_of log s)
 restart_goes reads log s known = rw known.honest refl
 

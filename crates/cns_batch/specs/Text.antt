@@ -12,7 +12,7 @@ use Rattle.cns_trades.specs.declared.opening.Opening.{Opening}
 use Rattle.cns_trades.specs.declared.row.Row.{Row}
 use Rattle.cns_journal.specs.Keeper.{Succeeds, KeeperState}
 use Rattle.cns_journal.specs.RecordLog.{IsGivenUp, LogShown}
-use Rattle.cns_system.specs.Scene.{Chance, Scene, Sight, scene_of}
+use Rattle.cns_system.specs.Scene.{Chance, Scene, KeeperKnowledge, scene_of}
 use Rattle.cns_records.specs.Clear.{spelling}
 use Rattle.cns_records.specs.Dep.{dep_spelling}
 use Rattle.cns_records.specs.declared.clear_record.ClearRecord.{ClearRecord}
@@ -78,7 +78,7 @@ abbrev pub first_scene : List Opening → Scene
 first_scene openings =
     let clear : LogShown ClearRecord = record { records = []; tried = None; down = false } in
     let depot : LogShown DepRecord = record { records = []; tried = None; down = false } in
-    let sight : Sight = record { honest = true; foresight = record { next = Succeeds; stands = None } } in
+    let sight : KeeperKnowledge = record { honest = true; foresight = record { next = Succeeds; stands = None } } in
     let shown : Shown = record { clear = clear; open_lots = []; lots = []; openings = openings; depot = depot; order_packets = []; reply_packets = [] } in
     record { shown = shown; clear = sight; depot = sight }
 

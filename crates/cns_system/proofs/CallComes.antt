@@ -15,7 +15,7 @@ use Rattle.cns_system.specs.Devices.{DeviceAtCommit, IsUntouched, node_of}
 use Rattle.cns_system.specs.Happens.{by_clear, clear_deed, judged, outcome_of}
 use Rattle.cns_system.specs.Lot.{LotState}
 use Rattle.cns_system.specs.Numbered.{IsNumberedCommit, NumberedNode}
-use Rattle.cns_system.specs.Scene.{Comes, Sight, scene_of, sight_of}
+use Rattle.cns_system.specs.Scene.{Comes, KeeperKnowledge, scene_of, knowledge_of}
 use Rattle.cns_system.specs.Shown.{clear_failed, shown_of}
 use Rattle.cns_system.specs.World.{World}
 use Rattle.cns_system.specs.declared.event.Event.{Event}
@@ -43,14 +43,14 @@ module _ {X : Type 0} (e : Event) (told : X → Outcome) (lots_after : List LotS
   committed : (r : ClearRecord) (x : X) (done : Result (Unit {0}) CommitFault) → judged e (shown_of old) ≡ Ok (clear_deed told lots_after (shown_of old) (call.Commits r x))
       → IsNumberedCommit lots_after r done old.clear n → Comes e (outcome_of told (answered commit_refusal x done)) old new
   committed r x (Ok u) is ((up, (log, may), open_lots), lots) =
-      commits e old new by_commit (told x) _ (clear_failed r (shown_of old)) is (rw (log, open_lots, lots) refl) (rw node_is may) (ap sight_of log) refl
+      commits e old new by_commit (told x) _ (clear_failed r (shown_of old)) is (rw (log, open_lots, lots) refl) (rw node_is may) (ap knowledge_of log) refl
       (rw node_is (told_leaves (told x) (quiet x) old.clear.clear.log n.clear.log (record { failures = rw log refl; rejected = rw log refl }), untouched_refl old.depot.log))
   committed r x (Err commit.OutOfMemory) is (same, lots) =
       by_same e (outcomes.Refused refusal.OutOfMemory) old new (rw (same, lots) refl) (not_committed e old by_commit (told x) _ _ is)
   committed r x (Err commit.Device) is ((up, (log, risen, failed), open_lots), lots) =
       let shown : shown_of new ≡ clear_failed r (shown_of old) = rw (open_lots, lots) (ap (λ (l : LogShown ClearRecord). record (shown_of old) { clear = l }) (ap log_shown log)) in
       fails e old new by_commit (told x) _ (clear_failed r (shown_of old)) n.clear.log.foresight is shown (rw node_is failed)
-      (rw node_is (ap (λ (s : Sight). record (scene_of new) { clear = s }) (ap sight_of log)))
+      (rw node_is (ap (λ (s : KeeperKnowledge). record (scene_of new) { clear = s }) (ap knowledge_of log)))
       (rw node_is ((risen, ap (λ (l : LogState ClearRecord). l.rejected) log), untouched_refl old.depot.log))
 
   pub clear_comes : (deed : Result (Deed ClearRecord X) Refusal) (result : Result X Refusal) → judged e (shown_of old) ≡ (deed >>= λ d. Ok (clear_deed told lots_after (shown_of old) d))

@@ -6,7 +6,7 @@ use Rattle.cns_records.specs.declared.refusal.Refusal.{Refusal}
 use Rattle.cns_records.specs.declared.refusal.Refusal.TheVariants as refusal
 use Rattle.cns_system.specs.Devices.{AreUntouched, DevicesLeave, IsUntouched, node_of}
 use Rattle.cns_system.specs.Happens.{Change, Leaves, Grows, Commits, Decision, Goes, NoMemory, DeviceFails, changed, happens, judged, decided}
-use Rattle.cns_system.specs.Scene.{Chance, Comes, Decides, Scene, after_commit, comes_to, event_decision, decision_at, known_after, known_of, scene_of, sight_of, with_known}
+use Rattle.cns_system.specs.Scene.{Chance, Comes, Decides, Scene, after_commit, comes_to, event_decision, decision_at, known_after, known_of, scene_of, knowledge_of, with_known}
 use Rattle.cns_system.specs.Shown.{Shown, shown_of}
 use Rattle.cns_system.specs.World.{World}
 use Rattle.cns_system.specs.declared.event.Event.{Event}
@@ -82,7 +82,7 @@ module _ (e : Event) (old new : World) where
   )
 
   -- the scene where nothing that is known changed
-  same_scene : sight_of new.clear.clear.log ≡ sight_of old.clear.clear.log → sight_of new.depot.log ≡ sight_of old.depot.log
+  same_scene : knowledge_of new.clear.clear.log ≡ knowledge_of old.clear.clear.log → knowledge_of new.depot.log ≡ knowledge_of old.depot.log
       → scene_of new ≡ scene_with e (foresight_at e old) (shown_of new) old
   same_scene clear depot = by (node_of e)
     where
@@ -95,7 +95,7 @@ module _ (e : Event) (old new : World) where
       → new.depot.log ≡ old.depot.log → Comes e outcome old new
   tells outcome left is shown clear depot =
       by_chance (Decides Goes) (decision_at (Decides Goes) e (scene_of old)) (Ok (Leaves outcome left)) outcome (foresight_at e old) refl is (ap (λ (w : Shown). (outcome, w)) (sym shown)) refl
-      (same_scene (ap sight_of clear) (ap sight_of depot)) (logs_untouched old new clear depot)
+      (same_scene (ap knowledge_of clear) (ap knowledge_of depot)) (logs_untouched old new clear depot)
 
   pub grows : IsByCommit e old → (outcome : Outcome) (left : Shown) → judged e (shown_of old) ≡ Ok (Grows outcome left) → shown_of new ≡ left
       → new.clear.clear.log ≡ old.clear.clear.log → new.depot.log ≡ old.depot.log → Comes e outcome old new
@@ -103,11 +103,11 @@ module _ (e : Event) (old new : World) where
       let d = event_decision (foresight_at e old).next (Decides Goes) in
       by_chance (Decides Goes) d (Ok (Grows outcome left)) outcome (foresight_at e old) (by_commit (Decides Goes)) is
       (grows_in d (shown_of old) left outcome (has_room (foresight_at e old).next) ∙ ap (λ (w : Shown). (outcome, w)) (sym shown)) refl
-      (same_scene (ap sight_of clear) (ap sight_of depot)) (logs_untouched old new clear depot)
+      (same_scene (ap knowledge_of clear) (ap knowledge_of depot)) (logs_untouched old new clear depot)
 
   -- a record is acknowledged
   pub commits : IsByCommit e old → (outcome : Outcome) (left failed : Shown) → judged e (shown_of old) ≡ Ok (Commits outcome left failed) → shown_of new ≡ left
-      → MaySucceed (foresight_at e old).next → sight_of new.clear.clear.log ≡ sight_of old.clear.clear.log → sight_of new.depot.log ≡ sight_of old.depot.log
+      → MaySucceed (foresight_at e old).next → knowledge_of new.clear.clear.log ≡ knowledge_of old.clear.clear.log → knowledge_of new.depot.log ≡ knowledge_of old.depot.log
       → DevicesLeave (Ok (Commits outcome left failed)) (node_of e) outcome old new → Comes e outcome old new
   commits by_commit outcome left failed is shown may clear depot devices =
       by_chance (Decides Goes) Goes (Ok (Commits outcome left failed)) outcome (foresight_at e old) (by_commit (Decides Goes) ∙ goes_on (foresight_at e old).next may) is

@@ -17,7 +17,7 @@ use Rattle.cns_depository.specs.Answers.{reply_to}
 use Rattle.cns_depository.specs.Stock.{IsLawfulDepot, executed_of}
 use Rattle.cns_system.specs.Accord.{Accord, AreLawful, FitsStock, IsInAccord}
 use Rattle.cns_system.specs.Floor.{lot_changed}
-use Rattle.cns_system.specs.Happens.{ClearReads, Decision, DepotReads, DeviceFails, FindsBad, NoMemory, judged, restarts}
+use Rattle.cns_system.specs.Happens.{ClearReads, Decision, DepotReads, DeviceFails, FindsBad, NoMemory, judged, node_restarted}
 use Rattle.cns_system.specs.Headline.{AreStrict}
 use Rattle.cns_system.specs.Lot.{LotState, with_end, with_seal, with_ticket}
 use Rattle.cns_system.specs.Numbered.{AreTied, with_lot_ended}
@@ -117,7 +117,7 @@ module _ (s : Scene) where
     lots = ends_all s.shown _ refl;
   }
 
-  clear_restarts : (d : Decision) → (s.clear.honest ≡ true → GivesClear s.shown d) → Keeps s (event.Restart node.Clear) (restarts d node.Clear s.shown).1
+  clear_restarts : (d : Decision) → (s.clear.honest ≡ true → GivesClear s.shown d) → Keeps s (event.Restart node.Clear) (node_restarted d node.Clear s.shown).1
   clear_restarts NoMemory gives = clear_unread
   clear_restarts DeviceFails gives = clear_unread
   clear_restarts (FindsBad place) gives = clear_unread
@@ -131,7 +131,7 @@ module _ (s : Scene) where
   depot_unread : Keeps s (event.Restart node.Depot) (record s.shown { depot = record s.shown.depot { down = true } })
   depot_unread = of_depot s (event.Restart node.Depot) _ refl refl refl (λ b. depot_down s.shown b.accord)
 
-  depot_restarts : (d : Decision) → (s.depot.honest ≡ true → GivesDepot s.shown d) → Keeps s (event.Restart node.Depot) (restarts d node.Depot s.shown).1
+  depot_restarts : (d : Decision) → (s.depot.honest ≡ true → GivesDepot s.shown d) → Keeps s (event.Restart node.Depot) (node_restarted d node.Depot s.shown).1
   depot_restarts NoMemory gives = depot_unread
   depot_restarts DeviceFails gives = depot_unread
   depot_restarts (FindsBad place) gives = depot_unread

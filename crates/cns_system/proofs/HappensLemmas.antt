@@ -5,7 +5,7 @@ use Rattle.std.specs.Prelude.{◌⊎◌, IfErr, IfOk}
 use Rattle.cns_records.specs.declared.refusal.Refusal.{Refusal}
 use Rattle.cns_records.specs.declared.refusal.Refusal.TheVariants as refusal
 use Rattle.cns_system.specs.Devices.{node_of}
-use Rattle.cns_system.specs.Happens.{Change, Leaves, Grows, Commits, Restarts, Decision, NoMemory, DeviceFails, happens, judged, restarts, decided}
+use Rattle.cns_system.specs.Happens.{Change, Leaves, Grows, Commits, Restarts, Decision, NoMemory, DeviceFails, happens, judged, node_restarted, decided}
 use Rattle.cns_system.specs.Scene.{Chance, Comes, Scene, comes_to, decision_at, known_after, known_of, scene_of, with_known}
 use Rattle.cns_system.specs.Shown.{Shown, shown_of}
 use Rattle.cns_system.specs.World.{World}
@@ -21,7 +21,7 @@ module _ (P : Outcome → Shown → Type 0) (d : Decision) (w : Shown) where
   Holds (Leaves outcome left) = P outcome left
   Holds (Grows outcome left) = P outcome left
   Holds (Commits outcome left failed) = P outcome left × P (outcomes.Refused refusal.Device) failed
-  Holds (Restarts name) = P (restarts d name w).0 (restarts d name w).1
+  Holds (Restarts name) = P (node_restarted d name w).0 (node_restarted d name w).1
 
   -- and of what is told where memory is wanting or what there is refuses it
   pub checked_keeps : (e : Event) → IfErr (judged e w) (λ r. P (outcomes.Refused r) w) → P (outcomes.Refused refusal.OutOfMemory) w → IfOk (judged e w) Holds → P (happens d e w).0 (happens d e w).1

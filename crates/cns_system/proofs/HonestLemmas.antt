@@ -2,7 +2,7 @@
 use Rattle.std.proofs.Common.{◌≡◌, ◌∷◌, Bool, true, false, List, Option, Some, None, refl, inl, inr}
 use Rattle.std.specs.Prelude.{◌⊎◌, unwrap_or, if◌then◌else◌}
 use Rattle.cns_system.specs.Happens.{ClearReads, Decision, DepotReads, DeviceFails, FindsBad, NoMemory}
-use Rattle.cns_system.specs.Scene.{Chance, ComesBack, Decides, Forgets, Scene, Sight, decision_at, given_back, restart_decision, restart_fails}
+use Rattle.cns_system.specs.Scene.{Chance, ComesBack, Decides, Forgets, Scene, KeeperKnowledge, decision_at, given_back, restart_decision, restart_fails}
 use Rattle.cns_system.specs.Shown.{Shown}
 use Rattle.cns_system.specs.declared.event.Event.TheVariants as event
 use Rattle.cns_system.specs.declared.event.NodeName.TheVariants as node
@@ -18,7 +18,7 @@ back (Some r) true records = inr (r, refl, refl)
 
 -- there is no memory, its device fails, or its journal gives the records back: what is so of each of these is so of what is decided at the restart of an
 -- honest keeper
-module _ {R : Type 0} (reads : List R → Decision) (s : Sight) (tried : Option R) (records : List R) (honest : s.honest ≡ true) (P : Decision → Type 0) (short : P NoMemory)
+module _ {R : Type 0} (reads : List R → Decision) (s : KeeperKnowledge) (tried : Option R) (records : List R) (honest : s.honest ≡ true) (P : Decision → Type 0) (short : P NoMemory)
     (device : P DeviceFails) (given : (read : List R) → AreBack tried records read → P (reads read)) where
   goes : (comes : Bool) → P (reads (given_back tried (unwrap_or s.foresight.stands comes) records))
   goes comes = given (given_back tried (unwrap_or s.foresight.stands comes) records) (back tried (unwrap_or s.foresight.stands comes) records)

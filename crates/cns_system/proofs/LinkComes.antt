@@ -41,7 +41,7 @@ use Rattle.cns_depository.specs.declared.fault.OwnFault.{OwnFault}
 use Rattle.cns_system.specs.Devices.{node_of}
 use Rattle.cns_system.specs.Happens.{Commits, Grows, NoMemory, answer_told, answer_reply, by_order, by_own, judged, outcome_of, own_told, decided, taken_told}
 use Rattle.cns_system.specs.Numbered.{NumberedNode}
-use Rattle.cns_system.specs.Scene.{Comes, Sight, scene_of, sight_of}
+use Rattle.cns_system.specs.Scene.{Comes, KeeperKnowledge, scene_of, knowledge_of}
 use Rattle.cns_system.specs.Shown.{Shown, depot_failed, shown_of}
 use Rattle.cns_system.specs.World.{AreFrames, IsOrderFrame, World, order_in_packet, order_spelt, reply_in_packet, reply_spelt}
 use Rattle.cns_system.specs.declared.event.Event.{Event}
@@ -210,7 +210,7 @@ module _ (e : Event) (by_commit : (w : World) → IsByCommit e w) (node_is : nod
   pub depot_goes : (replies : List (List ℕ)) → IsTold outcome → shown_of (record old { depot = d; reply_packets = replies }) ≡ left → LogCommits r (Ok tt) old.depot.log d.log
       → Comes e outcome old (record old { depot = d; reply_packets = replies })
   depot_goes replies quiet shown (log, may) =
-      commits e old (record old { depot = d; reply_packets = replies }) (by_commit old) outcome left (depot_failed r (shown_of old)) judge shown (rw node_is may) refl (ap sight_of log)
+      commits e old (record old { depot = d; reply_packets = replies }) (by_commit old) outcome left (depot_failed r (shown_of old)) judge shown (rw node_is may) refl (ap knowledge_of log)
       (rw node_is (told_leaves outcome quiet old.depot.log d.log (record { failures = rw log refl; rejected = rw log refl }), untouched_refl old.clear.clear.log))
 
   -- or it is not
@@ -222,7 +222,7 @@ module _ (e : Event) (by_commit : (w : World) → IsByCommit e w) (node_is : nod
       let new : World = record old { depot = d } in
       let shown : shown_of new ≡ depot_failed r (shown_of old) = rw openings (ap (λ (l : LogShown DepRecord). record (shown_of old) { depot = l }) (ap log_shown log)) in
       fails e old new (by_commit old) outcome left (depot_failed r (shown_of old)) d.log.foresight judge shown (rw node_is failed)
-      (rw node_is (ap (λ (s : Sight). record (scene_of new) { depot = s }) (ap sight_of log)))
+      (rw node_is (ap (λ (s : KeeperKnowledge). record (scene_of new) { depot = s }) (ap knowledge_of log)))
       (rw node_is ((risen, ap (λ (l : LogState DepRecord). l.rejected) log), untouched_refl old.clear.clear.log))
 
 -- what is told of an order that was answered, and what is put on the link of replies

@@ -6,7 +6,7 @@ use Rattle.cns_journal.specs.RecordLog.{log_shown}
 use Rattle.cns_system.specs.Accord.{Accord, IsInAccord}
 use Rattle.cns_system.specs.Headline.{AreStrict}
 use Rattle.cns_system.specs.Readers.{PlanStep}
-use Rattle.cns_system.specs.Scene.{Plans, Scene, is_foreseen, scene_of, sight_of}
+use Rattle.cns_system.specs.Scene.{Plans, Scene, is_foreseen, scene_of, knowledge_of}
 use Rattle.cns_system.specs.Shown.{Shown, shown_of}
 use Rattle.cns_system.specs.World.{World}
 use Rattle.cns_system.specs.declared.event.NodeName.{NodeName}
@@ -23,14 +23,14 @@ foreseen_when _ known = refl
 clear_planned : (f : Foresight) (old new : World) → new.clear.clear.log ≡ record old.clear.clear.log { foresight = new.clear.clear.log.foresight }
     → new.clear.clear.log.foresight ≡ f → new.clear.clear.lots ≡ old.clear.clear.lots → new.clear.lots ≡ old.clear.lots → new.depot ≡ old.depot
     → new.order_packets ≡ old.order_packets → new.reply_packets ≡ old.reply_packets
-    → scene_of new ≡ record (scene_of old) { clear = record (sight_of old.clear.clear.log) { foresight = f } }
-clear_planned f old new log foresight open_lots lots depot orders replies = cc (ap log_shown log, ap sight_of log)
+    → scene_of new ≡ record (scene_of old) { clear = record (knowledge_of old.clear.clear.log) { foresight = f } }
+clear_planned f old new log foresight open_lots lots depot orders replies = cc (ap log_shown log, ap knowledge_of log)
 
 depot_planned : (f : Foresight) (old new : World) → new.depot.log ≡ record old.depot.log { foresight = new.depot.log.foresight }
     → new.depot.log.foresight ≡ f
     → new.depot.openings ≡ old.depot.openings → new.clear ≡ old.clear → new.order_packets ≡ old.order_packets → new.reply_packets ≡ old.reply_packets
-    → scene_of new ≡ record (scene_of old) { depot = record (sight_of old.depot.log) { foresight = f } }
-depot_planned f old new log foresight openings clear orders replies = cc (ap log_shown log, ap sight_of log)
+    → scene_of new ≡ record (scene_of old) { depot = record (knowledge_of old.depot.log) { foresight = f } }
+depot_planned f old new log foresight openings clear orders replies = cc (ap log_shown log, ap knowledge_of log)
 
 -- a plan leaves so much of both nodes, the link and what is known of the keepers
 pub plan_leaves : (name : NodeName) (stands : Bool) (result : Result (Unit {0}) NotPlanned) (old new : World) → PlanStep name stands result old new

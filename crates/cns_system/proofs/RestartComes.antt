@@ -17,7 +17,7 @@ use Rattle.cns_depository.specs.Stock.{IsExecutable}
 use Rattle.cns_system.specs.Devices.{DeviceAtRestart}
 use Rattle.cns_system.specs.Happens.{ClearReads, Decision, DepotReads, DeviceFails, FindsBad, Goes, NoMemory, Restarts as RestartsOf, judged, reading_by, restart_by, restart_told}
 use Rattle.cns_system.specs.Lot.{LotState, with_end}
-use Rattle.cns_system.specs.Scene.{Chance, ComesBack, Comes, Decides, Forgets, Sight, after_restart, given_back, restart_decision, sight_of}
+use Rattle.cns_system.specs.Scene.{Chance, ComesBack, Comes, Decides, Forgets, KeeperKnowledge, after_restart, given_back, restart_decision, knowledge_of}
 use Rattle.cns_system.specs.Shown.{Shown, shown_of}
 use Rattle.cns_system.specs.World.{World}
 use Rattle.cns_system.specs.declared.event.Event.TheVariants as event
@@ -27,13 +27,13 @@ use Rattle.cns_system.specs.declared.outcome.Outcome.TheVariants as outcomes
 use Rattle.cns_system.proofs.ComesLemmas.{by_chance, untouched_refl}
 
 -- of a keeper that is not honest, the surroundings decide
-decides : {R : Type 0} (reads : List R → Decision) (d : Decision) (s : Sight) (tried : Option R) (records : List R) → s.honest ≡ false
+decides : {R : Type 0} (reads : List R → Decision) (d : Decision) (s : KeeperKnowledge) (tried : Option R) (records : List R) → s.honest ≡ false
     → restart_decision reads s tried records (Decides d) ≡ d
 decides reads NoMemory s tried records dishonest = refl
 decides reads _ s tried records dishonest = rw dishonest refl
 
 -- the device of a keeper fails of which nothing is known
-fails_unknown : {R : Type 0} (reads : List R → Decision) (s : Sight) (tried : Option R) (records : List R) → s.foresight.next ≡ Unforeseen
+fails_unknown : {R : Type 0} (reads : List R → Decision) (s : KeeperKnowledge) (tried : Option R) (records : List R) → s.foresight.next ≡ Unforeseen
     → restart_decision reads s tried records (Decides DeviceFails) ≡ DeviceFails
 fails_unknown reads s tried records unknown = by s.honest refl
   where
@@ -55,7 +55,7 @@ given_when false log records is = sym is
 given_when true log records (r, tried, is) = rw (tried, is) refl
 
 -- an honest keeper gives its journal back
-gives : {R : Type 0} (reads : List R → Decision) (kept : Bool) (s : Sight) (tried : Option R) (records : List R) → s.honest ≡ true
+gives : {R : Type 0} (reads : List R → Decision) (kept : Bool) (s : KeeperKnowledge) (tried : Option R) (records : List R) → s.honest ≡ true
     → restart_decision reads s tried records (chance_of kept) ≡ reads (given_back tried (unwrap_or s.foresight.stands kept) records)
 gives reads true s tried records honest = rw honest refl
 gives reads false s tried records honest = rw honest refl
@@ -63,15 +63,15 @@ gives reads false s tried records honest = rw honest refl
 -- a restart that succeeded
 reread : {R : Type 0} (reads : List R → Decision) (log : LogState R) (records : List R)
     → (log.honest ≡ true → (back : Bool) × IsReadBack back log records × ((stands : Bool) → log.foresight.stands ≡ Some stands → back ≡ stands))
-    → (chance : Chance) × (restart_decision reads (sight_of log) log.tried log.records chance ≡ reads records)
+    → (chance : Chance) × (restart_decision reads (knowledge_of log) log.tried log.records chance ≡ reads records)
 reread reads log records gave = by log.honest refl
   where
-    by : (honest : Bool) → log.honest ≡ honest → (chance : Chance) × (restart_decision reads (sight_of log) log.tried log.records chance ≡ reads records)
-    by false is = (Decides (reads records), decides reads (reads records) (sight_of log) log.tried log.records is)
+    by : (honest : Bool) → log.honest ≡ honest → (chance : Chance) × (restart_decision reads (knowledge_of log) log.tried log.records chance ≡ reads records)
+    by false is = (Decides (reads records), decides reads (reads records) (knowledge_of log) log.tried log.records is)
     by true is =
         let (back, read, as_known) = gave is in (
           chance_of back,
-          gives reads back (sight_of log) log.tried log.records is
+          gives reads back (knowledge_of log) log.tried log.records is
               ∙ ap (λ (k : Bool). reads (given_back log.tried k log.records)) (came_back back log.foresight.stands as_known)
               ∙ ap reads (given_when back log records read),
         )
@@ -81,16 +81,16 @@ record Rereads {R : Type 0} (spelling : R → List ℕ) (allows : List R → R �
     (result : Result Restarted ReplayFault) (old new : LogState R) : Type 0 where
   pub chance : Chance
   pub decision : Decision
-  pub decided : restart_decision reads (sight_of old) old.tried old.records chance ≡ decision
+  pub decided : restart_decision reads (knowledge_of old) old.tried old.records chance ≡ decision
   pub settles : (left : LogShown R → Shown) → restart_by decision (log_shown old) (read_by decision) left ≡ (restart_told result, left (log_shown new))
-  pub sight : sight_of new ≡ record (sight_of old) { foresight = after_restart chance (restart_told result) old.foresight }
+  pub sight : knowledge_of new ≡ record (knowledge_of old) { foresight = after_restart chance (restart_told result) old.foresight }
   pub devices : DeviceAtRestart spelling allows fits (restart_told result) old new
 
 module _ {R : Type 0} (spelling : R → List ℕ) (allows : List R → R → Type 0) (fits : R → Type 0) (reads : List R → Decision) (read_by : Decision → List R)
     (found : (c : List R) → read_by (reads c) ≡ c) (goes : (c : List R) → reading_by (reads c) c ≡ Ok c) (old new : LogState R) where
   -- there was no memory
   short : (chance : Chance) → record (log_shown old) { down = true } ≡ log_shown new → new.honest ≡ old.honest → new.rejected ≡ old.rejected → new.failures ≡ old.failures
-      → restart_decision reads (sight_of old) old.tried old.records chance ≡ NoMemory
+      → restart_decision reads (knowledge_of old) old.tried old.records chance ≡ NoMemory
       → new.foresight ≡ after_restart chance (restart_told (Err replay.OutOfMemory)) old.foresight
       → Rereads spelling allows fits reads read_by (Err replay.OutOfMemory) old new
   short chance shown honest rejected failures decided known = record {
@@ -122,7 +122,7 @@ module _ {R : Type 0} (spelling : R → List ℕ) (allows : List R → R → Typ
   by_reading (Err (replay.BadJournal place)) shown honest left = record {
     chance = Decides (FindsBad place);
     decision = FindsBad place;
-    decided = decides reads (FindsBad place) (sight_of old) old.tried old.records (false_from_ne_true old.honest left.3);
+    decided = decides reads (FindsBad place) (knowledge_of old) old.tried old.records (false_from_ne_true old.honest left.3);
     settles = λ l. ap (λ (log : LogShown R). (restart_told (Err (replay.BadJournal place)), l log)) shown;
     sight = rw (honest, left.1) refl;
     devices = (left.0, left.2);
@@ -130,7 +130,7 @@ module _ {R : Type 0} (spelling : R → List ℕ) (allows : List R → R → Typ
   by_reading (Err replay.Device) shown honest left = record {
     chance = Decides DeviceFails;
     decision = DeviceFails;
-    decided = fails_unknown reads (sight_of old) old.tried old.records left.3;
+    decided = fails_unknown reads (knowledge_of old) old.tried old.records left.3;
     settles = λ l. ap (λ (log : LogShown R). (restart_told (Err replay.Device), l log)) shown;
     sight = rw (honest, left.2) refl;
     devices = (left.1, left.0, left.3);

@@ -34,7 +34,7 @@ use Rattle.cns_records.specs.declared.refusal.Refusal.TheVariants as refusal
 use Rattle.cns_system.specs.Agreement.{IsExecuted}
 use Rattle.cns_depository.specs.Answers.{executes, known_call, take_order_call}
 use Rattle.cns_system.specs.Accord.{Accord, IsInAccord, IsAsOrdered, IsSound, StaysSound}
-use Rattle.cns_system.specs.Happens.{Change, Commits, Decision, FindsBad, Grows, Leaves, Restarts, by_clear, by_order, judged, restarts, taken_told}
+use Rattle.cns_system.specs.Happens.{Change, Commits, Decision, FindsBad, Grows, Leaves, Restarts, by_clear, by_order, judged, node_restarted, taken_told}
 use Rattle.cns_system.specs.Scene.{Chance, Comes, Scene, decision_at, scene_of}
 use Rattle.cns_system.specs.Shown.{Shown}
 use Rattle.cns_system.proofs.EventHolds.{Arrives, order_holds, reply_holds}
@@ -147,14 +147,14 @@ holds_always P d w (Err r) all = tt
 holds_always P d w (Ok (Leaves o left)) all = all o left
 holds_always P d w (Ok (Grows o left)) all = all o left
 holds_always P d w (Ok (Commits o left failed)) all = (all o left, all (outcomes.Refused refusal.Device) failed)
-holds_always P d w (Ok (Restarts name)) all = all (restarts d name w).0 (restarts d name w).1
+holds_always P d w (Ok (Restarts name)) all = all (node_restarted d name w).0 (node_restarted d name w).1
 
 -- no journal of an honest keeper is bad
-clear_told : (d : Decision) (w : Shown) → GivesClear w d → IsSound (event.Restart node.Clear) (restarts d node.Clear w).0
+clear_told : (d : Decision) (w : Shown) → GivesClear w d → IsSound (event.Restart node.Clear) (node_restarted d node.Clear w).0
 clear_told (FindsBad place) w gives = absurd gives
 clear_told _ w gives = λ place e. cc e
 
-depot_told : (d : Decision) (w : Shown) → GivesDepot w d → IsSound (event.Restart node.Depot) (restarts d node.Depot w).0
+depot_told : (d : Decision) (w : Shown) → GivesDepot w d → IsSound (event.Restart node.Depot) (node_restarted d node.Depot w).0
 depot_told (FindsBad place) w gives = absurd gives
 depot_told _ w gives = λ place e. cc e
 

@@ -185,10 +185,10 @@ abbrev pub restart_by : {R : Type 0} → Decision → LogShown R → List R → 
 restart_by d log records left = let done = restarted (reading_by d records) log in (restart_told done.0, left done.1)
 
 -- a restart of the clearing node ends all lots, also where it is refused; what the other node's journal would give decides nothing
-abbrev pub restarts : Decision → NodeName → Shown → Outcome × Shown
-restarts d node.Clear w =
+abbrev pub node_restarted : Decision → NodeName → Shown → Outcome × Shown
+node_restarted d node.Clear w =
     restart_by d w.clear (elim d [ ClearReads c ↦ c | _ ↦ w.clear.records ]) (λ log. record w { clear = log; open_lots = []; lots = map with_end w.lots })
-restarts d node.Depot w = restart_by d w.depot (elim d [ DepotReads p ↦ p | _ ↦ w.depot.records ]) (λ log. record w { depot = log })
+node_restarted d node.Depot w = restart_by d w.depot (elim d [ DepotReads p ↦ p | _ ↦ w.depot.records ]) (λ log. record w { depot = log })
 
 -- what becomes of a change
 abbrev pub changed : Decision → Shown → Change → Outcome × Shown
@@ -196,7 +196,7 @@ changed d w (Leaves outcome left) = (outcome, left)
 changed d w (Grows outcome left) = elim d [ NoMemory ↦ (outcomes.Refused refusal.OutOfMemory, w) | _ ↦ (outcome, left) ]
 changed d w (Commits outcome left failed) =
     elim d [ NoMemory ↦ (outcomes.Refused refusal.OutOfMemory, w) | DeviceFails ↦ (outcomes.Refused refusal.Device, failed) | _ ↦ (outcome, left) ]
-changed d w (Restarts name) = restarts d name w
+changed d w (Restarts name) = node_restarted d name w
 
 -- what happens at an event: one that is refused by its judgement leaves all as it was
 abbrev pub decided : Decision → Shown → Result Change Refusal → Outcome × Shown

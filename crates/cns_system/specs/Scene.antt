@@ -18,21 +18,21 @@ use Rattle.cns_system.specs.declared.outcome.Outcome.{Outcome}
 use Rattle.cns_system.specs.declared.outcome.Outcome.TheVariants as outcomes
 
 -- whether a keeper is honest, and what is known beforehand of it
-pub record Sight : Type 0 where
+pub record KeeperKnowledge : Type 0 where
   pub honest : Bool
   pub foresight : Foresight
 
 -- both nodes and the link, and what is known beforehand of the keeper of the clearing node and of the depository's
 pub record Scene : Type 0 where
   pub shown : Shown
-  pub clear : Sight
-  pub depot : Sight
+  pub clear : KeeperKnowledge
+  pub depot : KeeperKnowledge
 
-abbrev pub sight_of : {R : Type 0} → LogState R → Sight
-sight_of log = record { honest = log.honest; foresight = log.foresight }
+abbrev pub knowledge_of : {R : Type 0} → LogState R → KeeperKnowledge
+knowledge_of log = record { honest = log.honest; foresight = log.foresight }
 
 abbrev pub scene_of : World → Scene
-scene_of w = record { shown = shown_of w; clear = sight_of w.clear.clear.log; depot = sight_of w.depot.log }
+scene_of w = record { shown = shown_of w; clear = knowledge_of w.clear.clear.log; depot = knowledge_of w.depot.log }
 
 -- what is known beforehand of a node's keeper
 abbrev pub known_of : NodeName → Scene → Foresight
@@ -74,7 +74,7 @@ restart_fails next chance = elim chance [ Decides DeviceFails ↦ not (is_forese
 
 -- the decision at a restart: there is no memory, the device of an honest keeper fails, or it gives its records back, with the undecided one where that is
 -- known to stand, or comes back; a keeper that is not honest may give anything
-abbrev pub restart_decision : {R : Type 0} → (List R → Decision) → Sight → Option R → List R → Chance → Decision
+abbrev pub restart_decision : {R : Type 0} → (List R → Decision) → KeeperKnowledge → Option R → List R → Chance → Decision
 restart_decision reads s tried records Forgets = NoMemory
 restart_decision reads s tried records (Decides NoMemory) = NoMemory
 restart_decision reads s tried records chance =
