@@ -3,18 +3,12 @@
 
 Reads texts alone and proves nothing: `rt ci` tries the first, `make wrong` the others. Faulty are also
 a folder of wrong-bodies/ that is no crate's, a file there that is no edit, two edits of a crate with
-one name or one text, a library with no edit in must-fail, and a program with none in wrong-bodies/ (the
-gate proves it last, and an edit of it costs a check of all of it). The last line is `N passed, M failed`.
+one name or one text, and a crate of code with no edit in must-fail. The last line is `N passed, M failed`.
 """
 import os
 import sys
 
 from wrong_bodies import FOLDER, TOP, crates, edits, fault_of, is_of_tests, say_end
-
-
-def is_program(crate):
-    """Whether a crate is a program, and no library."""
-    return os.path.exists(os.path.join(TOP, "crates", crate, "src", "main.rt"))
 
 
 def main():
@@ -26,10 +20,7 @@ def main():
         gate = edits(os.path.join(TOP, "crates", crate, "must-fail"))
         beside = os.path.join(FOLDER, crate)
         others = edits(beside)
-        if is_program(crate):
-            if not others:
-                faults.append(f"wrong-bodies/{crate} has no edit")
-        elif not gate and not is_of_tests(crate):
+        if not gate and not is_of_tests(crate):
             faults.append(f"crates/{crate}/must-fail has no edit")
         if os.path.isdir(beside):
             for name in sorted(os.listdir(beside)):
