@@ -132,7 +132,7 @@ part 'names of two crates' tests/check_names.py
 part 'evidence of the README' tests/check_evidence.py
 RT_JOBS=${RT_JOBS:-$(checks_at_once)}
 export RT_JOBS
-part 'rt ci' rt ci
+part 'proofs and wrong bodies' tests/prove.py
 part_of_program 'examples' tests/run_cases.sh "$program" examples
 part_of_program 'tests/cases' tests/run_cases.sh "$program" tests/cases
 part_of_program 'tests/version-1' tests/run_cases.sh "$program" tests/version-1

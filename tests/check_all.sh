@@ -1,5 +1,5 @@
 #!/usr/bin/env bash
-# Tests all.sh: a copy of it stands in a folder of its own beside stubs of its parts and of `rt`. All is
+# Tests all.sh: a copy of it stands in a folder of its own beside stubs of its parts. All is
 # well there once; then one thing or another is wrong, and all.sh must fail and name the part.
 #
 #   tests/check_all.sh
@@ -18,7 +18,7 @@ wrong=0
 
 # The parts that are one file each, as FILE|NAME, and the names of all.
 stubs=('tests/check_all.sh|self-test of all.sh' 'tests/check_run_cases.sh|self-test of run_cases.sh'
-    'tests/check_wrong_bodies.py|texts of the wrong bodies' 'tests/check_book.py|names of the book' 'tests/check_names.py|names of two crates' 'tests/check_evidence.py|evidence of the README' 'bin/rt|rt ci'
+    'tests/check_wrong_bodies.py|texts of the wrong bodies' 'tests/check_book.py|names of the book' 'tests/check_names.py|names of two crates' 'tests/check_evidence.py|evidence of the README' 'tests/prove.py|proofs and wrong bodies'
     'tests/check_journals.py|journals that are read' 'oracle/audit.py|what journals tell'
     'tests/refuse_memory.sh|refused memory' 'tests/refuse_again.sh|refused lines once more'
     'oracle/fuzz.py|random inputs' 'tests/check_strict.py|strict runs and inputs by name' 'oracle/check.py|what check tells' 'tests/check_table.py|reports as tables' 'tests/check_follow.py|runs that are followed' 'oracle/headline.py|the headline in reports'
@@ -27,7 +27,7 @@ stubs=('tests/check_all.sh|self-test of all.sh' 'tests/check_run_cases.sh|self-t
 of_program=('examples' 'tests/cases' 'tests/version-1' 'tests/faults' 'tests/audit' 'journals that are read' 'refused memory' 'refused lines once more' 'random inputs' 'strict runs and inputs by name' 'what check tells' 'reports as tables' 'runs that are followed' 'the headline in reports'
     'runs with workers' 'what make install sets up' 'the first commands of the README' 'what journals tell' 'journals of both versions')
 
-# What `rt ci` does besides: it makes the program, which answers with its input.
+# What the proofs do besides: they make the program, which answers with its input.
 make_program="mkdir -p crates/cnsd/out && sleep 0.05 && printf '#!/bin/sh\ncat\n' >$program && chmod +x $program"
 
 # stub FILE LINE..: a script of these lines.
@@ -39,15 +39,15 @@ stub() {
     chmod +x "$file"
 }
 
-# stub_rt LINE..: an `rt` that answers to `ci` alone, by these lines.
-stub_rt() {
-    stub bin/rt '[[ $* == ci ]] || exit 9' "$@"
+# stub_proofs LINE..: a prove.py of these lines.
+stub_proofs() {
+    stub tests/prove.py '[[ $# == 0 ]] || exit 9' "$@"
 }
 
 # fresh: the folder with all.sh and run_cases.sh, five cases, and stubs; 33 things pass in it.
 fresh() {
     rm -rf "$tree"
-    mkdir -p "$tree/tests/cases" "$tree/tests/version-1" "$tree/tests/faults" "$tree/tests/audit" "$tree/oracle" "$tree/bin" "$tree/examples"
+    mkdir -p "$tree/tests/cases" "$tree/tests/version-1" "$tree/tests/faults" "$tree/tests/audit" "$tree/oracle" "$tree/examples"
     cp "$here/all.sh" "$here/run_cases.sh" "$here/count.sh" "$tree/tests/"
     stub tests/check_all.sh "echo '2 passed, 0 failed'"
     stub tests/check_run_cases.sh "echo '2 passed, 0 failed'"
@@ -69,7 +69,7 @@ fresh() {
     stub tests/check_journals.py "[[ \$* == $program ]] && echo '1 passed, 0 failed'"
     stub oracle/audit.py "[[ \$* == '$program --seed 1 --count 60' ]] && echo '1 passed, 0 failed'"
     stub oracle/versions.py "[[ \$* == '$program --seed 1 --count 200' ]] && echo '1 passed, 0 failed'"
-    stub_rt "$make_program" "echo '3 passed, 0 failed'"
+    stub_proofs "$make_program" "echo '3 passed, 0 failed'"
     printf 'one\n' | tee "$tree/examples/one.in" >"$tree/examples/one.out"
     printf 'two\n' | tee "$tree/tests/cases/two.in" >"$tree/tests/cases/two.out"
     printf 'three\n' | tee "$tree/tests/version-1/three.in" >"$tree/tests/version-1/three.out"
@@ -91,7 +91,7 @@ expect() {
     local what=$1 last=$2 line got status=1 why=''
     shift 2
     [[ $last == *', 0 failed' ]] && status=0
-    PATH=$tree/bin:$PATH "$tree/tests/all.sh" "$program" >"$work/said" 2>&1
+    "$tree/tests/all.sh" "$program" >"$work/said" 2>&1
     got=$?
     sed -n '/^== failed$/,$p' "$work/said" >"$work/end"
     ((got == status)) || why+="status $got, expected $status; "
@@ -140,20 +140,20 @@ for name in "${of_program[@]}"; do
     no_program+=("-- $name: no program: rt ci did not make $program in this run")
 done
 fresh
-stub_rt "echo '3 passed, 0 failed'"
+stub_proofs "echo '3 passed, 0 failed'"
 expect 'no program' '11 passed, 19 failed' "${no_program[@]}"
 old_program
 expect 'an old program' '11 passed, 19 failed' "${no_program[@]}"
-stub_rt "echo 'rt: cns_pool NOT PROVED'" "echo 'rt: FAILED: cns_pool'" "echo '2 passed, 1 failed'" 'exit 1'
-expect 'an old program, and rt ci fails' '10 passed, 20 failed' '-- rt ci: 1 failed, exit status 1' \
+stub_proofs "echo 'rt: cns_pool NOT PROVED'" "echo 'rt: FAILED: cns_pool'" "echo '2 passed, 1 failed'" 'exit 1'
+expect 'an old program, and a proof fails' '10 passed, 20 failed' '-- proofs and wrong bodies: 1 failed, exit status 1' \
     '    rt: FAILED: cns_pool' '    rt: cns_pool NOT PROVED' "${no_program[@]}"
-stub_rt 'kill -9 $$'
-expect 'an old program, and rt ci is killed' '8 passed, 20 failed' "${no_program[@]}" \
-    '-- rt ci: no last line N passed, M failed, exit status 137'
+stub_proofs 'kill -9 $$'
+expect 'an old program, and the proofs are killed' '8 passed, 20 failed' "${no_program[@]}" \
+    '-- proofs and wrong bodies: no last line N passed, M failed, exit status 137'
 fresh
-stub_rt "$make_program" "echo 'rt: FAILED: cns_pool/a.edit'" "echo '2 passed, 1 failed'" 'exit 1'
-expect 'rt ci fails, but makes the program' '32 passed, 1 failed' '-- rt ci: 1 failed, exit status 1' \
-    '    rt: FAILED: cns_pool/a.edit'
+stub_proofs "$make_program" "echo 'FAIL cns_pool/a.edit'" "echo '2 passed, 1 failed'" 'exit 1'
+expect 'an edit is not refused, but the program is made' '32 passed, 1 failed' '-- proofs and wrong bodies: 1 failed, exit status 1' \
+    '    FAIL cns_pool/a.edit'
 
 # Each part by itself: its counts are good, its exit status is not.
 for one in "${stubs[@]}"; do
@@ -172,7 +172,7 @@ all_parts() {
         stub "${one%%|*}" "$@"
         lines+=("-- ${one#*|}: $why")
     done
-    stub_rt "$make_program" "$@"
+    stub_proofs "$make_program" "$@"
     expect "$what" "$last" "${lines[@]}"
 }
 all_parts 'ended early' '5 passed, 21 failed' 'no last line N passed, M failed' 'echo begun'

@@ -1,33 +1,35 @@
 #!/usr/bin/env python3
-"""Says whether each edit of crates/*/must-fail and wrong-bodies/* still fits its file just once.
+"""Says whether each edit of wrong-bodies/* still fits its file just once.
 
-Reads texts alone and proves nothing: `rt ci` tries the first, `make wrong` the others. Faulty are also
-a folder of wrong-bodies/ that is no crate's, a file there that is no edit, two edits of a crate with
-one name or one text, and a crate of code with no edit in must-fail. The last line is `N passed, M failed`.
+Reads texts alone and proves nothing: `make wrong` tries all, and the gate those that wrong-bodies/gate.txt
+names. Faulty are also a folder of wrong-bodies/ that is no crate's, a file there that is no edit, two edits
+of a crate with one name or one text, a line of gate.txt that names no edit, or names one a second time, and
+a crate of code of which gate.txt names none. The last line is `N passed, M failed`.
 """
 import os
 import sys
 
-from wrong_bodies import FOLDER, TOP, crates, edits, fault_of, is_of_tests, say_end
+from wrong_bodies import FOLDER, GATE, TOP, crates, edits, fault_of, gate_names, is_of_tests, say_end
 
 
 def main():
-    passed, faults, names = 0, [], crates()
+    passed, faults, names, gate = 0, [], crates(), gate_names()
     for name in sorted(os.listdir(FOLDER)):
-        if name not in names:
+        if name not in [*names, GATE]:
             faults.append(f"wrong-bodies/{name}: there is no such crate")
+    for crate, edit in sorted(set(gate)):
+        if not os.path.isfile(edit) or gate.count((crate, edit)) > 1:
+            faults.append(f"wrong-bodies/{GATE} names {os.path.relpath(edit, FOLDER)}, which is not there, or twice")
     for crate in names:
-        gate = edits(os.path.join(TOP, "crates", crate, "must-fail"))
-        beside = os.path.join(FOLDER, crate)
-        others = edits(beside)
-        if not gate and not is_of_tests(crate):
-            faults.append(f"crates/{crate}/must-fail has no edit")
-        if os.path.isdir(beside):
-            for name in sorted(os.listdir(beside)):
+        folder = os.path.join(FOLDER, crate)
+        if not is_of_tests(crate) and crate not in [name for name, _ in gate]:
+            faults.append(f"wrong-bodies/{GATE} names none of {crate}")
+        if os.path.isdir(folder):
+            for name in sorted(os.listdir(folder)):
                 if not name.endswith(".edit"):
                     faults.append(f"wrong-bodies/{crate}/{name}: no edit")
         seen = {}
-        for edit in gate + others:
+        for edit in edits(folder):
             with open(edit, encoding="utf-8") as text:
                 for key in (os.path.basename(edit), text.read()):
                     if key in seen:

@@ -45,7 +45,7 @@ def what_is_checked(process):
     if "--crate-name" not in words:
         return None
     crate = words[words.index("--crate-name") + 1]
-    if "rt-edit" in folder:
+    if "--only" in words:
         return crate, "edits"
     return crate, "tests" if "--test" in words else "proofs"
 

@@ -1,5 +1,5 @@
 #!/usr/bin/env python3
-"""Tries the wrong bodies that stand beside the gate: each must be refused by the prover.
+"""Tries the wrong bodies, those that the gate tries too: each must be refused by the prover.
 
     tests/wrong.py [CRATE..] [--lanes N] [--only WORD] [--alone] [--anew]
 

@@ -1,12 +1,14 @@
 """What stands in wrong-bodies/: edits of a crate's code that its contracts must refuse.
 
-An edit has a line `file: src/lib.rt` and pairs of lines `old: TEXT` and `new: TEXT`, as those of
-crates/*/must-fail have. Each old text stands just once in its file, after the pairs before it.
+An edit has a line `file: src/lib.rt` and pairs of lines `old: TEXT` and `new: TEXT`, as `rt must-fail`
+takes them. Each old text stands just once in its file, after the pairs before it. The file gate.txt
+names those that the gate tries, a line each, as CRATE/NAME without the ending `.edit`.
 """
 import os
 
 TOP = os.path.dirname(os.path.dirname(os.path.abspath(__file__)))
 FOLDER = os.path.join(TOP, "wrong-bodies")
+GATE = "gate.txt"
 
 
 def crates():
@@ -21,21 +23,41 @@ def is_of_tests(crate):
     return crate.endswith("_tests")
 
 
-def below():
-    """For each crate the crates of this repository that it stands on by its line of crates.txt."""
-    known, found = set(crates()), {}
+def used():
+    """For each crate the crates, of this repository and of the kit, that it stands on by its line of crates.txt."""
+    found = {}
     with open(os.path.join(TOP, "crates.txt"), encoding="utf-8") as lines:
         for line in lines:
-            name, _, used = line.split("#")[0].partition(":")
+            name, _, words = line.split("#")[0].partition(":")
             if name.split():
-                found[name.split()[0]] = [word for word in used.split() if word in known]
+                found[name.split()[0]] = words.split()
     return found
+
+
+def below():
+    """For each crate those of this repository that it stands on."""
+    found = used()
+    return {name: [word for word in words if word in found] for name, words in found.items()}
 
 
 def edits(folder):
     """The paths of the edits of a folder, by name; nothing where there is no such folder."""
     names = sorted(os.listdir(folder)) if os.path.isdir(folder) else []
     return [os.path.join(folder, name) for name in names if name.endswith(".edit")]
+
+
+def gate_names():
+    """What gate.txt names: for each line a crate and the path of one of its edits."""
+    with open(os.path.join(FOLDER, GATE), encoding="utf-8") as lines:
+        words = [line.split("#")[0].strip() for line in lines]
+    return [(word.partition("/")[0], os.path.join(FOLDER, f"{word}.edit")) for word in words if word]
+
+
+def of_the_gate():
+    """The edits that the gate tries, for each crate that has some, lowest first."""
+    named = gate_names()
+    found = {name: [edit for crate, edit in named if crate == name] for name in crates()}
+    return {name: edits for name, edits in found.items() if edits}
 
 
 def texts_of(edit, crate):

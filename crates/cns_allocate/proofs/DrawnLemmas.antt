@@ -4,7 +4,7 @@ use Rattle.std.specs.Prelude.{IsPermutation}
 use Rattle.std.proofs.lemmas.List.Sorted.{IsPermutation-append, IsPermutation-cons, IsPermutation-refl, IsPermutation-trans, length_permutation}
 use Rattle.cns_ids.proofs.ListLemmas.{AllZip-append, AllZip-length, IsPermutation-between}
 use Rattle.cns_pool.specs.declared.ticket.Ticket.{Ticket}
-use Rattle.cns_allocate.specs.Served.{AreDrawnOf, FollowPlan, IsDrawnBy}
+use Rattle.cns_allocate.specs.Served.{AreDrawnOf, IsDrawnBy}
 use Rattle.cns_allocate.specs.declared.planned.Planned.{Planned}
 
 -- nobody drew a ticket
@@ -40,10 +40,6 @@ drawn-permutation ps qs ts same before = record {
   permutation = IsPermutation-trans (before.drawers ++ before.others) ps qs before.permutation same;
   drawn = before.drawn;
 }
-
--- tickets that follow a plan are drawn by some of it
-abbrev pub follow-drawn : (plan : List Planned) (tickets : List Ticket) (sealed : Bool) → FollowPlan plan tickets sealed → AreDrawnOf plan tickets
-follow-drawn plan tickets sealed f = record { drawers = f.drawers; others = f.others; permutation = f.permutation; drawn = f.drawn }
 
 -- each of those planned drew a ticket or did not
 pub drawn-count : (ps : List Planned) (ts : List Ticket) → (drawn : AreDrawnOf ps ts) → length ts + length drawn.others ≡ length ps

@@ -89,7 +89,7 @@ follow-none plan sealed groups whole = record {
   sorted = [];
   permutation = IsPermutation-refl [];
   by_start = λ i j d le below. absurd (omega arith);
-  follows = record { drawers = []; others = plan; permutation = IsPermutation-refl plan; groups = groups; drawn = tt; whole = whole };
+  follows = record { drawn = drawn-none plan; groups = groups; whole = whole };
 }
 
 -- after the tickets of all those of earlier groups come those of the next group
@@ -103,10 +103,12 @@ follow-group n r done group ts us sealed upto same first before then after whole
       IsNonDecreasingBy-append (λ (t : Ticket). t.start) n first.sorted now.sorted first.by_start (All-permutation (λ (t : Ticket). t.start ≤ n) ts first.sorted first.permutation before) now.by_start
       (All-permutation (λ (t : Ticket). n ≤ t.start) us now.sorted now.permutation after);
   follows = record {
-    drawers = drawers ++ now.by.drawers;
-    others = now.by.others;
-    permutation = rw regrouped (IsPermutation-append drawers done rest group all_done rest_is);
-    drawn = AllZip-append IsDrawnBy first.sorted now.sorted drawers now.by.drawers first.follows.drawn now.by.drawn;
+    drawn = record {
+      drawers = drawers ++ now.by.drawers;
+      others = now.by.others;
+      permutation = rw regrouped (IsPermutation-append drawers done rest group all_done rest_is);
+      drawn = AllZip-append IsDrawnBy first.sorted now.sorted drawers now.by.drawers earlier.drawn now.by.drawn;
+    };
     groups =
         rw regrouped
         (AllPairs-append_by (λ (p : Planned). rank p.group) r drawers rest (rw (← alone) first.follows.groups)
@@ -116,15 +118,18 @@ follow-group n r done group ts us sealed upto same first before then after whole
   };
 }
   where
+    earlier : AreDrawnOf done first.sorted
+    earlier = first.follows.drawn
+
     drawers : List Planned
-    drawers = first.follows.drawers
+    drawers = earlier.drawers
 
     -- all of them drew a ticket
-    alone : drawers ++ first.follows.others ≡ drawers
+    alone : drawers ++ earlier.others ≡ drawers
     alone = ap (λ (l : List Planned). drawers ++ l) (first.follows.whole refl) ∙ append-nil drawers
 
     all_done : IsPermutation drawers done
-    all_done = subst (λ (l : List Planned). IsPermutation l done) alone first.follows.permutation
+    all_done = subst (λ (l : List Planned). IsPermutation l done) alone earlier.permutation
 
     now : AreByStart group us
     now =
@@ -152,7 +157,7 @@ follow-group n r done group ts us sealed upto same first before then after whole
 pub follow-rest : (r : ℕ) (done rest : List Planned) (ts : List Ticket) (sealed : Bool) → All (λ (p : Planned). rank p.group ≤ r) done
     → All (λ (p : Planned). r ≤ rank p.group) rest → AllPairs IsNoLater rest → FollowPlanByStart done ts sealed → FollowPlanByStart (done ++ rest) ts true
 follow-rest r done rest ts sealed upto from pairs first =
-    let by = first.follows in
+    let by = first.follows.drawn in
     let order : List Planned = by.drawers ++ by.others in
     let regrouped = append_assoc by.drawers by.others rest in
     record {
@@ -160,13 +165,15 @@ follow-rest r done rest ts sealed upto from pairs first =
       permutation = first.permutation;
       by_start = first.by_start;
       follows = record {
-        drawers = by.drawers;
-        others = by.others ++ rest;
-        permutation = rw (← regrouped) (IsPermutation-append_left rest order done by.permutation);
-        drawn = by.drawn;
+        drawn = record {
+          drawers = by.drawers;
+          others = by.others ++ rest;
+          permutation = rw (← regrouped) (IsPermutation-append_left rest order done by.permutation);
+          drawn = by.drawn;
+        };
         groups =
             rw (← regrouped)
-            (AllPairs-append_by (λ (p : Planned). rank p.group) r order rest by.groups
+            (AllPairs-append_by (λ (p : Planned). rank p.group) r order rest first.follows.groups
             (All-permutation (λ (p : Planned). rank p.group ≤ r) done order (IsPermutation-sym order done by.permutation) upto) pairs from);
         whole = λ e. cc;
       };

@@ -16,9 +16,10 @@ use Rattle.cns_pool.specs.Pool.{asked_sum, intervals_of}
 use Rattle.cns_movements.specs.Asked.{IsAsked}
 use Rattle.cns_allocate.specs.Group.{rank}
 use Rattle.cns_allocate.specs.Plan.{IsPlan}
-use Rattle.cns_allocate.specs.Served.{FollowPlan, IsDrawnBy, IsServed, has_ticket, turn_of, waiting, without}
+use Rattle.cns_allocate.specs.Served.{AreDrawnOf, FollowPlan, IsDrawnBy, IsServed, has_ticket, turn_of, waiting, without}
 use Rattle.cns_allocate.specs.declared.planned.Planned.{Planned}
 use Rattle.cns_allocate.specs.declared.turns.Turn.TheVariants.{Next}
+use Rattle.cns_allocate.proofs.DrawnLemmas.{drawn-cons, drawn-none, drawn-permutation}
 use Rattle.cns_allocate.proofs.PlanLemmas.{IsNoLater, is_planned_as}
 use Rattle.cns_allocate.proofs.TurnLemmas.{IsPlan-without, count_none, find-All, find-none, find-passes, find-without, turn-next, turn-parts}
 
@@ -63,33 +64,23 @@ AreInTurn plan n (t ∷ ts) = (t.start ≡ n) × (turn_of plan t.member ≡ Next
 in_turn-follow : (plan : List Planned) (n : ℕ) (tickets : List Ticket) (sealed : Bool) → IsPlan plan → AreInTurn plan n tickets → (sealed ≡ false → waiting plan tickets ≡ [])
     → FollowPlan plan tickets sealed × AreChained n (intervals_of tickets)
 in_turn-follow plan n [] sealed is turns nobody = (
-  record {
-    drawers = [];
-    others = plan;
-    permutation = IsPermutation-refl plan;
-    groups = is.groups;
-    drawn = tt;
-    whole = λ open_lot. sym (waiting-none plan) ∙ nobody open_lot;
-  },
+  record { drawn = drawn-none plan; groups = is.groups; whole = λ open_lot. sym (waiting-none plan) ∙ nobody open_lot },
   tt,
 )
 in_turn-follow plan n (t ∷ ts) sealed is turns nobody =
     let left : List Planned = without t.member plan in
     let turn = turn-parts plan t.member t.asked turns.1 in
     let rest = in_turn-follow left (n + t.asked) ts sealed (IsPlan-without t.member plan is) turns.2 (λ open_lot. waiting-first plan t ts ∙ nobody open_lot) in
-    let by = rest.0 in
+    let by = rest.0.drawn in
     let later = All-filter (λ (q : Planned). not (q.member == t.member)) (IsNoLater turn.planned) plan turn.first in (
       record {
-        drawers = turn.planned ∷ by.drawers;
-        others = by.others;
-        permutation =
-            IsPermutation-trans (turn.planned ∷ (by.drawers ++ by.others)) (turn.planned ∷ left) plan
-            (IsPermutation-cons turn.planned (by.drawers ++ by.others) left by.permutation) (find-without t.member plan turn.planned (is.once t.member) turn.found);
+        drawn =
+            drawn-permutation (turn.planned ∷ left) plan (t ∷ ts) (find-without t.member plan turn.planned (is.once t.member) turn.found)
+            (drawn-cons turn.planned left t ts (sym turn.named, sym turn.shares) by);
         groups =
             AllPairs-cons IsNoLater turn.planned (by.drawers ++ by.others)
-            (All-permutation (IsNoLater turn.planned) left (by.drawers ++ by.others) (IsPermutation-sym (by.drawers ++ by.others) left by.permutation) later) by.groups;
-        drawn = ((sym turn.named, sym turn.shares), by.drawn);
-        whole = by.whole;
+            (All-permutation (IsNoLater turn.planned) left (by.drawers ++ by.others) (IsPermutation-sym (by.drawers ++ by.others) left by.permutation) later) rest.0.groups;
+        whole = rest.0.whole;
       },
       (turns.0, rest.1),
     )
@@ -167,10 +158,10 @@ MayClose left start tickets sealed = AreInTurn left start tickets × (sealed ≡
 pub served-turns : (plan : List Planned) (tickets : List Ticket) (sealed : Bool) → IsPlan plan → IsServed plan tickets sealed ↔ MayClose plan 0 tickets sealed
 served-turns plan tickets sealed is = (
   λ s.
-      let by = s.follows in
+      let by = s.follows.drawn in
       let turns =
-      follow-in_turn plan 0 tickets by.drawers by.others is (permutation-same (by.drawers ++ by.others) plan by.permutation) by.groups by.drawn s.chained in
-      (turns.0, λ open_lot. turns.1 (by.whole open_lot)),
+      follow-in_turn plan 0 tickets by.drawers by.others is (permutation-same (by.drawers ++ by.others) plan by.permutation) s.follows.groups by.drawn s.chained in
+      (turns.0, λ open_lot. turns.1 (s.follows.whole open_lot)),
   λ turns. let follow = in_turn-follow plan 0 tickets sealed is turns.0 turns.1 in record { follows = follow.0; chained = follow.1 },
 )
 
@@ -217,8 +208,8 @@ served_most : (f : Ticket → ℕ) (g : Planned → ℕ) → ((t : Ticket) (p : 
 served_most f g each plan tickets sealed s =
     omega (arith, drawn_sum tickets by.drawers by.drawn, sum_by-append g by.drawers by.others, sum_by-IsPermutation g (by.drawers ++ by.others) plan by.permutation)
   where
-    by : FollowPlan plan tickets sealed
-    by = s.follows
+    by : AreDrawnOf plan tickets
+    by = s.follows.drawn
 
     drawn_sum : (ts : List Ticket) (ps : List Planned) → AllZip IsDrawnBy ts ps → sum_by f ts ≡ sum_by g ps
     drawn_sum [] [] drawn = refl
@@ -232,8 +223,8 @@ served_each : (plan : List Planned) (tickets : List Ticket) (sealed : Bool) (P :
 served_each plan tickets sealed P Q each s all =
     drawn_all tickets by.drawers by.others by.drawn (All-permutation P plan (by.drawers ++ by.others) (IsPermutation-sym (by.drawers ++ by.others) plan by.permutation) all)
   where
-    by : FollowPlan plan tickets sealed
-    by = s.follows
+    by : AreDrawnOf plan tickets
+    by = s.follows.drawn
 
     drawn_all : (ts : List Ticket) (ps others : List Planned) → AllZip IsDrawnBy ts ps → All P (ps ++ others) → All Q ts
     drawn_all [] [] others drawn holds = All-nil Q

@@ -14,7 +14,7 @@ use Rattle.cns_allocate.specs.Plan.{IsServable}
 use Rattle.cns_allocate.specs.Serving.{FollowPlanByStart, HasDrawn, asked_in_plan}
 use Rattle.cns_allocate.specs.declared.planned.Planned.{Planned}
 use Rattle.cns_allocate.proofs.DealLemmas.{asked_in_plan-append}
-use Rattle.cns_allocate.proofs.DrawnLemmas.{drawn-count, drawn-most, follow-drawn}
+use Rattle.cns_allocate.proofs.DrawnLemmas.{drawn-count, drawn-most}
 use Rattle.cns_allocate.proofs.FollowLemmas.{follow-group, follow-rest}
 use Rattle.cns_allocate.proofs.PlanLemmas.{IsNoLater}
 
@@ -27,7 +27,7 @@ ends-start n (t ∷ ts) ends = All-cons (λ (u : Ticket). u.start ≤ n) t ts (o
 followed-count : (plan : List Planned) (ts : List Ticket) → FollowPlanByStart plan ts false → length ts ≡ length plan
 followed-count plan ts follow =
     let f = follow.follows in
-    omega (arith, length_permutation ts follow.sorted follow.permutation, ap length (f.whole refl), drawn-count plan follow.sorted (follow-drawn plan follow.sorted false f))
+    omega (arith, length_permutation ts follow.sorted follow.permutation, ap length (f.whole refl), drawn-count plan follow.sorted f.drawn)
 
 -- where the next group is not served, somebody has no ticket, and the seal was not met
 pub fault-part : (plan : List Planned) (m : ℕ) (old new : WorkerState) → m < length plan → FollowPlanByStart (take m plan) old.tickets false → HasDrawn old [] new → length new.tickets < length plan

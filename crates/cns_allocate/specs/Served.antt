@@ -41,15 +41,12 @@ pub record AreDrawnOf (planned : List Planned) (tickets : List Ticket) : Type 0 
   pub permutation : IsPermutation (drawers ++ others) planned
   pub drawn : AllZip IsDrawnBy tickets drawers
 
--- tickets that follow a plan: those who drew them, in their order, and then the others, are an order of the whole plan in which no
--- group comes after a later one; where nothing is sealed, everybody planned drew one
+-- tickets that follow a plan: some of it drew them, and where these stand in their order, and behind them the others, no group comes
+-- after a later one; where nothing is sealed, everybody planned drew one
 pub record FollowPlan (plan : List Planned) (tickets : List Ticket) (sealed : Bool) : Type 0 where
-  pub drawers : List Planned
-  pub others : List Planned
-  pub permutation : IsPermutation (drawers ++ others) plan
-  pub groups : AllPairs (λ (p q : Planned). rank p.group ≤ rank q.group) (drawers ++ others)
-  pub drawn : AllZip IsDrawnBy tickets drawers
-  pub whole : sealed ≡ false → others ≡ []
+  pub drawn : AreDrawnOf plan tickets
+  pub groups : AllPairs (λ (p q : Planned). rank p.group ≤ rank q.group) (drawn.drawers ++ drawn.others)
+  pub whole : sealed ≡ false → drawn.others ≡ []
 
 -- the tickets of a lot that may close: they follow its plan, and stand end to end from 0
 pub record IsServed (plan : List Planned) (tickets : List Ticket) (sealed : Bool) : Type 0 where

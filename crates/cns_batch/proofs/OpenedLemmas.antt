@@ -10,7 +10,7 @@ use Rattle.cns_journal.specs.declared.record_log.ReplayFault.TheVariants as repl
 use Rattle.cns_records.specs.Clear.{spelling, HasPayload}
 use Rattle.cns_records.specs.Dep.{dep_spelling, HasDepPayload}
 use Rattle.cns_trades.specs.declared.opening.Opening.{Opening}
-use Rattle.cns_clearing.specs.Books.{IsAllowed, books_of, orders_of}
+use Rattle.cns_clearing.specs.Books.{IsAllowed, books_of, order_book_of}
 use Rattle.cns_depository.specs.Stock.{IsExecutable}
 use Rattle.cns_system.specs.Agreement.{Agree, IsExecuted, IsOrdered}
 use Rattle.cns_system.specs.Scene.{scene_of}
@@ -57,7 +57,7 @@ no_bad_place spelling allows fits rejected new place (reopened, bad) =
 
 nothing_agrees : Agree [] []
 unfolding books_of
-nothing_agrees = record { executed = All-nil (IsOrdered (orders_of []).orders); confirmed = All-nil (IsExecuted []) }
+nothing_agrees = record { executed = All-nil (IsOrdered (order_book_of []).orders); confirmed = All-nil (IsExecuted []) }
 
 pub none_unopened : (input : Input) (clear depot : KeeperState) → IsUnopened false input new_keeper new_keeper clear depot → ⊥
 none_unopened input clear depot (start.Clear (replay.BadJournal place), rejected, long, (unread, same)) = no_bad_place spelling IsAllowed HasPayload rejected clear place unread

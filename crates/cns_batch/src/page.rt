@@ -5,7 +5,7 @@ ghost use Rattle.std.specs.List.{flat_map};
 ghost use Rattle.cns_report.specs.Lines.{bytes_of_line};
 ghost use Rattle.cns_report.specs.Outcomes.{outcome_line};
 ghost use Rattle.cns_report.specs.Report.{balance_line, cycle_report_text};
-ghost use Rattle.cns_clearing.specs.Books.{history_of, latest_of, orders_of};
+ghost use Rattle.cns_clearing.specs.Books.{history_of, latest_of, order_book_of};
 ghost use Rattle.cns_clearing.specs.Pools.{rows_of_pools};
 ghost use Rattle.cns_depository.specs.Balances.{balance_rows};
 ghost use Rattle.cns_netting.specs.Rows.{rows_of};
@@ -168,7 +168,7 @@ impl Page {
         clearing: &Clearing<C>,
         writer: &mut W,
     ) -> Told
-        ensures { Prints (cycle_report_text (latest_of clearing.now.log.records) (rows_of (history_of clearing.now.log.records)) (rows_of_pools (orders_of clearing.now.log.records) clearing.now.lots))
+        ensures { Prints (cycle_report_text (latest_of clearing.now.log.records) (rows_of (history_of clearing.now.log.records)) (rows_of_pools (order_book_of clearing.now.log.records) clearing.now.lots))
             result (output self.old (W.contents writer.old)) (output self.new (W.contents writer.new)) }
     {
         let latest = clearing.latest();

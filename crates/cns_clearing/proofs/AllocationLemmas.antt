@@ -18,7 +18,7 @@ use Rattle.cns_records.specs.Clear.{AreWritable}
 use Rattle.cns_records.specs.declared.allocation.Allocation.{Allocation}
 use Rattle.cns_records.specs.declared.clear_record.ClearRecord.{ClearRecord}
 use Rattle.cns_clearing.specs.Answers.{Closes, closing_allocation, deliveries_by}
-use Rattle.cns_clearing.specs.Books.{Books, IsAllocable, IsLawful, are_spent, books_of, deliveries_in, history_of, orders_of, pool_tickets}
+use Rattle.cns_clearing.specs.Books.{Books, IsAllocable, IsLawful, are_spent, books_of, deliveries_in, history_of, order_book_of, pool_tickets}
 use Rattle.cns_clearing.specs.Closing.{AreRecordable, IsRecordable}
 use Rattle.cns_clearing.specs.Lots.{IsAllocation, IsLot, longs_among}
 use Rattle.cns_clearing.specs.Node.{ClearNode}
@@ -46,12 +46,12 @@ each_recordable n (t ∷ tickets) chained small shares =
 
 module _ (c : List ClearRecord) (a : Allocation) (lawful : IsLawful c) (fits : AreWritable c) (closes : IsAllocation c a) where
   -- the allocation that closes a lot may follow, where there are numbers for its deliveries
-  pub allocable : are_spent (orders_of c) (length (deliveries_in a)) ≡ false → IsAllocable (books_of c) a
+  pub allocable : are_spent (order_book_of c) (length (deliveries_in a)) ≡ false → IsAllocable (books_of c) a
   allocable enough = record {
     order = omega (arith, closes.lot.opened, closes.lot.upto, length-append closes.lot.middle closes.lot.before);
     chained = closes.served.chained;
     once = served_once closes.plan (pool_tickets a.drawn) a.sealed (lot_plan c _ lawful fits closes.lot) closes.served;
-    within = served_within closes.plan (pool_tickets a.drawn) a.sealed closes.served (λ m. want_in (history_of c) (orders_of c) m a.issue) (lot_wants c _ lawful closes.lot);
+    within = served_within closes.plan (pool_tickets a.drawn) a.sealed closes.served (λ m. want_in (history_of c) (order_book_of c) m a.issue) (lot_wants c _ lawful closes.lot);
     there = lot_pours c _ lawful closes.lot;
     numbers = enough;
   }
@@ -84,6 +84,6 @@ close_asks node issue tickets sealed lot poured asks closes count is = rw (ticke
 -- whether the numbers suffice for them, of the records
 pub close_spent : (c : List ClearRecord) (b : Books) (lot : Lot) (tickets : List Ticket) (sealed : Bool) (poured count : ℕ) (spent v : Bool) → b ≡ books_of c → poured ≡ lot.poured
     → ((issue : ℕ) → count ≡ length (deliveries_of issue poured tickets)) → spent ≡ are_spent b.orders count → spent ≡ v
-    → are_spent (orders_of c) (length (deliveries_by lot tickets sealed)) ≡ v
+    → are_spent (order_book_of c) (length (deliveries_by lot tickets sealed)) ≡ v
 close_spent c b lot tickets sealed poured count spent v same is counted read e =
     rw (tickets_drawn tickets, ← is, ← counted lot.issue) (ap (λ (x : Books). are_spent x.orders count) (sym same) ∙ sym read ∙ e)

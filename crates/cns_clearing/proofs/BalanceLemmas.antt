@@ -13,7 +13,7 @@ use Rattle.cns_movements.specs.declared.order.Reply.{Reply}
 use Rattle.cns_records.specs.Clear.{AreWritable}
 use Rattle.cns_records.specs.declared.clear_record.ClearRecord.{ClearRecord}
 use Rattle.cns_records.specs.declared.clear_record.ClearRecord.TheVariants.{Accept, Confirm}
-use Rattle.cns_clearing.specs.Books.{Books, IsLawful, books_of, history_of, orders_of, settled_by}
+use Rattle.cns_clearing.specs.Books.{Books, IsLawful, books_of, history_of, order_book_of, settled_by}
 use Rattle.cns_clearing.specs.Pools.{covered_of, delivered_of, kind_part}
 use Rattle.cns_clearing.proofs.BooksLemmas.{lawful_bounded}
 use Rattle.cns_clearing.proofs.PositionLemmas.{lawful_moved}
@@ -28,7 +28,7 @@ writable_members : (c : List ClearRecord) → AreWritable c → AreMembers 9999 
 unfolding books_of
 writable_members [] fits = tt
 writable_members (Accept t ∷ c) fits = (fits.0.0.buyer.from, fits.0.0.buyer.to, fits.0.0.seller.from, fits.0.0.seller.to, writable_members c fits.1)
-writable_members (Confirm r ∷ c) fits = members_settled (order_of (orders_of c).orders r.number) r.moved (history_of c) (writable_members c fits.1)
+writable_members (Confirm r ∷ c) fits = members_settled (order_of (order_book_of c).orders r.number) r.moved (history_of c) (writable_members c fits.1)
 writable_members (_ ∷ c) fits = writable_members c fits.1
 
 -- what orders of a kind moved for a member in an issue is its part of what they moved in the issue
@@ -52,7 +52,7 @@ settled_total kind rs orders issue settled bound is most upto =
 
 -- in each issue longs less shorts are the shares that covers brought less those that deliveries took
 pub balanced : (c : List ClearRecord) (issue : ℕ) → IsLawful c → AreWritable c
-    → longs_of (history_of c) issue + delivered_of (orders_of c) issue ≡ shorts_of (history_of c) issue + covered_of (orders_of c) issue
+    → longs_of (history_of c) issue + delivered_of (order_book_of c) issue ≡ shorts_of (history_of c) issue + covered_of (order_book_of c) issue
 unfolding covered_of delivered_of
 balanced c issue lawful fits =
     let b : Books = books_of c in

@@ -23,7 +23,7 @@ use Rattle.cns_records.specs.declared.refusal.Refusal.{Refusal}
 use Rattle.cns_records.specs.declared.refusal.Refusal.TheVariants as refusal
 use Rattle.cns_records.proofs.CallLemmas.{changed, committed, refused}
 use Rattle.cns_clearing.specs.Answers.{Closes, ClosesNone, IsPoured, NodeLeaves, closing_allocation, answer_in, close_call, close_deed, closed_of, covers_in, cycle_call, cycled_of, need_up, open_call, pour_call, reply_call, tested_close_call, trade_call, verdict_in}
-use Rattle.cns_clearing.specs.Books.{IsLawful, are_spent, is_later, latest_of, orders_of}
+use Rattle.cns_clearing.specs.Books.{IsLawful, are_spent, is_later, latest_of, order_book_of}
 use Rattle.cns_clearing.specs.Lots.{AreLots, avail_in, lots_poured, new_lot, refilled}
 use Rattle.cns_clearing.specs.Node.{AddLeaves, ClearNode, IsCommitted}
 use Rattle.cns_clearing.specs.Pools.{free_of, lot_of}
@@ -81,24 +81,24 @@ cycle_beside_lots id node up later some = rw (up, later, ne_eqb (length node.lot
 
 -- and one for whose covers there are no numbers
 pub cycle_spent : (id : CycleId) (old new : ClearNode) → old.log.down ≡ false → is_later (latest_of old.log.records) id ≡ true → old.lots ≡ []
-    → are_spent (orders_of old.log.records) (length (covers_in old.log.records id.day)) ≡ true → new ≡ old
+    → are_spent (order_book_of old.log.records) (length (covers_in old.log.records id.day)) ≡ true → new ≡ old
     → NodeLeaves (cycle_call id old.log.down old.log.records old.lots) (Err refusal.NumbersSpent) old new
 unfolding cycle_call
 cycle_spent id old new up later none spent same = refused _ _ _ refusal.NumbersSpent _ _ _ (rw (up, later, none, spent)) refl same
 
 -- any other is run
 pub cycle_goes : (id : CycleId) (down : Bool) (c : List ClearRecord) (lots : List Lot) → down ≡ false → is_later (latest_of c) id ≡ true → lots ≡ []
-    → are_spent (orders_of c) (length (covers_in c id.day)) ≡ false → cycle_call id down c lots ≡ Ok (Commits (entry.Cycle id) (cycled_of c id))
+    → are_spent (order_book_of c) (length (covers_in c id.day)) ≡ false → cycle_call id down c lots ≡ Ok (Commits (entry.Cycle id) (cycled_of c id))
 unfolding cycle_call
 cycle_goes id down c lots up later none room = rw (up, later, none, room) refl
 
 -- a cycle whose covers there is no memory to list
 pub cycle_short : (id : CycleId) (old new : ClearNode) (r : Refusal) → old.log.down ≡ false → is_later (latest_of old.log.records) id ≡ true → old.lots ≡ []
-    → r ≡ (if are_spent (orders_of old.log.records) (length (covers_in old.log.records id.day)) then refusal.NumbersSpent else refusal.OutOfMemory) → new ≡ old
+    → r ≡ (if are_spent (order_book_of old.log.records) (length (covers_in old.log.records id.day)) then refusal.NumbersSpent else refusal.OutOfMemory) → new ≡ old
     → NodeLeaves (cycle_call id old.log.down old.log.records old.lots) (Err r) old new
-cycle_short id old new r up later none is same = rw is (by (are_spent (orders_of old.log.records) (length (covers_in old.log.records id.day))) refl)
+cycle_short id old new r up later none is same = rw is (by (are_spent (order_book_of old.log.records) (length (covers_in old.log.records id.day))) refl)
   where
-    by : (b : Bool) → are_spent (orders_of old.log.records) (length (covers_in old.log.records id.day)) ≡ b
+    by : (b : Bool) → are_spent (order_book_of old.log.records) (length (covers_in old.log.records id.day)) ≡ b
         → NodeLeaves (cycle_call id old.log.down old.log.records old.lots) (Err (if b then refusal.NumbersSpent else refusal.OutOfMemory)) old new
     by true spent = cycle_spent id old new up later none spent same
     by false room = short_of _ _ _ _ _ _ (cycle_goes id old.log.down old.log.records old.lots up later none room) refl same
@@ -123,7 +123,7 @@ pour_none issue down c lots up none = rw (up, none) refl
 
 -- else what is free
 pub pours : (issue : ℕ) (down : Bool) (c : List ClearRecord) (lots : List Lot) (lot : Lot) → down ≡ false → lot_of lots issue ≡ Some lot
-    → pour_call issue down c lots ≡ Ok (free_of (orders_of c) lots issue, lots_poured c issue lots)
+    → pour_call issue down c lots ≡ Ok (free_of (order_book_of c) lots issue, lots_poured c issue lots)
 unfolding pour_call
 pours issue down c lots lot up found = rw (up, found) refl
 

@@ -11,7 +11,7 @@ use Rattle.cns_allocate.proofs.WantLemmas.{plan_of-wants}
 use Rattle.cns_covers.specs.Bounds.{want_in}
 use Rattle.cns_records.specs.Clear.{AreWritable}
 use Rattle.cns_records.specs.declared.clear_record.ClearRecord.{ClearRecord}
-use Rattle.cns_clearing.specs.Books.{IsLawful, books_of, history_of, orders_of}
+use Rattle.cns_clearing.specs.Books.{IsLawful, books_of, history_of, order_book_of}
 use Rattle.cns_clearing.specs.Lots.{AreQuiet, IsLot, avail_in, longs_among, plan_in}
 use Rattle.cns_clearing.specs.declared.lot.Lot.{Lot}
 use Rattle.cns_clearing.proofs.BooksLemmas.{lawful_before, lawful_sound, writable_before}
@@ -58,11 +58,11 @@ lot_plan c lot lawful fits is =
     rw is.plan (IsPlan-plan_of lot.issue b.history b.orders b.priorities (longs_among lot.issue b.previous) (bounded_longs b.history b.orders sound.netted sound.bounded))
 
 -- those planned in a lot want no less than they did at its opening
-pub lot_wants : (c : List ClearRecord) (lot : Lot) → IsLawful c → IsLot c lot → All (λ (p : Planned). p.asked ≤ want_in (history_of c) (orders_of c) p.member lot.issue) lot.plan
+pub lot_wants : (c : List ClearRecord) (lot : Lot) → IsLawful c → IsLot c lot → All (λ (p : Planned). p.asked ≤ want_in (history_of c) (order_book_of c) p.member lot.issue) lot.plan
 lot_wants c lot lawful is =
     let b = books_of is.before in
     let split = lot_split c lot is in
     let since = λ (m : ℕ). rw (← split) at (want_since (is.later ++ is.middle) is.before m lot.issue (subst IsLawful split lawful) is.quiet) in
     rw is.plan
-    (All-weaker (λ (p : Planned). p.asked ≤ want_in b.history b.orders p.member lot.issue) (λ (p : Planned). p.asked ≤ want_in (history_of c) (orders_of c) p.member lot.issue)
+    (All-weaker (λ (p : Planned). p.asked ≤ want_in b.history b.orders p.member lot.issue) (λ (p : Planned). p.asked ≤ want_in (history_of c) (order_book_of c) p.member lot.issue)
     (λ p le. omega (arith, le, since p.member)) (plan_in is.before lot.issue) (plan_of-wants lot.issue b.history b.orders b.priorities (longs_among lot.issue b.previous)))

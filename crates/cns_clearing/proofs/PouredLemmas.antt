@@ -4,7 +4,7 @@ use Rattle.std.specs.Prelude.{option_map, unwrap_or}
 use Rattle.cns_records.specs.Clear.{AreWritable}
 use Rattle.cns_records.specs.declared.clear_record.ClearRecord.{ClearRecord}
 use Rattle.cns_clearing.specs.Answers.{IsPoured}
-use Rattle.cns_clearing.specs.Books.{IsLawful, orders_of}
+use Rattle.cns_clearing.specs.Books.{IsLawful, order_book_of}
 use Rattle.cns_clearing.specs.Lots.{AreLots, avail_in}
 use Rattle.cns_clearing.specs.Node.{ClearNode}
 use Rattle.cns_clearing.specs.Pools.{covered_of, delivered_of, free_of, lent_of, lot_of, out_of}
@@ -28,13 +28,13 @@ lent_most c lots issue lawful are = by (lot_of lots issue) refl
     by (Some lot) e = found_most c lots issue lot lawful are e
 
 -- with the shares that are free it is at most 10^18
-pub free_most : (c : List ClearRecord) (lots : List Lot) (issue free : ℕ) → IsLawful c → AreWritable c → AreLots c lots → free ≡ free_of (orders_of c) lots issue
+pub free_most : (c : List ClearRecord) (lots : List Lot) (issue free : ℕ) → IsLawful c → AreWritable c → AreLots c lots → free ≡ free_of (order_book_of c) lots issue
     → free + lent_of lots issue ≤ 1000000000000000000
 free_most c lots issue free lawful fits are is = omega (arith, is, lent_most c lots issue lawful are, avail_most c issue lawful fits)
 
 -- so free, lent and out, and with what deliveries took, shares are all that covers brought
 pub pool_whole : (c : List ClearRecord) (lots : List Lot) (issue : ℕ) → IsLawful c → AreLots c lots
-    → free_of (orders_of c) lots issue + lent_of lots issue + out_of (orders_of c) issue + delivered_of (orders_of c) issue ≡ covered_of (orders_of c) issue
+    → free_of (order_book_of c) lots issue + lent_of lots issue + out_of (order_book_of c) issue + delivered_of (order_book_of c) issue ≡ covered_of (order_book_of c) issue
 pool_whole c lots issue lawful are =
     omega (arith, lent_most c lots issue lawful are, taken_covered c issue lawful)
 

@@ -16,7 +16,7 @@ use Rattle.cns_records.specs.declared.allocation.Allocation.{Allocation}
 use Rattle.cns_records.specs.declared.clear_record.ClearRecord.{ClearRecord}
 use Rattle.cns_records.specs.declared.clear_record.ClearRecord.TheVariants.{Cycle, Allocate, Confirm}
 use Rattle.cns_movements.specs.Order.{moved_part}
-use Rattle.cns_clearing.specs.Books.{Books, Allows, IsAllocable, IsLawful, books_of, covers_on, deliveries_in, orders_of, pool_tickets, with_record}
+use Rattle.cns_clearing.specs.Books.{Books, Allows, IsAllocable, IsLawful, books_of, covers_on, deliveries_in, order_book_of, pool_tickets, with_record}
 use Rattle.cns_clearing.specs.Lots.{avail_in}
 use Rattle.cns_clearing.specs.Pools.{asked_of_pool, avail_of, covered_of, delivered_of, kind_part, out_of}
 use Rattle.cns_clearing.proofs.BalanceLemmas.{member_part}
@@ -66,7 +66,7 @@ taken_more (Confirm r) b issue ordered allowed before =
 taken_more _ b issue ordered allowed before = before
 
 -- deliveries never take more shares of an issue than covers brought
-pub taken_covered : (c : List ClearRecord) (issue : ℕ) → IsLawful c → delivered_of (orders_of c) issue + out_of (orders_of c) issue ≤ covered_of (orders_of c) issue
+pub taken_covered : (c : List ClearRecord) (issue : ℕ) → IsLawful c → delivered_of (order_book_of c) issue + out_of (order_book_of c) issue ≤ covered_of (order_book_of c) issue
 unfolding books_of covered_of delivered_of out_of
 taken_covered [] issue lawful = omega arith
 taken_covered (r ∷ c) issue lawful = taken_more r (books_of c) issue (lawful_bounded c lawful.1).ordered lawful.0 (taken_covered c issue lawful.1)

@@ -18,7 +18,7 @@ use Rattle.cns_covers.specs.Bounds.{amount_of, want_in}
 use Rattle.cns_covers.proofs.BoundLemmas.{all_debit, no_credit}
 use Rattle.cns_records.specs.declared.clear_record.ClearRecord.{ClearRecord}
 use Rattle.cns_records.specs.declared.clear_record.ClearRecord.TheVariants.{Cycle, Allocate, Confirm}
-use Rattle.cns_clearing.specs.Books.{Books, Allows, IsLawful, books_of, deliveries_in, history_of, orders_of, with_record}
+use Rattle.cns_clearing.specs.Books.{Books, Allows, IsLawful, books_of, deliveries_in, history_of, order_book_of, with_record}
 use Rattle.cns_clearing.specs.Lots.{AreQuiet, IsQuiet}
 use Rattle.cns_clearing.proofs.BooksLemmas.{lawful_bounded}
 use Rattle.cns_clearing.proofs.PoolLemmas.{allocation_issue}
@@ -55,7 +55,7 @@ want_more _ b m i ordered allowed quiet = le_refl (want_in b.history b.orders m 
 
 -- while no lot of an issue closes and no cycle runs, each member wants no less of it
 pub want_since : (later c : List ClearRecord) (member issue : ℕ) → IsLawful (later ++ c) → AreQuiet issue later
-    → want_in (history_of c) (orders_of c) member issue ≤ want_in (history_of (later ++ c)) (orders_of (later ++ c)) member issue
+    → want_in (history_of c) (order_book_of c) member issue ≤ want_in (history_of (later ++ c)) (order_book_of (later ++ c)) member issue
 unfolding books_of
 want_since [] c member issue lawful quiet = omega arith
 want_since (r ∷ later) c member issue lawful quiet =

@@ -28,7 +28,7 @@ use Rattle.cns_records.specs.declared.allocation.Allocation.{Allocation}
 use Rattle.cns_records.specs.declared.drawn.Drawn.{Drawn}
 use Rattle.cns_records.specs.declared.clear_record.ClearRecord.{ClearRecord}
 use Rattle.cns_records.specs.declared.clear_record.ClearRecord.TheVariants as entry
-use Rattle.cns_clearing.specs.Books.{are_spent, books_of, covers_on, deliveries_in, history_of, is_later, latest_of, orders_of}
+use Rattle.cns_clearing.specs.Books.{are_spent, books_of, covers_on, deliveries_in, history_of, is_later, latest_of, order_book_of}
 use Rattle.cns_clearing.specs.Lots.{IsAllocation, avail_in, lots_poured, new_lot}
 use Rattle.cns_clearing.specs.Node.{ClearNode, IsCommitted}
 use Rattle.cns_clearing.specs.Pools.{free_of, lot_of}
@@ -69,7 +69,7 @@ covers_in c day = covers_on (books_of c) day
 
 -- what is told of a cycle: how many trades it made due, and the orders of its covers, the next ones, which are of this cycle
 abbrev pub cycled_of : List ClearRecord → CycleId → Cycled
-cycled_of c id = record { due = becoming_due (history_of c) id.day; orders = next_orders (orders_of c) (Some id) (covers_in c id.day) }
+cycled_of c id = record { due = becoming_due (history_of c) id.day; orders = next_orders (order_book_of c) (Some id) (covers_in c id.day) }
 
 -- a cycle runs where it is later than the latest one, no lot is open, and there are numbers for its covers
 unfoldable pub cycle_call : CycleId → Bool → List ClearRecord → List Lot → Result (Deed ClearRecord Cycled) Refusal
@@ -77,7 +77,7 @@ cycle_call id down c lots = do
   need_up down
   need (is_later (latest_of c) id) refusal.CycleOrder
   need (length lots == 0) refusal.LotsOpen
-  need (not (are_spent (orders_of c) (length (covers_in c id.day)))) refusal.NumbersSpent
+  need (not (are_spent (order_book_of c) (length (covers_in c id.day)))) refusal.NumbersSpent
   Ok (Commits (entry.Cycle id) (cycled_of c id))
 
 -- ---- lots
@@ -91,13 +91,13 @@ unfoldable pub pour_call : ℕ → Bool → List ClearRecord → List Lot → Re
 pour_call issue down c lots = do
   need_up down
   need (not (is_none (lot_of lots issue))) refusal.NoLot
-  Ok (free_of (orders_of c) lots issue, lots_poured c issue lots)
+  Ok (free_of (order_book_of c) lots issue, lots_poured c issue lots)
 
 -- shares poured into a lot are those that were free, and with those it had it has all that are there, at most 10^18
 pub record IsPoured (node : ClearNode) (issue shares : ℕ) : Type 0 where
   pub lot : Lot
   pub found : lot_of node.lots issue ≡ Some lot
-  pub free : shares ≡ free_of (orders_of node.log.records) node.lots issue
+  pub free : shares ≡ free_of (order_book_of node.log.records) node.lots issue
   pub all : lot.poured + shares ≡ avail_in node.log.records issue
   pub few : lot.poured + shares ≤ 10 ^ 18
 
@@ -117,26 +117,26 @@ deliveries_by lot tickets sealed = deliveries_in (closing_allocation lot tickets
 -- ones, which are of the latest cycle
 abbrev pub closed_of : Lot → List Ticket → Bool → List ClearRecord → Closed
 closed_of lot tickets sealed c =
-    record { granted = min lot.poured (asked_sum tickets); orders = next_orders (orders_of c) (latest_of c) (deliveries_by lot tickets sealed) }
+    record { granted = min lot.poured (asked_sum tickets); orders = next_orders (order_book_of c) (latest_of c) (deliveries_by lot tickets sealed) }
 
 -- a lot of the node closes with these tickets, which serve its plan: the allocation is lawful at its place, and there are numbers for its deliveries
 pub record Closes (node : ClearNode) (issue : ℕ) (tickets : List Ticket) (sealed : Bool) (lot : Lot) : Type 0 where
   pub found : lot_of node.lots issue ≡ Some lot
   pub served : IsServed lot.plan tickets sealed
   pub lawful : IsAllocation node.log.records (closing_allocation lot tickets sealed)
-  pub numbers : are_spent (orders_of node.log.records) (length (deliveries_by lot tickets sealed)) ≡ false
+  pub numbers : are_spent (order_book_of node.log.records) (length (deliveries_by lot tickets sealed)) ≡ false
 
 -- why no lot of the issue closes with these tickets, which serve its plan
 abbrev pub ClosesNone : ClearNode → ℕ → List Ticket → Bool → Refusal → Type 0
 ClosesNone node issue tickets sealed refusal.NoLot = lot_of node.lots issue ≡ None
 ClosesNone node issue tickets sealed refusal.NumbersSpent =
-    (lot : Lot) × (lot_of node.lots issue ≡ Some lot) × (are_spent (orders_of node.log.records) (length (deliveries_by lot tickets sealed)) ≡ true)
+    (lot : Lot) × (lot_of node.lots issue ≡ Some lot) × (are_spent (order_book_of node.log.records) (length (deliveries_by lot tickets sealed)) ≡ true)
 ClosesNone node issue tickets sealed _ = ⊥
 
 -- this lot may close with these tickets where there are numbers for its deliveries
 abbrev pub close_deed : List Ticket → Bool → List ClearRecord → Lot → Result (Deed ClearRecord Closed) Refusal
 close_deed tickets sealed c lot =
-    need (not (are_spent (orders_of c) (length (deliveries_by lot tickets sealed)))) refusal.NumbersSpent
+    need (not (are_spent (order_book_of c) (length (deliveries_by lot tickets sealed)))) refusal.NumbersSpent
     >> Ok (Commits (entry.Allocate (closing_allocation lot tickets sealed)) (closed_of lot tickets sealed c))
 
 -- the lot of an issue closes with tickets that serve its plan
@@ -163,11 +163,11 @@ tested_close_call serve issue tickets sealed down c lots = do
 
 -- the order of a number
 unfoldable pub order_call : ℕ → Bool → List ClearRecord → Result Order Refusal
-order_call n down c = need_up down >> ok_or (order_of (orders_of c).orders n) refusal.UnknownMove
+order_call n down c = need_up down >> ok_or (order_of (order_book_of c).orders n) refusal.UnknownMove
 
 -- what the orders and confirmations say of a reply
 abbrev pub answer_in : List ClearRecord → Reply → Confirm
-answer_in c r = confirm_answer (orders_of c) r
+answer_in c r = confirm_answer (order_book_of c) r
 
 -- only the first reply to an order adds a record
 unfoldable pub reply_call : Reply → Bool → List ClearRecord → Result (Deed ClearRecord Taken) Refusal

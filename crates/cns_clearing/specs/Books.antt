@@ -82,8 +82,8 @@ books_of (r ∷ c) = with_record r (books_of c)
 abbrev pub history_of : List ClearRecord → List NetEntry
 history_of c = (books_of c).history
 
-abbrev pub orders_of : List ClearRecord → Orders
-orders_of c = (books_of c).orders
+abbrev pub order_book_of : List ClearRecord → Orders
+order_book_of c = (books_of c).orders
 
 abbrev pub confirmed_of : List ClearRecord → List Reply
 confirmed_of c = (books_of c).orders.replies

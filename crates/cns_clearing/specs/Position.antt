@@ -7,7 +7,7 @@ use Rattle.cns_movements.specs.Order.{moved_sum, open_sum}
 use Rattle.cns_movements.specs.declared.order.MoveKind.TheVariants.{Cover, Delivery}
 use Rattle.cns_records.specs.declared.clear_record.ClearRecord.{ClearRecord}
 use Rattle.cns_records.specs.declared.clear_record.ClearRecord.TheVariants.{Accept, Cycle}
-use Rattle.cns_clearing.specs.Books.{orders_of, confirmed_of}
+use Rattle.cns_clearing.specs.Books.{order_book_of, confirmed_of}
 
 -- whether a record is a cycle of this date or of a later one
 abbrev pub is_cycle_from : ℕ → ClearRecord → Bool
@@ -28,11 +28,11 @@ due_in c = due_before [] c
 
 -- the shares that stand for a member in an issue: bought by due trades, and moved by its confirmed covers
 abbrev pub credit_in : List ClearRecord → ℕ → ℕ → ℕ
-credit_in c member issue = bought (due_in c) member issue + moved_sum (orders_of c).orders (confirmed_of c) Cover member issue
+credit_in c member issue = bought (due_in c) member issue + moved_sum (order_book_of c).orders (confirmed_of c) Cover member issue
 
 -- the shares that stand against it: sold by due trades, and moved by its confirmed deliveries
 abbrev pub debit_in : List ClearRecord → ℕ → ℕ → ℕ
-debit_in c member issue = sold (due_in c) member issue + moved_sum (orders_of c).orders (confirmed_of c) Delivery member issue
+debit_in c member issue = sold (due_in c) member issue + moved_sum (order_book_of c).orders (confirmed_of c) Delivery member issue
 
 -- a member's position in an issue
 abbrev pub position_in : List ClearRecord → ℕ → ℕ → ℤ
@@ -41,5 +41,5 @@ position_in c member issue = pos (credit_in c member issue) -ℤ pos (debit_in c
 -- with all that is ordered moved, a position goes no lower than what the member sold in due trades, and no higher than what it
 -- bought
 pub record IsBetween (c : List ClearRecord) (member issue : ℕ) (position : ℤ) : Type 0 where
-  pub low : neg_ℤ (pos (sold (due_in c) member issue)) ≤ℤ (position -ℤ pos (open_sum (orders_of c).orders (confirmed_of c) Delivery member issue))
-  pub high : (position +ℤ pos (open_sum (orders_of c).orders (confirmed_of c) Cover member issue)) ≤ℤ pos (bought (due_in c) member issue)
+  pub low : neg_ℤ (pos (sold (due_in c) member issue)) ≤ℤ (position -ℤ pos (open_sum (order_book_of c).orders (confirmed_of c) Delivery member issue))
+  pub high : (position +ℤ pos (open_sum (order_book_of c).orders (confirmed_of c) Cover member issue)) ≤ℤ pos (bought (due_in c) member issue)

@@ -5,7 +5,7 @@ ghost use Rattle.cns_movements.specs.Book.{next_orders};
 ghost use Rattle.cns_netting.specs.Book.{IsBook};
 ghost use Rattle.cns_netting.specs.History.{due, longs_of, shorts_of};
 ghost use Rattle.cns_allocate.specs.Served.{IsServed};
-ghost use Rattle.cns_clearing.specs.Books.{AreEffects, AreSound, IsAllowed, IsLawful, are_spent, asks_of, books_of, history_of, latest_of, orders_of, rows_after};
+ghost use Rattle.cns_clearing.specs.Books.{AreEffects, AreSound, IsAllowed, IsLawful, are_spent, asks_of, books_of, history_of, latest_of, order_book_of, rows_after};
 ghost use Rattle.cns_clearing.specs.Closing.{AreRecordable};
 ghost use Rattle.cns_clearing.specs.Lots.{AreLots, DoesNotDisturb, avail_in, new_lot, plan_in};
 ghost use Rattle.cns_clearing.specs.Position.{IsBetween, due_in, position_in};
@@ -410,7 +410,7 @@ impl<K: Keeper> Clearing<K> {
     ///
     /// Costs two look-ups.
     pub fn free(&self, issue: Cusip) -> u128
-        ensures value { result ≡ free_in (orders_of self.now.log.records) self.now.lots issue }
+        ensures value { result ≡ free_in (order_book_of self.now.log.records) self.now.lots issue }
 
         // With those that are lent they are at most 10^18.
         ensures small { result + lent_in self.now.lots issue ≤ 10 ^ 18 }
@@ -431,11 +431,11 @@ impl<K: Keeper> Clearing<K> {
     ///
     /// Costs a look-up.
     pub fn out(&self, issue: Cusip) -> u128
-        ensures value { result ≡ out_in (orders_of self.now.log.records) issue }
+        ensures value { result ≡ out_in (order_book_of self.now.log.records) issue }
 
         // The shares that are free, lent and out, with those that confirmed deliveries took, are all
         // that confirmed covers brought: none appears, and none is lost.
-        ensures whole { let book = orders_of self.now.log.records in
+        ensures whole { let book = order_book_of self.now.log.records in
             free_in book self.now.lots issue + lent_in self.now.lots issue + result + delivered_in book issue
             ≡ covered_in book issue }
     {
@@ -446,7 +446,7 @@ impl<K: Keeper> Clearing<K> {
     ///
     /// Costs a look-up and a sort's share for each issue that an order names.
     pub fn pools(&self, alloc: Global) -> Result<PoolRows, AllocError>
-        ensures { IfOk result (λ rows. rows ≡ rows_of_pools (orders_of self.now.log.records) self.now.lots) }
+        ensures { IfOk result (λ rows. rows ≡ rows_of_pools (order_book_of self.now.log.records) self.now.lots) }
     {
         pool_rows(alloc, self.books().pooled(), self.lots())
     }
@@ -506,12 +506,12 @@ impl<K: Keeper> Clearing<K> {
 
         // In each issue longs less shorts are the shares that confirmed covers brought, less those that
         // confirmed deliveries took.
-        ensures balanced { (issue : ℕ) → longs_of (history_of self.now.log.records) issue + delivered_in (orders_of self.now.log.records) issue
-            ≡ shorts_of (history_of self.now.log.records) issue + covered_in (orders_of self.now.log.records) issue }
+        ensures balanced { (issue : ℕ) → longs_of (history_of self.now.log.records) issue + delivered_in (order_book_of self.now.log.records) issue
+            ≡ shorts_of (history_of self.now.log.records) issue + covered_in (order_book_of self.now.log.records) issue }
 
         // And those that confirmed covers brought are free, lent or out, or confirmed deliveries took
         // them.
-        ensures whole { (issue : ℕ) → let book = orders_of self.now.log.records in
+        ensures whole { (issue : ℕ) → let book = order_book_of self.now.log.records in
             free_in book self.now.lots issue + lent_in self.now.lots issue + out_in book issue + delivered_in book issue ≡ covered_in book issue }
         ensures lawful { IsLawful self.now.log.records }
         ensures fits { AreWritable self.now.log.records }
@@ -524,7 +524,7 @@ impl<K: Keeper> Clearing<K> {
 
     /// The orders and their confirmations.
     pub fn orders(&self) -> &OrderBook
-        ensures orders { result.now.book ≡ orders_of self.now.log.records }
+        ensures orders { result.now.book ≡ order_book_of self.now.log.records }
         ensures lawful { IsLawful self.now.log.records }
     {
         self.books().orders()
@@ -561,7 +561,7 @@ impl<K: Keeper> Clearing<K> {
     fn refusal_without_memory(&mut self, day: Day) -> Refusal
         ensures refusal { let c = self.old.log.records in
             let count = length (covers_in c day) in
-            result ≡ (if are_spent (orders_of c) count then Refusal.NumbersSpent else Refusal.OutOfMemory) }
+            result ≡ (if are_spent (order_book_of c) count then Refusal.NumbersSpent else Refusal.OutOfMemory) }
         ensures same { self.new ≡ self.old }
     {
         let count = self.books.cover_count(day);
@@ -601,8 +601,8 @@ impl<K: Keeper> Clearing<K> {
     // The shares of an issue that unconfirmed deliveries ask for. It stands apart from `out`, since the
     // folder of that one's proof would have the name of what the toolchain makes.
     fn going_out(&self, issue: Cusip) -> u128
-        ensures value { result ≡ out_in (orders_of self.now.log.records) issue }
-        ensures whole { let book = orders_of self.now.log.records in
+        ensures value { result ≡ out_in (order_book_of self.now.log.records) issue }
+        ensures whole { let book = order_book_of self.now.log.records in
             free_in book self.now.lots issue + lent_in self.now.lots issue + result + delivered_in book issue
             ≡ covered_in book issue }
     {

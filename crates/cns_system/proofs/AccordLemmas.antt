@@ -12,7 +12,7 @@ use Rattle.cns_movements.proofs.OrderLemmas.{order_of-append}
 use Rattle.cns_records.specs.declared.clear_record.ClearRecord.{ClearRecord}
 use Rattle.cns_records.specs.declared.clear_record.ClearRecord.TheVariants as entry
 use Rattle.cns_records.specs.declared.dep_record.DepRecord.{DepRecord}
-use Rattle.cns_clearing.specs.Books.{books_of, orders_of}
+use Rattle.cns_clearing.specs.Books.{books_of, order_book_of}
 use Rattle.cns_clearing.specs.declared.lot.Lot.{Lot}
 use Rattle.cns_journal.specs.Keeper.{KeeperState}
 use Rattle.cns_journal.specs.RecordLog.{LogState}
@@ -31,22 +31,22 @@ use Rattle.cns_system.specs.World.{World}
 -- ---- what grows
 
 -- an order stays the order of its number as records are added
-pub order_stays : (u : ClearRecord) (c : List ClearRecord) (n : ℕ) (o : Order) → order_of (orders_of c).orders n ≡ Some o → order_of (orders_of (u ∷ c)).orders n ≡ Some o
+pub order_stays : (u : ClearRecord) (c : List ClearRecord) (n : ℕ) (o : Order) → order_of (order_book_of c).orders n ≡ Some o → order_of (order_book_of (u ∷ c)).orders n ≡ Some o
 unfolding books_of
-order_stays (entry.Cycle id) c n o found = order_of-append (orders_of c).orders _ n o found
-order_stays (entry.Allocate a) c n o found = order_of-append (orders_of c).orders _ n o found
+order_stays (entry.Cycle id) c n o found = order_of-append (order_book_of c).orders _ n o found
+order_stays (entry.Allocate a) c n o found = order_of-append (order_book_of c).orders _ n o found
 order_stays _ c n o found = found
 
 -- a movement stays that of its order
-ordered_stays : (u : ClearRecord) (c : List ClearRecord) (m : Movement) → IsOrdered (orders_of c).orders m → IsOrdered (orders_of (u ∷ c)).orders m
+ordered_stays : (u : ClearRecord) (c : List ClearRecord) (m : Movement) → IsOrdered (order_book_of c).orders m → IsOrdered (order_book_of (u ∷ c)).orders m
 ordered_stays u c m ordered = ((ordered.0.0, order_stays u c m.order.number ordered.0.0 ordered.0.1, ordered.0.2), ordered.1)
 
-known_stays : (u : ClearRecord) (c : List ClearRecord) (m : Movement) → IsAsOrdered (orders_of c).orders m → IsAsOrdered (orders_of (u ∷ c)).orders m
+known_stays : (u : ClearRecord) (c : List ClearRecord) (m : Movement) → IsAsOrdered (order_book_of c).orders m → IsAsOrdered (order_book_of (u ∷ c)).orders m
 known_stays u c m known = (ordered_stays u c m known.0, known.1)
 
 -- a record of the depository stays one that fits the orders
-orders_fit_stays : (u : ClearRecord) (c : List ClearRecord) (movements : List Movement) (e : DepRecord) → FitsOrders (orders_of c).orders movements e
-    → FitsOrders (orders_of (u ∷ c)).orders movements e
+orders_fit_stays : (u : ClearRecord) (c : List ClearRecord) (movements : List Movement) (e : DepRecord) → FitsOrders (order_book_of c).orders movements e
+    → FitsOrders (order_book_of (u ∷ c)).orders movements e
 orders_fit_stays u c movements e fits = IfSome_then (executed_in e) fits (λ m its. (known_stays u c m its.0, its.1))
 
 -- no movement of the number of this one was executed
@@ -69,10 +69,10 @@ known_more orders None movements its all = all
 known_more orders (Some m) movements its all = All-cons (IsAsOrdered orders) m movements its all
 
 -- the confirmations of one more record were executed too
-pub replies_fit : (u : ClearRecord) (c : List ClearRecord) (movements : List Movement) → FitsStock movements u → All (IsExecuted movements) (orders_of c).replies
-    → All (IsExecuted movements) (orders_of (u ∷ c)).replies
+pub replies_fit : (u : ClearRecord) (c : List ClearRecord) (movements : List Movement) → FitsStock movements u → All (IsExecuted movements) (order_book_of c).replies
+    → All (IsExecuted movements) (order_book_of (u ∷ c)).replies
 unfolding books_of
-replies_fit (entry.Confirm r) c movements fits all = All-cons (IsExecuted movements) r (orders_of c).replies fits all
+replies_fit (entry.Confirm r) c movements fits all = All-cons (IsExecuted movements) r (order_book_of c).replies fits all
 replies_fit _ c movements fits all = all
 
 fits_stays : (x : Option Movement) (movements : List Movement) (u : ClearRecord) → IsNew movements x → FitsStock movements u → FitsStock (cons_option x movements) u
@@ -84,7 +84,7 @@ pub all_found : {A : Type 0} (P : A → Type 0) (xs : List A) (k : ℕ) (x : A) 
 all_found P xs k x all at = subst P (get_or_from_slice_get xs k x x at) (all k x (slice_get_within xs k x at))
 
 -- a packet stays one of an order as records are added, and one of a reply as a movement of another number is executed
-order_spelt_stays : (u : ClearRecord) (c : List ClearRecord) (packet : Option Order) → SpellsOrder (orders_of c).orders packet → SpellsOrder (orders_of (u ∷ c)).orders packet
+order_spelt_stays : (u : ClearRecord) (c : List ClearRecord) (packet : Option Order) → SpellsOrder (order_book_of c).orders packet → SpellsOrder (order_book_of (u ∷ c)).orders packet
 order_spelt_stays u c packet is = IfSome_then packet is (λ o found. order_stays u c o.number o found)
 
 reply_spelt_stays : (x : Option Movement) (movements : List Movement) (packet : Option Reply) → IsNew movements x → SpellsReply movements packet → SpellsReply (cons_option x movements) packet
@@ -99,9 +99,9 @@ module _ (w : Shown) (a : Accord w) where
   grown u open_lots lots fits none =
       let movements : List Movement = executed_of w.depot.records in
       record {
-        executed = All-weaker (IsAsOrdered (orders_of w.clear.records).orders) (IsAsOrdered (orders_of (u ∷ w.clear.records)).orders) (known_stays u w.clear.records) movements a.executed;
+        executed = All-weaker (IsAsOrdered (order_book_of w.clear.records).orders) (IsAsOrdered (order_book_of (u ∷ w.clear.records)).orders) (known_stays u w.clear.records) movements a.executed;
         confirmed = replies_fit u w.clear.records movements fits a.confirmed;
-        sent = All-weaker (SpellsOrder (orders_of w.clear.records).orders) (SpellsOrder (orders_of (u ∷ w.clear.records)).orders) (order_spelt_stays u w.clear.records) w.order_packets a.sent;
+        sent = All-weaker (SpellsOrder (order_book_of w.clear.records).orders) (SpellsOrder (order_book_of (u ∷ w.clear.records)).orders) (order_spelt_stays u w.clear.records) w.order_packets a.sent;
         answered = a.answered;
         clear_tried = λ v tried. absurd (none-some v (sym none ∙ tried));
         depot_tried = λ e tried. orders_fit_stays u w.clear.records movements e (a.depot_tried e tried);
@@ -115,15 +115,15 @@ module _ (w : Shown) (a : Accord w) where
   clear_stays tried down open_lots lots fits up = assumption
 
   -- the depository likewise
-  pub executed_more : (e : DepRecord) → FitsOrders (orders_of w.clear.records).orders (executed_of w.depot.records) e → w.depot.tried ≡ None → Accord (depot_added e w)
+  pub executed_more : (e : DepRecord) → FitsOrders (order_book_of w.clear.records).orders (executed_of w.depot.records) e → w.depot.tried ≡ None → Accord (depot_added e w)
   executed_more e fits none =
-      let known_orders : List Order = (orders_of w.clear.records).orders in
+      let known_orders : List Order = (order_book_of w.clear.records).orders in
       let movements : List Movement = executed_of w.depot.records in
       let x : Option Movement = executed_in e in
       let fresh : IsNew movements x = IfSome_then x fits (λ m its. its.1) in
       record {
         executed = known_more known_orders x movements (IfSome_then x fits (λ m its. its.0)) a.executed;
-        confirmed = All-weaker (IsExecuted movements) (IsExecuted (cons_option x movements)) (λ r done. executed_stays x movements r fresh done) (orders_of w.clear.records).replies a.confirmed;
+        confirmed = All-weaker (IsExecuted movements) (IsExecuted (cons_option x movements)) (λ r done. executed_stays x movements r fresh done) (order_book_of w.clear.records).replies a.confirmed;
         sent = a.sent;
         answered = All-weaker (SpellsReply movements) (SpellsReply (cons_option x movements)) (λ packet is. reply_spelt_stays x movements packet fresh is) w.reply_packets a.answered;
         clear_tried = λ u tried. fits_stays x movements u fresh (a.clear_tried u tried);
@@ -132,13 +132,13 @@ module _ (w : Shown) (a : Accord w) where
         depot_up = λ up. none;
       }
 
-  pub depot_stays : (tried : Option DepRecord) (down : Bool) → ((e : DepRecord) → tried ≡ Some e → FitsOrders (orders_of w.clear.records).orders (executed_of w.depot.records) e)
+  pub depot_stays : (tried : Option DepRecord) (down : Bool) → ((e : DepRecord) → tried ≡ Some e → FitsOrders (order_book_of w.clear.records).orders (executed_of w.depot.records) e)
       → (down ≡ false → tried ≡ None) → Accord (record w { depot = record w.depot { tried = tried; down = down } })
   depot_stays tried down fits up = assumption
 
   -- a packet more on the link of orders, and one on that of replies
-  pub order_put : (o : Order) → order_of (orders_of w.clear.records).orders o.number ≡ Some o → Accord (record w { order_packets = w.order_packets ++ Some o ∷ [] })
-  order_put o found = let sent = All-push (SpellsOrder (orders_of w.clear.records).orders) w.order_packets (Some o) a.sent found in assumption
+  pub order_put : (o : Order) → order_of (order_book_of w.clear.records).orders o.number ≡ Some o → Accord (record w { order_packets = w.order_packets ++ Some o ∷ [] })
+  order_put o found = let sent = All-push (SpellsOrder (order_book_of w.clear.records).orders) w.order_packets (Some o) a.sent found in assumption
 
   pub reply_put : (r : Reply) → IsExecuted (executed_of w.depot.records) r → Accord (with_reply_put r w)
   reply_put r done = let answered = All-push (SpellsReply (executed_of w.depot.records)) w.reply_packets (Some r) a.answered done in assumption
@@ -153,9 +153,9 @@ started openings clear depot w s =
     let none = ap (λ (l : LogState ClearRecord). l.tried) s.clear_opens.0.value in
     let stock_none = ap (λ (l : LogState DepRecord). l.tried) s.depot_opens.0.value in
     λ clear_honest depot_honest. record {
-      executed = known_all (orders_of w.clear.clear.log.records).orders (executed_of w.depot.log.records) (lawful_within openings w.depot.log.records s.depot_opens.0.allowed) s.agree.executed;
+      executed = known_all (order_book_of w.clear.clear.log.records).orders (executed_of w.depot.log.records) (lawful_within openings w.depot.log.records s.depot_opens.0.allowed) s.agree.executed;
       confirmed = s.agree.confirmed;
-      sent = rw s.order_packets (All-nil (SpellsOrder (orders_of w.clear.clear.log.records).orders));
+      sent = rw s.order_packets (All-nil (SpellsOrder (order_book_of w.clear.clear.log.records).orders));
       answered = rw s.reply_packets (All-nil (SpellsReply (executed_of w.depot.log.records)));
       clear_tried = λ u tried. absurd (none-some u (sym none ∙ tried));
       depot_tried = λ e tried. absurd (none-some e (sym stock_none ∙ tried));

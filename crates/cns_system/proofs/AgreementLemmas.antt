@@ -9,7 +9,7 @@ use Rattle.cns_movements.specs.Book.{Orders}
 use Rattle.cns_movements.specs.declared.order.Reply.{Reply}
 use Rattle.cns_records.specs.declared.clear_record.ClearRecord.{ClearRecord}
 use Rattle.cns_records.specs.declared.dep_record.DepRecord.{DepRecord}
-use Rattle.cns_clearing.specs.Books.{orders_of}
+use Rattle.cns_clearing.specs.Books.{order_book_of}
 use Rattle.cns_depository.specs.declared.movement.Movement.{Movement}
 use Rattle.cns_depository.specs.Stock.{executed_in, executed_of}
 use Rattle.cns_system.specs.Agreement.{Agree, IsExecuted, IsOrdered}
@@ -54,7 +54,7 @@ module _ (P : Movement → Type 0) where
 
 -- two nodes agree where each of their lists, the oldest first, passes
 module _ (c : List ClearRecord) (p : List DepRecord) (book : Orders) (records : List DepRecord) (replies : List Reply)
-    (book_is : book ≡ orders_of c) (records_are : reverse records ≡ p) (replies_are : reverse replies ≡ book.replies) where
+    (book_is : book ≡ order_book_of c) (records_are : reverse records ≡ p) (replies_are : reverse replies ≡ book.replies) where
   pub agree_from : All (OfRecord (IsOrdered book.orders)) records → All (IsExecuted (executed_of p)) replies → Agree c p
   agree_from ordered executed = record {
     executed =

@@ -19,7 +19,7 @@ use Rattle.cns_movements.proofs.ReplyLemmas.{nothing_either}
 use Rattle.cns_trades.specs.declared.opening.Opening.{Opening}
 use Rattle.cns_records.specs.declared.clear_record.ClearRecord.{ClearRecord}
 use Rattle.cns_records.specs.declared.dep_record.DepRecord.{DepRecord}
-use Rattle.cns_clearing.specs.Books.{IsLawful, orders_of}
+use Rattle.cns_clearing.specs.Books.{IsLawful, order_book_of}
 use Rattle.cns_clearing.specs.Pools.{covered_of, delivered_of, kind_part, out_of}
 use Rattle.cns_clearing.proofs.PoolLemmas.{taken_part, taken_whole}
 use Rattle.cns_clearing.proofs.BooksLemmas.{lawful_bounded}
@@ -178,11 +178,11 @@ delivery_out o movements delivers =
 -- the CNS account has what a delivery asks for that was not executed: with it too deliveries take no more than covers brought, and
 -- what covers brought was executed
 delivery_there : (openings : List Opening) (c : List ClearRecord) (p : List DepRecord) (o : Order) → IsLawful c → IsLawfulDepot openings p
-    → All (IsAsOrdered (orders_of c).orders) (executed_of p) → All (IsExecuted (executed_of p)) (orders_of c).replies → order_of (orders_of c).orders o.number ≡ Some o
+    → All (IsAsOrdered (order_book_of c).orders) (executed_of p) → All (IsExecuted (executed_of p)) (order_book_of c).replies → order_of (order_book_of c).orders o.number ≡ Some o
     → movement_of (executed_of p) o.number ≡ None → o.kind ≡ Delivery → o.asked ≤ balance_of openings p Cns o.issue
 unfolding balance_of
 delivery_there openings c p o lawful stock_lawful known executed found fresh delivers =
-    let book : Orders = orders_of c in
+    let book : Orders = order_book_of c in
     let movements : List Movement = executed_of p in
     let m : Movement = record { order = o; moved = o.asked } in
     let numbered : IsNumbered 1 book.orders = (lawful_bounded c lawful).ordered.numbered in
@@ -196,7 +196,7 @@ delivery_there openings c p o lawful stock_lawful known executed found fresh del
 
 -- so it moves all that it asks for
 pub delivery_in_full : (openings : List Opening) (c : List ClearRecord) (p : List DepRecord) (o : Order) → IsLawful c → IsLawfulDepot openings p
-    → All (IsAsOrdered (orders_of c).orders) (executed_of p) → All (IsExecuted (executed_of p)) (orders_of c).replies → order_of (orders_of c).orders o.number ≡ Some o
+    → All (IsAsOrdered (order_book_of c).orders) (executed_of p) → All (IsExecuted (executed_of p)) (order_book_of c).replies → order_of (order_book_of c).orders o.number ≡ Some o
     → movement_of (executed_of p) o.number ≡ None → o.kind ≡ Delivery → (movement openings p o).moved ≡ o.asked
 delivery_in_full openings c p o lawful stock_lawful known executed found fresh delivers =
     let gives : giver o ≡ Cns = ap (λ (k : MoveKind). giver (record o { kind = k })) delivers in
@@ -206,7 +206,7 @@ delivery_in_full openings c p o lawful stock_lawful known executed found fresh d
 
 -- and the movement of a new order is known
 pub next_known : (openings : List Opening) (c : List ClearRecord) (p : List DepRecord) (o : Order) → IsLawful c → IsLawfulDepot openings p
-    → All (IsAsOrdered (orders_of c).orders) (executed_of p) → All (IsExecuted (executed_of p)) (orders_of c).replies → order_of (orders_of c).orders o.number ≡ Some o
-    → movement_of (executed_of p) o.number ≡ None → IsAsOrdered (orders_of c).orders (movement openings p o)
+    → All (IsAsOrdered (order_book_of c).orders) (executed_of p) → All (IsExecuted (executed_of p)) (order_book_of c).replies → order_of (order_book_of c).orders o.number ≡ Some o
+    → movement_of (executed_of p) o.number ≡ None → IsAsOrdered (order_book_of c).orders (movement openings p o)
 next_known openings c p o lawful stock_lawful known executed found fresh =
     (((o, found, agrees-refl o), λ delivers. delivery_in_full openings c p o lawful stock_lawful known executed found fresh delivers), min-le_left o.asked _)

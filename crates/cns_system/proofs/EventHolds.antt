@@ -20,7 +20,7 @@ use Rattle.cns_records.specs.declared.instruction.Instruction.{Instruction}
 use Rattle.cns_records.specs.declared.refusal.Refusal.{Refusal}
 use Rattle.cns_records.specs.declared.refusal.Refusal.TheVariants as refusal
 use Rattle.cns_clearing.specs.Answers.{need_up, open_call, pour_call, reply_call}
-use Rattle.cns_clearing.specs.Books.{orders_of}
+use Rattle.cns_clearing.specs.Books.{order_book_of}
 use Rattle.cns_clearing.specs.Lots.{lots_poured, new_lot}
 use Rattle.cns_clearing.specs.Pools.{free_of, lot_of}
 use Rattle.cns_clearing.specs.declared.answer.Closed.{Closed}
@@ -105,14 +105,14 @@ module _ (P : Outcome → Shown → Type 0) (d : Decision) (w : Shown) where
   -- a lot is poured into, a ticket of it is drawn, it is sealed, or closed, where it has not ended
   pub pour_holds : (number : ℕ)
       → ((lot : LotState) → IsGoing w.lots number lot
-      → P (outcomes.Poured (free_of (orders_of w.clear.records) w.open_lots lot.issue)) (record w { open_lots = lots_poured w.clear.records lot.issue w.open_lots }))
+      → P (outcomes.Poured (free_of (order_book_of w.clear.records) w.open_lots lot.issue)) (record w { open_lots = lots_poured w.clear.records lot.issue w.open_lots }))
       → Holding (judged (event.LotPour number) w)
   unfolding judged numbered_pour pour_call
   pour_holds number pours =
       let told : ℕ × List Lot → Result Change Refusal = λ poured. Ok (Leaves (outcomes.Poured poured.0) (record w { open_lots = poured.1 })) in
       let Held : ℕ × List Lot → Type 0 = λ poured. IfOk (told poured) (Holds P d w) in
       let has : LotState → Bool = λ lot. not (is_none (lot_of w.open_lots lot.issue)) in
-      let poured : LotState → Result (ℕ × List Lot) Refusal = λ lot. Ok (free_of (orders_of w.clear.records) w.open_lots lot.issue, lots_poured w.clear.records lot.issue w.open_lots) in
+      let poured : LotState → Result (ℕ × List Lot) Refusal = λ lot. Ok (free_of (order_book_of w.clear.records) w.open_lots lot.issue, lots_poured w.clear.records lot.issue w.open_lots) in
       steps_by (Holds P d w) (going_lot w.lots number) (λ lot. pour_call lot.issue w.clear.down w.clear.records w.open_lots) told
       (λ lot going. ok_up Held w.clear.down (need (has lot) refusal.NoLot >> poured lot) (λ up.
       ok_needed Held (has lot) refusal.NoLot (poured lot) (λ is. pours lot (going_parts w.lots number lot going))))
@@ -151,11 +151,11 @@ module _ (P : Outcome → Shown → Type 0) (d : Decision) (w : Shown) where
 
   -- the order of the number is put on the link
   pub send_holds : (number : ℕ)
-      → ((packet : ℕ) (o : Order) → order_of (orders_of w.clear.records).orders number ≡ Some o → P (outcomes.Sent packet) (record w { order_packets = w.order_packets ++ Some o ∷ [] }))
+      → ((packet : ℕ) (o : Order) → order_of (order_book_of w.clear.records).orders number ≡ Some o → P (outcomes.Sent packet) (record w { order_packets = w.order_packets ++ Some o ∷ [] }))
       → Holding (judged (event.Send number) w)
   unfolding judged
   send_holds number sends =
-      let order : Option Order = order_of (orders_of w.clear.records).orders number in
+      let order : Option Order = order_of (order_book_of w.clear.records).orders number in
       let put : Order → Result Change Refusal = λ o. Ok (Grows (outcomes.Sent (length w.order_packets + 1)) (record w { order_packets = w.order_packets ++ Some o ∷ [] })) in
       ok_up (Holds P d w) w.clear.down (ok_or order refusal.UnknownMove >>= put) (λ up. ok_found (Holds P d w) order refusal.UnknownMove put (λ o found. sends (length w.order_packets + 1) o found))
 

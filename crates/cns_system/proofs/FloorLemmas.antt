@@ -9,7 +9,7 @@ use Rattle.std.proofs.lemmas.Option.{get_or_from_slice_get, same_Some, slice_get
 use Rattle.cns_allocate.proofs.TurnLemmas.{count_none, find-none, find-passes}
 use Rattle.cns_records.specs.Clear.{AreWritable}
 use Rattle.cns_clearing.specs.Answers.{IsPoured}
-use Rattle.cns_clearing.specs.Books.{IsLawful, orders_of}
+use Rattle.cns_clearing.specs.Books.{IsLawful, order_book_of}
 use Rattle.cns_clearing.proofs.LotLemmas.{found_issue}
 use Rattle.cns_clearing.proofs.PouredLemmas.{pour_adds}
 use Rattle.cns_clearing.specs.Lots.{AreLots, avail_in, lots_poured, refilled}
@@ -219,7 +219,7 @@ not_poured _ n busy other = refl
 record PoursInto (n : ℕ) (w : Shown) (outcome : Outcome) (left : Shown) : Type 0 where
   pub lot : LotState
   pub at : IsGoing w.lots n lot
-  pub told : outcome ≡ outcomes.Poured (free_of (orders_of w.clear.records) w.open_lots lot.issue)
+  pub told : outcome ≡ outcomes.Poured (free_of (order_book_of w.clear.records) w.open_lots lot.issue)
   pub lots : left.lots ≡ w.lots
   pub open_lots : left.open_lots ≡ lots_poured w.clear.records lot.issue w.open_lots
 
@@ -231,21 +231,21 @@ pours_by n outcome old new comes =
 
 -- a pour of these shares adds them to what the lot of the issue had, to all that are there
 added_by : (n : ℕ) (outcome : Outcome) (old new : World) → AreBacked old → (p : PoursInto n (shown_of old) outcome (shown_of new)) → AreTied old.clear.clear.lots old.clear.lots
-    → IsPoured old.clear.clear p.lot.issue (free_of (orders_of old.clear.clear.log.records) old.clear.clear.lots p.lot.issue)
+    → IsPoured old.clear.clear p.lot.issue (free_of (order_book_of old.clear.clear.log.records) old.clear.clear.lots p.lot.issue)
 added_by n outcome old new backed p tied =
     let twin = tied.each n p.lot p.at.found p.at.going in
     let lent : lent_of old.clear.clear.lots p.lot.issue ≡ twin.twin.poured = ap lent_by twin.found in
-    pour_adds old.clear.clear p.lot.issue (free_of (orders_of old.clear.clear.log.records) old.clear.clear.lots p.lot.issue) twin.twin backed.lawful backed.fits backed.lots twin.found
+    pour_adds old.clear.clear p.lot.issue (free_of (order_book_of old.clear.clear.log.records) old.clear.clear.lots p.lot.issue) twin.twin backed.lawful backed.fits backed.lots twin.found
     (ap (λ (x : ℕ). avail_in old.clear.clear.log.records p.lot.issue - x) lent)
 
 -- what is poured into the lot of a number is poured into its cell
 poured_busy : (n : ℕ) (outcome : Outcome) (old new : World) (b : BusyLot) → AreBacked old → AreTied old.clear.clear.lots old.clear.lots → Comes (event.LotPour n) outcome old new
     → (p : PoursInto n (shown_of old) outcome (shown_of new)) → IsBusy old.clear b
-    → IsBusy new.clear (changed_at (busy_with_pour (free_of (orders_of old.clear.clear.log.records) old.clear.clear.lots p.lot.issue)) n b)
+    → IsBusy new.clear (changed_at (busy_with_pour (free_of (order_book_of old.clear.clear.log.records) old.clear.clear.lots p.lot.issue)) n b)
 poured_busy n outcome old new b backed tied comes p busy = by (b.lot == n) refl
   where
     shares : ℕ
-    shares = free_of (orders_of old.clear.clear.log.records) old.clear.clear.lots p.lot.issue
+    shares = free_of (order_book_of old.clear.clear.log.records) old.clear.clear.lots p.lot.issue
 
     more : b.lot ≡ n → (l : LotState) → at_number old.clear.lots b.lot ≡ Some l → IsCellFed new.clear.clear.lots (busy_with_pour shares b) l
     more same l found =
@@ -274,7 +274,7 @@ pour_kept n outcome old new busy backed tied comes are = by (pours_by n outcome 
     by : OrRefused (PoursInto n) (shown_of old) outcome (shown_of new) → AreBusy new.clear (busy_after_pour outcome n busy)
     by (inl refuses) = rw (refuses.is) (all_same old new busy are refuses.lots refuses.open_lots)
     by (inr p) =
-        let shares = free_of (orders_of old.clear.clear.log.records) old.clear.clear.lots p.lot.issue in
+        let shares = free_of (order_book_of old.clear.clear.log.records) old.clear.clear.lots p.lot.issue in
         subst (λ (o : Outcome). AreBusy new.clear (busy_after_pour o n busy)) (sym p.told)
         (busy_changed (busy_with_pour shares) n old.clear new.clear (λ b. refl) (λ b is. poured_busy n outcome old new b backed tied comes p is) busy are)
 
@@ -287,7 +287,7 @@ pour_fits n shares outcome old new busy backed tied comes told are = by (pours_b
     by (inl refuses) = absurd (cc (told, refuses.is))
     by (inr p) =
         let pour = added_by n outcome old new backed p tied in
-        let same : shares ≡ free_of (orders_of old.clear.clear.log.records) old.clear.clear.lots p.lot.issue = cc (told, p.told) in
+        let same : shares ≡ free_of (order_book_of old.clear.clear.log.records) old.clear.clear.lots p.lot.issue = cc (told, p.told) in
         λ k d below number.
         let fed = (are.each k d below).fed p.lot (ap (at_number old.clear.lots) number ∙ p.at.found) p.at.going in
         let poured = fed.poured ∙ ap lent_by pour.found in

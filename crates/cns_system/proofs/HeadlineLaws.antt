@@ -16,7 +16,7 @@ use Rattle.cns_records.specs.declared.clear_record.ClearRecord.{ClearRecord}
 use Rattle.cns_records.specs.declared.clear_record.ClearRecord.TheVariants.{Allocate}
 use Rattle.cns_records.specs.declared.dep_record.DepRecord.{DepRecord}
 use Rattle.cns_wire.specs.Frame.{order_frame, reply_frame}
-use Rattle.cns_clearing.specs.Books.{confirmed_of, history_of, orders_of}
+use Rattle.cns_clearing.specs.Books.{confirmed_of, history_of, order_book_of}
 use Rattle.cns_clearing.specs.Lots.{ClosesLot, IsAllocation}
 use Rattle.cns_clearing.specs.Pools.{avail_of, covered_of, delivered_of, free_of, lent_of, out_of}
 use Rattle.cns_clearing.specs.Position.{due_in, position_in}
@@ -41,11 +41,11 @@ module _ (c : List ClearRecord) (lots : List Lot) (openings : List Opening) (p :
     (h : Headline c lots openings p orders replies) where
   -- what was executed under a number agrees with the order of that number; it moved no more than that asks for, and a delivery all of it
   pub executed_as_ordered : (number : ℕ) (m : Movement) → movement_of (executed_of p) number ≡ Some m
-      → ((o : Order) × (order_of (orders_of c).orders number ≡ Some o) × AgreesWith m.order o) × (m.moved ≤ m.order.asked) × (m.order.kind ≡ Delivery → m.moved ≡ m.order.asked)
+      → ((o : Order) × (order_of (order_book_of c).orders number ≡ Some o) × AgreesWith m.order o) × (m.moved ≤ m.order.asked) × (m.order.kind ≡ Delivery → m.moved ≡ m.order.asked)
   executed_as_ordered number m found =
-      let known = movement_known (orders_of c).orders (executed_of p) number m h.executed found in
+      let known = movement_known (order_book_of c).orders (executed_of p) number m h.executed found in
       let its = known.0.0.0 in
-      ((its.0, subst (λ (n : ℕ). order_of (orders_of c).orders n ≡ Some its.0) known.1 its.1, its.2), known.0.1, known.0.0.1)
+      ((its.0, subst (λ (n : ℕ). order_of (order_book_of c).orders n ≡ Some its.0) known.1 its.1, its.2), known.0.1, known.0.0.1)
 
   -- what is confirmed under a number was executed under it, and moved just that
   pub confirmed_as_executed : (number moved : ℕ) → moved_of (confirmed_of c) number ≡ Some moved
@@ -54,11 +54,11 @@ module _ (c : List ClearRecord) (lots : List Lot) (openings : List Opening) (p :
 
   -- a packet that holds an order is the frame of the order of its number
   pub sent_as_ordered : (k : ℕ) (bytes : List ℕ) (o : Order) → slice_get orders k ≡ Some bytes → order_in_packet (Some bytes) ≡ Some o
-      → (order_of (orders_of c).orders o.number ≡ Some o) × (bytes ≡ order_frame o)
+      → (order_of (order_book_of c).orders o.number ≡ Some o) × (bytes ≡ order_frame o)
   sent_as_ordered k bytes o at reads =
       let packet = h.sent k bytes at in
       let same = same_Some packet.order o (sym packet.reads ∙ reads) in
-      (subst (λ (q : Order). order_of (orders_of c).orders q.number ≡ Some q) same packet.found, subst (λ (q : Order). bytes ≡ order_frame q) same packet.frame)
+      (subst (λ (q : Order). order_of (order_book_of c).orders q.number ≡ Some q) same packet.found, subst (λ (q : Order). bytes ≡ order_frame q) same packet.frame)
 
   -- and one that holds a reply is the frame of that reply, and tells what was moved under its number
   pub answered_as_executed : (k : ℕ) (bytes : List ℕ) (r : Reply) → slice_get replies k ≡ Some bytes → reply_in_packet (Some bytes) ≡ Some r
@@ -97,23 +97,23 @@ module _ (c : List ClearRecord) (lots : List Lot) (openings : List Opening) (p :
 
   -- the longs of an issue are its shorts and the shares that are free, lent and out
   pub longs_add_up : (issue : ℕ)
-      → longs_of (history_of c) issue ≡ shorts_of (history_of c) issue + free_of (orders_of c) lots issue + lent_of lots issue + out_of (orders_of c) issue
+      → longs_of (history_of c) issue ≡ shorts_of (history_of c) issue + free_of (order_book_of c) lots issue + lent_of lots issue + out_of (order_book_of c) issue
   longs_add_up issue = omega (arith, h.pool issue)
 
   -- no share that a confirmed cover brought is lost: it is free, lent or out, or a confirmed delivery took it
   pub none_is_lost : (issue : ℕ)
-      → free_of (orders_of c) lots issue + lent_of lots issue + out_of (orders_of c) issue + delivered_of (orders_of c) issue ≡ covered_of (orders_of c) issue
+      → free_of (order_book_of c) lots issue + lent_of lots issue + out_of (order_book_of c) issue + delivered_of (order_book_of c) issue ≡ covered_of (order_book_of c) issue
   none_is_lost issue = omega (arith, h.whole issue)
 
   -- what deliveries moved and still may move was moved into the CNS account before
-  pub deliveries_are_backed : (issue : ℕ) → delivered_of (orders_of c) issue + out_of (orders_of c) issue ≤ moved_in p Cns issue
+  pub deliveries_are_backed : (issue : ℕ) → delivered_of (order_book_of c) issue + out_of (order_book_of c) issue ≤ moved_in p Cns issue
   deliveries_are_backed issue = h.backed issue
 
   -- what is available of an issue, with what deliveries took and still may take, is what covers brought; and what is free, with what is lent, is
   -- what is available: nothing is cut off in either difference
   pub available_adds_up : (issue : ℕ)
-      → (avail_of (orders_of c) issue + delivered_of (orders_of c) issue + out_of (orders_of c) issue ≡ covered_of (orders_of c) issue)
-      × (free_of (orders_of c) lots issue + lent_of lots issue ≡ avail_of (orders_of c) issue)
+      → (avail_of (order_book_of c) issue + delivered_of (order_book_of c) issue + out_of (order_book_of c) issue ≡ covered_of (order_book_of c) issue)
+      × (free_of (order_book_of c) lots issue + lent_of lots issue ≡ avail_of (order_book_of c) issue)
   available_adds_up issue = (omega (arith, h.available issue), omega (arith, h.lent issue))
 
 -- ---- what is kept beside the headline

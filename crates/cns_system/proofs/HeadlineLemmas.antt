@@ -9,7 +9,7 @@ use Rattle.cns_movements.specs.declared.order.Order.{Order}
 use Rattle.cns_movements.specs.Book.{Orders}
 use Rattle.cns_movements.proofs.OrderLemmas.{sum_same_from}
 use Rattle.cns_movements.proofs.AgreeLemmas.{agree_fields}
-use Rattle.cns_clearing.specs.Books.{orders_of}
+use Rattle.cns_clearing.specs.Books.{order_book_of}
 use Rattle.cns_clearing.proofs.BooksLemmas.{lawful_bounded}
 use Rattle.cns_clearing.proofs.PositionLemmas.{position_in_is}
 use Rattle.cns_depository.specs.declared.movement.Movement.{Movement}
@@ -71,7 +71,7 @@ agreed w lawful balanced frames accord honest depot_honest =
     let c = w.clear.clear.log.records in
     let p = w.depot.log.records in
     let movements : List Movement = executed_of p in
-    let book : Orders = orders_of c in
+    let book : Orders = order_book_of c in
     let numbered : IsNumbered 1 book.orders = (lawful_bounded c lawful.0).ordered.numbered in
     let once : AreOnce movements = lawful_once w.depot.openings p lawful.1 in
     let moved : (kind : MoveKind) (member issue : ℕ) → moved_sum book.orders book.replies kind member issue ≡ confirmed_sum movements book.replies kind member issue =
@@ -79,7 +79,7 @@ agreed w lawful balanced frames accord honest depot_honest =
     record {
       executed = a.executed;
       confirmed = a.confirmed;
-      sent = λ k bytes at. order_packet (orders_of c).orders bytes (frames.orders_are k bytes at) (spelt_at (SpellsOrder (orders_of c).orders) order_spelt w.order_packets k bytes a.sent at);
+      sent = λ k bytes at. order_packet (order_book_of c).orders bytes (frames.orders_are k bytes at) (spelt_at (SpellsOrder (order_book_of c).orders) order_spelt w.order_packets k bytes a.sent at);
       answered = λ k bytes at. reply_packet movements bytes (frames.replies_are k bytes at) (spelt_at (SpellsReply movements) reply_spelt w.reply_packets k bytes a.answered at);
       lawful = lawful.0;
       stock = lawful.1;

@@ -9,7 +9,7 @@ use Rattle.cns_movements.specs.declared.order.Reply.{Reply}
 use Rattle.cns_movements.proofs.OrderLemmas.{order_of_number}
 use Rattle.cns_records.specs.declared.clear_record.ClearRecord.{ClearRecord}
 use Rattle.cns_records.specs.declared.dep_record.DepRecord.{DepRecord}
-use Rattle.cns_clearing.specs.Books.{IsLawful, orders_of}
+use Rattle.cns_clearing.specs.Books.{IsLawful, order_book_of}
 use Rattle.cns_depository.specs.Answers.{reply_to}
 use Rattle.cns_depository.specs.Stock.{IsLawfulDepot, executed_of, execution, movement_of}
 use Rattle.cns_depository.specs.declared.movement.Movement.{Movement}
@@ -47,7 +47,7 @@ module _ (w : Shown) (a : Accord w) where
   Fits r = FitsStock (executed_of w.depot.records) r
 
   abbrev FitsDepot : DepRecord → Type 0
-  FitsDepot e = FitsOrders (orders_of w.clear.records).orders (executed_of w.depot.records) e
+  FitsDepot e = FitsOrders (order_book_of w.clear.records).orders (executed_of w.depot.records) e
 
   -- a record of the clearing node is added that fits what was executed, or its commit fails
   pub adds_accord : (r : ClearRecord) (lots : List LotState) → w.clear.down ≡ false → Fits r → Accord (record (clear_added r w) { lots = lots }) × Accord (clear_failed r w)
@@ -64,13 +64,13 @@ module _ (w : Shown) (a : Accord w) where
   pub replied : (packet : ℕ) (r : Reply) → Arrives w.reply_packets packet r → IsExecuted (executed_of w.depot.records) r
   replied packet r at = spelt_in (SpellsReply (executed_of w.depot.records)) w.reply_packets packet r a.answered at
 
-  pub ordered : (packet : ℕ) (o : Order) → Arrives w.order_packets packet o → order_of (orders_of w.clear.records).orders o.number ≡ Some o
-  ordered packet o at = spelt_in (SpellsOrder (orders_of w.clear.records).orders) w.order_packets packet o a.sent at
+  pub ordered : (packet : ℕ) (o : Order) → Arrives w.order_packets packet o → order_of (order_book_of w.clear.records).orders o.number ≡ Some o
+  ordered packet o at = spelt_in (SpellsOrder (order_book_of w.clear.records).orders) w.order_packets packet o a.sent at
 
   -- an order is put on the link
-  pub sends_accord : (number : ℕ) (o : Order) → order_of (orders_of w.clear.records).orders number ≡ Some o → Accord (record w { order_packets = w.order_packets ++ Some o ∷ [] })
+  pub sends_accord : (number : ℕ) (o : Order) → order_of (order_book_of w.clear.records).orders number ≡ Some o → Accord (record w { order_packets = w.order_packets ++ Some o ∷ [] })
   sends_accord number o found =
-      let orders : List Order = (orders_of w.clear.records).orders in
+      let orders : List Order = (order_book_of w.clear.records).orders in
       order_put w a o (subst (λ (n : ℕ). order_of orders n ≡ Some o) (sym (order_of_number orders number o found)) found)
 
   -- a new order that arrives is executed, or its commit fails

@@ -24,7 +24,7 @@ use Rattle.cns_records.specs.declared.instruction.Instruction.{Instruction}
 use Rattle.cns_records.specs.declared.refusal.Refusal.{Refusal}
 use Rattle.cns_records.specs.declared.refusal.Refusal.TheVariants as refusal
 use Rattle.cns_clearing.specs.Answers.{NodeLeaves, reply_call}
-use Rattle.cns_clearing.specs.Books.{orders_of}
+use Rattle.cns_clearing.specs.Books.{order_book_of}
 use Rattle.cns_clearing.specs.declared.answer.Taken.{Taken}
 use Rattle.cns_clearing.specs.declared.answer.Taken.TheVariants as taken
 use Rattle.cns_depository.specs.Answers.{InstructLeaves, OrderLeaves, dep_fault, dep_refusal, own_fault, instruct_call, take_order_call, own_fault_refusal}
@@ -77,23 +77,23 @@ module _ (number : ℕ) where
   unfolding judged
   send_down w down = refused (event.Send number) w refusal.Down (rw down refl)
 
-  pub send_unknown : (w : World) → w.clear.clear.log.down ≡ false → order_of (orders_of w.clear.clear.log.records).orders number ≡ None
+  pub send_unknown : (w : World) → w.clear.clear.log.down ≡ false → order_of (order_book_of w.clear.clear.log.records).orders number ≡ None
       → Comes (event.Send number) (outcomes.Refused refusal.UnknownMove) w w
   unfolding judged
   send_unknown w up none = refused (event.Send number) w refusal.UnknownMove (rw (up, none) refl)
 
-  send_found : (o : Order) (w : Shown) → w.clear.down ≡ false → order_of (orders_of w.clear.records).orders number ≡ Some o
+  send_found : (o : Order) (w : Shown) → w.clear.down ≡ false → order_of (order_book_of w.clear.records).orders number ≡ Some o
       → judged (event.Send number) w ≡ Ok (Grows (outcomes.Sent (length w.order_packets + 1)) (record w { order_packets = w.order_packets ++ Some o ∷ [] }))
   unfolding judged
   send_found o w up found = rw (up, found) refl
 
-  pub send_short : (o : Order) (w : World) → w.clear.clear.log.down ≡ false → order_of (orders_of w.clear.clear.log.records).orders number ≡ Some o
+  pub send_short : (o : Order) (w : World) → w.clear.clear.log.down ≡ false → order_of (order_book_of w.clear.clear.log.records).orders number ≡ Some o
       → Comes (event.Send number) (outcomes.Refused refusal.OutOfMemory) w w
   send_short o w up found =
       not_grown (event.Send number) w (λ c. refl) (outcomes.Sent (length (map order_spelt w.order_packets) + 1)) (record (shown_of w) { order_packets = map order_spelt w.order_packets ++ Some o ∷ [] })
       (send_found o (shown_of w) up found)
 
-  pub sent : (o : Order) (packet : ℕ) (orders : List (List ℕ)) (w : World) → w.clear.clear.log.down ≡ false → order_of (orders_of w.clear.clear.log.records).orders number ≡ Some o
+  pub sent : (o : Order) (packet : ℕ) (orders : List (List ℕ)) (w : World) → w.clear.clear.log.down ≡ false → order_of (order_book_of w.clear.clear.log.records).orders number ≡ Some o
       → orders ≡ w.order_packets ++ order_frame o ∷ [] → packet ≡ length orders → order_spelt (order_frame o) ≡ Some o
       → Comes (event.Send number) (outcomes.Sent packet) w (record w { order_packets = orders })
   sent o packet orders w up found are place spells =

@@ -26,7 +26,7 @@ use Rattle.cns_records.specs.declared.clear_record.ClearRecord.TheVariants as en
 use Rattle.cns_records.proofs.CallLemmas.{changed}
 use Rattle.cns_clearing.specs.Answers as clear
 use Rattle.cns_clearing.specs.Answers.{AreServed, NodeLeaves, closing_allocation, close_deed, closed_of, deliveries_by}
-use Rattle.cns_clearing.specs.Books.{IsLawful, are_spent, books_of, history_of, orders_of}
+use Rattle.cns_clearing.specs.Books.{IsLawful, are_spent, books_of, history_of, order_book_of}
 use Rattle.cns_clearing.specs.Lots.{avail_in, longs_among, lots_after, lots_poured, plan_in, refilled, without_lot}
 use Rattle.cns_clearing.specs.Lots as node
 use Rattle.cns_clearing.specs.Node.{ClearNode}
@@ -143,17 +143,17 @@ pub small_plan : (c : List ClearRecord) (issue : ℕ) (h : List NetEntry) (plan 
 small_plan c issue h plan lawful is fits is_plan =
     let bounded = (lawful_bounded c lawful).bounded in
     subst (λ (ps : List Planned). planned_sum ps ≤ 1000000000000000000) (sym is_plan)
-    (plan_of-total issue (history_of c) (orders_of c) (books_of c).priorities (longs_among issue (books_of c).previous) (subst IsBook is fits)
-    (λ m i. settled_most (history_of c) (orders_of c) bounded m i))
+    (plan_of-total issue (history_of c) (order_book_of c) (books_of c).priorities (longs_among issue (books_of c).previous) (subst IsBook is fits)
+    (λ m i. settled_most (history_of c) (order_book_of c) bounded m i))
 
 -- and is one
 pub lawful_plan : (c : List ClearRecord) (issue : ℕ) (h : List NetEntry) (plan : List Planned) → IsLawful c → h ≡ history_of c → IsBook h → plan ≡ plan_in c issue → IsPlan plan
 lawful_plan c issue h plan lawful is fits is_plan =
-    let longs = bounded_longs (history_of c) (orders_of c) (subst IsBook is fits) (lawful_bounded c lawful).bounded in
-    subst IsPlan (sym is_plan) (IsPlan-plan_of issue (history_of c) (orders_of c) (books_of c).priorities (longs_among issue (books_of c).previous) longs)
+    let longs = bounded_longs (history_of c) (order_book_of c) (subst IsBook is fits) (lawful_bounded c lawful).bounded in
+    subst IsPlan (sym is_plan) (IsPlan-plan_of issue (history_of c) (order_book_of c) (books_of c).priorities (longs_among issue (books_of c).previous) longs)
 
 -- where no lot is open, all shares that are there are free
-pub all_free : (c : List ClearRecord) (open_lots : List Lot) (issue : ℕ) → lot_of open_lots issue ≡ None → free_of (orders_of c) open_lots issue ≡ avail_in c issue
+pub all_free : (c : List ClearRecord) (open_lots : List Lot) (issue : ℕ) → lot_of open_lots issue ≡ None → free_of (order_book_of c) open_lots issue ≡ avail_in c issue
 all_free c open_lots issue none =
     let lent : lent_of open_lots issue ≡ 0 = ap (λ (o : Option Lot). unwrap_or (option_map (λ (l : Lot). l.poured) o) 0) none in omega (arith, lent)
 
@@ -214,7 +214,7 @@ unfolding numbered_pour
 poured_of number node lots l new shares are going up h =
     let at = going_parts lots number l going in
     let twin = are.each number l at.found at.going in
-    let left : (Ok shares ≡ Ok (free_of (orders_of node.log.records) node.lots l.issue)) × (new ≡ lots_poured node.log.records l.issue node.lots) =
+    let left : (Ok shares ≡ Ok (free_of (order_book_of node.log.records) node.lots l.issue)) × (new ≡ lots_poured node.log.records l.issue node.lots) =
     rw (pours l.issue node.log.down node.log.records node.lots twin.twin up twin.found) at h in
     (rw going h, left.1)
 
@@ -234,7 +234,7 @@ pub pour_never : (number : ℕ) (node : ClearNode) (lots : List LotState) (l : L
 pour_never number node lots l new r are going up h =
     let at = going_parts lots number l going in
     let twin = are.each number l at.found at.going in
-    let left : (Err r ≡ Ok (free_of (orders_of node.log.records) node.lots l.issue)) × (new ≡ lots_poured node.log.records l.issue node.lots) =
+    let left : (Err r ≡ Ok (free_of (order_book_of node.log.records) node.lots l.issue)) × (new ≡ lots_poured node.log.records l.issue node.lots) =
     rw (pours l.issue node.log.down node.log.records node.lots twin.twin up twin.found) at h in
     cc left.0
 

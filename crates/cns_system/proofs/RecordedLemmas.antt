@@ -21,7 +21,7 @@ use Rattle.cns_records.specs.declared.refusal.Refusal.TheVariants as refusal
 use Rattle.cns_pool.specs.declared.ticket.Ticket.{Ticket}
 use Rattle.cns_allocate.specs.declared.planned.Planned.{Planned}
 use Rattle.cns_clearing.specs.Answers.{closing_allocation, answer_in, close_call, close_deed, closed_of, covers_in, cycle_call, cycled_of, deliveries_by, reply_call, setting_call, trade_call, need_up, verdict_in}
-use Rattle.cns_clearing.specs.Books.{are_spent, is_later, latest_of, orders_of}
+use Rattle.cns_clearing.specs.Books.{are_spent, is_later, latest_of, order_book_of}
 use Rattle.cns_clearing.specs.Pools.{lot_of}
 use Rattle.cns_clearing.specs.declared.answer.Closed.{Closed}
 use Rattle.cns_clearing.specs.declared.answer.Cycled.{Cycled}
@@ -67,7 +67,7 @@ unfolding cycle_call
 cycle_records id down c lots =
     let Q = Commits down (entry.Cycle id) in
     let later : Bool = is_later (latest_of c) id in
-    let few : Bool = not (are_spent (orders_of c) (length (covers_in c id.day))) in
+    let few : Bool = not (are_spent (order_book_of c) (length (covers_in c id.day))) in
     let deed : Result (Deed ClearRecord Cycled) Refusal = Ok (call.Commits (entry.Cycle id) (cycled_of c id)) in
     let room : Result (Deed ClearRecord Cycled) Refusal = need few refusal.NumbersSpent >> deed in
     let closed : Result (Deed ClearRecord Cycled) Refusal = need (length lots == 0) refusal.LotsOpen >> room in
@@ -136,7 +136,7 @@ close_record issue tickets sealed true c lots = tt
 close_record issue tickets sealed false c lots =
     let Q = IsCloseOf issue tickets sealed c lots in
     ok_found Q (lot_of lots issue) refusal.NoLot (close_deed tickets sealed c) (λ lot found.
-    ok_needed Q (not (are_spent (orders_of c) (length (deliveries_by lot tickets sealed)))) refusal.NumbersSpent
+    ok_needed Q (not (are_spent (order_book_of c) (length (deliveries_by lot tickets sealed)))) refusal.NumbersSpent
     (Ok (call.Commits (entry.Allocate (closing_allocation lot tickets sealed)) (closed_of lot tickets sealed c))) (λ few. record { lot = lot; found = found; is = refl }))
 
 pub close_records : (number : ℕ) (down : Bool) (c : List ClearRecord) (open_lots : List Lot) (lots : List LotState)

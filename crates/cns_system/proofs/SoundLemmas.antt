@@ -19,7 +19,7 @@ use Rattle.cns_movements.specs.declared.book.Confirm.TheVariants as confirm
 use Rattle.cns_movements.specs.declared.order.Order.{Order}
 use Rattle.cns_movements.specs.declared.order.Reply.{Reply}
 use Rattle.cns_depository.specs.declared.movement.Movement.{Movement}
-use Rattle.cns_clearing.specs.Books.{orders_of}
+use Rattle.cns_clearing.specs.Books.{order_book_of}
 use Rattle.cns_clearing.specs.declared.answer.Taken.TheVariants as taken
 use Rattle.cns_depository.specs.declared.fault.DepFault.TheVariants as fault
 use Rattle.cns_wire.specs.Packet.{at_number}
@@ -104,7 +104,7 @@ module _ (s : Scene) (a : Accord s.shown) where
       by true found is = fine (event.OrderIn packet) (outcomes.Refused refusal.Down) tt
       by false None is = tt
       by false (Some known) is =
-          let agrees = executed_agrees (orders_of s.shown.clear.records).orders (executed_of s.shown.depot.records) o known a.executed (ordered s.shown a packet o at) is in
+          let agrees = executed_agrees (order_book_of s.shown.clear.records).orders (executed_of s.shown.depot.records) o known a.executed (ordered s.shown a packet o at) is in
           rw (agrees_with-holds known.order o agrees) tt
 
   -- a reply that came is of a movement that was executed, so that it is a first or a repeated confirmation
@@ -112,8 +112,8 @@ module _ (s : Scene) (a : Accord s.shown) where
       → IfErr (by_clear (taken_told r) s.shown (reply_call r s.shown.clear.down s.shown.clear.records)) (λ f. IsSound (event.ReplyIn packet) (outcomes.Refused f))
   unfolding reply_call
   reply_refused packet r at =
-      by s.shown.clear.down (confirm_answer (orders_of s.shown.clear.records) r)
-      (answer_known (orders_of s.shown.clear.records) (executed_of s.shown.depot.records) r a.executed a.confirmed (replied s.shown a packet r at))
+      by s.shown.clear.down (confirm_answer (order_book_of s.shown.clear.records) r)
+      (answer_known (order_book_of s.shown.clear.records) (executed_of s.shown.depot.records) r a.executed a.confirmed (replied s.shown a packet r at))
     where
       by : (down : Bool) (answer : Confirm) → (answer ≡ confirm.Done) ⊎ (answer ≡ confirm.Again)
           → IfErr (by_clear (taken_told r) s.shown (need_up down >> elim answer [

@@ -7,7 +7,7 @@ use Rattle.cns_wire.specs.Frame.{order_frame, reply_frame}
 use Rattle.cns_records.specs.declared.clear_record.ClearRecord.{ClearRecord}
 use Rattle.cns_records.specs.declared.clear_record.ClearRecord.TheVariants as entry
 use Rattle.cns_records.specs.declared.dep_record.DepRecord.{DepRecord}
-use Rattle.cns_clearing.specs.Books.{IsLawful, orders_of}
+use Rattle.cns_clearing.specs.Books.{IsLawful, order_book_of}
 use Rattle.cns_depository.specs.declared.movement.Movement.{Movement}
 use Rattle.cns_depository.specs.Stock.{IsLawfulDepot, executed_in, executed_of, movement_of}
 use Rattle.cns_system.specs.Agreement.{IsExecuted, IsOrdered}
@@ -57,12 +57,12 @@ SpellsReply movements packet = IfSome packet (IsExecuted movements)
 -- the two nodes' records agree, each packet spells the order of its number or the reply to a movement that was executed, and so it stays where a
 -- record whose commit failed comes back; a node that is up has no such record
 pub record Accord (w : Shown) : Type 0 where
-  pub executed : All (IsAsOrdered (orders_of w.clear.records).orders) (executed_of w.depot.records)
-  pub confirmed : All (IsExecuted (executed_of w.depot.records)) (orders_of w.clear.records).replies
-  pub sent : All (SpellsOrder (orders_of w.clear.records).orders) w.order_packets
+  pub executed : All (IsAsOrdered (order_book_of w.clear.records).orders) (executed_of w.depot.records)
+  pub confirmed : All (IsExecuted (executed_of w.depot.records)) (order_book_of w.clear.records).replies
+  pub sent : All (SpellsOrder (order_book_of w.clear.records).orders) w.order_packets
   pub answered : All (SpellsReply (executed_of w.depot.records)) w.reply_packets
   pub clear_tried : (u : ClearRecord) → w.clear.tried ≡ Some u → FitsStock (executed_of w.depot.records) u
-  pub depot_tried : (e : DepRecord) → w.depot.tried ≡ Some e → FitsOrders (orders_of w.clear.records).orders (executed_of w.depot.records) e
+  pub depot_tried : (e : DepRecord) → w.depot.tried ≡ Some e → FitsOrders (order_book_of w.clear.records).orders (executed_of w.depot.records) e
   pub clear_up : w.clear.down ≡ false → w.clear.tried ≡ None
   pub depot_up : w.depot.down ≡ false → w.depot.tried ≡ None
 

@@ -6,7 +6,7 @@ use Rattle.cns_movements.specs.declared.order.Order.{Order}
 use Rattle.cns_movements.specs.declared.order.Reply.{Reply}
 use Rattle.cns_records.specs.declared.clear_record.ClearRecord.{ClearRecord}
 use Rattle.cns_records.specs.declared.dep_record.DepRecord.{DepRecord}
-use Rattle.cns_clearing.specs.Books.{orders_of}
+use Rattle.cns_clearing.specs.Books.{order_book_of}
 use Rattle.cns_depository.specs.declared.movement.Movement.{Movement}
 use Rattle.cns_depository.specs.Stock.{executed_of, movement_of}
 
@@ -21,5 +21,5 @@ IsExecuted movements r = (m : Movement) × (movement_of movements r.number ≡ S
 
 -- the records of a clearing node and those of a depository agree
 pub record Agree (c : List ClearRecord) (p : List DepRecord) : Type 0 where
-  pub executed : All (IsOrdered (orders_of c).orders) (executed_of p)
-  pub confirmed : All (IsExecuted (executed_of p)) (orders_of c).replies
+  pub executed : All (IsOrdered (order_book_of c).orders) (executed_of p)
+  pub confirmed : All (IsExecuted (executed_of p)) (order_book_of c).replies

@@ -22,7 +22,7 @@ use Rattle.cns_records.specs.declared.instruction.Instruction.{Instruction}
 use Rattle.cns_records.specs.declared.refusal.Refusal.{Refusal}
 use Rattle.cns_records.specs.declared.refusal.Refusal.TheVariants as refusal
 use Rattle.cns_clearing.specs.Answers.{cycle_call, reply_call, setting_call, trade_call, need_up}
-use Rattle.cns_clearing.specs.Books.{orders_of}
+use Rattle.cns_clearing.specs.Books.{order_book_of}
 use Rattle.cns_clearing.specs.Pools.{lent_of}
 use Rattle.cns_clearing.specs.declared.answer.Closed.{Closed}
 use Rattle.cns_clearing.specs.declared.answer.Cycled.{Cycled}
@@ -136,7 +136,7 @@ judged (event.LotClose number) w =
     numbered_close number w.clear.down w.clear.records w.open_lots w.lots >>= λ d. Ok (clear_deed (λ (done : Closed). outcomes.Closed done) (with_lot_ended number) w d)
 judged (event.Send number) w = do
   need_up w.clear.down
-  o ← ok_or (order_of (orders_of w.clear.records).orders number) refusal.UnknownMove
+  o ← ok_or (order_of (order_book_of w.clear.records).orders number) refusal.UnknownMove
   Ok (Grows (outcomes.Sent (length w.order_packets + 1)) (record w { order_packets = w.order_packets ++ Some o ∷ [] }))
 judged (event.OrderIn packet) w = do
   o ← ok_or (option_flatten (at_number w.order_packets packet)) refusal.NoPacket

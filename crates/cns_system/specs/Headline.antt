@@ -8,7 +8,7 @@ use Rattle.cns_movements.specs.declared.order.MoveKind.TheVariants.{Cover, Deliv
 use Rattle.cns_movements.specs.declared.order.Reply.{Reply}
 use Rattle.cns_records.specs.declared.clear_record.ClearRecord.{ClearRecord}
 use Rattle.cns_records.specs.declared.dep_record.DepRecord.{DepRecord}
-use Rattle.cns_clearing.specs.Books.{IsLawful, confirmed_of, history_of, orders_of}
+use Rattle.cns_clearing.specs.Books.{IsLawful, confirmed_of, history_of, order_book_of}
 use Rattle.cns_clearing.specs.Lots.{ClosesLot}
 use Rattle.cns_clearing.specs.Pools.{avail_of, covered_of, delivered_of, free_of, lent_of, out_of}
 use Rattle.cns_clearing.specs.Position.{due_in, position_in}
@@ -41,7 +41,7 @@ reckoned c movements member issue =
 
 -- the shares of an issue in the pool, by what the clearing node has acknowledged: those that are free, those that are lent to its open lot, and those on their way to members
 abbrev pub pool_shares : List ClearRecord → List Lot → ℕ → ℕ
-pool_shares c lots issue = free_of (orders_of c) lots issue + lent_of lots issue + out_of (orders_of c) issue
+pool_shares c lots issue = free_of (order_book_of c) lots issue + lent_of lots issue + out_of (order_book_of c) issue
 
 -- the records that the clearing node has acknowledged (an undecided one is not among them, so this holds while a node is down too) and its open lots, the
 -- depository's openings and its records likewise, and the packets that were put on the link of orders and on that of replies. A cover brings shares from a member's account to the CNS account, a delivery takes them from there to a
@@ -50,10 +50,10 @@ pub record Headline (c : List ClearRecord) (open_lots : List Lot) (openings : Li
   -- Same: each executed movement agrees with the order of its number at the clearing node, so it has its kind, member, issue and quantity,
   -- and its cycle, where both have one; a delivery moved all that it asks for, and a cover no more than it. Each confirmed movement was
   -- executed, and moved so much.
-  pub executed : All (IsAsOrdered (orders_of c).orders) (executed_of p)
+  pub executed : All (IsAsOrdered (order_book_of c).orders) (executed_of p)
   pub confirmed : All (IsExecuted (executed_of p)) (confirmed_of c)
   -- Link: each packet of an order is the frame of the order of its number, and each packet of a reply that of an executed movement.
-  pub sent : (k : ℕ) (bytes : List ℕ) → slice_get order_packets k ≡ Some bytes → IsOrderPacket (orders_of c).orders bytes
+  pub sent : (k : ℕ) (bytes : List ℕ) → slice_get order_packets k ≡ Some bytes → IsOrderPacket (order_book_of c).orders bytes
   pub answered : (k : ℕ) (bytes : List ℕ) → slice_get reply_packets k ≡ Some bytes → IsReplyPacket (executed_of p) bytes
   -- Lawful: each record of the clearing node may stand after those before it.
   pub lawful : IsLawful c
@@ -68,12 +68,12 @@ pub record Headline (c : List ClearRecord) (open_lots : List Lot) (openings : Li
   -- Pool: in each issue the longs are the shorts and the pool; the pool, with what confirmed deliveries moved, is what confirmed covers
   -- brought; and what confirmed deliveries moved, with what open ones ask for, is no more than executed covers brought.
   pub pool : (issue : ℕ) → longs_of (history_of c) issue ≡ shorts_of (history_of c) issue + pool_shares c open_lots issue
-  pub whole : (issue : ℕ) → pool_shares c open_lots issue + delivered_of (orders_of c) issue ≡ covered_of (orders_of c) issue
-  pub backed : (issue : ℕ) → delivered_of (orders_of c) issue + out_of (orders_of c) issue ≤ moved_in p Cns issue
+  pub whole : (issue : ℕ) → pool_shares c open_lots issue + delivered_of (order_book_of c) issue ≡ covered_of (order_book_of c) issue
+  pub backed : (issue : ℕ) → delivered_of (order_book_of c) issue + out_of (order_book_of c) issue ≤ moved_in p Cns issue
   -- Available: no difference is cut off at 0 in the two that the pool is made of. What confirmed deliveries took, with what open ones ask
   -- for, is no more than confirmed covers brought, so what is available of an issue is just the rest of it; and no more is lent than that.
-  pub available : (issue : ℕ) → delivered_of (orders_of c) issue + out_of (orders_of c) issue ≤ covered_of (orders_of c) issue
-  pub lent : (issue : ℕ) → lent_of open_lots issue ≤ avail_of (orders_of c) issue
+  pub available : (issue : ℕ) → delivered_of (order_book_of c) issue + out_of (order_book_of c) issue ≤ covered_of (order_book_of c) issue
+  pub lent : (issue : ℕ) → lent_of open_lots issue ≤ avail_of (order_book_of c) issue
 
 -- the headline of both nodes, where both keepers are honest: where each one's journal reads back what it acknowledged
 abbrev pub IsAgreed : World → Type 0
@@ -87,8 +87,8 @@ abbrev pub IsBalanced : World → Type 0
 IsBalanced w =
     (issue : ℕ)
     → let c = w.clear.clear.log.records in
-    (longs_of (history_of c) issue + delivered_of (orders_of c) issue ≡ shorts_of (history_of c) issue + covered_of (orders_of c) issue)
-    × (pool_shares c w.clear.clear.lots issue + delivered_of (orders_of c) issue ≡ covered_of (orders_of c) issue)
+    (longs_of (history_of c) issue + delivered_of (order_book_of c) issue ≡ shorts_of (history_of c) issue + covered_of (order_book_of c) issue)
+    × (pool_shares c w.clear.clear.lots issue + delivered_of (order_book_of c) issue ≡ covered_of (order_book_of c) issue)
 
 -- each allocation that the clearing node has, also one whose commit failed, closed a lot that was as the records before it have it, by
 -- tickets that serve its plan, where its keeper is honest; and while it is up no record of it is undecided

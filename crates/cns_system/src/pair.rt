@@ -3,7 +3,7 @@ ghost use Rattle.cns_movements.specs.Order.{order_of};
 ghost use Rattle.cns_records.specs.Clear.{spelling, AreWritable};
 ghost use Rattle.cns_records.specs.Dep.{dep_spelling};
 ghost use Rattle.cns_records.specs.declared.refusal.Refusal.TheVariants as refusal;
-ghost use Rattle.cns_clearing.specs.Books.{orders_of};
+ghost use Rattle.cns_clearing.specs.Books.{order_book_of};
 ghost use Rattle.cns_clearing.specs.Lots.{AreLots};
 ghost use Rattle.cns_wire.specs.Frame.{reply_frame};
 ghost use Rattle.cns_wire.specs.Packet.{at_number};
@@ -250,7 +250,7 @@ impl<C: Keeper, D: Keeper> Pair<C, D> {
 
     // The order of a number.
     fn order_at(&self, number: u64) -> Option<Order>
-        ensures { result ≡ order_of (orders_of self.now.clear.clear.log.records).orders number }
+        ensures { result ≡ order_of (order_book_of self.now.clear.clear.log.records).orders number }
     {
         let orders = self.clear.node().orders().orders();
         let place = number.checked_sub(1)?;

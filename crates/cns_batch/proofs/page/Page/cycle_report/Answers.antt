@@ -1,5 +1,5 @@
 use Rattle.std.proofs.Common.{◌++◌, ◌≡◌, ◌∙◌, ap}
-use Rattle.cns_clearing.specs.Books.{history_of, orders_of}
+use Rattle.cns_clearing.specs.Books.{history_of, order_book_of}
 use Rattle.cns_clearing.specs.Pools.{rows_of_pools}
 use Rattle.cns_netting.specs.Rows.{rows_of}
 use Rattle.std.specs.List.{flat_map}
@@ -20,7 +20,7 @@ returns-in_err-positions g c =
     let records = c.args.clearing.now.log.records in
     let head = report_head c.latest-latest.result in
     let positions = flat_map position_line (rows_of (history_of records)) in
-    let pools = flat_map pool_line (rows_of_pools (orders_of records) c.args.clearing.now.lots) in
+    let pools = flat_map pool_line (rows_of_pools (order_book_of records) c.args.clearing.now.lots) in
     rw (← c.latest-latest.ensures)
     (prints_fault (head ++ positions ++ pools) c.from_residual-in_err-positions.result p q c.from_residual-in_err-positions.ensures.0
     (breaks_front p q.sent (head ++ positions) pools (breaks_after p q q.sent head positions c.in_ok-told.ensures.0 (breaks_here positions q))))
@@ -40,7 +40,7 @@ returns-in_err-pools g c =
     let records = c.args.clearing.now.log.records in
     let head = report_head c.latest-latest.result in
     let positions = flat_map position_line c.as_slice.result.now in
-    let pools = flat_map pool_line (rows_of_pools (orders_of records) c.args.clearing.now.lots) in
+    let pools = flat_map pool_line (rows_of_pools (order_book_of records) c.args.clearing.now.lots) in
     let rows : c.as_slice.result.now ≡ rows_of (history_of records) = c.as_slice.ensures.value ∙ c.in_ok-positions.ensures ∙ ap rows_of c.book.ensures.history in
     rw (← c.latest-latest.ensures, ← rows)
     (prints_fault (head ++ positions ++ pools) c.from_residual-in_err-pools.result p r c.from_residual-in_err-pools.ensures.0

@@ -1,7 +1,7 @@
 use Rattle.std.proofs.Common.{ℕ, List, ◌++◌}
 use Rattle.std.specs.Prelude.{codes}
 use Rattle.std.specs.List.{flat_map}
-use Rattle.cns_clearing.specs.Books.{history_of, latest_of, orders_of}
+use Rattle.cns_clearing.specs.Books.{history_of, latest_of, order_book_of}
 use Rattle.cns_clearing.specs.Pools.{rows_of_pools}
 use Rattle.cns_depository.specs.Balances.{balance_rows}
 use Rattle.cns_netting.specs.Rows.{rows_of}
@@ -23,7 +23,7 @@ returns-in_err-balance_report g c =
     let node = c.args.system.now.clear.clear in
     let records = node.log.records in
     let depot = c.args.system.now.depot in
-    let first = cycle_report_text (latest_of records) (rows_of (history_of records)) (rows_of_pools (orders_of records) node.lots) in
+    let first = cycle_report_text (latest_of records) (rows_of (history_of records)) (rows_of_pools (order_book_of records) node.lots) in
     let balances = flat_map balance_line (balance_rows depot.openings depot.log.records) in
     prints_fault (first ++ balances ++ last) c.from_residual-in_err-balance_report.result p _ c.from_residual-in_err-balance_report.ensures.0
     (breaks_front p _ (first ++ balances) last
@@ -37,7 +37,7 @@ returns g c =
     let node = c.args.system.now.clear.clear in
     let records = node.log.records in
     let depot = c.args.system.now.depot in
-    let first = cycle_report_text (latest_of records) (rows_of (history_of records)) (rows_of_pools (orders_of records) node.lots) in
+    let first = cycle_report_text (latest_of records) (rows_of (history_of records)) (rows_of_pools (order_book_of records) node.lots) in
     let balances = flat_map balance_line (balance_rows depot.openings depot.log.records) in
     prints_after c.told.result p r _ (first ++ balances) last
     (writes_more p q r first balances (rw c.clearing.ensures at c.in_ok-cycle_report.ensures) (rw c.depository.ensures at c.in_ok-balance_report.ensures)) c.told.ensures.0

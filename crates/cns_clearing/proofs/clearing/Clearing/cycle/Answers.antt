@@ -2,7 +2,7 @@ use Rattle.std.proofs.Common.{◌≡◌, Some, refl, rules}
 use Rattle.cns_netting.specs.History.{becoming_due}
 use Rattle.cns_movements.specs.Book.{next_orders}
 use Rattle.cns_clearing.specs.Answers.{covers_in, cycle_call}
-use Rattle.cns_clearing.specs.Books.{history_of, orders_of}
+use Rattle.cns_clearing.specs.Books.{history_of, order_book_of}
 use Rattle.cns_clearing.proofs.CallsLemmas.{adds, cycle_beside_lots, cycle_early, cycle_goes, cycle_short, cycle_spent, short_of}
 use Rattle.cns_clearing.proofs.clearing.Clearing.cycle.Goals as goal
 
@@ -33,5 +33,5 @@ returns-in_err-due g c =
 pub returns : goal.returns
 returns g c =
     let due : c.in_ok-due.due ≡ becoming_due (history_of c.args.self.now.log.records) c.args.id.day = search rules in
-    let orders : c.in_ok-orders.orders ≡ next_orders (orders_of c.args.self.now.log.records) (Some c.args.id) (covers_in c.args.self.now.log.records c.args.id.day) = search rules in
+    let orders : c.in_ok-orders.orders ≡ next_orders (order_book_of c.args.self.now.log.records) (Some c.args.id) (covers_in c.args.self.now.log.records c.args.id.day) = search rules in
     adds _ _ _ c.add.result _ _ _ (cycle_goes _ _ _ _ (search rules) (search rules) (search rules) (search rules)) (rw (c.in_ok-due.was, due, orders)) (search rules)

@@ -4,7 +4,7 @@ use Rattle.cns_movements.specs.Book.{next_orders}
 use Rattle.cns_pool.specs.Pool.{asked_sum}
 use Rattle.cns_records.proofs.CallLemmas.{refused}
 use Rattle.cns_clearing.specs.Answers.{close_call, deliveries_by}
-use Rattle.cns_clearing.specs.Books.{Books, are_spent, latest_of, orders_of}
+use Rattle.cns_clearing.specs.Books.{Books, are_spent, latest_of, order_book_of}
 use Rattle.cns_clearing.proofs.AllocationLemmas.{allocable, asked_small, close_asks}
 use Rattle.cns_clearing.proofs.CallsLemmas.{adds, close_goes, close_none, short_of}
 use Rattle.cns_clearing.proofs.DrawnLemmas.{tickets_drawn}
@@ -58,6 +58,6 @@ returns g c =
     let lot = c.in_ok-lot.lot.now in
     let asks = close_asks _ _ _ _ _ _ _ closes c.count-poured.ensures.value c.in_ok-asks.ensures.exact in
     let granted : c.min-granted.result ≡ min lot.poured (asked_sum c.args.tickets.now) = search (rules, c.count-poured.ensures.value) in
-    let orders : c.in_ok-orders.orders ≡ next_orders (orders_of c.args.self.now.log.records) (latest_of c.args.self.now.log.records) (deliveries_by lot c.args.tickets.now c.args.sealed) =
+    let orders : c.in_ok-orders.orders ≡ next_orders (order_book_of c.args.self.now.log.records) (latest_of c.args.self.now.log.records) (deliveries_by lot c.args.tickets.now c.args.sealed) =
     c.in_ok-orders.ensures ∙ rw (c.latest.ensures, c.books-books.ensures.books, c.as_slice.ensures.value, asks) refl in
     adds _ _ _ c.add.result _ _ _ (close_goes c.args.self.now _ _ _ _ (search rules) closes) (rw (c.in_ok-add.was, granted, orders)) (rw c.in_ok-allocation.ensures at c.add.ensures)

@@ -1,7 +1,7 @@
 use Rattle.std.proofs.Common.{◌≡◌, ◌++◌, ◌∷◌, [], false, Some, rules}
 use Rattle.cns_movements.specs.Order.{order_of}
 use Rattle.cns_wire.specs.Frame.{order_frame}
-use Rattle.cns_clearing.specs.Books.{orders_of}
+use Rattle.cns_clearing.specs.Books.{order_book_of}
 use Rattle.cns_system.specs.World.{World, order_spelt}
 use Rattle.cns_system.proofs.LinkComes.{frames_sent, send_down, send_short, send_unknown, sent, spells_order}
 use Rattle.cns_system.proofs.pair.Pair.send.Goals as goal
@@ -28,7 +28,7 @@ pub returns : goal.returns
 returns g c =
     let old : World = record { clear = c.self.inside.clear; depot = c.self.inside.depot; order_packets = c.self.inside.orders.packets; reply_packets = c.self.inside.replies.packets } in
     let up : old.clear.clear.log.down ≡ false = search rules in
-    let found : order_of (orders_of old.clear.clear.log.records).orders c.args.number ≡ Some c.in-Some.order = search rules in
+    let found : order_of (order_book_of old.clear.clear.log.records).orders c.args.number ≡ Some c.in-Some.order = search rules in
     elim c.match-put.branch [
       | in-Ok w ↦
           let put : c.put.new.self.packets ≡ c.self.inside.orders.packets ++ order_frame c.in-Some.order ∷ [] = search rules in

@@ -1,0 +1,134 @@
+#!/usr/bin/env python3
+"""Runs `rt ci`, and beside it tries the wrong bodies of the gate: the prover must refuse each.
+
+    tests/prove.py
+
+The wrong bodies of the gate are those that wrong-bodies/gate.txt names; `make wrong` tries all. As soon as `rt ci` says that a crate is
+proved, its edits are set into a copy of the crate, as many at once as change different functions, and over the libraries that `rt ci` made
+of the crates below, `rattle check --only` of these functions and of what they call must say of each that a goal of its own is not proved.
+An edit of which that is not said is tried once more by itself. Proofs go first: edits are tried at the lowest priority, and half as many
+checks of them at once as `rt ci` may run (RT_JOBS). What was refused is kept on this machine as `make wrong` keeps it, and not tried again
+while nothing that it stands on changes. Prints what `rt ci` prints, each edit, and what the edits of each crate cost. The last line is
+`N passed, M failed`, which counts what `rt ci` counts and each edit; the exit status is 0 where M is 0 and N is not.
+"""
+import os
+import re
+import shutil
+import signal
+import subprocess
+import sys
+import tempfile
+import time
+from concurrent.futures import ThreadPoolExecutor
+
+from wrong import LIBRARY, PARTS, Kept, all_below, batches, changed_functions, refused_in, run, set_into
+from wrong_bodies import TOP, below, crates, of_the_gate, used
+
+# How `rt ci` says that a crate, and with it all that it stands on, is proved; and how it ends.
+PROVED = re.compile(r"rt: (\w+) (?:proved$|is kept: )")
+ENDED = re.compile(r"(\d+) passed, (\d+) failed\b")
+
+
+def only_name(function):
+    """A function of an edit by the end of the name that a check gives it, which `--only` takes."""
+    path, type_name, name = function
+    module = path.removeprefix("src/").removesuffix(".rt").split("/")[-1]
+    return f"{type_name or module}::{name}" if type_name or module not in ("lib", "main") else name
+
+
+def words_of_check(crate, tree, functions):
+    """The words by which rattle checks these functions of a crate, over the libraries of a tree and those of the kit."""
+    kit = os.path.dirname(subprocess.run(["rt", "doc"], capture_output=True, text=True, check=True).stdout.strip())
+    root = next(it for it in ("src/lib.rt", "src/main.rt") if os.path.isfile(os.path.join(TOP, "crates", crate, it)))
+    words = [f"{kit}/bin/rattle", "check", "--crate-name", crate, root, "--extern", f"std={kit}/rlibs/std.rlib"]
+    for name in used()[crate]:
+        words += ["--extern", f"{name}={tree}/{name}/{name}.rlib" if name in crates() else f"{name}={kit}/rlibs/{name}.rlib"]
+    for name in sorted(all_below(crate, below())):
+        words += ["-L", f"dependency={tree}/{name}"]
+    words += ["-L", f"dependency={kit}/rlibs", "--antt-project", f"{kit}/rattle/logic/antt-project.json", "--logic-built", f"{kit}/logic_built"]
+    for name in sorted(map(only_name, functions), key=str):
+        words += ["--only", name]
+    return ["nice", "-n", "19", *words, "--links", f"{crate}=", "--jobs", "1"]
+
+
+def refused_of(crate, part, tree):
+    """Which edits of a part a check of their functions refuses, and the processor seconds that it takes."""
+    functions = {one for _, found in part for one in found}
+    with tempfile.TemporaryDirectory(prefix="wrong-") as folder:
+        for it in PARTS:
+            if os.path.isdir(os.path.join(TOP, "crates", crate, it)):
+                shutil.copytree(os.path.join(TOP, "crates", crate, it), f"{folder}/{it}")
+        set_into(part, crate, folder, {path for path, *_ in functions})
+        status, said, used = run(words_of_check(crate, tree, functions), folder)
+        return [edit for edit, found in part if status == 1 and refused_in(said, folder, found)], used
+
+
+def try_crate(crate, found, tree):
+    """Tries a crate's edits; answers those that are refused, and the processor seconds that it takes."""
+    parts, _ = batches(found, crate)
+    refused, spent = [], 0.0
+    for part in parts:
+        good, used = refused_of(crate, part, tree)
+        refused, spent = refused + good, spent + used
+    for edit in [it for it in found if it not in refused]:
+        functions = changed_functions(edit, crate)
+        good, used = refused_of(crate, [(edit, functions)], tree) if functions else ([], 0.0)
+        refused, spent = refused + good, spent + used
+    return refused, spent
+
+
+def lanes_here():
+    """How many checks of edits run at once."""
+    number = os.environ.get("RT_JOBS", "")
+    return max(1, (int(number) if number.isdigit() else len(os.sched_getaffinity(0))) // 2)
+
+
+def run_proofs(began_with):
+    """Runs `rt ci` and prints what it says; calls what is given with each crate that it proves. Answers how many passed and failed."""
+    passed, failed = 0, 0
+    with subprocess.Popen(["rt", "ci"], cwd=TOP, stdout=subprocess.PIPE, stderr=subprocess.STDOUT, text=True, errors="replace") as started:
+        try:
+            for line in started.stdout:
+                print(line, end="", flush=True)
+                proved, ended = PROVED.match(line), ENDED.match(line)
+                passed, failed = (int(ended[1]), int(ended[2])) if ended else (0, 0)
+                if proved:
+                    began_with(proved[1])
+        finally:
+            started.terminate()
+    return passed, max(failed, 1) if started.returncode else failed
+
+
+def main():
+    signal.signal(signal.SIGTERM, lambda *_: sys.exit(1))
+    wanted = of_the_gate()
+    kept = Kept(wanted, False)
+    left = {name: [edit for edit in found if not kept.has(edit)] for name, found in wanted.items()}
+    tried, faults, refused, began = {}, [], 0, time.monotonic()
+    with tempfile.TemporaryDirectory(prefix="wrong-tree-") as tree, ThreadPoolExecutor(lanes_here()) as lanes:
+        def is_proved(name):
+            if os.path.isdir(os.path.join(TOP, "crates", name, LIBRARY)):
+                shutil.copytree(os.path.join(TOP, "crates", name, LIBRARY), f"{tree}/{name}")
+            if left.get(name):
+                tried[name] = lanes.submit(try_crate, name, left[name], tree)
+
+        passed, failed = run_proofs(is_proved)
+        print(f"== wrong bodies of the gate, {time.monotonic() - began:.0f} seconds after rt ci began", flush=True)
+        for name, found in wanted.items():
+            good, spent = tried[name].result() if name in tried else ([], 0.0)
+            for edit in good:
+                kept.keep(edit)
+            before = [edit for edit in found if edit not in left[name]]
+            bad = [edit for edit in found if edit not in good and edit not in before]
+            refused += len(good) + len(before)
+            faults += [f"{os.path.relpath(edit, TOP)}: {'not refused by the prover' if name in tried else 'not tried, since its crate is not proved'}" for edit in bad]
+            print(f"{name}: {len(good)} refused, {len(before)} were before, {len(bad)} not; {spent:.0f} processor seconds", flush=True)
+    for fault in faults:
+        print(f"FAIL {fault}")
+    passed, failed = passed + refused, failed + len(faults)
+    print(f"{passed} passed, {failed} failed")
+    return 1 if failed or not passed else 0
+
+
+if __name__ == "__main__":
+    sys.exit(main())
