@@ -17,7 +17,7 @@ export PREFIX DESTDIR
 install:
 	@install/install.sh $(program)
 
-# Everything: each proof from nothing, the edits that must fail, the tests, the folders of cases.
+# Everything: each proof from nothing, the wrong bodies of the gate, the tests, the folders of cases.
 test:
 	@tests/all.sh $(program)
 
@@ -46,7 +46,7 @@ works: build
 profile: build
 	bench/profile.py $(program)
 
-# Wrong bodies beside those of the gate, each of which the proofs must refuse; of one crate by CRATE=NAME.
+# All wrong bodies, each of which the proofs must refuse; of one crate by CRATE=NAME.
 wrong:
 	tests/wrong.py $(CRATE)
 

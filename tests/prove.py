@@ -63,8 +63,8 @@ def refused_of(crate, part, tree):
         return [edit for edit, found in part if status == 1 and refused_in(said, folder, found)], used
 
 
-def try_crate(crate, found, tree):
-    """Tries a crate's edits; answers those that are refused, and the processor seconds that it takes."""
+def try_crate(crate, found, tree, kept):
+    """Tries a crate's edits, and keeps which of them are refused; answers these, and the processor seconds that it takes."""
     parts, _ = batches(found, crate)
     refused, spent = [], 0.0
     for part in parts:
@@ -74,6 +74,8 @@ def try_crate(crate, found, tree):
         functions = changed_functions(edit, crate)
         good, used = refused_of(crate, [(edit, functions)], tree) if functions else ([], 0.0)
         refused, spent = refused + good, spent + used
+    for edit in refused:
+        kept.keep(edit)
     return refused, spent
 
 
@@ -94,8 +96,9 @@ def run_proofs(began_with):
                 passed, failed = (int(ended[1]), int(ended[2])) if ended else (0, 0)
                 if proved:
                     began_with(proved[1])
-        finally:
+        except BaseException:
             started.terminate()
+            raise
     return passed, max(failed, 1) if started.returncode else failed
 
 
@@ -110,14 +113,12 @@ def main():
             if os.path.isdir(os.path.join(TOP, "crates", name, LIBRARY)):
                 shutil.copytree(os.path.join(TOP, "crates", name, LIBRARY), f"{tree}/{name}")
             if left.get(name):
-                tried[name] = lanes.submit(try_crate, name, left[name], tree)
+                tried[name] = lanes.submit(try_crate, name, left[name], tree, kept)
 
         passed, failed = run_proofs(is_proved)
         print(f"== wrong bodies of the gate, {time.monotonic() - began:.0f} seconds after rt ci began", flush=True)
         for name, found in wanted.items():
             good, spent = tried[name].result() if name in tried else ([], 0.0)
-            for edit in good:
-                kept.keep(edit)
             before = [edit for edit in found if edit not in left[name]]
             bad = [edit for edit in found if edit not in good and edit not in before]
             refused += len(good) + len(before)

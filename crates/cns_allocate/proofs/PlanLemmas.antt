@@ -11,7 +11,7 @@ use Rattle.std.proofs.lemmas.List.Sums.{sum_by-append, sum_by-cons}
 use Rattle.std.proofs.lemmas.Map.Keys.{sorted_tail}
 use Rattle.std.proofs.lemmas.Map.Views.{All-after_first}
 use Rattle.cns_ids.proofs.ListLemmas.{All-filter_map, AllPairs-append_by, count-no, count-yes, count_by-filter_map, filter_map-filter, same_place}
-use Rattle.cns_netting.specs.History.{credit, credit_part, debit, due, settled_in, sold}
+use Rattle.cns_netting.specs.History.{credit, credit_part, debit, due, settled_credit, sold}
 use Rattle.cns_ids.specs.Holding.{holding_cmp}
 use Rattle.cns_netting.specs.Rows.{holdings_of, is_row_in, open_row, rows_of}
 use Rattle.cns_netting.specs.Book.{IsBook}
@@ -47,7 +47,7 @@ credit_part-difference c d = by (pos c -ℤ pos d) refl
 -- ---- longs that fit
 
 -- the longs of a book fit where settlements brought no member more than it sold
-pub covered_longs : (h : List NetEntry) → IsBook h → ((member issue : ℕ) → settled_in h member issue ≤ sold (due h) member issue) → LongsFit h
+pub covered_longs : (h : List NetEntry) → IsBook h → ((member issue : ℕ) → settled_credit h member issue ≤ sold (due h) member issue) → LongsFit h
 covered_longs h book covered = record { within = λ m i. omega (arith, bought-most None h m i book.quantities, book.few, covered m i) }
 
 -- so they fit while the bounds of the covers hold
@@ -55,16 +55,16 @@ pub bounded_longs : (h : List NetEntry) (orders : Orders) → IsBook h → AreBo
 bounded_longs h orders book bounded = covered_longs h book (λ m i. omega (arith, bounded.covered m i))
 
 -- without settlements nothing is settled in
-settled_in-none : (h : List NetEntry) (member issue : ℕ) → IsUnsettled h → settled_in h member issue ≡ 0
-unfolding settled_in
-settled_in-none [] member issue h = refl
-settled_in-none (Accepted t ∷ h) member issue none = settled_in-none h member issue none
-settled_in-none (Netted d ∷ h) member issue none = settled_in-none h member issue none
-settled_in-none (Settled m i z ∷ h) member issue none = absurd none
+settled_credit-none : (h : List NetEntry) (member issue : ℕ) → IsUnsettled h → settled_credit h member issue ≡ 0
+unfolding settled_credit
+settled_credit-none [] member issue h = refl
+settled_credit-none (Accepted t ∷ h) member issue none = settled_credit-none h member issue none
+settled_credit-none (Netted d ∷ h) member issue none = settled_credit-none h member issue none
+settled_credit-none (Settled m i z ∷ h) member issue none = absurd none
 
 -- and they fit where there is no settlement
 pub unsettled_longs : (h : List NetEntry) → IsBook h → IsUnsettled h → LongsFit h
-unsettled_longs h book none = covered_longs h book (λ m i. omega (arith, settled_in-none h m i none))
+unsettled_longs h book none = covered_longs h book (λ m i. omega (arith, settled_credit-none h m i none))
 
 -- all rows are long of at most 10^18 shares where all longs are
 pub rows_of-fit : (h : List NetEntry) → LongsFit h → All (λ (row : PositionRow). credit_part row.position ≤ 1000000000000000000) (rows_of h)

@@ -7,7 +7,7 @@ use Rattle.std.proofs.lemmas.List.Elements.{All-weaker}
 use Rattle.std.proofs.lemmas.List.Sums.{sum_by-cons, sum_by-le}
 use Rattle.cns_ids.proofs.ListLemmas.{sum_by-most, sum_by-plus}
 use Rattle.cns_trades.specs.declared.trade.Trade.{Trade}
-use Rattle.cns_netting.specs.History.{bought, due, settled_in, sold}
+use Rattle.cns_netting.specs.History.{bought, due, settled_credit, sold}
 use Rattle.cns_netting.specs.Book.{IsBook}
 use Rattle.cns_netting.specs.declared.entry.NetEntry.{NetEntry}
 use Rattle.cns_movements.specs.Book.{Orders}
@@ -66,7 +66,7 @@ bought_by_all (t ∷ trades) issue ps once =
 
 -- a plan asks for at most 10^18 shares in all, where settlements brought no member more than it sold
 pub plan_of-total : (issue : ℕ) (h : List NetEntry) (book : Orders) (settings : List Prioritized) (were_long : List ℕ)
-    → IsBook h → ((member issue : ℕ) → settled_in h member issue ≤ sold (due h) member issue)
+    → IsBook h → ((member issue : ℕ) → settled_credit h member issue ≤ sold (due h) member issue)
     → sum_by (λ (p : Planned). p.asked) (plan_of issue h book settings were_long) ≤ 1000000000000000000
 plan_of-total issue h book settings were_long fits covered =
     let planned : List Planned = wanting issue h book settings were_long in

@@ -2,7 +2,7 @@
 use Rattle.std.proofs.Common.{◌≡◌, ◌≤◌, ◌+◌, ℕ, List, [], ◌∷◌, Option, Some, None, Bool, refl, ◌∙◌, arith}
 use Rattle.std.specs.Prelude.{◌&&◌, ◌==◌, sum_by, if◌then◌else◌}
 use Rattle.std.proofs.lemmas.List.Sums.{sum_by-cons}
-use Rattle.cns_netting.specs.History.{bought, due, longs_of, settled_in, settled_out, shorts_of, sold}
+use Rattle.cns_netting.specs.History.{bought, due, longs_of, settled_credit, settled_debit, shorts_of, sold}
 use Rattle.cns_netting.specs.declared.entry.NetEntry.{NetEntry}
 use Rattle.cns_netting.proofs.BalanceLemmas.{AreMembers, IsUpTo, bought-members, longs_balance, part_of, parts_total, sold-members, total, total-same, upto_less}
 use Rattle.cns_movements.specs.Order.{moved_part, moved_sum, order_of, same_kind}
@@ -58,10 +58,10 @@ balanced c issue lawful fits =
     let b : Books = books_of c in
     let bounded = (lawful_bounded c lawful).bounded in
     let members = writable_members c fits in
-    let brought : total 9999 (λ m. settled_in b.history m issue) ≡ covered_of b.orders issue =
-    settled_total Cover b.orders.replies b.orders.orders issue (λ m. settled_in b.history m issue) (λ m. sold (due b.history) m issue) (λ m. (lawful_moved c m issue lawful).brought)
+    let brought : total 9999 (λ m. settled_credit b.history m issue) ≡ covered_of b.orders issue =
+    settled_total Cover b.orders.replies b.orders.orders issue (λ m. settled_credit b.history m issue) (λ m. sold (due b.history) m issue) (λ m. (lawful_moved c m issue lawful).brought)
     (λ m. omega (arith, bounded.covered m issue)) (sold-members 9999 issue b.history members) in
-    let took : total 9999 (λ m. settled_out b.history m issue) ≡ delivered_of b.orders issue =
-    settled_total Delivery b.orders.replies b.orders.orders issue (λ m. settled_out b.history m issue) (λ m. bought (due b.history) m issue) (λ m. (lawful_moved c m issue lawful).took)
+    let took : total 9999 (λ m. settled_debit b.history m issue) ≡ delivered_of b.orders issue =
+    settled_total Delivery b.orders.replies b.orders.orders issue (λ m. settled_debit b.history m issue) (λ m. bought (due b.history) m issue) (λ m. (lawful_moved c m issue lawful).took)
     (λ m. omega (arith, bounded.delivered m issue)) (bought-members 9999 issue b.history members) in
     omega (arith, longs_balance 9999 issue b.history members, brought, took)

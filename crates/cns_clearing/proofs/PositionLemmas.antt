@@ -4,7 +4,7 @@ use Rattle.std.specs.Prelude.{◌&&◌, ◌==◌, ◌||◌, nat_le}
 use Rattle.std.specs.List.{list_any}
 use Rattle.cns_ids.specs.declared.cycle.CycleId.{CycleId}
 use Rattle.cns_movements.specs.Book.{IsOrderBook, with_asks}
-use Rattle.cns_netting.specs.History.{due, due_since, is_reached, latest, position_of, settled_in, settled_out}
+use Rattle.cns_netting.specs.History.{due, due_since, is_reached, latest, position_of, settled_credit, settled_debit}
 use Rattle.cns_netting.specs.declared.entry.NetEntry.{NetEntry}
 use Rattle.cns_netting.proofs.TradeLemmas.{is_reached-latest}
 use Rattle.cns_movements.specs.Order.{is_of, moved_sum}
@@ -49,8 +49,8 @@ due_in_is c = due_alike None [] c (λ s. refl)
 
 -- the settlements are what confirmed orders moved
 pub record AreMoved (b : Books) (m i : ℕ) : Type 0 where
-  pub brought : settled_in b.history m i ≡ moved_sum b.orders.orders b.orders.replies Cover m i
-  pub took : settled_out b.history m i ≡ moved_sum b.orders.orders b.orders.replies Delivery m i
+  pub brought : settled_credit b.history m i ≡ moved_sum b.orders.orders b.orders.replies Cover m i
+  pub took : settled_debit b.history m i ≡ moved_sum b.orders.orders b.orders.replies Delivery m i
 
 -- new orders have moved nothing
 moved_ordered : (b : Books) (cycle : Option CycleId) (asks : List Ask) (kind : MoveKind) (m i : ℕ) → IsOrderBook b.orders
@@ -60,7 +60,7 @@ moved_ordered b cycle asks kind m i ordered = moved_with_asks (is_of kind m i) b
 
 -- it stays so with each record that may follow
 moved_more : (r : ClearRecord) (b : Books) (m i : ℕ) → IsOrderBook b.orders → Allows b r → AreMoved b m i → AreMoved (with_record r b) m i
-unfolding settled_in settled_out
+unfolding settled_credit settled_debit
 moved_more (Cycle id) b m i ordered allowed moved = record {
   brought = moved.brought ∙ sym (moved_ordered b (Some id) (covers_on b id.day) Cover m i ordered);
   took = moved.took ∙ sym (moved_ordered b (Some id) (covers_on b id.day) Delivery m i ordered);
@@ -84,7 +84,7 @@ moved_more _ b m i ordered allowed moved = record { brought = moved.brought; too
 
 -- so it is of lawful records
 pub lawful_moved : (c : List ClearRecord) (m i : ℕ) → IsLawful c → AreMoved (books_of c) m i
-unfolding books_of settled_in settled_out moved_sum
+unfolding books_of settled_credit settled_debit moved_sum
 lawful_moved [] m i lawful = record { brought = refl; took = refl }
 lawful_moved (r ∷ c) m i lawful = moved_more r (books_of c) m i (lawful_bounded c lawful.1).ordered lawful.0 (lawful_moved c m i lawful.1)
 

@@ -2,7 +2,7 @@
 use Rattle.std.proofs.Common.{◌≡◌, ℕ, ◌+◌, ◌-◌, ◌≤◌, Bool, true, false, List, [], ◌∷◌, ◌++◌, arith}
 use Rattle.std.specs.Prelude.{◌==◌, ◌&&◌, if◌then◌else◌}
 use Rattle.std.proofs.Math.Nat.{le_refl}
-use Rattle.cns_netting.specs.History.{bought, credit_part, debit_part, due, settled_in, settled_out, sold}
+use Rattle.cns_netting.specs.History.{bought, credit_part, debit_part, due, settled_credit, settled_debit, sold}
 use Rattle.cns_netting.specs.declared.entry.NetEntry.{NetEntry}
 use Rattle.cns_netting.specs.declared.entry.NetEntry.TheVariants.{Settled}
 use Rattle.cns_movements.specs.Book.{IsOrderBook, Orders, with_reply}
@@ -26,10 +26,10 @@ use Rattle.cns_clearing.proofs.PoolLemmas.{allocation_issue}
 -- a confirmation leaves a member wanting no less: a cover brings it shares, and a delivery takes no more than it asked for
 want_confirmed : (h : List NetEntry) (book : Orders) (r : Reply) (m i : ℕ) → IsOrderBook book → (taken : IsTaken book r)
     → want_in h book m i ≤ want_in (Settled taken.order.member taken.order.issue (amount_of taken.order.kind r.moved) ∷ h) (with_reply book r) m i
-unfolding settled_in settled_out
+unfolding settled_credit settled_debit
 want_confirmed h book r m i lawful taken =
     let o : Order = taken.order in
-    by o.kind ((o.member == m) && (o.issue == i)) (bought (due h) m i) (sold (due h) m i) (settled_in h m i) (settled_out h m i)
+    by o.kind ((o.member == m) && (o.issue == i)) (bought (due h) m i) (sold (due h) m i) (settled_credit h m i) (settled_debit h m i)
     (open_sum book.orders (r ∷ book.replies) Delivery m i) (open_sum book.orders book.replies Delivery m i)
     (open_sum-with_reply book.orders book.replies r o Delivery m i lawful.numbered taken.found taken.first)
   where
@@ -44,7 +44,7 @@ want_confirmed h book r m i lawful taken =
 -- a record that is neither a cycle nor an allocation of the issue leaves each member wanting no less
 want_more : (r : ClearRecord) (b : Books) (m i : ℕ) → IsOrderBook b.orders → Allows b r → IsQuiet i r
     → want_in b.history b.orders m i ≤ want_in (with_record r b).history (with_record r b).orders m i
-unfolding settled_in settled_out
+unfolding settled_credit settled_debit
 want_more (Cycle id) b m i ordered allowed quiet = absurd quiet
 want_more (Allocate a) b m i ordered allowed quiet =
     omega (arith, others_leave_open b.orders b.latest (deliveries_in a) Delivery m i a.issue ordered quiet (allocation_issue b a allowed))

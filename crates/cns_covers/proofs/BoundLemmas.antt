@@ -11,7 +11,7 @@ use Rattle.std.proofs.lemmas.List.Sums.{sum_by-cons}
 use Rattle.std.proofs.lemmas.Map.Keys.{sorted_tail}
 use Rattle.std.proofs.lemmas.Map.Views.{All-after_first}
 use Rattle.cns_trades.specs.declared.trade.Trade.{Trade}
-use Rattle.cns_netting.specs.History.{bought, credit, credit_part, debit, debit_part, due, due_since, is_reached, latest, position_of, settled_in, settled_out, sold}
+use Rattle.cns_netting.specs.History.{bought, credit, credit_part, debit, debit_part, due, due_since, is_reached, latest, position_of, settled_credit, settled_debit, sold}
 use Rattle.cns_ids.specs.Holding.{holding_cmp}
 use Rattle.cns_netting.specs.Rows.{holdings_of}
 use Rattle.cns_netting.specs.Book.{IsBook, IsWithin}
@@ -40,12 +40,12 @@ use Rattle.cns_covers.proofs.RowLemmas.{cover_ask}
 
 -- with no entry and no order there is nothing to bound
 pub bounded_empty : AreBounded [] (record { orders = []; replies = [] })
-unfolding settled_in settled_out open_sum bought sold
+unfolding settled_credit settled_debit open_sum bought sold
 bounded_empty = record { covered = λ m i. omega arith; delivered = λ m i. omega arith }
 
 -- a trade that is accepted is not yet due
 pub bounded_accepted : (h : List NetEntry) (book : Orders) (t : Trade) → AreBounded h book → AreBounded (Accepted t ∷ h) book
-unfolding settled_in settled_out
+unfolding settled_credit settled_debit
 bounded_accepted h book t bounded = record { covered = λ m i. bounded.covered m i; delivered = λ m i. bounded.delivered m i }
 
 -- a sum over the trades that are due grows as more of them are
@@ -145,7 +145,7 @@ covers_are_covers h book settings =
 -- deliveries took no more of its position than it bought
 pub bounded_cycle : (h : List NetEntry) (book : Orders) (settings : List Exempted) (cycle : Option CycleId) (day : ℕ) → IsOrderBook book → AreBounded h book
     → AreBounded (Netted day ∷ h) (with_asks book cycle (covers_of (Netted day ∷ h) book settings))
-unfolding settled_in settled_out
+unfolding settled_credit settled_debit
 bounded_cycle h book settings cycle day lawful bounded =
     let next : ℕ = length book.orders + 1 in
     let asks : List Ask = covers_of (Netted day ∷ h) book settings in
@@ -256,15 +256,15 @@ debit_moved Delivery here moved = ap (λ n. if here then n else 0) (all_debit mo
 pub bounded_confirmed : (h : List NetEntry) (book : Orders) (r : Reply) (o : Order) → IsOrderBook book → AreBounded h book
     → order_of book.orders r.number ≡ Some o → moved_of book.replies r.number ≡ None → r.moved ≤ o.asked
     → AreBounded (Settled o.member o.issue (amount_of o.kind r.moved) ∷ h) (with_reply book r)
-unfolding settled_in settled_out
+unfolding settled_credit settled_debit
 bounded_confirmed h book r o lawful bounded found first within = record {
   covered = λ m i.
-      by (is_of Cover m i o) (settled_in h m i) (open_sum book.orders (r ∷ book.replies) Cover m i) (open_sum book.orders book.replies Cover m i) (sold (due h) m i)
+      by (is_of Cover m i o) (settled_credit h m i) (open_sum book.orders (r ∷ book.replies) Cover m i) (open_sum book.orders book.replies Cover m i) (sold (due h) m i)
       (if (o.member == m) && (o.issue == i) then credit_part (amount_of o.kind r.moved) else 0)
       (credit_moved o.kind ((o.member == m) && (o.issue == i)) r.moved)
       (open_sum-with_reply book.orders book.replies r o Cover m i lawful.numbered found first) (bounded.covered m i);
   delivered = λ m i.
-      by (is_of Delivery m i o) (settled_out h m i) (open_sum book.orders (r ∷ book.replies) Delivery m i) (open_sum book.orders book.replies Delivery m i) (bought (due h) m i)
+      by (is_of Delivery m i o) (settled_debit h m i) (open_sum book.orders (r ∷ book.replies) Delivery m i) (open_sum book.orders book.replies Delivery m i) (bought (due h) m i)
       (if (o.member == m) && (o.issue == i) then debit_part (amount_of o.kind r.moved) else 0)
       (debit_moved o.kind ((o.member == m) && (o.issue == i)) r.moved)
       (open_sum-with_reply book.orders book.replies r o Delivery m i lawful.numbered found first) (bounded.delivered m i);
@@ -283,11 +283,11 @@ bought_most : (h : List NetEntry) (m i : ℕ) → IsBook h → bought (due h) m 
 bought_most h m i book = omega (arith, bought-most None h m i book.quantities, book.few)
 
 -- settlements brought no member more than it sold in due trades
-pub settled_most : (h : List NetEntry) (book : Orders) → AreBounded h book → (m i : ℕ) → settled_in h m i ≤ sold (due h) m i
+pub settled_most : (h : List NetEntry) (book : Orders) → AreBounded h book → (m i : ℕ) → settled_credit h m i ≤ sold (due h) m i
 settled_most h book bounded m i = omega (arith, bounded.covered m i)
 
 pub bounded_shorts_netted : (h : List NetEntry) (book : Orders) (day : ℕ) → IsBook h → AreBounded h book → ShortsFit (Netted day ∷ h)
-unfolding settled_in settled_out
+unfolding settled_credit settled_debit
 bounded_shorts_netted h book day fits bounded =
     record { within = λ m i. omega (arith, sold_most (Netted day ∷ h) m i (book_netted h day fits), bounded.delivered m i, bought-grows h day m i) }
 
@@ -311,7 +311,7 @@ moved_sides c d (negsuc n) w = record { low = omega (arith, ints, w.low); high =
 pub confirmed_within : (h : List NetEntry) (book : Orders) (r : Reply) (o : Order) → IsOrderBook book → AreBounded h book
     → order_of book.orders r.number ≡ Some o → moved_of book.replies r.number ≡ None → r.moved ≤ o.asked → IsBook h
     → IsWithin (position_of h o.member o.issue +ℤ amount_of o.kind r.moved)
-unfolding settled_in settled_out
+unfolding settled_credit settled_debit
 confirmed_within h book r o lawful bounded found first within fits =
     let z : ℤ = amount_of o.kind r.moved in
     let m : ℕ = o.member in
@@ -331,7 +331,7 @@ pub position_bounds : (h : List NetEntry) (book : Orders) (m i : ℕ) → AreBou
     → (neg_ℤ (pos (sold (due h) m i)) ≤ℤ (position_of h m i -ℤ pos (open_sum book.orders book.replies Delivery m i)))
     × ((position_of h m i +ℤ pos (open_sum book.orders book.replies Cover m i)) ≤ℤ pos (bought (due h) m i))
 position_bounds h book m i bounded =
-    by (bought (due h) m i) (settled_in h m i) (sold (due h) m i) (settled_out h m i)
+    by (bought (due h) m i) (settled_credit h m i) (sold (due h) m i) (settled_debit h m i)
     (open_sum book.orders book.replies Cover m i) (open_sum book.orders book.replies Delivery m i) (bounded.covered m i) (bounded.delivered m i)
   where
     by : (b come s gone more less : ℕ) → come + more ≤ s → gone + less ≤ b

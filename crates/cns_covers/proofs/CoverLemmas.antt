@@ -5,7 +5,7 @@ use Rattle.std.specs.List.{filter_map, cons_option}
 use Rattle.std.proofs.lemmas.Bool.{eqb-true}
 use Rattle.std.proofs.lemmas.Int.{ints}
 use Rattle.std.proofs.lemmas.List.Sums.{sum_by-cons}
-use Rattle.cns_netting.specs.History.{accepted, credit, debit, debit_part, position_of, settled_out}
+use Rattle.cns_netting.specs.History.{accepted, credit, debit, debit_part, position_of, settled_debit}
 use Rattle.cns_netting.specs.Rows.{holdings_of, open_row, rows_of}
 use Rattle.cns_netting.specs.Book.{QuantitiesFit}
 use Rattle.cns_netting.specs.declared.entry.NetEntry.{NetEntry}
@@ -78,17 +78,17 @@ rows_of-fit h fit =
     (λ k. rw (debit_part-difference (credit h k.member k.issue) (debit h k.member k.issue)) (fit.within k.member k.issue))
 
 -- without settlements nothing is settled away
-settled_out-none : (h : List NetEntry) (member issue : ℕ) → IsUnsettled h → settled_out h member issue ≡ 0
-unfolding settled_out
-settled_out-none [] member issue h = refl
-settled_out-none (Accepted t ∷ h) member issue none = settled_out-none h member issue none
-settled_out-none (Netted d ∷ h) member issue none = settled_out-none h member issue none
-settled_out-none (Settled m i z ∷ h) member issue none = absurd none
+settled_debit-none : (h : List NetEntry) (member issue : ℕ) → IsUnsettled h → settled_debit h member issue ≡ 0
+unfolding settled_debit
+settled_debit-none [] member issue h = refl
+settled_debit-none (Accepted t ∷ h) member issue none = settled_debit-none h member issue none
+settled_debit-none (Netted d ∷ h) member issue none = settled_debit-none h member issue none
+settled_debit-none (Settled m i z ∷ h) member issue none = absurd none
 
 -- at most a million trades of at most 999,999,999,999 shares each leave no short above 10^18
 pub shorts_fit : (h : List NetEntry) → length (accepted h) ≤ 1000000 → QuantitiesFit h → IsUnsettled h → ShortsFit h
 shorts_fit h few quantities none = record {
-  within = λ member issue. omega (arith, sold-most None h member issue quantities, settled_out-none h member issue none, few);
+  within = λ member issue. omega (arith, sold-most None h member issue quantities, settled_debit-none h member issue none, few);
 }
 
 -- the same as after a netting

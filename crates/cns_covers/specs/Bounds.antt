@@ -1,6 +1,6 @@
 -- What holds of each history and the movements ordered for it, and keeps its positions small.
 use Rattle.std.specs.Prelude.{◌≡◌, ℕ, ◌+◌, ◌-◌, ◌≤◌, ◌==◌, ℤ, pos, neg_ℤ, List, All, count_by}
-use Rattle.cns_netting.specs.History.{bought, credit, debit, due, settled_in, settled_out, sold}
+use Rattle.cns_netting.specs.History.{bought, credit, debit, due, settled_credit, settled_debit, sold}
 use Rattle.cns_netting.specs.declared.entry.NetEntry.{NetEntry}
 use Rattle.cns_movements.specs.Order.{open_sum}
 use Rattle.cns_movements.specs.Book.{Orders}
@@ -19,8 +19,8 @@ want_in h book member issue = (credit h member issue - debit h member issue) - o
 -- what covers brought a member and still may bring is at most what it sold in due trades; what deliveries took of its position
 -- and still may take is at most what it bought
 pub record AreBounded (h : List NetEntry) (book : Orders) : Type 0 where
-  pub covered : (member issue : ℕ) → settled_in h member issue + open_sum book.orders book.replies Cover member issue ≤ sold (due h) member issue
-  pub delivered : (member issue : ℕ) → settled_out h member issue + open_sum book.orders book.replies Delivery member issue ≤ bought (due h) member issue
+  pub covered : (member issue : ℕ) → settled_credit h member issue + open_sum book.orders book.replies Cover member issue ≤ sold (due h) member issue
+  pub delivered : (member issue : ℕ) → settled_debit h member issue + open_sum book.orders book.replies Delivery member issue ≤ bought (due h) member issue
 
 -- these asks are deliveries of the issue to members that are long, each member once, none above what it wants
 pub record AreDeliverable (h : List NetEntry) (book : Orders) (issue : ℕ) (asks : List Ask) : Type 0 where

@@ -11,9 +11,9 @@ use std::fmt;
 /// Which way the shares of a movement go. (This project's own rule.)
 #[derive(Clone, Copy, PartialEq, Eq, Debug)]
 pub enum MoveKind {
-    /// From the member to account 0.
+    /// From the member to account 0: a short delivers to the CNS account.
     Cover,
-    /// From account 0 to the member.
+    /// From account 0 to the member: a long receives from the CNS account.
     Delivery,
 }
 

@@ -5,7 +5,7 @@ use Rattle.std.proofs.lemmas.Bool.{cases_eq, cases_lt, eq-eqb, ne_eqb}
 use Rattle.std.proofs.lemmas.List.Sums.{sum_by-cons}
 use Rattle.cns_ids.proofs.ListLemmas.{either-sum, either_none}
 use Rattle.cns_trades.specs.declared.trade.Trade.{Trade}
-use Rattle.cns_netting.specs.History.{bought, credit, debit, due, due_since, is_reached, latest, long_up_to, settled_in, settled_out, short_up_to, sold}
+use Rattle.cns_netting.specs.History.{bought, credit, debit, due, due_since, is_reached, latest, long_up_to, settled_credit, settled_debit, short_up_to, sold}
 use Rattle.cns_netting.specs.declared.entry.NetEntry.{NetEntry}
 use Rattle.cns_netting.specs.declared.entry.NetEntry.TheVariants.{Accepted, Netted, Settled}
 use Rattle.cns_netting.specs.Positions.{bought_by, sold_by}
@@ -176,12 +176,12 @@ longs-shorts (suc n) i h = omega (arith, longs-shorts n i h)
 
 -- in each issue longs and what settlements took are shorts and what settlements brought
 pub longs_balance : (n i : ℕ) (h : List NetEntry) → AreMembers n h
-    → long_up_to n h i + total n (λ m. settled_out h m i) ≡ short_up_to n h i + total n (λ m. settled_in h m i)
+    → long_up_to n h i + total n (λ m. settled_debit h m i) ≡ short_up_to n h i + total n (λ m. settled_credit h m i)
 longs_balance n i h members =
     omega (
       arith,
       longs-shorts n i h,
-      total-plus n (λ m. bought (due h) m i) (λ m. settled_in h m i) (λ m. credit h m i) (λ k. refl),
-      total-plus n (λ m. sold (due h) m i) (λ m. settled_out h m i) (λ m. debit h m i) (λ k. refl),
+      total-plus n (λ m. bought (due h) m i) (λ m. settled_credit h m i) (λ m. credit h m i) (λ k. refl),
+      total-plus n (λ m. sold (due h) m i) (λ m. settled_debit h m i) (λ m. debit h m i) (λ k. refl),
       bought-sold n i h members,
     )

@@ -4,7 +4,7 @@ use Rattle.std.specs.Prelude.{◌&&◌, ◌==◌, ℤ, pos, negsuc, ◌-ℤ◌, 
 use Rattle.std.proofs.lemmas.Int.{ints}
 use Rattle.cns_ids.proofs.ListLemmas.{at_most, same_place}
 use Rattle.cns_trades.specs.declared.trade.Trade.{Trade}
-use Rattle.cns_netting.specs.History.{accepted, bought, credit, credit_part, debit, debit_part, due_since, position_of, settled_in, settled_out, sold}
+use Rattle.cns_netting.specs.History.{accepted, bought, credit, credit_part, debit, debit_part, due_since, position_of, settled_credit, settled_debit, sold}
 use Rattle.cns_netting.specs.Positions.{bought_by, sold_by}
 use Rattle.cns_netting.specs.Undue.{waiting_of, undue}
 use Rattle.cns_netting.specs.Book.{AmountsFit, IsBook, AreSettlementsBounded, IsWithin, QuantitiesFit}
@@ -28,11 +28,11 @@ unfolding sold
 sold-most reached h m i fit = omega (arith, accepted-most (λ t. sold_by m i (waiting_of t)) (sold_by-most m i) reached h fit)
 
 pub book_empty : IsBook []
-unfolding QuantitiesFit AmountsFit settled_in settled_out
+unfolding QuantitiesFit AmountsFit settled_credit settled_debit
 book_empty = record { few = omega arith; quantities = tt; amounts = tt; settled = λ m i. record { in_most = omega arith; out_most = omega arith } }
 
 pub book_accepted : (h : List NetEntry) (t : Trade) → IsBook h → length (accepted h) < 1000000 → t.quantity ≤ 999999999999 → IsBook (Accepted t ∷ h)
-unfolding QuantitiesFit AmountsFit settled_in settled_out
+unfolding QuantitiesFit AmountsFit settled_credit settled_debit
 book_accepted h t book few fits = record {
   few = omega (arith, few, length-append (accepted h) (t ∷ []));
   quantities = (fits, book.quantities);
@@ -41,7 +41,7 @@ book_accepted h t book few fits = record {
 }
 
 pub book_netted : (h : List NetEntry) (d : ℕ) → IsBook h → IsBook (Netted d ∷ h)
-unfolding QuantitiesFit AmountsFit settled_in settled_out
+unfolding QuantitiesFit AmountsFit settled_credit settled_debit
 book_netted h d book = record {
   few = book.few;
   quantities = book.quantities;
@@ -72,7 +72,7 @@ parts_fit c d (negsuc n) a b = (omega arith, omega (arith, a.above, b.below))
 
 -- a settlement that leaves the position within 10^18 of 0
 pub book_settled : (h : List NetEntry) (m i : ℕ) (z : ℤ) → IsBook h → IsWithin (position_of h m i) → IsWithin (position_of h m i +ℤ z) → IsBook (Settled m i z ∷ h)
-unfolding QuantitiesFit AmountsFit settled_in settled_out
+unfolding QuantitiesFit AmountsFit settled_credit settled_debit
 book_settled h m i z book before after =
     let was = sides_near (credit h m i) (debit h m i) before in
     let is = moved_near (credit h m i) (debit h m i) z after in
@@ -90,7 +90,7 @@ book_settled h m i z book before after =
           });
     }
   where
-    by : (k j : ℕ) (b : Bool) → ((m == k) && (i == j)) ≡ b → AreSettled (credit_part z + settled_in h m i) (debit_part z + settled_out h m i)
+    by : (k j : ℕ) (b : Bool) → ((m == k) && (i == j)) ≡ b → AreSettled (credit_part z + settled_credit h m i) (debit_part z + settled_debit h m i)
         → AreSettlementsBounded (Settled m i z ∷ h) k j
     by k j true e s =
         let same = same_place m k i j e in

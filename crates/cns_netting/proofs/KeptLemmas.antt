@@ -10,7 +10,7 @@ use Rattle.std.proofs.lemmas.List.Sorted.{All-permutation, sum_by_pushed}
 use Rattle.std.proofs.lemmas.List.Sums.{sum_by-cons}
 use Rattle.cns_trades.specs.declared.trade.Trade.{Trade}
 use Rattle.cns_netting.specs.Book.{IsBook, IsKeptBook, IsWithin}
-use Rattle.cns_netting.specs.History.{becoming_due, bought, credit_part, debit_part, due, longs_of, position_of, settled_in, settled_out, shorts_of, sold}
+use Rattle.cns_netting.specs.History.{becoming_due, bought, credit_part, debit_part, due, longs_of, position_of, settled_credit, settled_debit, shorts_of, sold}
 use Rattle.cns_netting.specs.Rows.{holdings_of, rows_of}
 use Rattle.cns_netting.specs.Positions.{Adds, ArePositionsOf, bought_by, bought_in, brought_due, credit_among, debit_among, IsNamed, no_shares, shares_only_at, sold_by, sold_in, StayNear, taken_due}
 use Rattle.cns_netting.specs.Totals.{AreTotalsOf, HasIssue, KeepIssues, longs_in, shorts_in}
@@ -40,7 +40,7 @@ near_by day waiting near = record {
 
 module _ {T : Type 0} where
   pub kept_empty : (totals : HashMap ℕ Totals T) (waiting : List Undue) → totals.entries ≡ [] → waiting ≡ [] → IsHeap earlier waiting → IsKeptBook [] [] totals waiting
-  unfolding bought sold settled_in settled_out
+  unfolding bought sold settled_credit settled_debit
   kept_empty totals waiting uncounted empty heap = record {
     book = book_empty;
     positions = record { balance = λ m i. refl };
@@ -73,7 +73,7 @@ module _ {T : Type 0} {h : List NetEntry} {old : List (Holding × Position)} {to
   pub kept_accepted : (t : Trade) {new : List (Holding × Position)} {next : HashMap ℕ Totals T} {queue : List Undue} → IsBook (Accepted t ∷ h) → Adds no_shares no_shares old new
       → ((i : ℕ) → longs_in next i ≡ longs_in totals i) → ((i : ℕ) → shorts_in next i ≡ shorts_in totals i) → KeepIssues totals next
       → IsNamed new (waiting_of t) → HasIssue next (waiting_of t) → IsPermutation (waiting_of t ∷ waiting) queue → IsHeap earlier queue → IsKeptBook (Accepted t ∷ h) new next queue
-  unfolding settled_in settled_out
+  unfolding settled_credit settled_debit
   kept_accepted t {new} {next} {queue} book adds longs shorts keep named issue perm heap = record {
     book = book;
     positions = record { balance = λ m i. omega (arith, adds.balance m i, kept.positions.balance m i) };
@@ -87,7 +87,7 @@ module _ {T : Type 0} {h : List NetEntry} {old : List (Holding × Position)} {to
   pub kept_settled : (member issue : ℕ) (z : ℤ) {new : List (Holding × Position)} {next : HashMap ℕ Totals T} → IsBook (Settled member issue z ∷ h)
       → Adds (shares_only_at member issue (credit_part z)) (shares_only_at member issue (debit_part z)) old new → AreTotalsOf next new → KeepIssues totals next
       → IsKeptBook (Settled member issue z ∷ h) new next waiting
-  unfolding settled_in settled_out
+  unfolding settled_credit settled_debit
   kept_settled member issue z {new} {next} book adds are keep = record {
     book = book;
     positions = record { balance = λ m i. omega (arith, adds.balance m i, kept.positions.balance m i) };
@@ -105,7 +105,7 @@ module _ {T : Type 0} {h : List NetEntry} {old : List (Holding × Position)} {to
   -- the positions as after a netting of a day
   pub positions_netted : {g : List NetEntry} → h ≡ g → {day : ℕ} {new : List (Holding × Position)} → Adds (brought_due Add day waiting) (taken_due Add day waiting) old new
       → ArePositionsOf new (Netted day ∷ g)
-  unfolding bought sold settled_in settled_out
+  unfolding bought sold settled_credit settled_debit
   positions_netted same {day} {new} adds = subst (λ l. ArePositionsOf new (Netted day ∷ l)) same (record {
     balance = λ m i. omega (arith, adds.balance m i, kept.positions.balance m i, due_then day (bought_by m i), due_then day (sold_by m i));
   })
@@ -132,7 +132,7 @@ module _ {T : Type 0} {h : List NetEntry} {old : List (Holding × Position)} {to
 
   -- nothing stands otherwise where all trades that wait settle later than the day of a netting
   pub rows_netted : {g : List NetEntry} → h ≡ g → {day : ℕ} → All (λ (t : Undue). day < t.settle) waiting → rows_of g ≡ rows_of (Netted day ∷ g)
-  unfolding bought sold settled_in settled_out holdings_of
+  unfolding bought sold settled_credit settled_debit holdings_of
   rows_netted same {day} later = subst (λ l. rows_of l ≡ rows_of (Netted day ∷ l)) same
       (same_positions h (Netted day ∷ h) (holdings_of h) (λ m i. omega (arith, none (bought_by m i))) (λ m i. omega (arith, none (sold_by m i))))
     where

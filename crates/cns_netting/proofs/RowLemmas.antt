@@ -9,7 +9,7 @@ use Rattle.std.proofs.lemmas.Bool.{eq-eqb, or_parts}
 use Rattle.std.proofs.lemmas.List.Sums.{sum_by-cons}
 use Rattle.std.proofs.lemmas.Map.Made.{is_some-lookup}
 use Rattle.std.proofs.lemmas.Map.Keys.{IsDistinct-from_apart, Less-from_sorted}
-use Rattle.cns_netting.specs.History.{bought, credit, credit_part, debit, debit_part, due_since, is_reached, latest, position_of, settled_in, settled_out, sold}
+use Rattle.cns_netting.specs.History.{bought, credit, credit_part, debit, debit_part, due_since, is_reached, latest, position_of, settled_credit, settled_debit, sold}
 use Rattle.cns_ids.specs.Holding.{holding_at, holding_cmp, holding_eq}
 use Rattle.cns_netting.specs.Rows.{holdings_of, is_row_in, open_row, rows_of}
 use Rattle.cns_netting.specs.Positions.{AreInOrder, ArePositionsOf, holding_of, in_issue, position_found, row_by, row_if, row_part, rows_if}
@@ -40,23 +40,23 @@ not_here q i m n e = grind (arith, nat_tests)
 pub record IsBare (reached : Option ℕ) (h : List NetEntry) (q : Holding) : Type 0 where
   pub bought : bought (due_since reached h) q.member q.issue ≡ 0
   pub sold : sold (due_since reached h) q.member q.issue ≡ 0
-  pub settled_in : settled_in h q.member q.issue ≡ 0
-  pub settled_out : settled_out h q.member q.issue ≡ 0
+  pub settled_credit : settled_credit h q.member q.issue ≡ 0
+  pub settled_debit : settled_debit h q.member q.issue ≡ 0
 
 bare : (reached : Option ℕ) (h : List NetEntry) (q : Holding) → list_any (holding_eq q) (holdings_of h) ≡ false → IsBare reached h q
-unfolding holdings_of settled_in settled_out bought sold
-bare reached [] q none = record { bought = refl; sold = refl; settled_in = refl; settled_out = refl }
+unfolding holdings_of settled_credit settled_debit bought sold
+bare reached [] q none = record { bought = refl; sold = refl; settled_credit = refl; settled_debit = refl }
 bare reached (Netted d ∷ h) q none =
     let rest = bare (latest reached d) h q none in
-    record { bought = rest.bought; sold = rest.sold; settled_in = rest.settled_in; settled_out = rest.settled_out }
+    record { bought = rest.bought; sold = rest.sold; settled_credit = rest.settled_credit; settled_debit = rest.settled_debit }
 bare reached (Settled m i z ∷ h) q none =
     let apart = or_parts _ _ (sym (there-inserted q (holding_at i m) (holdings_of h)) ∙ none) in
     let rest = bare reached h q apart.1 in
     record {
       bought = rest.bought;
       sold = rest.sold;
-      settled_in = omega (arith, not_here q i m (credit_part z) apart.0, rest.settled_in);
-      settled_out = omega (arith, not_here q i m (debit_part z) apart.0, rest.settled_out);
+      settled_credit = omega (arith, not_here q i m (credit_part z) apart.0, rest.settled_credit);
+      settled_debit = omega (arith, not_here q i m (debit_part z) apart.0, rest.settled_debit);
     }
 bare reached (Accepted t ∷ h) q none =
     let with_buyer = insert_key holding_cmp (holdings_of h) (holding_at t.issue t.buyer) in
@@ -66,8 +66,8 @@ bare reached (Accepted t ∷ h) q none =
     record {
       bought = omega (arith, bought-due (is_reached reached t.settle) t (due_since reached h) q.member q.issue, rest.bought, either_none (is_reached reached t.settle) (if (t.buyer == q.member) && (t.issue == q.issue) then t.quantity else 0) (not_here q t.issue t.buyer t.quantity buyer.0));
       sold = omega (arith, sold-due (is_reached reached t.settle) t (due_since reached h) q.member q.issue, rest.sold, either_none (is_reached reached t.settle) (if (t.seller == q.member) && (t.issue == q.issue) then t.quantity else 0) (not_here q t.issue t.seller t.quantity seller.0));
-      settled_in = rest.settled_in;
-      settled_out = rest.settled_out;
+      settled_credit = rest.settled_credit;
+      settled_debit = rest.settled_debit;
     }
 
 -- a holding that is not named has no row
@@ -76,7 +76,7 @@ unfolding open_row
 no_row h q none =
     let nothing = bare None h q none in
     let same : (credit h q.member q.issue == debit h q.member q.issue) ≡ true =
-    eq-eqb (credit h q.member q.issue) (debit h q.member q.issue) (omega (arith, nothing.bought, nothing.sold, nothing.settled_in, nothing.settled_out)) in
+    eq-eqb (credit h q.member q.issue) (debit h q.member q.issue) (omega (arith, nothing.bought, nothing.sold, nothing.settled_credit, nothing.settled_debit)) in
     Prim.rw same refl
 
 -- ---- the rows of holdings

@@ -2,7 +2,7 @@
 use Rattle.std.specs.Prelude.{◌≡◌, ℕ, ◌+◌, ◌≤◌, ◌&&◌, nat_le, List, [], ◌∷◌, All, length, ℤ, pos, neg_ℤ, ◌≤ℤ◌, sum_by, if◌then◌else◌}
 use Rattle.std.specs.BinaryHeap.{IsHeap}
 use Rattle.std.specs.HashMap.{HashMap}
-use Rattle.cns_netting.specs.History.{accepted, credit_part, debit_part, settled_in, settled_out}
+use Rattle.cns_netting.specs.History.{accepted, credit_part, debit_part, settled_credit, settled_debit}
 use Rattle.cns_netting.specs.Positions.{ArePositionsOf, IsNamed}
 use Rattle.cns_netting.specs.Totals.{AreTotalsOf, HasIssue}
 use Rattle.cns_netting.specs.Undue.{earlier, waiting_of, undue}
@@ -39,8 +39,8 @@ AmountsFit (Settled m i z ∷ h) = (credit_part z ≤ 2000000000000000000) × (d
 
 -- the settlements of a member in an issue come to at most 2 * 10^18 either way
 pub record AreSettlementsBounded (h : List NetEntry) (member issue : ℕ) : Type 0 where
-  pub in_most : settled_in h member issue ≤ settled_out h member issue + 2000000000000000000
-  pub out_most : settled_out h member issue ≤ settled_in h member issue + 2000000000000000000
+  pub in_most : settled_credit h member issue ≤ settled_debit h member issue + 2000000000000000000
+  pub out_most : settled_debit h member issue ≤ settled_credit h member issue + 2000000000000000000
 
 -- at most a million trades, their quantities in range, and settlements that leave each position within 10^18 of 0
 pub record IsBook (h : List NetEntry) : Type 0 where

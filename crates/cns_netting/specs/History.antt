@@ -37,31 +37,32 @@ bought trades member issue = sum_by (λ (t : Trade). if (t.buyer == member) && (
 unfoldable pub sold : List Trade → ℕ → ℕ → ℕ
 sold trades member issue = sum_by (λ (t : Trade). if (t.seller == member) && (t.issue == issue) then t.quantity else 0) trades
 
--- a settled amount as shares that came, and as shares that went
+-- what a settled amount credits to a position, and what it debits from it
 abbrev pub credit_part : ℤ → ℕ
 credit_part amount = elim amount [ pos n ↦ n | negsuc n ↦ 0 ]
 
 abbrev pub debit_part : ℤ → ℕ
 debit_part amount = elim amount [ pos n ↦ 0 | negsuc n ↦ suc n ]
 
--- the shares that settlements brought a member in an issue, and that they took from it
-unfoldable pub settled_in : List NetEntry → ℕ → ℕ → ℕ
-settled_in [] member issue = 0
-settled_in (Settled m i z ∷ h) member issue = (if (m == member) && (i == issue) then credit_part z else 0) + settled_in h member issue
-settled_in (_ ∷ h) member issue = settled_in h member issue
+-- the shares that settlements credit to a member's position in an issue, which it delivered by confirmed covers; and those that they debit from it,
+-- which it received by confirmed deliveries
+unfoldable pub settled_credit : List NetEntry → ℕ → ℕ → ℕ
+settled_credit [] member issue = 0
+settled_credit (Settled m i z ∷ h) member issue = (if (m == member) && (i == issue) then credit_part z else 0) + settled_credit h member issue
+settled_credit (_ ∷ h) member issue = settled_credit h member issue
 
-unfoldable pub settled_out : List NetEntry → ℕ → ℕ → ℕ
-settled_out [] member issue = 0
-settled_out (Settled m i z ∷ h) member issue = (if (m == member) && (i == issue) then debit_part z else 0) + settled_out h member issue
-settled_out (_ ∷ h) member issue = settled_out h member issue
+unfoldable pub settled_debit : List NetEntry → ℕ → ℕ → ℕ
+settled_debit [] member issue = 0
+settled_debit (Settled m i z ∷ h) member issue = (if (m == member) && (i == issue) then debit_part z else 0) + settled_debit h member issue
+settled_debit (_ ∷ h) member issue = settled_debit h member issue
 
--- the shares that stand for a member in an issue: bought by due trades, or brought by settlements
+-- the shares that stand for a member in an issue: bought by due trades, or credited by settlements
 abbrev pub credit : List NetEntry → ℕ → ℕ → ℕ
-credit h member issue = bought (due h) member issue + settled_in h member issue
+credit h member issue = bought (due h) member issue + settled_credit h member issue
 
--- the shares that stand against it
+-- the shares that stand against it: sold by due trades, or debited by settlements
 abbrev pub debit : List NetEntry → ℕ → ℕ → ℕ
-debit h member issue = sold (due h) member issue + settled_out h member issue
+debit h member issue = sold (due h) member issue + settled_debit h member issue
 
 -- a member's position in an issue: above 0 it is to receive, below 0 to deliver
 abbrev pub position_of : List NetEntry → ℕ → ℕ → ℤ

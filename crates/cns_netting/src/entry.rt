@@ -8,7 +8,8 @@ pub enum NetEntry {
     Accepted(Trade),
     /// A netting of this date: it makes the trades due that settle by then.
     Netted(Day),
-    /// Shares that came to a member, or where negative went from it, by a confirmed movement.
+    /// What a confirmed movement books to a member's position: above 0 the shares that the member
+    /// delivered by a cover, a credit; below 0 those that it received by a delivery, a debit.
     Settled {
         member: MemberNo,
         issue: Cusip,

@@ -37,7 +37,8 @@ pub enum Refusal {
     /// The lot is being served by another command.
     #[error("the lot is being served")]
     LotBusy,
-    /// The member is not in the lot's plan, or it has its ticket.
+    /// The member does not wait for a ticket of the lot: it is not in the lot's plan, as it is not long or its
+    /// open deliveries ask for all that it is to receive, or it has its ticket.
     #[error("the member is not to receive shares of the lot")]
     NotLong,
     /// A member of an earlier group of the lot's plan has no ticket yet.
@@ -77,7 +78,7 @@ pub enum Refusal {
     /// The journal's payload in this place, counted from 1, is the first bad one.
     #[error("record {place} of the journal is bad")]
     BadJournal { place: u64 },
-    /// There is no memory. Nothing has changed, but that a node whose restart met it is down, and that
+    /// There is no memory, or the journal is full. Nothing has changed, but that a node whose restart met it is down, and that
     /// the clearing node's lots have then ended.
     #[error("out of memory")]
     OutOfMemory,

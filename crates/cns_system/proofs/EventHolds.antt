@@ -19,7 +19,7 @@ use Rattle.cns_records.specs.declared.dep_record.DepRecord.TheVariants as dep
 use Rattle.cns_records.specs.declared.instruction.Instruction.{Instruction}
 use Rattle.cns_records.specs.declared.refusal.Refusal.{Refusal}
 use Rattle.cns_records.specs.declared.refusal.Refusal.TheVariants as refusal
-use Rattle.cns_clearing.specs.Answers.{need_up, open_call, pour_call, reply_call}
+use Rattle.cns_clearing.specs.Answers.{need_up, open_call, order_call, pour_call, reply_call}
 use Rattle.cns_clearing.specs.Books.{order_book_of}
 use Rattle.cns_clearing.specs.Lots.{lots_poured, new_lot}
 use Rattle.cns_clearing.specs.Pools.{free_of, lot_of}
@@ -153,11 +153,17 @@ module _ (P : Outcome → Shown → Type 0) (d : Decision) (w : Shown) where
   pub send_holds : (number : ℕ)
       → ((packet : ℕ) (o : Order) → order_of (order_book_of w.clear.records).orders number ≡ Some o → P (outcomes.Sent packet) (record w { order_packets = w.order_packets ++ Some o ∷ [] }))
       → Holding (judged (event.Send number) w)
-  unfolding judged
-  send_holds number sends =
-      let order : Option Order = order_of (order_book_of w.clear.records).orders number in
-      let put : Order → Result Change Refusal = λ o. Ok (Grows (outcomes.Sent (length w.order_packets + 1)) (record w { order_packets = w.order_packets ++ Some o ∷ [] })) in
-      ok_up (Holds P d w) w.clear.down (ok_or order refusal.UnknownMove >>= put) (λ up. ok_found (Holds P d w) order refusal.UnknownMove put (λ o found. sends (length w.order_packets + 1) o found))
+  unfolding judged order_call
+  send_holds number sends = by w.clear.down (order_of (order_book_of w.clear.records).orders number) refl
+    where
+      put : Order → Result Change Refusal
+      put o = Ok (Grows (outcomes.Sent (length w.order_packets + 1)) (record w { order_packets = w.order_packets ++ Some o ∷ [] }))
+
+      by : (down : Bool) (order : Option Order) → order_of (order_book_of w.clear.records).orders number ≡ order
+          → Holding ((need_up down >> ok_or order refusal.UnknownMove) >>= put)
+      by true order found = tt
+      by false None found = tt
+      by false (Some o) found = sends (length w.order_packets + 1) o found
 
   -- an order that arrives was executed before; or it is executed, or the commit fails at the device
   pub order_holds : (packet : ℕ)

@@ -23,7 +23,7 @@ use Rattle.cns_records.specs.declared.dep_record.DepRecord.{DepRecord}
 use Rattle.cns_records.specs.declared.instruction.Instruction.{Instruction}
 use Rattle.cns_records.specs.declared.refusal.Refusal.{Refusal}
 use Rattle.cns_records.specs.declared.refusal.Refusal.TheVariants as refusal
-use Rattle.cns_clearing.specs.Answers.{NodeLeaves, reply_call}
+use Rattle.cns_clearing.specs.Answers.{NodeLeaves, order_call, reply_call}
 use Rattle.cns_clearing.specs.Books.{order_book_of}
 use Rattle.cns_clearing.specs.declared.answer.Taken.{Taken}
 use Rattle.cns_clearing.specs.declared.answer.Taken.TheVariants as taken
@@ -74,17 +74,17 @@ spells_order o is = rw is refl
 
 module _ (number : ℕ) where
   pub send_down : (w : World) → w.clear.clear.log.down ≡ true → Comes (event.Send number) (outcomes.Refused refusal.Down) w w
-  unfolding judged
+  unfolding judged order_call
   send_down w down = refused (event.Send number) w refusal.Down (rw down refl)
 
   pub send_unknown : (w : World) → w.clear.clear.log.down ≡ false → order_of (order_book_of w.clear.clear.log.records).orders number ≡ None
       → Comes (event.Send number) (outcomes.Refused refusal.UnknownMove) w w
-  unfolding judged
+  unfolding judged order_call
   send_unknown w up none = refused (event.Send number) w refusal.UnknownMove (rw (up, none) refl)
 
   send_found : (o : Order) (w : Shown) → w.clear.down ≡ false → order_of (order_book_of w.clear.records).orders number ≡ Some o
       → judged (event.Send number) w ≡ Ok (Grows (outcomes.Sent (length w.order_packets + 1)) (record w { order_packets = w.order_packets ++ Some o ∷ [] }))
-  unfolding judged
+  unfolding judged order_call
   send_found o w up found = rw (up, found) refl
 
   pub send_short : (o : Order) (w : World) → w.clear.clear.log.down ≡ false → order_of (order_book_of w.clear.clear.log.records).orders number ≡ Some o

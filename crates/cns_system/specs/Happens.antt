@@ -8,7 +8,6 @@ use Rattle.cns_journal.specs.declared.record_log.ReplayFault.{ReplayFault}
 use Rattle.cns_journal.specs.declared.record_log.ReplayFault.TheVariants as replay
 use Rattle.cns_journal.specs.declared.record_log.Restarted.{Restarted}
 use Rattle.cns_ids.specs.Steps.{◌>>=◌, ◌>>◌}
-use Rattle.cns_movements.specs.Order.{order_of}
 use Rattle.cns_movements.specs.declared.order.Reply.{Reply}
 use Rattle.cns_wire.specs.Packet.{at_number}
 use Rattle.cns_pool.specs.Pool.{asked_sum}
@@ -21,8 +20,7 @@ use Rattle.cns_records.specs.declared.dep_record.DepRecord.{DepRecord}
 use Rattle.cns_records.specs.declared.instruction.Instruction.{Instruction}
 use Rattle.cns_records.specs.declared.refusal.Refusal.{Refusal}
 use Rattle.cns_records.specs.declared.refusal.Refusal.TheVariants as refusal
-use Rattle.cns_clearing.specs.Answers.{cycle_call, reply_call, setting_call, trade_call, need_up}
-use Rattle.cns_clearing.specs.Books.{order_book_of}
+use Rattle.cns_clearing.specs.Answers.{cycle_call, order_call, reply_call, setting_call, trade_call}
 use Rattle.cns_clearing.specs.Pools.{lent_of}
 use Rattle.cns_clearing.specs.declared.answer.Closed.{Closed}
 use Rattle.cns_clearing.specs.declared.answer.Cycled.{Cycled}
@@ -117,8 +115,9 @@ by_own i w deed = elim deed [ Err fault ↦ Err (own_fault_refusal fault) | Ok d
 --   Own             Down, Conflict, IssueSum or TooFew
 --   Restart         none
 -- The node's own `NoLot`, of an issue that has no open lot, comes at no pour and no close by number: a lot that has not ended is one of the node's (`AreTied`).
--- A ticket, a seal and a look do not ask whether the clearing node is up: a node that restarts ends its lots. `LotBusy` is of a floor alone, and
--- `BadTickets` of a close whose tickets are not those that were drawn.
+-- A ticket, a seal and a look do not ask whether the clearing node is up: its lots stand as they are until a restart ends them. A lot that no
+-- close ends, as where the numbers of movements are spent, stands until then too. Two refusals are of none of these cases: `LotBusy`, of a lot that
+-- threads draw from beside the script, and `BadTickets`, of what they bring back where it is not what may be drawn.
 unfoldable pub judged : Event → Shown → Result Change Refusal
 judged (event.Trade t) w = by_clear (λ _. outcomes.Accepted) w (trade_call t w.clear.down w.clear.records)
 judged (event.Exempt member issue shares) w = by_clear (λ _. outcomes.Done) w (setting_call (entry.Exempt member issue shares) w.clear.down)
@@ -135,8 +134,7 @@ judged (event.Seal number) w = change_call with_seal number w.lots >>= λ sealed
 judged (event.LotClose number) w =
     numbered_close number w.clear.down w.clear.records w.open_lots w.lots >>= λ d. Ok (clear_deed (λ (done : Closed). outcomes.Closed done) (with_lot_ended number) w d)
 judged (event.Send number) w = do
-  need_up w.clear.down
-  o ← ok_or (order_of (order_book_of w.clear.records).orders number) refusal.UnknownMove
+  o ← order_call number w.clear.down w.clear.records
   Ok (Grows (outcomes.Sent (length w.order_packets + 1)) (record w { order_packets = w.order_packets ++ Some o ∷ [] }))
 judged (event.OrderIn packet) w = do
   o ← ok_or (option_flatten (at_number w.order_packets packet)) refusal.NoPacket

@@ -57,8 +57,8 @@ pub record Headline (c : List ClearRecord) (open_lots : List Lot) (openings : Li
   pub answered : (k : ℕ) (bytes : List ℕ) → slice_get reply_packets k ≡ Some bytes → IsReplyPacket (executed_of p) bytes
   -- Lawful: each record of the clearing node may stand after those before it.
   pub lawful : IsLawful c
-  -- Stock: no number was executed twice, each movement moved what the giving account then had, at most what was asked for, and no
-  -- account gave more than its opening and what was moved into it.
+  -- Stock: no number was executed twice, each movement moved what the giving account then had, at most what was asked for, each instruction
+  -- of a member was carried out once, where nothing refused it, and no account gave more than its opening and what was moved into it.
   pub stock : IsLawfulDepot openings p
   pub given : (account : Account) (issue : ℕ) → moved_out p account issue ≤ opening_shares openings account issue + moved_in p account issue
   -- Netted: each position is the netted trades, with confirmed covers added and confirmed deliveries taken off. There is one position: that
@@ -70,7 +70,7 @@ pub record Headline (c : List ClearRecord) (open_lots : List Lot) (openings : Li
   pub pool : (issue : ℕ) → longs_of (history_of c) issue ≡ shorts_of (history_of c) issue + pool_shares c open_lots issue
   pub whole : (issue : ℕ) → pool_shares c open_lots issue + delivered_of (order_book_of c) issue ≡ covered_of (order_book_of c) issue
   pub backed : (issue : ℕ) → delivered_of (order_book_of c) issue + out_of (order_book_of c) issue ≤ moved_in p Cns issue
-  -- Available: no difference is cut off at 0 in the two that the pool is made of. What confirmed deliveries took, with what open ones ask
+  -- Available: no difference is cut off at 0 in `avail_of` and `free_of`, which the pool is made of. What confirmed deliveries took, with what open ones ask
   -- for, is no more than confirmed covers brought, so what is available of an issue is just the rest of it; and no more is lent than that.
   pub available : (issue : ℕ) → delivered_of (order_book_of c) issue + out_of (order_book_of c) issue ≤ covered_of (order_book_of c) issue
   pub lent : (issue : ℕ) → lent_of open_lots issue ≤ avail_of (order_book_of c) issue
@@ -82,7 +82,8 @@ IsAgreed w =
     → Headline w.clear.clear.log.records w.clear.clear.lots w.depot.openings w.depot.log.records w.order_packets w.reply_packets
 
 -- what the clearing node alone knows of its sums: in each issue longs less shorts are the shares that confirmed covers brought, less
--- those that confirmed deliveries took; and what confirmed covers brought is free, lent or out, or confirmed deliveries took it
+-- those that confirmed deliveries took; and what confirmed covers brought is free, lent or out, or confirmed deliveries took it. So it is between any two
+-- events, whatever its keeper is
 abbrev pub IsBalanced : World → Type 0
 IsBalanced w =
     (issue : ℕ)
@@ -91,6 +92,7 @@ IsBalanced w =
     × (pool_shares c w.clear.clear.lots issue + delivered_of (order_book_of c) issue ≡ covered_of (order_book_of c) issue)
 
 -- each allocation that the clearing node has, also one whose commit failed, closed a lot that was as the records before it have it, by
--- tickets that serve its plan, where its keeper is honest; and while it is up no record of it is undecided
+-- tickets that serve its plan, where its keeper is honest; and while it is up no record of it is undecided. Each event keeps this; of
+-- the records with which a node is opened it is not tested
 abbrev pub AreStrict : World → Type 0
 AreStrict w = w.clear.clear.log.honest ≡ true → IsLawfulLog ClosesLot w.clear.clear.log

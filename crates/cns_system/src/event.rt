@@ -19,7 +19,7 @@ pub enum NodeName {
 pub enum Event {
     /// A trade is reported to the clearing node.
     Trade(Trade),
-    /// So many shares of a member in an issue are exempt from covers from now on.
+    /// So many shares of a member in an issue are exempt from covers from now on, in place of those before.
     Exempt {
         member: MemberNo,
         issue: Cusip,
@@ -41,7 +41,9 @@ pub enum Event {
     LotPour {
         lot: u64,
     },
-    /// A member draws its ticket from a lot.
+    /// A member draws its ticket from a lot: its place behind the tickets that were drawn before, for all
+    /// shares that are planned for it. Within a group of the plan, who comes first is served first; what a
+    /// ticket is granted, up to all of it, the close says by what was poured.
     Reserve {
         lot: u64,
         member: MemberNo,
