@@ -102,28 +102,43 @@ def run_proofs(began_with):
     return passed, max(failed, 1) if started.returncode else failed
 
 
+def kept_of(wanted, room):
+    """What earlier runs on this machine refused, or nothing where nothing can be kept there: then this run keeps it in a folder of its own."""
+    try:
+        return Kept(wanted, False)
+    except OSError:
+        os.environ["XDG_CACHE_HOME"] = room
+        return Kept(wanted, False)
+
+
+def say_crate(name, found, before, trial):
+    """Waits for the edits of a crate and prints what they came to; answers how many are refused, and what is wrong with the others."""
+    good, spent = trial.result() if trial else ([], 0.0)
+    bad = [edit for edit in found if edit not in good and edit not in before]
+    why = "not refused by the prover" if trial else "not tried, since its crate is not proved"
+    print(f"{name}: {len(good)} refused, {len(before)} were before, {len(bad)} not; {spent:.0f} processor seconds", flush=True)
+    return len(found) - len(bad), [f"{os.path.relpath(edit, TOP)}: {why}" for edit in bad]
+
+
 def main():
     signal.signal(signal.SIGTERM, lambda *_: sys.exit(1))
-    wanted = of_the_gate()
-    kept = Kept(wanted, False)
-    left = {name: [edit for edit in found if not kept.has(edit)] for name, found in wanted.items()}
-    tried, faults, refused, began = {}, [], 0, time.monotonic()
+    wanted, trials, refused, faults, began = of_the_gate(), {}, 0, [], time.monotonic()
     with tempfile.TemporaryDirectory(prefix="wrong-tree-") as tree, ThreadPoolExecutor(lanes_here()) as lanes:
+        kept = kept_of(wanted, tree)
+        before = {name: [edit for edit in found if kept.has(edit)] for name, found in wanted.items()}
+
         def is_proved(name):
             if os.path.isdir(os.path.join(TOP, "crates", name, LIBRARY)):
                 shutil.copytree(os.path.join(TOP, "crates", name, LIBRARY), f"{tree}/{name}")
-            if left.get(name):
-                tried[name] = lanes.submit(try_crate, name, left[name], tree, kept)
+            left = [edit for edit in wanted.get(name, []) if edit not in before[name]]
+            if left:
+                trials[name] = lanes.submit(try_crate, name, left, tree, kept)
 
         passed, failed = run_proofs(is_proved)
         print(f"== wrong bodies of the gate, {time.monotonic() - began:.0f} seconds after rt ci began", flush=True)
         for name, found in wanted.items():
-            good, spent = tried[name].result() if name in tried else ([], 0.0)
-            before = [edit for edit in found if edit not in left[name]]
-            bad = [edit for edit in found if edit not in good and edit not in before]
-            refused += len(good) + len(before)
-            faults += [f"{os.path.relpath(edit, TOP)}: {'not refused by the prover' if name in tried else 'not tried, since its crate is not proved'}" for edit in bad]
-            print(f"{name}: {len(good)} refused, {len(before)} were before, {len(bad)} not; {spent:.0f} processor seconds", flush=True)
+            good, bad = say_crate(name, found, before[name], trials.get(name))
+            refused, faults = refused + good, faults + bad
     for fault in faults:
         print(f"FAIL {fault}")
     passed, failed = passed + refused, failed + len(faults)

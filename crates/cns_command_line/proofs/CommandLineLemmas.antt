@@ -3,7 +3,7 @@ use Rattle.std.proofs.Common.{rules, ◌≡◌, ◌∙◌, ◌||◌, ap, ap₂, 
 use Rattle.std.proofs.lemmas.Option.{none-some}
 use Rattle.clap.specs.Built.{AddsArg}
 use Rattle.std.specs.declared.alloc.AllocError.{AllocError}
-use Rattle.std.specs.Prelude.{IfOk, Result, Ok}
+use Rattle.std.specs.Prelude.{IfOk, Result}
 use Rattle.clap.specs.Words.{App, Row, Text, all_of, app_of, count_of, first_of, with_subcommand}
 use Rattle.clap.specs.declared.builder.arg.Arg.{Arg}
 use Rattle.clap.specs.declared.builder.command.Command.{Command}

@@ -23,10 +23,9 @@ use Rattle.cns_records.specs.Call as call
 use Rattle.cns_records.specs.Refusals.{commit_refusal}
 use Rattle.cns_records.specs.declared.clear_record.ClearRecord.{ClearRecord}
 use Rattle.cns_records.specs.declared.clear_record.ClearRecord.TheVariants as entry
-use Rattle.cns_records.proofs.CallLemmas.{changed}
 use Rattle.cns_clearing.specs.Answers as clear
-use Rattle.cns_clearing.specs.Answers.{AreServed, NodeLeaves, closing_allocation, close_deed, closed_of, deliveries_by}
-use Rattle.cns_clearing.specs.Books.{IsLawful, are_spent, books_of, history_of, order_book_of}
+use Rattle.cns_clearing.specs.Answers.{AreServed, NodeLeaves, closing_allocation}
+use Rattle.cns_clearing.specs.Books.{IsLawful, books_of, history_of, order_book_of}
 use Rattle.cns_clearing.specs.Lots.{avail_in, longs_among, lots_after, lots_poured, plan_in, refilled, without_lot}
 use Rattle.cns_clearing.specs.Lots as node
 use Rattle.cns_clearing.specs.Node.{ClearNode}
@@ -44,7 +43,7 @@ use Rattle.cns_system.specs.Lots.{change_call, going_lot, turn_ticket, reserve_c
 use Rattle.cns_system.specs.Numbered.{AreTied, IsNumberedCommit, NumberedNode, numbered_close, with_lot_ended, numbered_open, opening_call, numbered_pour, with_opened}
 use Rattle.cns_system.proofs.LotsLemmas.{IsGoing, going_parts}
 use Rattle.cns_system.proofs.RecordedLemmas.{IsCloseOf, IsMet, Recorded, close_record, is_met}
-use Rattle.cns_system.proofs.StepLemmas.{ok_found, ok_needed, ok_then}
+use Rattle.cns_system.proofs.StepLemmas.{ok_then}
 use Rattle.cns_system.proofs.TiedLemmas.{ended_lots, found_poured, found_without, poured_keeps, tied_changed, tied_more}
 
 -- ---- changes of the lots by number alone

@@ -3,8 +3,7 @@ use Rattle.std.proofs.Common.{◌≡◌, ◌==◌, ◌||◌, ℕ, Bool, length, 
 use Rattle.std.specs.Prelude.{◌⊎◌, IfOk}
 use Rattle.std.proofs.lemmas.Bool.Decides.{nat_tests}
 use Rattle.std.proofs.lemmas.Result.{IfOk-weaker}
-use Rattle.std.specs.Option.{ok_or}
-use Rattle.cns_ids.specs.Steps.{◌>>=◌, ◌>>◌, need}
+use Rattle.cns_ids.specs.Steps.{◌>>◌, need}
 use Rattle.cns_ids.specs.declared.cycle.CycleId.{CycleId}
 use Rattle.cns_trades.specs.declared.list.Verdict.{Verdict}
 use Rattle.cns_trades.specs.declared.list.Verdict.TheVariants as verdicts

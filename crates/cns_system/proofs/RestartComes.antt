@@ -1,7 +1,7 @@
 -- A restart of a node comes to what its log leaves.
 use Rattle.std.specs.Prelude.{map, unwrap_or}
 use Rattle.std.proofs.lemmas.Bool.{false_from_ne_true}
-use Rattle.std.proofs.Common.{◌≡◌, ◌∙◌, [], Bool, true, false, List, length, ℕ, Option, Some, None, Result, Ok, Err, inl, inr, refl, sym, ap, subst}
+use Rattle.std.proofs.Common.{◌≡◌, ◌∙◌, [], Bool, true, false, List, ℕ, Option, Some, None, Result, Ok, Err, inl, inr, refl, sym, ap, subst}
 use Rattle.cns_journal.specs.Keeper.{Unforeseen}
 use Rattle.cns_journal.specs.RecordLog.{IsReadBack, LogRestarts, LogShown, LogState, ReadingLeaves, log_shown, restarted}
 use Rattle.cns_journal.specs.Replay.{AreAllowed}
@@ -22,8 +22,6 @@ use Rattle.cns_system.specs.Shown.{Shown, shown_of}
 use Rattle.cns_system.specs.World.{World}
 use Rattle.cns_system.specs.declared.event.Event.TheVariants as event
 use Rattle.cns_system.specs.declared.event.NodeName.TheVariants as node
-use Rattle.cns_system.specs.declared.outcome.Outcome.{Outcome}
-use Rattle.cns_system.specs.declared.outcome.Outcome.TheVariants as outcomes
 use Rattle.cns_system.proofs.ComesLemmas.{by_chance, untouched_refl}
 
 -- of a keeper that is not honest, the surroundings decide

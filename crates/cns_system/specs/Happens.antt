@@ -1,7 +1,7 @@
 -- What happens at each event, as a function of what the surroundings decide (this project's own rules). Each event has one case, which tells
 -- the refusals by the state in their order; want of memory and the device come after these, by the decision. A refusal leaves all as it was, but for
 -- `Device` at a commit, which puts the node down and leaves its record undecided, and for a refused restart.
-use Rattle.std.specs.Prelude.{ℕ, ◌+◌, ◌==◌, true, false, List, [], ◌∷◌, ◌++◌, length, map, Some, None, Result, Ok, Err}
+use Rattle.std.specs.Prelude.{ℕ, ◌+◌, List, [], ◌∷◌, ◌++◌, length, map, Some, Result, Ok, Err}
 use Rattle.std.specs.Option.{ok_or, option_flatten}
 use Rattle.cns_journal.specs.RecordLog.{LogShown, restarted}
 use Rattle.cns_journal.specs.declared.record_log.ReplayFault.{ReplayFault}

@@ -1,6 +1,6 @@
-use Rattle.std.proofs.Common.{◌≡◌, ◌∙◌, ap, ap₂, codes, true}
+use Rattle.std.proofs.Common.{◌≡◌, ◌∙◌, ap, codes, true}
 use Rattle.std.proofs.lemmas.Result.{IfOk-weaker}
-use Rattle.clap.specs.Words.{App, app_of, new_app}
+use Rattle.clap.specs.Words.{app_of, new_app}
 use Rattle.clap.specs.Simple.{on_top, app_of_fields}
 use Rattle.cns_command_line.specs.CommandLine.{check_app, cusip_app, explain_app, journal_app, run_app, table_app}
 use Rattle.cns_command_line.proofs.CommandLineLemmas.{added}
