@@ -8,7 +8,7 @@ proved, its edits are set into a copy of the crate, as many at once as change di
 of the crates below, `rattle check --only` of these functions and of what they call must say of each that a goal of its own is not proved.
 An edit of which that is not said is tried once more by itself. Proofs go first: edits are tried at the lowest priority, and half as many
 checks of them at once as `rt ci` may run (RT_JOBS). What was refused is kept on this machine as `make wrong` keeps it, and not tried again
-while nothing that it stands on changes. Prints what `rt ci` prints, each edit, and what the edits of each crate cost. The last line is
+while nothing that it stands on changes. Prints what `rt ci` prints, and what the edits of each crate came to and cost. The last line is
 `N passed, M failed`, which counts what `rt ci` counts and each edit; the exit status is 0 where M is 0 and N is not.
 """
 import os
@@ -46,7 +46,7 @@ def words_of_check(crate, tree, functions):
     for name in sorted(all_below(crate, below())):
         words += ["-L", f"dependency={tree}/{name}"]
     words += ["-L", f"dependency={kit}/rlibs", "--antt-project", f"{kit}/rattle/logic/antt-project.json", "--logic-built", f"{kit}/logic_built"]
-    for name in sorted(map(only_name, functions), key=str):
+    for name in sorted(map(only_name, functions)):
         words += ["--only", name]
     return ["nice", "-n", "19", *words, "--links", f"{crate}=", "--jobs", "1"]
 
@@ -59,8 +59,8 @@ def refused_of(crate, part, tree):
             if os.path.isdir(os.path.join(TOP, "crates", crate, it)):
                 shutil.copytree(os.path.join(TOP, "crates", crate, it), f"{folder}/{it}")
         set_into(part, crate, folder, {path for path, *_ in functions})
-        status, said, used = run(words_of_check(crate, tree, functions), folder)
-        return [edit for edit, found in part if status == 1 and refused_in(said, folder, found)], used
+        status, said, seconds = run(words_of_check(crate, tree, functions), folder)
+        return [edit for edit, found in part if status == 1 and refused_in(said, folder, found)], seconds
 
 
 def try_crate(crate, found, tree, kept):
@@ -68,12 +68,12 @@ def try_crate(crate, found, tree, kept):
     parts, _ = batches(found, crate)
     refused, spent = [], 0.0
     for part in parts:
-        good, used = refused_of(crate, part, tree)
-        refused, spent = refused + good, spent + used
+        good, seconds = refused_of(crate, part, tree)
+        refused, spent = refused + good, spent + seconds
     for edit in [it for it in found if it not in refused]:
         functions = changed_functions(edit, crate)
-        good, used = refused_of(crate, [(edit, functions)], tree) if functions else ([], 0.0)
-        refused, spent = refused + good, spent + used
+        good, seconds = refused_of(crate, [(edit, functions)], tree) if functions else ([], 0.0)
+        refused, spent = refused + good, spent + seconds
     for edit in refused:
         kept.keep(edit)
     return refused, spent
