@@ -54,7 +54,7 @@ covered_longs h book covered = record { within = λ m i. omega (arith, bought-mo
 pub bounded_longs : (h : List NetEntry) (orders : Orders) → IsBook h → AreBounded h orders → LongsFit h
 bounded_longs h orders book bounded = covered_longs h book (λ m i. omega (arith, bounded.covered m i))
 
--- without settlements nothing is settled in
+-- without settlements no position is credited
 settled_credit-none : (h : List NetEntry) (member issue : ℕ) → IsUnsettled h → settled_credit h member issue ≡ 0
 unfolding settled_credit
 settled_credit-none [] member issue h = refl

@@ -1,7 +1,7 @@
 -- The pool of an issue, as the clearing node has it: the shares that confirmed covers brought to account 0, the CNS account, and that no confirmed
 -- delivery took. They are free, lent to the open lot of the issue, or out, which unconfirmed deliveries ask for. All are sums over the orders of a book
--- and their confirmations, and what the open lots hold: while a movement is not confirmed, the balance of account 0 at the depository is another one.
--- (This project's own rules.)
+-- and their confirmations, and what the open lots hold: a movement that is executed and not confirmed is in the balance of account 0 at the depository,
+-- and not yet here. (This project's own rules.)
 use Rattle.std.specs.Prelude.{ℕ, ◌+◌, ◌-◌, ◌&&◌, ◌==◌, List, [], ◌∷◌, Option, Some, None, find, fold, option_map, unwrap_or, sum_by, if◌then◌else◌}
 use Rattle.std.specs.List.{filter_map}
 use Rattle.std.specs.Ordering.{nat_cmp}
