@@ -1,35 +1,34 @@
 #!/usr/bin/env python3
-"""Says whether each edit of wrong-bodies/* still fits its file just once.
+"""Says whether each edit of crates/*/must-fail and wrong-bodies/* still fits its file just once.
 
-Reads texts alone and proves nothing: `make wrong` tries all, and the gate those that wrong-bodies/gate.txt
-names. Faulty are also a folder of wrong-bodies/ that is no crate's, a file there that is no edit, two edits
-of a crate with one name or one text, a line of gate.txt that names no edit, or names one a second time, and
-a crate of code of which gate.txt names none. The last line is `N passed, M failed`.
+Reads texts alone and proves nothing: the gate tries the first, and `make wrong` all. Faulty are also a
+folder of wrong-bodies/ that is no crate's, a file of either folder that is no edit, two edits of a crate
+with one name or one text, and a crate of code with no edit in must-fail. The last line is `N passed, M failed`.
 """
 import os
 import sys
 
-from wrong_bodies import FOLDER, GATE, TOP, crates, edits, fault_of, gate_names, is_of_tests, say_end
+from wrong_bodies import FOLDER, MUST_FAIL, TOP, crates, edits_beside, edits_of_gate, fault_of, is_of_tests, say_end
+
+
+def strangers(folder):
+    """The files of a folder of edits that are no edit; none where there is no such folder."""
+    names = sorted(os.listdir(folder)) if os.path.isdir(folder) else []
+    return [os.path.relpath(os.path.join(folder, name), TOP) for name in names if not name.endswith(".edit")]
 
 
 def main():
-    passed, faults, names, gate = 0, [], crates(), gate_names()
+    passed, faults, names = 0, [], crates()
     for name in sorted(os.listdir(FOLDER)):
-        if name not in [*names, GATE]:
+        if name not in names:
             faults.append(f"wrong-bodies/{name}: there is no such crate")
-    for crate, edit in sorted(set(gate)):
-        if not os.path.isfile(edit) or gate.count((crate, edit)) > 1:
-            faults.append(f"wrong-bodies/{GATE} names {os.path.relpath(edit, FOLDER)}, which is not there, or twice")
     for crate in names:
-        folder = os.path.join(FOLDER, crate)
-        if not is_of_tests(crate) and crate not in [name for name, _ in gate]:
-            faults.append(f"wrong-bodies/{GATE} names none of {crate}")
-        if os.path.isdir(folder):
-            for name in sorted(os.listdir(folder)):
-                if not name.endswith(".edit"):
-                    faults.append(f"wrong-bodies/{crate}/{name}: no edit")
+        if not is_of_tests(crate) and not edits_of_gate(crate):
+            faults.append(f"crates/{crate}/{MUST_FAIL} has no edit")
+        for folder in (os.path.join(TOP, "crates", crate, MUST_FAIL), os.path.join(FOLDER, crate)):
+            faults += [f"{path}: no edit" for path in strangers(folder)]
         seen = {}
-        for edit in edits(folder):
+        for edit in edits_of_gate(crate) + edits_beside(crate):
             with open(edit, encoding="utf-8") as text:
                 for key in (os.path.basename(edit), text.read()):
                     if key in seen:

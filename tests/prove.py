@@ -3,13 +3,15 @@
 
     tests/prove.py
 
-The wrong bodies of the gate are those that wrong-bodies/gate.txt names; `make wrong` tries all. As soon as `rt ci` says that a crate is
-proved, its edits are set into a copy of the crate, as many at once as change different functions, and over the libraries that `rt ci` made
-of the crates below, `rattle check --only` of these functions and of what they call must say of each that a goal of its own is not proved.
-An edit of which that is not said is tried once more by itself. Proofs go first: edits are tried at the lowest priority, and half as many
-checks of them at once as `rt ci` may run (RT_JOBS). What was refused is kept on this machine as `make wrong` keeps it, and not tried again
-while nothing that it stands on changes. Prints what `rt ci` prints, and what the edits of each crate came to and cost. The last line is
-`N passed, M failed`, which counts what `rt ci` counts and each edit; the exit status is 0 where M is 0 and N is not.
+The wrong bodies of the gate are the edits of crates/*/must-fail; `make wrong` tries these and all others. `rt ci` would check a crate anew for
+its edits, and ask only that some goal of the crate is not proved. So it runs here on a copy of the tree, as it stands when this begins, that has
+no edits: what it makes is brought back. As soon as it says that a crate is proved, the crate's edits are set into a copy of it, as many at once
+as change different functions, and over the libraries that `rt ci` made of the crates below, `rattle check --only` of these functions and of what
+they call must say of each that a goal of its own is not proved. An edit of which that is not said is tried once more by itself. Proofs go first:
+edits are tried at the lowest priority, and half as many checks of them at once as `rt ci` may run (RT_JOBS). What was refused is kept on this
+machine as `make wrong` keeps it, and not tried again while nothing that it stands on changes. Prints what `rt ci` prints, and what the edits of
+each crate came to and cost. The last line is `N passed, M failed`, which counts what `rt ci` counts and each edit; the exit status is 0 where M
+is 0 and N is not.
 """
 import os
 import re
@@ -22,11 +24,34 @@ import time
 from concurrent.futures import ThreadPoolExecutor
 
 from wrong import LIBRARY, PARTS, Kept, all_below, batches, changed_functions, refused_in, run, set_into
-from wrong_bodies import TOP, below, crates, of_the_gate, used
+from wrong_bodies import MUST_FAIL, TOP, below, crates, edits_of_gate, used
 
 # How `rt ci` says that a crate, and with it all that it stands on, is proved; and how it ends.
 PROVED = re.compile(r"rt: (\w+) (?:proved$|is kept: )")
 ENDED = re.compile(r"(\d+) passed, (\d+) failed\b")
+
+
+def copy_tree(to):
+    """Copies the tree to the top of a repository of its own, without what runs left in it, and without the edits of the gate."""
+
+    def left_out(folder, _):
+        return [".git"] if folder == TOP else ["out", MUST_FAIL] if os.path.dirname(folder) == os.path.join(TOP, "crates") else []
+
+    shutil.copytree(TOP, to, symlinks=True, ignore=left_out)
+    os.mkdir(f"{to}/.git")
+
+
+def bring_back(tree):
+    """Puts what `rt ci` made of each crate of a copy of the tree where it leaves it otherwise."""
+    for name in crates():
+        made, to = f"{tree}/crates/{name}/out", os.path.join(TOP, "crates", name, "out")
+        for one in os.listdir(made) if os.path.isdir(made) else []:
+            if os.path.isdir(f"{made}/{one}"):
+                shutil.rmtree(f"{to}/{one}", ignore_errors=True)
+                shutil.copytree(f"{made}/{one}", f"{to}/{one}")
+            else:
+                os.makedirs(to, exist_ok=True)
+                shutil.copy2(f"{made}/{one}", f"{to}/{one}")
 
 
 def only_name(function):
@@ -42,9 +67,9 @@ def words_of_check(crate, tree, functions):
     root = next(it for it in ("src/lib.rt", "src/main.rt") if os.path.isfile(os.path.join(TOP, "crates", crate, it)))
     words = [f"{kit}/bin/rattle", "check", "--crate-name", crate, root, "--extern", f"std={kit}/rlibs/std.rlib"]
     for name in used()[crate]:
-        words += ["--extern", f"{name}={tree}/{name}/{name}.rlib" if name in crates() else f"{name}={kit}/rlibs/{name}.rlib"]
+        words += ["--extern", f"{name}={tree}/crates/{name}/{LIBRARY}/{name}.rlib" if name in crates() else f"{name}={kit}/rlibs/{name}.rlib"]
     for name in sorted(all_below(crate, below())):
-        words += ["-L", f"dependency={tree}/{name}"]
+        words += ["-L", f"dependency={tree}/crates/{name}/{LIBRARY}"]
     words += ["-L", f"dependency={kit}/rlibs", "--antt-project", f"{kit}/rattle/logic/antt-project.json", "--logic-built", f"{kit}/logic_built"]
     for name in sorted(map(only_name, functions)):
         words += ["--only", name]
@@ -85,10 +110,10 @@ def lanes_here():
     return max(1, (int(number) if number.isdigit() else len(os.sched_getaffinity(0))) // 2)
 
 
-def run_proofs(began_with):
-    """Runs `rt ci` and prints what it says; calls what is given with each crate that it proves. Answers how many passed and failed."""
+def run_proofs(tree, began_with):
+    """Runs `rt ci` on a tree and prints what it says; calls what is given with each crate that it proves. Answers how many passed and failed."""
     passed, failed = 0, 0
-    with subprocess.Popen(["rt", "ci"], cwd=TOP, stdout=subprocess.PIPE, stderr=subprocess.STDOUT, text=True, errors="replace") as started:
+    with subprocess.Popen(["rt", "ci"], cwd=tree, stdout=subprocess.PIPE, stderr=subprocess.STDOUT, text=True, errors="replace") as started:
         try:
             for line in started.stdout:
                 print(line, end="", flush=True)
@@ -122,22 +147,23 @@ def say_crate(name, found, before, trial):
 
 def main():
     signal.signal(signal.SIGTERM, lambda *_: sys.exit(1))
-    wanted, trials, refused, faults, began = of_the_gate(), {}, 0, [], time.monotonic()
-    with tempfile.TemporaryDirectory(prefix="wrong-tree-") as tree, ThreadPoolExecutor(lanes_here()) as lanes:
-        kept = kept_of(wanted, tree)
+    wanted, trials, refused, faults, began = {name: edits_of_gate(name) for name in crates()}, {}, 0, [], time.monotonic()
+    with tempfile.TemporaryDirectory(prefix="prove-") as room, ThreadPoolExecutor(lanes_here()) as lanes:
+        tree = f"{room}/tree"
+        copy_tree(tree)
+        kept = kept_of(wanted, room)
         before = {name: [edit for edit in found if kept.has(edit)] for name, found in wanted.items()}
 
         def is_proved(name):
-            if os.path.isdir(os.path.join(TOP, "crates", name, LIBRARY)):
-                shutil.copytree(os.path.join(TOP, "crates", name, LIBRARY), f"{tree}/{name}")
             left = [edit for edit in wanted.get(name, []) if edit not in before[name]]
             if left:
                 trials[name] = lanes.submit(try_crate, name, left, tree, kept)
 
-        passed, failed = run_proofs(is_proved)
+        passed, failed = run_proofs(tree, is_proved)
+        bring_back(tree)
         print(f"== wrong bodies of the gate, {time.monotonic() - began:.0f} seconds after rt ci began", flush=True)
         for name, found in wanted.items():
-            good, bad = say_crate(name, found, before[name], trials.get(name))
+            good, bad = say_crate(name, found, before[name], trials.get(name)) if found else (0, [])
             refused, faults = refused + good, faults + bad
     for fault in faults:
         print(f"FAIL {fault}")

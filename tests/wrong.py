@@ -3,17 +3,17 @@
 
     tests/wrong.py [CRATE..] [--lanes N] [--only WORD] [--alone] [--anew]
 
-Edits of wrong-bodies/CRATE (of every crate, where none is named) are set into copies of the crate, several at once where they change
-different functions, and `rt check` of these functions must say of each that a goal of its own is not proved. An edit of which that is not
-said (a callee is not proved, the text cannot be read, it changes no single function) is tried so once more, with fewer others, then by
-itself, where any goal that is not proved refuses it, and then by `rt must-fail`, which has the last word; with --alone each is. A line
-`NOTE` names an edit that is refused only because a proof names what the edit took away, which shows nothing of the contract. All goes on
-in as many lanes as there are processors and memory; --only takes the edits whose names have WORD. A crate's edits are tried as soon as it
-is checked and the libraries below it are built, from what earlier checks of the tree left where that is up to date; a library goes before
-an edit, and an edit of a higher crate before those of lower ones. As `rt ci` does with proofs, it keeps on this machine which edits were
-refused, by a checksum of the kit, of this script, of the edit and of all files of its crate and of those below: a later run, in any clone,
-tries only the others, and all of them with --anew. Prints each edit that is refused, then for each crate its edits, how many of them were
-kept, minutes and processor minutes. The last line is `N passed, M failed`; the exit status is 0 where M is 0 and N is not.
+Edits of crates/CRATE/must-fail and wrong-bodies/CRATE (of every crate, where none is named) are set into copies of the crate, several at
+once where they change different functions, and `rt check` of these functions must say of each that a goal of its own is not proved. An edit
+of which that is not said (a callee is not proved, the text cannot be read, it changes no single function) is tried so once more, with fewer
+others, then by itself, where any goal that is not proved refuses it, and then by `rt must-fail`, which has the last word; with --alone each
+is. A line `NOTE` names an edit that is refused only because a proof names what the edit took away, which shows nothing of the contract. All
+goes on in as many lanes as there are processors and memory; --only takes the edits whose names have WORD. A crate's edits are tried as soon
+as it is checked and the libraries below it are built, from what earlier checks of the tree left where that is up to date; a library goes
+before an edit, and an edit of a higher crate before those of lower ones. As `rt ci` does with proofs, it keeps on this machine which edits
+were refused, by a checksum of the kit, of this script, of the edit and of all files of its crate and of those below: a later run, in any
+clone, tries only the others, and all of them with --anew. Prints each edit that is refused, then for each crate its edits, how many of them
+were kept, minutes and processor minutes. The last line is `N passed, M failed`; the exit status is 0 where M is 0 and N is not.
 """
 import argparse
 import hashlib
@@ -30,7 +30,7 @@ import threading
 import time
 from concurrent.futures import Future, ThreadPoolExecutor
 
-from wrong_bodies import FOLDER, TOP, below, crates, edits, say_end, texts_of
+from wrong_bodies import TOP, below, crates, edits_beside, edits_of_gate, say_end, texts_of
 
 # What a check of a crate takes at most, and how many edits a lane tries one after another at least: the
 # first of them costs a check of the whole crate.
@@ -501,7 +501,7 @@ def main():
         print("0 passed, 1 failed")
         return 1
     signal.signal(signal.SIGTERM, lambda *_: sys.exit(1))
-    tried = {name: [it for it in edits(os.path.join(FOLDER, name)) if asked.only in os.path.basename(it)]
+    tried = {name: [it for it in edits_of_gate(name) + edits_beside(name) if asked.only in os.path.basename(it)]
              for name in asked.crates or crates()}
     tried = {name: found for name, found in tried.items() if found}
     kept = Kept(tried, asked.anew)

@@ -1,14 +1,14 @@
-"""What stands in wrong-bodies/: edits of a crate's code that its contracts must refuse.
+"""The wrong bodies: edits of a crate's code that its contracts must refuse.
 
-An edit has a line `file: src/lib.rt` and pairs of lines `old: TEXT` and `new: TEXT`, as `rt must-fail`
-takes them. Each old text stands just once in its file, after the pairs before it. The file gate.txt
-names those that the gate tries, a line each, as CRATE/NAME without the ending `.edit`.
+The gate tries those of crates/CRATE/must-fail, and `make wrong` these and those of wrong-bodies/CRATE. An edit
+has a line `file: src/lib.rt` and pairs of lines `old: TEXT` and `new: TEXT`, as `rt must-fail` takes them. Each
+old text stands just once in its file, after the pairs before it.
 """
 import os
 
 TOP = os.path.dirname(os.path.dirname(os.path.abspath(__file__)))
 FOLDER = os.path.join(TOP, "wrong-bodies")
-GATE = "gate.txt"
+MUST_FAIL = "must-fail"
 
 
 def crates():
@@ -46,18 +46,14 @@ def edits(folder):
     return [os.path.join(folder, name) for name in names if name.endswith(".edit")]
 
 
-def gate_names():
-    """What gate.txt names: for each line a crate and the path of one of its edits."""
-    with open(os.path.join(FOLDER, GATE), encoding="utf-8") as lines:
-        words = [line.split("#")[0].strip() for line in lines]
-    return [(word.partition("/")[0], os.path.join(FOLDER, f"{word}.edit")) for word in words if word]
+def edits_of_gate(crate):
+    """The edits of a crate that the gate tries."""
+    return edits(os.path.join(TOP, "crates", crate, MUST_FAIL))
 
 
-def of_the_gate():
-    """The edits that the gate tries, for each crate that has some, lowest first."""
-    named = gate_names()
-    found = {name: [edit for crate, edit in named if crate == name] for name in crates()}
-    return {name: edits for name, edits in found.items() if edits}
+def edits_beside(crate):
+    """The edits of a crate that `make wrong` alone tries."""
+    return edits(os.path.join(FOLDER, crate))
 
 
 def texts_of(edit, crate):
