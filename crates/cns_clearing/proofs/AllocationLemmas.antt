@@ -17,7 +17,7 @@ use Rattle.cns_covers.proofs.BoundLemmas.{settled_most}
 use Rattle.cns_records.specs.Clear.{AreWritable}
 use Rattle.cns_records.specs.declared.allocation.Allocation.{Allocation}
 use Rattle.cns_records.specs.declared.clear_record.ClearRecord.{ClearRecord}
-use Rattle.cns_clearing.specs.Answers.{Closes, closing_allocation, deliveries_by}
+use Rattle.cns_clearing.specs.Answers.{MayClose, closing_allocation, deliveries_by}
 use Rattle.cns_clearing.specs.Books.{Books, IsAllocable, IsLawful, are_spent, books_of, deliveries_in, history_of, order_book_of, pool_tickets}
 use Rattle.cns_clearing.specs.Closing.{AreRecordable, IsRecordable}
 use Rattle.cns_clearing.specs.Lots.{IsAllocation, IsLot, longs_among}
@@ -77,7 +77,7 @@ module _ (c : List ClearRecord) (a : Allocation) (lawful : IsLawful c) (fits : A
 -- ---- its deliveries
 
 -- the deliveries of the tickets are those of the allocation
-pub close_asks : (node : ClearNode) (issue : ℕ) (tickets : List Ticket) (sealed : Bool) (lot : Lot) (poured : ℕ) (asks : List Ask) → Closes node issue tickets sealed lot
+pub close_asks : (node : ClearNode) (issue : ℕ) (tickets : List Ticket) (sealed : Bool) (lot : Lot) (poured : ℕ) (asks : List Ask) → MayClose node issue tickets sealed lot
     → poured ≡ lot.poured → asks ≡ deliveries_of issue poured tickets → asks ≡ deliveries_by lot tickets sealed
 close_asks node issue tickets sealed lot poured asks closes count is = rw (tickets_drawn tickets, found_issue node.lots issue lot closes.found, ← count) is
 

@@ -22,7 +22,7 @@ use Rattle.cns_records.specs.declared.clear_record.ClearRecord.TheVariants as en
 use Rattle.cns_records.specs.declared.refusal.Refusal.{Refusal}
 use Rattle.cns_records.specs.declared.refusal.Refusal.TheVariants as refusal
 use Rattle.cns_records.proofs.CallLemmas.{changed, committed, refused}
-use Rattle.cns_clearing.specs.Answers.{Closes, ClosesNone, IsPoured, NodeLeaves, closing_allocation, answer_in, close_call, close_deed, closed_of, covers_in, cycle_call, cycled_of, need_up, open_call, pour_call, reply_call, tested_close_call, trade_call, verdict_in}
+use Rattle.cns_clearing.specs.Answers.{IsPoured, MayClose, NodeLeaves, closing_allocation, answer_in, close_call, close_deed, closed_of, covers_in, cycle_call, cycled_of, deliveries_by, need_up, open_call, pour_call, reply_call, tested_close_call, trade_call, verdict_in}
 use Rattle.cns_clearing.specs.Books.{IsLawful, are_spent, is_later, latest_of, order_book_of}
 use Rattle.cns_clearing.specs.Lots.{AreLots, avail_in, lots_poured, new_lot, refilled}
 use Rattle.cns_clearing.specs.Node.{AddLeaves, ClearNode, IsCommitted}
@@ -30,7 +30,7 @@ use Rattle.cns_clearing.specs.Pools.{free_of, lot_of}
 use Rattle.cns_clearing.specs.declared.lot.Lot.{Lot}
 use Rattle.cns_clearing.specs.declared.answer.Closed.{Closed}
 use Rattle.cns_clearing.specs.declared.answer.Taken.TheVariants.{Done, Again}
-use Rattle.cns_clearing.proofs.PouredLemmas.{pour_adds}
+use Rattle.cns_clearing.proofs.PouredLemmas.{pour_adds, pour_free}
 
 -- ---- the commit of a record
 
@@ -132,21 +132,25 @@ pub poured_by : (old : ClearNode) (lots' : List Lot) (issue shares n poured : �
     → old.log.down ≡ false → lot_of old.lots issue ≡ Some lot → n ≡ length old.log.records → poured ≡ avail_in old.log.records issue → shares ≡ poured - lot.poured
     → lots' ≡ map (refilled issue n poured) old.lots → IsPoured old issue shares × Changes (pour_call issue old.log.down old.log.records old.lots) (Ok shares) old.lots lots'
 poured_by old lots' issue shares n poured lot lawful fits are up found count avail is filled =
-    let adds = pour_adds old issue shares lot lawful fits are found (rw avail at is) in (
-      adds,
-      changed _ _ _ _ _ _ (pours issue old.log.down old.log.records old.lots lot up found) (ap Ok adds.free) (rw (filled, count, avail)),
+    let rest = rw avail at is in (
+      pour_adds old issue shares lot lawful fits are found rest,
+      changed _ _ _ _ _ _ (pours issue old.log.down old.log.records old.lots lot up found) (ap Ok (pour_free old issue shares lot found rest)) (rw (filled, count, avail)),
     )
 
--- a close is refused where no lot of the issue closes
-pub close_none : (node : ClearNode) (issue : ℕ) (tickets : List Ticket) (sealed : Bool) (r : Refusal) → node.log.down ≡ false → ClosesNone node issue tickets sealed r
-    → close_call issue tickets sealed node.log.down node.log.records node.lots ≡ Err r
+-- no lot closes where none of the issue is open
+pub close_none : (c : List ClearRecord) (lots : List Lot) (issue : ℕ) (tickets : List Ticket) (sealed : Bool) → lot_of lots issue ≡ None
+    → close_call issue tickets sealed false c lots ≡ Err refusal.NoLot
 unfolding close_call
-close_none node issue tickets sealed refusal.NoLot up none = rw (up, none) refl
-close_none node issue tickets sealed refusal.NumbersSpent up (lot, found, spent) = rw (up, found, spent) refl
-close_none node issue tickets sealed _ up none = absurd none
+close_none c lots issue tickets sealed none = rw none refl
+
+-- nor where there are no numbers for its deliveries
+pub close_unnumbered : (c : List ClearRecord) (lots : List Lot) (issue : ℕ) (tickets : List Ticket) (sealed : Bool) (lot : Lot) → lot_of lots issue ≡ Some lot
+    → are_spent (order_book_of c) (length (deliveries_by lot tickets sealed)) ≡ true → close_call issue tickets sealed false c lots ≡ Err refusal.NumbersSpent
+unfolding close_call
+close_unnumbered c lots issue tickets sealed lot found spent = rw (found, spent) refl
 
 -- else its allocation is recorded
-pub close_goes : (node : ClearNode) (issue : ℕ) (tickets : List Ticket) (sealed : Bool) (lot : Lot) → node.log.down ≡ false → Closes node issue tickets sealed lot
+pub close_goes : (node : ClearNode) (issue : ℕ) (tickets : List Ticket) (sealed : Bool) (lot : Lot) → node.log.down ≡ false → MayClose node issue tickets sealed lot
     → close_call issue tickets sealed node.log.down node.log.records node.lots ≡ Ok (Commits (entry.Allocate (closing_allocation lot tickets sealed)) (closed_of lot tickets sealed node.log.records))
 unfolding close_call
 close_goes node issue tickets sealed lot up closes = rw (up, closes.found, closes.numbers) refl

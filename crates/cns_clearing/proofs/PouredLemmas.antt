@@ -39,10 +39,16 @@ pool_whole c lots issue lawful are =
     omega (arith, lent_most c lots issue lawful are, taken_covered c issue lawful)
 
 -- what a pour adds is what was free
+pub pour_free : (node : ClearNode) (issue shares : ℕ) (lot : Lot) → lot_of node.lots issue ≡ Some lot → shares ≡ avail_in node.log.records issue - lot.poured
+    → shares ≡ free_of (order_book_of node.log.records) node.lots issue
+pour_free node issue shares lot found is =
+    let lent : lent_of node.lots issue ≡ lot.poured = rw found refl in
+    omega (arith, is, lent)
+
+-- and with it the lot has all that is there
 pub pour_adds : (node : ClearNode) (issue shares : ℕ) (lot : Lot) → IsLawful node.log.records → AreWritable node.log.records → AreLots node.log.records node.lots → lot_of node.lots issue ≡ Some lot
     → shares ≡ avail_in node.log.records issue - lot.poured → IsPoured node issue shares
 pour_adds node issue shares lot lawful fits are found is =
     let most = found_most node.log.records node.lots issue lot lawful are found in
-    let lent : lent_of node.lots issue ≡ lot.poured = rw found refl in
     let there = avail_most node.log.records issue lawful fits in
-    record { lot = lot; found = found; free = omega (arith, is, lent); all = omega (arith, is, most); few = omega (arith, is, most, there) }
+    record { lot = lot; found = found; all = omega (arith, is, most); few = omega (arith, is, most, there) }

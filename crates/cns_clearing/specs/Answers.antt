@@ -93,11 +93,10 @@ pour_call issue down c lots = do
   need (not (is_none (lot_of lots issue))) refusal.NoLot
   Ok (free_of (order_book_of c) lots issue, lots_poured c issue lots)
 
--- shares poured into a lot are those that were free, and with those it had it has all that are there, at most 10^18
+-- with these shares and those that it had, the lot of an issue has all that are there, at most 10^18
 pub record IsPoured (node : ClearNode) (issue shares : ℕ) : Type 0 where
   pub lot : Lot
   pub found : lot_of node.lots issue ≡ Some lot
-  pub free : shares ≡ free_of (order_book_of node.log.records) node.lots issue
   pub all : lot.poured + shares ≡ avail_in node.log.records issue
   pub few : lot.poured + shares ≤ 10 ^ 18
 
@@ -119,19 +118,12 @@ abbrev pub closed_of : Lot → List Ticket → Bool → List ClearRecord → Clo
 closed_of lot tickets sealed c =
     record { granted = min lot.poured (asked_sum tickets); orders = next_orders (order_book_of c) (latest_of c) (deliveries_by lot tickets sealed) }
 
--- a lot of the node closes with these tickets, which serve its plan: the allocation is lawful at its place, and there are numbers for its deliveries
-pub record Closes (node : ClearNode) (issue : ℕ) (tickets : List Ticket) (sealed : Bool) (lot : Lot) : Type 0 where
+-- what the record of a close rests on: the tickets serve the plan of the lot of an issue, its allocation is lawful at its place, and there are numbers for its deliveries
+pub record MayClose (node : ClearNode) (issue : ℕ) (tickets : List Ticket) (sealed : Bool) (lot : Lot) : Type 0 where
   pub found : lot_of node.lots issue ≡ Some lot
   pub served : IsServed lot.plan tickets sealed
   pub lawful : IsAllocation node.log.records (closing_allocation lot tickets sealed)
   pub numbers : are_spent (order_book_of node.log.records) (length (deliveries_by lot tickets sealed)) ≡ false
-
--- why no lot of the issue closes with these tickets, which serve its plan
-abbrev pub ClosesNone : ClearNode → ℕ → List Ticket → Bool → Refusal → Type 0
-ClosesNone node issue tickets sealed refusal.NoLot = lot_of node.lots issue ≡ None
-ClosesNone node issue tickets sealed refusal.NumbersSpent =
-    (lot : Lot) × (lot_of node.lots issue ≡ Some lot) × (are_spent (order_book_of node.log.records) (length (deliveries_by lot tickets sealed)) ≡ true)
-ClosesNone node issue tickets sealed _ = ⊥
 
 -- this lot may close with these tickets where there are numbers for its deliveries
 abbrev pub close_deed : List Ticket → Bool → List ClearRecord → Lot → Result (Deed ClearRecord Closed) Refusal

@@ -11,7 +11,7 @@ ghost use Rattle.cns_clearing.specs.Lots.{AreLots, DoesNotDisturb, avail_in, new
 ghost use Rattle.cns_clearing.specs.Position.{IsBetween, due_in, position_in};
 ghost use Rattle.cns_clearing.specs.Pools.{covered_of as covered_in, delivered_of as delivered_in, free_of as free_in, lent_of as lent_in, lot_of, out_of as out_in, rows_of_pools};
 ghost use Rattle.cns_records.specs.Call.{Changes, Grows};
-ghost use Rattle.cns_clearing.specs.Answers.{close_call, covers_in, cycle_call, open_call, order_call, pour_call, reply_call, setting_call, trade_call, tested_close_call, AreServed, Closes, ClosesNone, IsPoured, NodeLeaves, TellsServed};
+ghost use Rattle.cns_clearing.specs.Answers.{close_call, covers_in, cycle_call, open_call, order_call, pour_call, reply_call, setting_call, trade_call, tested_close_call, AreServed, IsPoured, MayClose, NodeLeaves, TellsServed};
 ghost use Rattle.cns_clearing.specs.Node.{AddLeaves, IsOpened, IsUnread, NodePlanned, RestartLeaves};
 ghost use Rattle.cns_clearing.specs.declared.lot.Lot.{Lot};
 ghost use Rattle.cns_journal.specs.RecordLog.{IsGivenUp};
@@ -620,12 +620,12 @@ impl<K: Keeper> Clearing<K> {
         }
     }
 
-    // The lot of an issue, which closes with these tickets. It takes no memory.
+    // The lot of an issue, which closes with these tickets, or why a node that is up closes none. It takes no memory.
     fn closing(&self, issue: Cusip, tickets: &[Ticket], sealed: bool) -> Result<&Lot, Refusal>
         requires served { AreServed self.now.lots issue tickets.now sealed }
-        ensures closes { IfOk result (λ lot. Closes self.now issue tickets.now sealed lot.now) }
+        ensures closes { IfOk result (λ lot. MayClose self.now issue tickets.now sealed lot.now) }
         ensures recordable { OnOk result (AreRecordable tickets.now) }
-        ensures refused { IfErr result (ClosesNone self.now issue tickets.now sealed) }
+        ensures refused { IfErr result (λ refusal. close_call issue tickets.now sealed false self.now.log.records self.now.lots ≡ Err refusal) }
     {
         let lots = self.lots();
         let Some(lot) = lots.get(issue) else {

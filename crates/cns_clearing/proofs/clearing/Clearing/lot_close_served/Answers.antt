@@ -1,4 +1,4 @@
-use Rattle.std.proofs.Common.{◌≡◌, ◌∙◌, ap, length, refl, rules}
+use Rattle.std.proofs.Common.{◌≡◌, ◌∙◌, Bool, ap, false, length, refl, rules}
 use Rattle.std.specs.Prelude.{min}
 use Rattle.cns_movements.specs.Book.{next_orders}
 use Rattle.cns_pool.specs.Pool.{asked_sum}
@@ -6,7 +6,7 @@ use Rattle.cns_records.proofs.CallLemmas.{refused}
 use Rattle.cns_clearing.specs.Answers.{close_call, deliveries_by}
 use Rattle.cns_clearing.specs.Books.{Books, are_spent, latest_of, order_book_of}
 use Rattle.cns_clearing.proofs.AllocationLemmas.{allocable, asked_small, close_asks}
-use Rattle.cns_clearing.proofs.CallsLemmas.{adds, close_goes, close_none, short_of}
+use Rattle.cns_clearing.proofs.CallsLemmas.{adds, close_goes, short_of}
 use Rattle.cns_clearing.proofs.DrawnLemmas.{tickets_drawn}
 use Rattle.cns_clearing.proofs.clearing.Clearing.lot_close_served.Goals as goal
 
@@ -37,7 +37,11 @@ unfolding close_call
 returns-in_err-up g c = rw c.in_err-up.ensures.down.1 (search rules, refl)
 
 pub returns-in_err-lot : goal.returns-in_err-lot
-returns-in_err-lot g c = refused _ _ _ _ _ _ _ (close_none c.args.self.now _ _ _ _ (search rules) c.in_err-lot.ensures.refused) (search rules) refl
+returns-in_err-lot g c =
+    let self = c.args.self.now in
+    let up : self.log.down ≡ false = search rules in
+    let call = ap (λ (down : Bool). close_call c.args.issue c.args.tickets.now c.args.sealed down self.log.records self.lots) up in
+    refused _ _ _ _ _ _ _ (call ∙ c.in_err-lot.ensures.refused) (search rules) refl
 
 pub returns-in_err-allocation : goal.returns-in_err-allocation
 returns-in_err-allocation g c = short_of _ _ _ _ _ _ (close_goes c.args.self.now _ _ _ _ (search rules) c.in_ok-lot.ensures.closes) (search rules) refl
