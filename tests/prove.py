@@ -42,16 +42,13 @@ def copy_tree(to):
 
 
 def bring_back(tree):
-    """Puts what `rt ci` made of each crate of a copy of the tree where it leaves it otherwise."""
+    """Moves what `rt ci` made of each crate of a copy of the tree to where it leaves it otherwise."""
     for name in crates():
         made, to = f"{tree}/crates/{name}/out", os.path.join(TOP, "crates", name, "out")
         for one in os.listdir(made) if os.path.isdir(made) else []:
-            if os.path.isdir(f"{made}/{one}"):
-                shutil.rmtree(f"{to}/{one}", ignore_errors=True)
-                shutil.copytree(f"{made}/{one}", f"{to}/{one}")
-            else:
-                os.makedirs(to, exist_ok=True)
-                shutil.copy2(f"{made}/{one}", f"{to}/{one}")
+            os.makedirs(to, exist_ok=True)
+            shutil.rmtree(f"{to}/{one}", ignore_errors=True)
+            shutil.move(f"{made}/{one}", f"{to}/{one}")
 
 
 def only_name(function):
@@ -147,7 +144,8 @@ def say_crate(name, found, before, trial):
 
 def main():
     signal.signal(signal.SIGTERM, lambda *_: sys.exit(1))
-    wanted, trials, refused, faults, began = {name: edits_of_gate(name) for name in crates()}, {}, 0, [], time.monotonic()
+    wanted = {name: edits_of_gate(name) for name in crates() if edits_of_gate(name)}
+    trials, refused, faults, began = {}, 0, [], time.monotonic()
     with tempfile.TemporaryDirectory(prefix="prove-") as room, ThreadPoolExecutor(lanes_here()) as lanes:
         tree = f"{room}/tree"
         copy_tree(tree)
@@ -160,11 +158,11 @@ def main():
                 trials[name] = lanes.submit(try_crate, name, left, tree, kept)
 
         passed, failed = run_proofs(tree, is_proved)
-        bring_back(tree)
         print(f"== wrong bodies of the gate, {time.monotonic() - began:.0f} seconds after rt ci began", flush=True)
         for name, found in wanted.items():
-            good, bad = say_crate(name, found, before[name], trials.get(name)) if found else (0, [])
+            good, bad = say_crate(name, found, before[name], trials.get(name))
             refused, faults = refused + good, faults + bad
+        bring_back(tree)
     for fault in faults:
         print(f"FAIL {fault}")
     passed, failed = passed + refused, failed + len(faults)
