@@ -1,7 +1,5 @@
 -- What the calls of a clearing node come to, in each case.
-use Rattle.std.proofs.Common.{◌≡◌, ◌≢◌, ◌-◌, ◌++◌, [], ◌∷◌, ℕ, Bool, true, false, List, length, map, Option, Some, None, Result, Ok, Err, ap, refl}
-use Rattle.std.specs.Option.{ok_or}
-use Rattle.cns_ids.specs.Steps.{◌>>=◌, ◌>>◌, need}
+use Rattle.std.proofs.Common.{◌≡◌, ◌≢◌, ◌-◌, [], ℕ, Bool, true, false, List, length, map, Some, None, Result, Ok, Err, ap, refl}
 use Rattle.std.specs.Prelude.{IsSome, if◌then◌else◌}
 use Rattle.std.proofs.lemmas.Bool.{ne_eqb}
 use Rattle.std.proofs.lemmas.List.{nil_from_length}
@@ -22,13 +20,12 @@ use Rattle.cns_records.specs.declared.clear_record.ClearRecord.TheVariants as en
 use Rattle.cns_records.specs.declared.refusal.Refusal.{Refusal}
 use Rattle.cns_records.specs.declared.refusal.Refusal.TheVariants as refusal
 use Rattle.cns_records.proofs.CallLemmas.{changed, committed, refused}
-use Rattle.cns_clearing.specs.Answers.{IsPoured, MayClose, NodeLeaves, closing_allocation, answer_in, close_call, close_deed, closed_of, covers_in, cycle_call, cycled_of, deliveries_by, need_up, open_call, pour_call, reply_call, tested_close_call, trade_call, verdict_in}
+use Rattle.cns_clearing.specs.Answers.{IsPoured, MayClose, NodeLeaves, closing_allocation, answer_in, close_call, closed_of, covers_in, cycle_call, cycled_of, deliveries_by, open_call, pour_call, reply_call, tested_close_call, trade_call, verdict_in}
 use Rattle.cns_clearing.specs.Books.{IsLawful, are_spent, is_later, latest_of, order_book_of}
-use Rattle.cns_clearing.specs.Lots.{AreLots, avail_in, lots_poured, new_lot, refilled}
-use Rattle.cns_clearing.specs.Node.{AddLeaves, ClearNode, IsCommitted}
+use Rattle.cns_clearing.specs.Lots.{AreLots, avail_in, lots_opened, lots_poured, new_lot, refilled}
+use Rattle.cns_clearing.specs.Node.{ClearNode, IsCommitted}
 use Rattle.cns_clearing.specs.Pools.{free_of, lot_of}
 use Rattle.cns_clearing.specs.declared.lot.Lot.{Lot}
-use Rattle.cns_clearing.specs.declared.answer.Closed.{Closed}
 use Rattle.cns_clearing.specs.declared.answer.Taken.TheVariants.{Done, Again}
 use Rattle.cns_clearing.proofs.PouredLemmas.{pour_adds, pour_free}
 
@@ -41,8 +38,8 @@ added x (Err fault) = Err (commit_refusal fault)
 
 -- what such a call leaves
 pub adds : {X : Type 0} (call : Result (Deed ClearRecord X) Refusal) (r : ClearRecord) (x : X) (answer : Result ℕ CommitFault) (result : Result X Refusal) (old new : ClearNode)
-    → call ≡ Ok (Commits r x) → result ≡ added x answer → AddLeaves r answer old new → NodeLeaves call result old new
-adds call r x (Ok due) result old new is told left = committed commit_refusal IsCommitted call r x (Ok tt) result old new is told left.1
+    → call ≡ Ok (Commits r x) → result ≡ added x answer → IsCommitted r answer old new → NodeLeaves call result old new
+adds call r x (Ok due) result old new is told left = committed commit_refusal IsCommitted call r x (Ok tt) result old new is told left
 adds call r x (Err commit.OutOfMemory) result old new is told left = committed commit_refusal IsCommitted call r x (Err commit.OutOfMemory) result old new is told left
 adds call r x (Err commit.Device) result old new is told left = committed commit_refusal IsCommitted call r x (Err commit.Device) result old new is told left
 
@@ -92,16 +89,12 @@ pub cycle_goes : (id : CycleId) (down : Bool) (c : List ClearRecord) (lots : Lis
 unfolding cycle_call
 cycle_goes id down c lots up later none room = rw (up, later, none, room) refl
 
--- a cycle whose covers there is no memory to list
-pub cycle_short : (id : CycleId) (old new : ClearNode) (r : Refusal) → old.log.down ≡ false → is_later (latest_of old.log.records) id ≡ true → old.lots ≡ []
-    → r ≡ (if are_spent (order_book_of old.log.records) (length (covers_in old.log.records id.day)) then refusal.NumbersSpent else refusal.OutOfMemory) → new ≡ old
+-- so of a cycle whose covers there is no memory to list, by whether there are numbers for so many
+pub cycle_short : (id : CycleId) (spent : Bool) (old new : ClearNode) (r : Refusal) → old.log.down ≡ false → is_later (latest_of old.log.records) id ≡ true → old.lots ≡ []
+    → are_spent (order_book_of old.log.records) (length (covers_in old.log.records id.day)) ≡ spent → r ≡ (if spent then refusal.NumbersSpent else refusal.OutOfMemory) → new ≡ old
     → NodeLeaves (cycle_call id old.log.down old.log.records old.lots) (Err r) old new
-cycle_short id old new r up later none is same = rw is (by (are_spent (order_book_of old.log.records) (length (covers_in old.log.records id.day))) refl)
-  where
-    by : (b : Bool) → are_spent (order_book_of old.log.records) (length (covers_in old.log.records id.day)) ≡ b
-        → NodeLeaves (cycle_call id old.log.down old.log.records old.lots) (Err (if b then refusal.NumbersSpent else refusal.OutOfMemory)) old new
-    by true spent = cycle_spent id old new up later none spent same
-    by false room = short_of _ _ _ _ _ _ (cycle_goes id old.log.down old.log.records old.lots up later none room) refl same
+cycle_short id true old new r up later none is told same = rw told (cycle_spent id old new up later none is same)
+cycle_short id false old new r up later none is told same = rw told (short_of _ _ _ _ _ _ (cycle_goes id old.log.down old.log.records old.lots up later none is) refl same)
 
 -- ---- lots
 
@@ -112,7 +105,7 @@ open_again issue down c lots up some = rw (up, some) refl
 
 -- the first one is
 pub opens : (issue : ℕ) (down : Bool) (c : List ClearRecord) (lots : List Lot) → down ≡ false → lot_of lots issue ≡ None
-    → open_call issue down c lots ≡ Ok ((new_lot c issue).plan, lots ++ new_lot c issue ∷ [])
+    → open_call issue down c lots ≡ Ok ((new_lot c issue).plan, lots_opened c issue lots)
 unfolding open_call
 opens issue down c lots up none = rw (up, none) refl
 
@@ -140,19 +133,19 @@ poured_by old lots' issue shares n poured lot lawful fits are up found count ava
 -- no lot closes where none of the issue is open
 pub close_none : (c : List ClearRecord) (lots : List Lot) (issue : ℕ) (tickets : List Ticket) (sealed : Bool) → lot_of lots issue ≡ None
     → close_call issue tickets sealed false c lots ≡ Err refusal.NoLot
-unfolding close_call
+unfolding tested_close_call
 close_none c lots issue tickets sealed none = rw none refl
 
 -- nor where there are no numbers for its deliveries
 pub close_unnumbered : (c : List ClearRecord) (lots : List Lot) (issue : ℕ) (tickets : List Ticket) (sealed : Bool) (lot : Lot) → lot_of lots issue ≡ Some lot
     → are_spent (order_book_of c) (length (deliveries_by lot tickets sealed)) ≡ true → close_call issue tickets sealed false c lots ≡ Err refusal.NumbersSpent
-unfolding close_call
+unfolding tested_close_call
 close_unnumbered c lots issue tickets sealed lot found spent = rw (found, spent) refl
 
 -- else its allocation is recorded
 pub close_goes : (node : ClearNode) (issue : ℕ) (tickets : List Ticket) (sealed : Bool) (lot : Lot) → node.log.down ≡ false → MayClose node issue tickets sealed lot
     → close_call issue tickets sealed node.log.down node.log.records node.lots ≡ Ok (Commits (entry.Allocate (closing_allocation lot tickets sealed)) (closed_of lot tickets sealed node.log.records))
-unfolding close_call
+unfolding tested_close_call
 close_goes node issue tickets sealed lot up closes = rw (up, closes.found, closes.numbers) refl
 
 -- tickets that are tested are refused where they do not serve the plan
@@ -160,19 +153,6 @@ pub tested_bad : (node : ClearNode) (issue : ℕ) (tickets : List Ticket) (seale
     → NodeLeaves (tested_close_call false issue tickets sealed node.log.down node.log.records node.lots) (Err refusal.BadTickets) node node
 unfolding tested_close_call
 tested_bad node issue tickets sealed lot up found = rw (up, found) (refl, refl)
-
--- and close the lot where they do
-pub tested_good : (issue : ℕ) (tickets : List Ticket) (sealed : Bool) (result : Result Closed Refusal) (old new : ClearNode)
-    → NodeLeaves (close_call issue tickets sealed old.log.down old.log.records old.lots) result old new
-    → NodeLeaves (tested_close_call true issue tickets sealed old.log.down old.log.records old.lots) result old new
-unfolding tested_close_call close_call
-tested_good issue tickets sealed result old new left = by old.log.down (lot_of old.lots issue) left
-  where
-    by : (down : Bool) (found : Option Lot) → NodeLeaves (need_up down >> ok_or found refusal.NoLot >>= close_deed tickets sealed old.log.records) result old new
-        → NodeLeaves (need_up down >> (ok_or found refusal.NoLot >>= λ lot. need true refusal.BadTickets >> close_deed tickets sealed old.log.records lot)) result old new
-    by true found left = left
-    by false None left = left
-    by false (Some lot) left = left
 
 -- ---- replies
 

@@ -9,7 +9,7 @@ use Rattle.cns_ids.proofs.ListLemmas.{count_by-filter}
 use Rattle.cns_allocate.proofs.TurnLemmas.{find-All, find-none, find-passes}
 use Rattle.cns_records.specs.declared.clear_record.ClearRecord.{ClearRecord}
 use Rattle.cns_records.specs.declared.clear_record.ClearRecord.TheVariants.{Cycle, Allocate}
-use Rattle.cns_clearing.specs.Lots.{AreLots, DoesNotDisturb, IsLot, IsQuiet, avail_in, lots_after, lots_poured, new_lot, refilled}
+use Rattle.cns_clearing.specs.Lots.{AreLots, DoesNotDisturb, IsLot, IsQuiet, avail_in, lots_after, lots_opened, lots_poured, new_lot, refilled}
 use Rattle.cns_clearing.specs.Pools.{lot_of}
 use Rattle.cns_clearing.specs.declared.lot.Lot.{Lot}
 
@@ -73,8 +73,8 @@ count_opened lots new once none other =
     grind (arith, nat_tests, once other, before, both)
 
 -- the lots with one that is opened
-pub lots_opened : (c : List ClearRecord) (lots : List Lot) (issue : ℕ) → AreLots c lots → lot_of lots issue ≡ None → AreLots c (lots ++ new_lot c issue ∷ [])
-lots_opened c lots issue are none =
+pub lots_new : (c : List ClearRecord) (lots : List Lot) (issue : ℕ) → AreLots c lots → lot_of lots issue ≡ None → AreLots c (lots_opened c issue lots)
+lots_new c lots issue are none =
     let new : Lot = new_lot c issue in
     record {
       each = All-append (IsLot c) lots (new ∷ []) are.each (All-cons (IsLot c) new [] (new_is_lot c issue) (All-nil (IsLot c)));

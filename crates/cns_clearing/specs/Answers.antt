@@ -1,7 +1,7 @@
 -- What each call of a clearing node comes to, by whether the node is down, its records and its open lots, and what it leaves (this project's own
 -- rules). The first refusal that applies is told.
 use Rattle.std.specs.Bool.{Decides}
-use Rattle.std.specs.Prelude.{◌≡◌, ℕ, ◌+◌, ◌^◌, ◌≤◌, ◌==◌, min, not, Bool, true, false, List, [], ◌∷◌, ◌++◌, length, map, Some, None, Result, Ok, Err}
+use Rattle.std.specs.Prelude.{◌≡◌, ℕ, ◌+◌, ◌^◌, ◌≤◌, ◌==◌, min, not, Bool, true, false, List, length, map, Some, Result, Ok, Err}
 use Rattle.std.specs.Option.{is_none, ok_or}
 use Rattle.cns_ids.specs.Steps.{◌>>=◌, ◌>>◌, need}
 use Rattle.cns_ids.specs.declared.cycle.CycleId.{CycleId}
@@ -29,7 +29,7 @@ use Rattle.cns_records.specs.declared.drawn.Drawn.{Drawn}
 use Rattle.cns_records.specs.declared.clear_record.ClearRecord.{ClearRecord}
 use Rattle.cns_records.specs.declared.clear_record.ClearRecord.TheVariants as entry
 use Rattle.cns_clearing.specs.Books.{are_spent, books_of, covers_on, deliveries_in, history_of, is_later, latest_of, order_book_of}
-use Rattle.cns_clearing.specs.Lots.{IsAllocation, avail_in, lots_poured, new_lot}
+use Rattle.cns_clearing.specs.Lots.{IsAllocation, avail_in, lots_opened, lots_poured, new_lot}
 use Rattle.cns_clearing.specs.Node.{ClearNode, IsCommitted}
 use Rattle.cns_clearing.specs.Pools.{free_of, lot_of}
 use Rattle.cns_clearing.specs.declared.lot.Lot.{Lot}
@@ -44,7 +44,7 @@ use Rattle.cns_clearing.specs.declared.answer.Taken.TheVariants.{Done, Again}
 abbrev pub NodeLeaves : {X : Type 0} → Result (Deed ClearRecord X) Refusal → Result X Refusal → ClearNode → ClearNode → Type 0
 NodeLeaves call result old new = CallLeaves commit_refusal IsCommitted call result old new
 
--- the node answers
+-- a node that is down refuses
 abbrev pub need_up : Bool → Result (Unit {0}) Refusal
 need_up down = need (not down) refusal.Down
 
@@ -84,7 +84,7 @@ cycle_call id down c lots = do
 
 -- a lot is opened where none of the issue is open: it has all shares of the issue that are there, and its plan, which is told
 unfoldable pub open_call : ℕ → Bool → List ClearRecord → List Lot → Result (List Planned × List Lot) Refusal
-open_call issue down c lots = need_up down >> need (is_none (lot_of lots issue)) refusal.LotAlready >> Ok ((new_lot c issue).plan, lots ++ new_lot c issue ∷ [])
+open_call issue down c lots = need_up down >> need (is_none (lot_of lots issue)) refusal.LotAlready >> Ok ((new_lot c issue).plan, lots_opened c issue lots)
 
 -- what a lot gets that is poured into, and the lots then
 unfoldable pub pour_call : ℕ → Bool → List ClearRecord → List Lot → Result (ℕ × List Lot) Refusal
@@ -131,10 +131,6 @@ close_deed tickets sealed c lot =
     need (not (are_spent (order_book_of c) (length (deliveries_by lot tickets sealed)))) refusal.NumbersSpent
     >> Ok (Commits (entry.Allocate (closing_allocation lot tickets sealed)) (closed_of lot tickets sealed c))
 
--- the lot of an issue closes with tickets that serve its plan
-unfoldable pub close_call : ℕ → List Ticket → Bool → Bool → List ClearRecord → List Lot → Result (Deed ClearRecord Closed) Refusal
-close_call issue tickets sealed down c lots = need_up down >> ok_or (lot_of lots issue) refusal.NoLot >>= close_deed tickets sealed c
-
 -- these tickets serve the plan of the lot of the issue, where the node has one
 abbrev pub AreServed : List Lot → ℕ → List Ticket → Bool → Type 0
 AreServed lots issue tickets sealed = (lot : Lot) → lot_of lots issue ≡ Some lot → IsServed lot.plan tickets sealed
@@ -150,6 +146,10 @@ tested_close_call serve issue tickets sealed down c lots = do
   lot ← ok_or (lot_of lots issue) refusal.NoLot
   need serve refusal.BadTickets
   close_deed tickets sealed c lot
+
+-- it closes with tickets of which it is known that they do
+abbrev pub close_call : ℕ → List Ticket → Bool → Bool → List ClearRecord → List Lot → Result (Deed ClearRecord Closed) Refusal
+close_call issue tickets sealed down c lots = tested_close_call true issue tickets sealed down c lots
 
 -- ---- orders and replies
 

@@ -47,7 +47,7 @@ pub record Books : Type 0 where
   pub recent : List PositionRow
   pub previous : List PositionRow
 
--- the covers that a cycle of this date orders: of the trades that are due from then on, and the orders and confirmations before
+-- the covers that a cycle of this date orders: of what is short once the trades of this date are due too, by the orders and confirmations before
 abbrev pub covers_on : Books → ℕ → List Ask
 covers_on b day = covers_of (Netted day ∷ b.history) b.orders b.exemptions
 
@@ -100,7 +100,7 @@ abbrev pub are_spent : Orders → ℕ → Bool
 are_spent book count = not (count == 0) && nat_lt 1000000 (length book.orders + count)
 
 -- an allocation may follow: its lot was opened not after its last pour; its tickets tile, each is of another member and asks for
--- no more than that is long of, less its open deliveries; the shares poured are there, and there are numbers for its deliveries
+-- no more than its member is long of, less that one's open deliveries; the shares poured are there, and there are numbers for its deliveries
 pub record IsAllocable (b : Books) (a : Allocation) : Type 0 where
   pub order : a.opened ≤ a.upto
   pub chained : AreChained 0 (intervals_of (pool_tickets a.drawn))

@@ -17,7 +17,7 @@ use Rattle.cns_clearing.specs.declared.lot.Lot.{Lot}
 abbrev pub longs_among : ℕ → List PositionRow → List ℕ
 longs_among issue rows = filter_map (λ row. if (row.issue == issue) && not (credit_part row.position == 0) then Some row.member else None) rows
 
--- the plan of an issue, by the members that were long in it directly after the cycle before the latest
+-- the plan of an issue: its longs that are still to receive shares, of which those that were long directly after the cycle before the latest have waited
 abbrev pub plan_in : List ClearRecord → ℕ → List Planned
 plan_in c issue = plan_of issue (books_of c).history (books_of c).orders (books_of c).priorities (longs_among issue (books_of c).previous)
 
@@ -36,7 +36,7 @@ AreQuiet issue [] = Unit {0}
 AreQuiet issue (r ∷ c) = IsQuiet issue r × AreQuiet issue c
 
 -- a lot is as these records have it: since it was opened there was neither a cycle nor an allocation of its issue; it has all
--- shares that were there at its last pour, and the plan of its opening
+-- shares that were there at its last pour, or at its opening where there was none, and the plan of its opening
 pub record IsLot (c : List ClearRecord) (lot : Lot) : Type 0 where
   pub later : List ClearRecord
   pub middle : List ClearRecord
@@ -59,7 +59,7 @@ pub record IsAllocation (c : List ClearRecord) (a : Allocation) : Type 0 where
   pub lot : IsLot c (record { issue = a.issue; opened = a.opened; upto = a.upto; poured = a.poured; plan = plan })
   pub served : IsServed plan (pool_tickets a.drawn) a.sealed
 
--- an allocation may follow these records in the strict sense: not by its numbers alone, but since it closes a lot that they have
+-- an allocation may follow these records in the strict sense: not only as its tickets, shares and orders fit them, but since it closes a lot that they have
 abbrev pub ClosesLot : List ClearRecord → ClearRecord → Type 0
 ClosesLot c (Allocate a) = IsAllocation c a
 ClosesLot c _ = Unit {0}
@@ -67,6 +67,10 @@ ClosesLot c _ = Unit {0}
 -- the lot that is opened after these records
 abbrev pub new_lot : List ClearRecord → ℕ → Lot
 new_lot c issue = record { issue = issue; opened = length c; upto = length c; poured = avail_in c issue; plan = plan_in c issue }
+
+-- the lots once one of an issue is opened
+abbrev pub lots_opened : List ClearRecord → ℕ → List Lot → List Lot
+lots_opened c issue lots = lots ++ new_lot c issue ∷ []
 
 -- a lot once that of an issue has these shares after so many records
 abbrev pub refilled : ℕ → ℕ → ℕ → Lot → Lot

@@ -11,7 +11,7 @@ use Rattle.cns_journal.specs.declared.record_log.ReplayFault.{ReplayFault}
 use Rattle.cns_journal.specs.declared.record_log.Restarted.{Restarted}
 use Rattle.cns_records.specs.Clear.{spelling, HasPayload, AreWritable}
 use Rattle.cns_records.specs.declared.clear_record.ClearRecord.{ClearRecord}
-use Rattle.cns_clearing.specs.Books.{Books, books_of, due_by, IsAllowed}
+use Rattle.cns_clearing.specs.Books.{Books, books_of, IsAllowed}
 use Rattle.cns_clearing.specs.Lots.{AreLots, lots_after}
 use Rattle.cns_clearing.specs.declared.lot.Lot.{Lot}
 
@@ -36,16 +36,10 @@ abbrev pub Failed : ClearRecord → ClearNode → ClearNode → Type 0
 Failed r old new = (old.log.down ≡ false) × LogCommits r (Err commit.Device) old.log new.log × (new.lots ≡ old.lots)
 
 -- what the commit of a record leaves of a node, by its answer
-abbrev pub IsCommitted : ClearRecord → Result (Unit {0}) CommitFault → ClearNode → ClearNode → Type 0
+abbrev pub IsCommitted : {X : Type 0} → ClearRecord → Result X CommitFault → ClearNode → ClearNode → Type 0
 IsCommitted r (Ok _) old new = Added r old new
 IsCommitted r (Err commit.OutOfMemory) old new = new ≡ old
 IsCommitted r (Err commit.Device) old new = Failed r old new
-
--- what the call leaves that adds a record, by its answer: how many trades the record made due
-abbrev pub AddLeaves : ClearRecord → Result ℕ CommitFault → ClearNode → ClearNode → Type 0
-AddLeaves r (Ok due) old new = (due ≡ due_by (books_of old.log.records) r) × Added r old new
-AddLeaves r (Err commit.OutOfMemory) old new = new ≡ old
-AddLeaves r (Err commit.Device) old new = Failed r old new
 
 -- what a plan leaves, by its answer
 abbrev pub NodePlanned : Bool → Result (Unit {0}) NotPlanned → ClearNode → ClearNode → Type 0

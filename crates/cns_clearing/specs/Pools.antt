@@ -1,7 +1,7 @@
 -- The pool of an issue, as the clearing node has it: the shares that confirmed covers brought to account 0, the CNS account, and that no confirmed
 -- delivery took. They are free, lent to the open lot of the issue, or out, which unconfirmed deliveries ask for. All are sums over the orders of a book
--- and their confirmations, and what the open lots hold: a movement that is executed and not confirmed is in the balance of account 0 at the depository,
--- and not yet here. (This project's own rules.)
+-- and their confirmations, and what the open lots hold: a movement that is executed and not confirmed has changed the balance of account 0 at the
+-- depository, and not yet these sums. (This project's own rules.)
 use Rattle.std.specs.Prelude.{ℕ, ◌+◌, ◌-◌, ◌&&◌, ◌==◌, List, [], ◌∷◌, Option, Some, None, find, fold, option_map, unwrap_or, sum_by, if◌then◌else◌}
 use Rattle.std.specs.List.{filter_map}
 use Rattle.std.specs.Ordering.{nat_cmp}
@@ -44,7 +44,7 @@ avail_of book issue = covered_of book issue - (delivered_of book issue + out_of 
 abbrev pub lot_of : List Lot → ℕ → Option Lot
 lot_of lots issue = find (λ (lot : Lot). lot.issue == issue) lots
 
--- the shares that are lent: those set aside for the open lot of the issue, which were poured into it
+-- the shares that are lent, which is to say set aside for the open lot of the issue: they were poured into it (no loan of shares is meant)
 abbrev pub lent_of : List Lot → ℕ → ℕ
 lent_of lots issue = unwrap_or (option_map (λ (lot : Lot). lot.poured) (lot_of lots issue)) 0
 

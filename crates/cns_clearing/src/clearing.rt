@@ -1,18 +1,18 @@
-ghost use Rattle.std.specs.Prelude.{◌≡◌, ◌≢◌, ◌↔◌, ℕ, ◌≤◌, ◌^◌, ◌+◌, ◌++◌, ◌∷◌, Bool, IsTrue, true, false, [], length, map, vec_items, option_map, IfOk, IfErr, None, OnErr, OnOk, if◌then◌else◌};
+ghost use Rattle.std.specs.Prelude.{◌≡◌, ◌≢◌, ◌↔◌, ℕ, ◌≤◌, ◌^◌, ◌+◌, Bool, Err, IsTrue, true, false, [], length, map, vec_items, option_map, IfOk, IfErr, None, OnErr, OnOk};
 ghost use Rattle.cns_records.specs.declared.clear_record.ClearRecord.TheVariants.{Exempt, Priority};
 ghost use Rattle.cns_records.specs.Clear.{AreWritable, spelling};
 ghost use Rattle.cns_movements.specs.Book.{next_orders};
 ghost use Rattle.cns_netting.specs.Book.{IsBook};
 ghost use Rattle.cns_netting.specs.History.{due, longs_of, shorts_of};
 ghost use Rattle.cns_allocate.specs.Served.{IsServed};
-ghost use Rattle.cns_clearing.specs.Books.{AreEffects, AreSound, IsAllowed, IsLawful, are_spent, asks_of, books_of, history_of, latest_of, order_book_of, rows_after};
+ghost use Rattle.cns_clearing.specs.Books.{AreEffects, AreSound, IsAllowed, IsLawful, are_spent, asks_of, books_of, due_by, history_of, is_later, latest_of, order_book_of, rows_after};
 ghost use Rattle.cns_clearing.specs.Closing.{AreRecordable};
-ghost use Rattle.cns_clearing.specs.Lots.{AreLots, DoesNotDisturb, avail_in, new_lot, plan_in};
+ghost use Rattle.cns_clearing.specs.Lots.{AreLots, DoesNotDisturb, avail_in, lots_opened, plan_in};
 ghost use Rattle.cns_clearing.specs.Position.{IsBetween, due_in, position_in};
 ghost use Rattle.cns_clearing.specs.Pools.{covered_of as covered_in, delivered_of as delivered_in, free_of as free_in, lent_of as lent_in, lot_of, out_of as out_in, rows_of_pools};
 ghost use Rattle.cns_records.specs.Call.{Changes, Grows};
-ghost use Rattle.cns_clearing.specs.Answers.{close_call, covers_in, cycle_call, open_call, order_call, pour_call, reply_call, setting_call, trade_call, tested_close_call, AreServed, IsPoured, MayClose, NodeLeaves, TellsServed};
-ghost use Rattle.cns_clearing.specs.Node.{AddLeaves, IsOpened, IsUnread, NodePlanned, RestartLeaves};
+ghost use Rattle.cns_clearing.specs.Answers.{close_call, cycle_call, open_call, order_call, pour_call, reply_call, setting_call, trade_call, tested_close_call, AreServed, IsPoured, MayClose, NodeLeaves, TellsServed};
+ghost use Rattle.cns_clearing.specs.Node.{IsCommitted, IsOpened, IsUnread, NodePlanned, RestartLeaves};
 ghost use Rattle.cns_clearing.specs.declared.lot.Lot.{Lot};
 ghost use Rattle.cns_journal.specs.RecordLog.{IsGivenUp};
 
@@ -23,7 +23,7 @@ use crate::effects::Effects;
 use crate::lot::{Lot, Lots};
 use crate::pools::{PoolRows, free_of, lent_of, pool_rows};
 use cns_allocate::{Plan, are_served, deliveries, delivery_count};
-use cns_ids::{Cusip, CycleId, Day, MemberNo, Shares};
+use cns_ids::{Cusip, CycleId, MemberNo, Shares};
 use cns_journal::{CommitFault, Keeper, NotPlanned, RecordLog, Refused, ReplayFault, Restarted};
 use cns_movements::{Ask, Confirm as Confirmed, MoveNo, Order, OrderBook, Reply};
 use cns_netting::NetBook;
@@ -168,7 +168,7 @@ impl<K: Keeper> Clearing<K> {
             return Err(Refusal::LotsOpen);
         }
         let Ok(effects) = self.books.cycle_effects(alloc, &id) else {
-            return Err(self.refusal_without_memory(id.day));
+            return Err(self.refusal_without_memory(&id));
         };
         let books = self.books();
         let asks = effects.asks.as_slice();
@@ -208,7 +208,7 @@ impl<K: Keeper> Clearing<K> {
         requires up { self.old.log.down ≡ false }
         requires first { lot_of self.old.lots issue ≡ None }
         requires plan { plan ≡ plan_in self.old.log.records issue }
-        ensures ok { OnOk result (self.new ≡ record self.old { lots = self.old.lots ++ new_lot self.old.log.records issue ∷ [] }) }
+        ensures ok { OnOk result (self.new ≡ record self.old { lots = lots_opened self.old.log.records issue self.old.lots }) }
         ensures err { OnErr result (self.new ≡ self.old) }
     {
         let records = self.record_count();
@@ -556,15 +556,15 @@ impl<K: Keeper> Clearing<K> {
         Ok(self.books())
     }
 
-    // Why a cycle of this date is refused whose covers there is no memory to list: for want of numbers, and
-    // else for want of memory.
-    fn refusal_without_memory(&mut self, day: Day) -> Refusal
-        ensures refusal { let c = self.old.log.records in
-            let count = length (covers_in c day) in
-            result ≡ (if are_spent (order_book_of c) count then Refusal.NumbersSpent else Refusal.OutOfMemory) }
-        ensures same { self.new ≡ self.old }
+    // Why a cycle is refused whose covers there is no memory to list, where no lot is open and it is later than
+    // the latest one: for want of numbers, and else for want of memory.
+    fn refusal_without_memory(&mut self, id: &CycleId) -> Refusal
+        requires up { self.old.log.down ≡ false }
+        requires later { is_later (latest_of self.old.log.records) id.now ≡ true }
+        requires quiet { self.old.lots ≡ [] }
+        ensures { NodeLeaves (cycle_call id.now self.old.log.down self.old.log.records self.old.lots) (Err result) self.old self.new }
     {
-        let count = self.books.cover_count(day);
+        let count = self.books.cover_count(id.day);
         if self.books.are_spent(count) {
             Refusal::NumbersSpent
         } else {
@@ -646,7 +646,8 @@ impl<K: Keeper> Clearing<K> {
         requires allowed { IsAllowed self.old.log.records entry }
         requires quiet { DoesNotDisturb entry self.old.lots }
         requires effects { AreEffects (books_of self.old.log.records) entry effects }
-        ensures { AddLeaves entry result self.old self.new }
+        ensures commits { IsCommitted entry result self.old self.new }
+        ensures due { IfOk result (λ due. due ≡ due_by (books_of self.old.log.records) entry) }
     {
         if self.books.room(&entry, effects.asks.as_slice()).is_err() {
             return Err(CommitFault::OutOfMemory);

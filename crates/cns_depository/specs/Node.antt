@@ -1,12 +1,11 @@
 -- What contracts see of a depository (this project's own rules).
-use Rattle.std.specs.Prelude.{◌≡◌, ℕ, Bool, false, List, Result, Ok, Err}
+use Rattle.std.specs.Prelude.{◌≡◌, ℕ, Bool, false, List, Result, Err}
 use Rattle.cns_journal.specs.Keeper.{KeeperState}
 use Rattle.cns_journal.specs.Replay.{Reread}
 use Rattle.cns_journal.specs.RecordLog.{IsLawfulLog, LogCommits, LogPlanned, LogRestarts, LogState}
 use Rattle.cns_journal.specs.RecordLog as log
 use Rattle.cns_journal.specs.declared.keeper.NotPlanned.{NotPlanned}
 use Rattle.cns_journal.specs.declared.record_log.CommitFault.{CommitFault}
-use Rattle.cns_journal.specs.declared.record_log.CommitFault.TheVariants as commit
 use Rattle.cns_journal.specs.declared.record_log.ReplayFault.{ReplayFault}
 use Rattle.cns_journal.specs.declared.record_log.Restarted.{Restarted}
 use Rattle.cns_records.specs.declared.dep_record.DepRecord.{DepRecord}
@@ -14,7 +13,7 @@ use Rattle.cns_records.specs.Dep.{dep_spelling, HasDepPayload}
 use Rattle.cns_trades.specs.declared.opening.Opening.{Opening}
 use Rattle.cns_depository.specs.Stock.{IsExecutable}
 
--- the openings, and the log of the records
+-- the opening balances, and the log of the records
 pub record DepNode : Type 0 where
   pub openings : List Opening
   pub log : LogState DepRecord
@@ -26,13 +25,6 @@ IsNode node = IsLawfulLog (IsExecutable node.openings) node.log
 -- what the commit of a record leaves, by its answer
 abbrev pub IsCommitted : DepRecord → Result (Unit {0}) CommitFault → DepNode → DepNode → Type 0
 IsCommitted r result old new = (old.log.down ≡ false) × LogCommits r result old.log new.log × (new.openings ≡ old.openings)
-
--- a node whose record was acknowledged, and one whose commit failed at the device
-abbrev pub Added : DepRecord → DepNode → DepNode → Type 0
-Added r old new = IsCommitted r (Ok tt) old new
-
-abbrev pub Failed : DepRecord → DepNode → DepNode → Type 0
-Failed r old new = IsCommitted r (Err commit.Device) old new
 
 -- what a plan leaves, by its answer
 abbrev pub NodePlanned : Bool → Result (Unit {0}) NotPlanned → DepNode → DepNode → Type 0

@@ -9,7 +9,7 @@ use Rattle.cns_clearing.specs.Lots as node
 use Rattle.cns_clearing.proofs.TotalLemmas.{avail_most}
 use Rattle.cns_system.specs.Numbered.{AreTied, opening_call}
 use Rattle.cns_system.specs.Scene.{Comes}
-use Rattle.cns_system.specs.Shown.{Shown, shown_of, with_new_lot}
+use Rattle.cns_system.specs.Shown.{Shown, shown_of}
 use Rattle.cns_system.proofs.EventComes.{open_comes}
 use Rattle.cns_system.proofs.FloorLemmas.{AreBacked, all_kept}
 use Rattle.std.proofs.lemmas.List.{length-append}
@@ -33,6 +33,7 @@ use Rattle.cns_system.specs.declared.outcome.Outcome.TheVariants as outcomes
 use Rattle.cns_system.proofs.EventHolds.{open_holds}
 use Rattle.cns_system.proofs.EventKeeps.{step_keeps_lots}
 use Rattle.cns_system.proofs.HappensLemmas.{OrRefused, comes_told}
+use Rattle.cns_system.proofs.LotsLemmas.{with_new_lot}
 use Rattle.cns_system.proofs.RunLemmas.{Goes, goes_step}
 use Rattle.cns_system.proofs.TiedLemmas.{at_place, found_new}
 

@@ -1,22 +1,19 @@
 -- Each event comes to what its call leaves.
-use Rattle.std.proofs.Common.{◌≡◌, ◌∙◌, ℕ, Result, Ok, Err, refl, sym, ap, inl, inr}
-use Rattle.std.specs.Prelude.{MatchResult}
+use Rattle.std.proofs.Common.{◌≡◌, ◌∙◌, ℕ, List, Result, Ok, Err, refl, ap, inl, inr}
 use Rattle.cns_ids.specs.Steps.{◌>>=◌}
-use Rattle.cns_pool.specs.Pool.{asked_sum}
 use Rattle.cns_pool.specs.declared.ticket.Ticket.{Ticket}
 use Rattle.cns_records.specs.Call.{CallLeaves, Changes, Grows}
 use Rattle.cns_records.specs.Refusals.{commit_refusal}
 use Rattle.cns_records.specs.declared.refusal.Refusal.{Refusal}
 use Rattle.cns_records.specs.declared.refusal.Refusal.TheVariants as refusal
-use Rattle.cns_clearing.specs.Pools.{lent_of}
 use Rattle.cns_clearing.specs.declared.answer.Closed.{Closed}
 use Rattle.cns_clearing.specs.declared.lot.Lot.{Lot}
 use Rattle.cns_system.specs.Happens.{Leaves as Left, judged, outcome_of}
 use Rattle.cns_system.specs.Lot.{LotState, with_seal}
-use Rattle.cns_system.specs.Lots.{HasLot, HasNone, change_call, going_lot, reserve_call}
-use Rattle.cns_system.specs.Numbered.{IsNumberedCommit, NumberedNode, numbered_close, with_lot_ended, numbered_open, opening_call, numbered_pour, shown, with_opened}
+use Rattle.cns_system.specs.Lots.{change_call, reserve_call}
+use Rattle.cns_system.specs.Numbered.{IsNumberedCommit, NumberedNode, having_lots, look_call, numbered_close, with_lot_ended, numbered_open, opening_call, numbered_pour}
 use Rattle.cns_system.specs.Scene.{Comes}
-use Rattle.cns_system.specs.Shown.{Shown, shown_of, with_new_lot}
+use Rattle.cns_system.specs.Shown.{Shown, shown_of}
 use Rattle.cns_system.specs.World.{World}
 use Rattle.cns_system.specs.declared.entry.Look.{Look}
 use Rattle.cns_system.specs.declared.event.Event.{Event}
@@ -67,16 +64,17 @@ module _ (old : World) (n : NumberedNode) where
   open_comes issue result left =
       by (numbered_open issue old.clear.clear.log.down old.clear.clear.log.records old.clear.clear.lots old.clear.lots) refl left
     where
-      by : (f : Result (Opened × Lot) Refusal) → numbered_open issue old.clear.clear.log.down old.clear.clear.log.records old.clear.clear.lots old.clear.lots ≡ f
-          → Grows refusal.OutOfMemory (f >>= λ opened. Ok (opened.0, with_opened opened.1 old.clear)) result old.clear n
+      by : (f : Result (Opened × (List Lot × List LotState)) Refusal) → numbered_open issue old.clear.clear.log.down old.clear.clear.log.records old.clear.clear.lots old.clear.lots ≡ f
+          → Grows refusal.OutOfMemory (f >>= λ opened. Ok (opened.0, having_lots opened.1 old.clear)) result old.clear n
           → Comes (event.LotOpen issue) (outcome_of (λ (lot : Opened). outcomes.LotOpened lot) result) old (record old { clear = n })
       by (Err r) is (answer, same) = rw (answer, same) (refused (event.LotOpen issue) old r (rw is refl))
       by (Ok opened) is (inl (answer, same)) =
           rw (answer, same)
-          (grows (event.LotOpen issue) old (record old { clear = with_opened opened.1 old.clear }) (λ c. refl) (outcomes.LotOpened opened.0) (with_new_lot opened.1 (shown_of old)) (rw is refl)
-          refl refl refl)
+          (grows (event.LotOpen issue) old (record old { clear = having_lots opened.1 old.clear }) (λ c. refl) (outcomes.LotOpened opened.0)
+          (record (shown_of old) { open_lots = opened.1.0; lots = opened.1.1 }) (rw is refl) refl refl refl)
       by (Ok opened) is (inr (answer, same)) =
-          rw (answer, same) (not_grown (event.LotOpen issue) old (λ c. refl) (outcomes.LotOpened opened.0) (with_new_lot opened.1 (shown_of old)) (rw is refl))
+          rw (answer, same)
+          (not_grown (event.LotOpen issue) old (λ c. refl) (outcomes.LotOpened opened.0) (record (shown_of old) { open_lots = opened.1.0; lots = opened.1.1 }) (rw is refl))
 
   pub close_comes : (number : ℕ) (result : Result Closed Refusal)
       → CallLeaves commit_refusal (IsNumberedCommit (with_lot_ended number)) (numbered_close number old.clear.clear.log.down old.clear.clear.log.records old.clear.clear.lots old.clear.lots) result
@@ -89,25 +87,18 @@ module _ (old : World) (n : NumberedNode) where
 -- ---- looks
 
 module _ (w : World) where
-  look_told : (e : Event) (number : ℕ) (told : Look → Outcome) (of_lot : LotState → Outcome) (result : Result Look Refusal)
-      → judged e (shown_of w) ≡ (going_lot w.clear.lots number >>= λ lot. Ok (Left (of_lot lot) (shown_of w)))
-      → ((lot : LotState) → told (shown w.clear.clear.lots lot) ≡ of_lot lot)
-      → MatchResult result (λ (look : Look). HasLot w.clear.lots number (λ (lot : LotState). look ≡ shown w.clear.clear.lots lot)) (HasNone w.clear.lots number)
+  look_told : (e : Event) (number : ℕ) (told : Look → Outcome) (result : Result Look Refusal)
+      → judged e (shown_of w) ≡ (look_call number w.clear.clear.lots w.clear.lots >>= λ look. Ok (Left (told look) (shown_of w))) → result ≡ look_call number w.clear.clear.lots w.clear.lots
       → Comes e (outcome_of told result) w w
-  look_told e number told of_lot (Ok look) is same (lot, going, look_is) =
-      tells e w w (told look) (shown_of w) (is ∙ rw going (ap (λ (o : Outcome). Ok (Left o (shown_of w))) (sym (same lot) ∙ ap told (sym look_is)))) refl refl refl
-  look_told e number told of_lot (Err r) is same none = refused e w r (is ∙ rw none refl)
+  look_told e number told (Ok look) is answer = tells e w w (told look) (shown_of w) (is ∙ rw (← answer) refl) refl refl refl
+  look_told e number told (Err r) is answer = refused e w r (is ∙ rw (← answer) refl)
 
-  pub look_poured_comes : (number : ℕ) (result : Result Look Refusal)
-      → MatchResult result (λ (look : Look). HasLot w.clear.lots number (λ (lot : LotState). look ≡ shown w.clear.clear.lots lot)) (HasNone w.clear.lots number)
+  pub look_poured_comes : (number : ℕ) (result : Result Look Refusal) → result ≡ look_call number w.clear.clear.lots w.clear.lots
       → Comes (event.LookPoured number) (outcome_of (λ (look : Look). outcomes.LookedPoured look.poured) result) w w
   unfolding judged
-  look_poured_comes number result h =
-      look_told (event.LookPoured number) number (λ (look : Look). outcomes.LookedPoured look.poured) (λ lot. outcomes.LookedPoured (lent_of w.clear.clear.lots lot.issue)) result refl (λ lot. refl) h
+  look_poured_comes number result answer = look_told (event.LookPoured number) number (λ (look : Look). outcomes.LookedPoured look.poured) result refl answer
 
-  pub look_asked_comes : (number : ℕ) (result : Result Look Refusal)
-      → MatchResult result (λ (look : Look). HasLot w.clear.lots number (λ (lot : LotState). look ≡ shown w.clear.clear.lots lot)) (HasNone w.clear.lots number)
+  pub look_asked_comes : (number : ℕ) (result : Result Look Refusal) → result ≡ look_call number w.clear.clear.lots w.clear.lots
       → Comes (event.LookAsked number) (outcome_of (λ (look : Look). outcomes.LookedAsked look.asked look.sealed) result) w w
   unfolding judged
-  look_asked_comes number result h =
-      look_told (event.LookAsked number) number (λ (look : Look). outcomes.LookedAsked look.asked look.sealed) (λ lot. outcomes.LookedAsked (asked_sum lot.tickets) lot.sealed) result refl (λ lot. refl) h
+  look_asked_comes number result answer = look_told (event.LookAsked number) number (λ (look : Look). outcomes.LookedAsked look.asked look.sealed) result refl answer

@@ -34,16 +34,17 @@ use Rattle.cns_depository.specs.declared.fault.Own.{Own}
 use Rattle.cns_depository.specs.declared.fault.OwnFault.{OwnFault}
 use Rattle.cns_depository.specs.declared.movement.Movement.{Movement}
 use Rattle.cns_system.specs.Happens.{Change, Decision, Grows, Leaves, by_clear, by_order, by_own, clear_deed, judged, taken_told, with_reply_put}
-use Rattle.cns_system.specs.Lot.{LotState, with_seal, with_ticket}
+use Rattle.cns_system.specs.Lot.{LotState, numbered_lot, with_seal, with_ticket}
 use Rattle.cns_system.specs.Lots.{going_lot, turn_ticket, with_lot}
-use Rattle.cns_system.specs.Numbered.{with_lot_ended, numbered_close, numbered_open, numbered_pour}
-use Rattle.cns_system.specs.Shown.{Shown, clear_added, clear_failed, depot_added, depot_failed, with_new_lot}
+use Rattle.cns_system.specs.Numbered.{look_call, with_lot_ended, numbered_close, numbered_open, numbered_pour}
+use Rattle.cns_system.specs.Shown.{Shown, clear_added, clear_failed, depot_added, depot_failed}
 use Rattle.cns_system.specs.declared.event.Event.TheVariants as event
+use Rattle.cns_system.specs.declared.entry.Look.{Look}
 use Rattle.cns_system.specs.declared.numbered.Opened.{Opened}
 use Rattle.cns_system.specs.declared.outcome.Outcome.{Outcome}
 use Rattle.cns_system.specs.declared.outcome.Outcome.TheVariants as outcomes
 use Rattle.cns_system.proofs.HappensLemmas.{Holds}
-use Rattle.cns_system.proofs.LotsLemmas.{IsGoing, going_parts}
+use Rattle.cns_system.proofs.LotsLemmas.{IsGoing, going_parts, with_new_lot}
 use Rattle.cns_system.proofs.NumberedLemmas.{IsDrawn, ticket_parts}
 use Rattle.cns_system.proofs.OrderDeeds.{IsOrderDeed, IsOwnDeed, order_deeds, own_deeds}
 use Rattle.cns_system.proofs.RecordedLemmas.{Commits, IsClose, Recorded, allocated, close_records, ok_up, reply_records}
@@ -91,12 +92,12 @@ module _ (P : Outcome → Shown → Type 0) (d : Decision) (w : Shown) where
       lot : Lot
       lot = new_lot w.clear.records issue
 
-      numbered : List Planned → Result (Opened × Lot) Refusal
-      numbered plan = Ok (record { number = length w.lots + 1; poured = lot.poured; plan = plan }, lot)
+      numbered : List Planned × List Lot → Result (Opened × (List Lot × List LotState)) Refusal
+      numbered opened = Ok (record { number = length w.lots + 1; poured = lot.poured; plan = opened.0 }, (opened.1, w.lots ++ numbered_lot issue opened.0 ∷ []))
 
       by : (down : Bool) (found : Option Lot) → lot_of w.open_lots issue ≡ found → (few : Bool)
-          → Holding (((need_up down >> need (is_none found) refusal.LotAlready >> Ok (lot.plan, w.open_lots ++ lot ∷ [])) >>= λ (o : List Planned × List Lot). need few refusal.LotsSpent >> numbered o.0)
-          >>= λ o. Ok (Grows (outcomes.LotOpened o.0) (with_new_lot o.1 w)))
+          → Holding (((need_up down >> need (is_none found) refusal.LotAlready >> Ok (lot.plan, w.open_lots ++ lot ∷ [])) >>= λ (o : List Planned × List Lot). need few refusal.LotsSpent >> numbered o)
+          >>= λ o. Ok (Grows (outcomes.LotOpened o.0) (record w { open_lots = o.1.0; lots = o.1.1 })))
       by true found is few = tt
       by false None is false = tt
       by false None is true = opens is
@@ -146,8 +147,8 @@ module _ (P : Outcome → Shown → Type 0) (d : Decision) (w : Shown) where
       (close_records number w.clear.down w.clear.records w.open_lots w.lots) (λ done no. absurd no) (λ r done up is. rw (is.1) (closes done is.0 up))
 
   -- a look tells of such a lot, and changes nothing
-  pub look_holds : (number : ℕ) (told : LotState → Outcome) → ((outcome : Outcome) → P outcome w) → Holding (going_lot w.lots number >>= λ lot. Ok (Leaves (told lot) w))
-  look_holds number told looks = ok_then (Holds P d w) (going_lot w.lots number) (λ lot. Ok (Leaves (told lot) w)) (λ lot is. looks (told lot))
+  pub look_holds : (number : ℕ) (told : Look → Outcome) → ((outcome : Outcome) → P outcome w) → Holding (look_call number w.open_lots w.lots >>= λ look. Ok (Leaves (told look) w))
+  look_holds number told looks = ok_then (Holds P d w) (look_call number w.open_lots w.lots) (λ look. Ok (Leaves (told look) w)) (λ look is. looks (told look))
 
   -- the order of the number is put on the link
   pub send_holds : (number : ℕ)

@@ -2,7 +2,6 @@
 -- but the one that the event is of.
 use Rattle.std.proofs.Common.{◌≡◌, ◌∙◌, [], true, false, List, None, refl, sym, subst, inl}
 use Rattle.std.specs.Prelude.{IfOk, map}
-use Rattle.cns_pool.specs.Pool.{asked_sum}
 use Rattle.cns_records.specs.declared.clear_record.ClearRecord.{ClearRecord}
 use Rattle.cns_records.specs.declared.clear_record.ClearRecord.TheVariants as entry
 use Rattle.cns_records.specs.declared.dep_record.DepRecord.{DepRecord}
@@ -10,7 +9,6 @@ use Rattle.cns_records.specs.declared.dep_record.DepRecord.TheVariants as dep
 use Rattle.cns_clearing.specs.Answers.{cycle_call, setting_call, trade_call}
 use Rattle.cns_clearing.specs.Books.{IsLawful}
 use Rattle.cns_clearing.specs.Lots.{AreLots, ClosesLot, lots_after, new_lot}
-use Rattle.cns_clearing.specs.Pools.{lent_of}
 use Rattle.cns_clearing.specs.declared.answer.Cycled.{Cycled}
 use Rattle.cns_clearing.specs.declared.lot.Lot.{Lot}
 use Rattle.cns_depository.specs.Answers.{reply_to}
@@ -24,6 +22,7 @@ use Rattle.cns_system.specs.Numbered.{AreTied, with_lot_ended}
 use Rattle.cns_system.specs.Scene.{Chance, Comes, Scene, decision_at, scene_of}
 use Rattle.cns_system.specs.Shown.{Shown, clear_added, clear_failed, shown_of}
 use Rattle.cns_system.specs.World.{World}
+use Rattle.cns_system.specs.declared.entry.Look.{Look}
 use Rattle.cns_system.specs.declared.event.Event.{Event}
 use Rattle.cns_system.specs.declared.event.Event.TheVariants as event
 use Rattle.cns_system.specs.declared.event.NodeName.TheVariants as node
@@ -167,9 +166,9 @@ accepted s chance (event.LotClose number) =
     (λ done close up. adds s (event.LotClose number) (allocated close) (with_lot_ended number s.shown.lots) up (λ b. tt)
     (λ b. close_closes number s.shown.clear.records s.shown.open_lots s.shown.lots b.lots b.tied close) (closes_one s.shown number close))
 accepted s chance (event.LookPoured number) =
-    look_holds (Kept s (event.LookPoured number)) _ s.shown number (λ lot. outcomes.LookedPoured (lent_of s.shown.open_lots lot.issue)) (λ outcome. same s (event.LookPoured number))
+    look_holds (Kept s (event.LookPoured number)) _ s.shown number (λ (look : Look). outcomes.LookedPoured look.poured) (λ outcome. same s (event.LookPoured number))
 accepted s chance (event.LookAsked number) =
-    look_holds (Kept s (event.LookAsked number)) _ s.shown number (λ lot. outcomes.LookedAsked (asked_sum lot.tickets) lot.sealed) (λ outcome. same s (event.LookAsked number))
+    look_holds (Kept s (event.LookAsked number)) _ s.shown number (λ (look : Look). outcomes.LookedAsked look.asked look.sealed) (λ outcome. same s (event.LookAsked number))
 accepted s chance (event.Send number) =
     send_holds (Kept s (event.Send number)) _ s.shown number (λ packet o found. of_depot s (event.Send number) _ refl refl refl (λ b. sends_accord s.shown b.accord number o found))
 accepted s chance (event.OrderIn packet) =

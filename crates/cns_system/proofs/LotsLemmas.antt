@@ -1,5 +1,5 @@
 -- The lots by number: which one a number finds, and what a change of it leaves.
-use Rattle.std.proofs.Common.{◌≡◌, ◌-◌, ℕ, List, get_or, Option, Some, None, Result, Ok, Err, Bool, true, false, not, ap, subst, sym, refl, ◌∙◌}
+use Rattle.std.proofs.Common.{◌≡◌, ◌-◌, ℕ, List, [], ◌∷◌, ◌++◌, get_or, Option, Some, None, Result, Ok, Err, Bool, true, false, not, ap, subst, sym, refl, ◌∙◌}
 use Rattle.std.specs.Prelude.{◌==◌, slice_get, slice_set, if◌then◌else◌}
 use Rattle.std.specs.Option.{ok_or}
 use Rattle.std.proofs.lemmas.List.{set-get_or}
@@ -10,9 +10,15 @@ use Rattle.cns_records.specs.Call.{Changes}
 use Rattle.cns_records.specs.declared.refusal.Refusal.{Refusal}
 use Rattle.cns_records.specs.declared.refusal.Refusal.TheVariants as refusal
 use Rattle.cns_records.proofs.CallLemmas.{changed, unchanged}
-use Rattle.cns_system.specs.Lot.{LotState, with_ticket}
+use Rattle.cns_clearing.specs.declared.lot.Lot.{Lot}
+use Rattle.cns_system.specs.Lot.{LotState, numbered_lot, with_ticket}
 use Rattle.cns_wire.specs.Packet.{at_number}
 use Rattle.cns_system.specs.Lots.{HasLot, HasNone, change_call, draw_call, going_lot, turn_ticket, reserve_call, with_lot}
+use Rattle.cns_system.specs.Shown.{Shown}
+
+-- the lots once this one is opened
+abbrev pub with_new_lot : Lot → Shown → Shown
+with_new_lot lot w = record w { open_lots = w.open_lots ++ lot ∷ []; lots = w.lots ++ numbered_lot lot.issue lot.plan ∷ [] }
 
 -- ---- the lot of a number, which has not ended
 

@@ -40,7 +40,7 @@ use Rattle.cns_clearing.specs.declared.lot.Lot.{Lot}
 use Rattle.cns_system.specs.Lot.{LotState, IsOfPlan, numbered_lot, planned_sum, ticket_in, with_end, with_seal, with_ticket}
 use Rattle.cns_wire.specs.Packet.{at_number}
 use Rattle.cns_system.specs.Lots.{change_call, going_lot, turn_ticket, reserve_call, with_lot}
-use Rattle.cns_system.specs.Numbered.{AreTied, IsNumberedCommit, NumberedNode, numbered_close, with_lot_ended, numbered_open, opening_call, numbered_pour, with_opened}
+use Rattle.cns_system.specs.Numbered.{AreTied, IsNumberedCommit, NumberedNode, having_lots, numbered_close, with_lot_ended, numbered_open, opening_call, numbered_pour}
 use Rattle.cns_system.proofs.LotsLemmas.{IsGoing, going_parts}
 use Rattle.cns_system.proofs.RecordedLemmas.{IsCloseOf, IsMet, Recorded, close_record, is_met}
 use Rattle.cns_system.proofs.StepLemmas.{ok_then}
@@ -188,7 +188,7 @@ opening_spent issue n up none spent = let full : nat_lt (length n.lots) 1000000 
 
 pub opening_goes : (issue : ℕ) (n : NumberedNode) → n.clear.log.down ≡ false → lot_of n.clear.lots issue ≡ None → length n.lots < 1000000
     → let lot = node.new_lot n.clear.log.records issue in
-    opening_call issue n ≡ Ok (record { number = length n.lots + 1; poured = lot.poured; plan = lot.plan }, with_opened lot n)
+    opening_call issue n ≡ Ok (record { number = length n.lots + 1; poured = lot.poured; plan = lot.plan }, having_lots (n.clear.lots ++ lot ∷ [], n.lots ++ numbered_lot issue lot.plan ∷ []) n)
 unfolding numbered_open clear.open_call
 opening_goes issue n up none room = let few : nat_lt (length n.lots) 1000000 ≡ true = grind (arith, nat_tests, room) in rw (up, none, few) refl
 

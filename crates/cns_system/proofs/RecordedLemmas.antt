@@ -19,7 +19,7 @@ use Rattle.cns_records.specs.declared.refusal.Refusal.{Refusal}
 use Rattle.cns_records.specs.declared.refusal.Refusal.TheVariants as refusal
 use Rattle.cns_pool.specs.declared.ticket.Ticket.{Ticket}
 use Rattle.cns_allocate.specs.declared.planned.Planned.{Planned}
-use Rattle.cns_clearing.specs.Answers.{closing_allocation, answer_in, close_call, close_deed, closed_of, covers_in, cycle_call, cycled_of, deliveries_by, reply_call, setting_call, trade_call, need_up, verdict_in}
+use Rattle.cns_clearing.specs.Answers.{closing_allocation, answer_in, close_call, close_deed, closed_of, covers_in, cycle_call, cycled_of, deliveries_by, reply_call, setting_call, tested_close_call, trade_call, need_up, verdict_in}
 use Rattle.cns_clearing.specs.Books.{are_spent, is_later, latest_of, order_book_of}
 use Rattle.cns_clearing.specs.Pools.{lot_of}
 use Rattle.cns_clearing.specs.declared.answer.Closed.{Closed}
@@ -130,7 +130,7 @@ pub record IsCloseOf (issue : ℕ) (tickets : List Ticket) (sealed : Bool) (c : 
 
 pub close_record : (issue : ℕ) (tickets : List Ticket) (sealed down : Bool) (c : List ClearRecord) (lots : List Lot)
     → IfOk (close_call issue tickets sealed down c lots) (IsCloseOf issue tickets sealed c lots)
-unfolding close_call
+unfolding tested_close_call
 close_record issue tickets sealed true c lots = tt
 close_record issue tickets sealed false c lots =
     let Q = IsCloseOf issue tickets sealed c lots in

@@ -11,8 +11,8 @@ use Rattle.cns_system.specs.Floor.{has_not_ended, is_open}
 use Rattle.cns_system.specs.Lot.{LotState, numbered_lot, with_end}
 use Rattle.cns_system.specs.Lots.{with_lot}
 use Rattle.cns_system.specs.Numbered.{AreTied, with_lot_ended}
-use Rattle.cns_system.specs.Shown.{Shown, clear_added, with_new_lot}
-use Rattle.cns_system.proofs.LotsLemmas.{IsGoing}
+use Rattle.cns_system.specs.Shown.{Shown, clear_added}
+use Rattle.cns_system.proofs.LotsLemmas.{IsGoing, with_new_lot}
 use Rattle.cns_system.proofs.NumberedLemmas.{others_poured}
 use Rattle.cns_system.proofs.RecordedLemmas.{IsClose, allocated}
 use Rattle.cns_system.proofs.TiedLemmas.{at_more, at_other, ended_at, ended_lots, found_more, found_without}

@@ -1,6 +1,6 @@
 -- What happens at each event, as a function of what the surroundings decide (this project's own rules). Each event has one case, which tells
 -- the refusals by the state in their order; want of memory and the device come after these, by the decision. A refusal leaves all as it was, but for
--- `Device` at a commit, which puts the node down and leaves its record undecided, and for a refused restart.
+-- `Device` at a commit, which puts the node down and leaves its record undecided (a restart finds it in the journal, or does not), and for a refused restart.
 use Rattle.std.specs.Prelude.{ℕ, ◌+◌, List, [], ◌∷◌, ◌++◌, length, map, Some, Result, Ok, Err}
 use Rattle.std.specs.Option.{ok_or, option_flatten}
 use Rattle.cns_journal.specs.RecordLog.{LogShown, restarted}
@@ -10,7 +10,6 @@ use Rattle.cns_journal.specs.declared.record_log.Restarted.{Restarted}
 use Rattle.cns_ids.specs.Steps.{◌>>=◌, ◌>>◌}
 use Rattle.cns_movements.specs.declared.order.Reply.{Reply}
 use Rattle.cns_wire.specs.Packet.{at_number}
-use Rattle.cns_pool.specs.Pool.{asked_sum}
 use Rattle.cns_records.specs.Call.{Deed}
 use Rattle.cns_records.specs.Call as call
 use Rattle.cns_records.specs.Refusals.{replay_refusal}
@@ -21,7 +20,6 @@ use Rattle.cns_records.specs.declared.instruction.Instruction.{Instruction}
 use Rattle.cns_records.specs.declared.refusal.Refusal.{Refusal}
 use Rattle.cns_records.specs.declared.refusal.Refusal.TheVariants as refusal
 use Rattle.cns_clearing.specs.Answers.{cycle_call, order_call, reply_call, setting_call, trade_call}
-use Rattle.cns_clearing.specs.Pools.{lent_of}
 use Rattle.cns_clearing.specs.declared.answer.Closed.{Closed}
 use Rattle.cns_clearing.specs.declared.answer.Cycled.{Cycled}
 use Rattle.cns_clearing.specs.declared.answer.Taken.{Taken}
@@ -34,9 +32,9 @@ use Rattle.cns_depository.specs.declared.fault.Own.{Own}
 use Rattle.cns_depository.specs.declared.fault.Own.TheVariants as own
 use Rattle.cns_depository.specs.declared.fault.OwnFault.{OwnFault}
 use Rattle.cns_system.specs.Lot.{LotState, with_end, with_seal}
-use Rattle.cns_system.specs.Lots.{change_call, going_lot, reserve_call}
-use Rattle.cns_system.specs.Numbered.{numbered_close, with_lot_ended, numbered_open, numbered_pour}
-use Rattle.cns_system.specs.Shown.{Shown, clear_added, clear_failed, depot_added, depot_failed, with_new_lot}
+use Rattle.cns_system.specs.Lots.{change_call, reserve_call}
+use Rattle.cns_system.specs.Numbered.{look_call, numbered_close, with_lot_ended, numbered_open, numbered_pour}
+use Rattle.cns_system.specs.Shown.{Shown, clear_added, clear_failed, depot_added, depot_failed}
 use Rattle.cns_system.specs.declared.event.Event.{Event}
 use Rattle.cns_system.specs.declared.event.Event.TheVariants as event
 use Rattle.cns_system.specs.declared.event.NodeName.{NodeName}
@@ -57,8 +55,8 @@ pub data Change : Type 0 where
   Commits : Outcome → Shown → Shown → Change
   Restarts : NodeName → Change
 
--- what a call of the clearing node comes to, as that of an event; once a record is acknowledged, this becomes of the lots by number (what becomes of
--- the node's open lots is said in `clear_added`)
+-- what a call of the clearing node comes to, as that of an event; `ends` says what becomes of the lots by number once a record is acknowledged (what
+-- becomes of the node's open lots is said in `clear_added`)
 abbrev pub clear_deed : {X : Type 0} → (X → Outcome) → (List LotState → List LotState) → Shown → Deed ClearRecord X → Change
 clear_deed told ends w (call.Tells x) = Leaves (told x) w
 clear_deed told ends w (call.Commits r x) = Commits (told x) (record (clear_added r w) { lots = ends w.lots }) (clear_failed r w)
@@ -99,7 +97,8 @@ own_deed i w (call.Commits e o) = Commits (own_told i o) (depot_added e w) (depo
 abbrev pub by_own : Instruction → Shown → Result (Deed DepRecord Own) OwnFault → Result Change Refusal
 by_own i w deed = elim deed [ Err fault ↦ Err (own_fault_refusal fault) | Ok d ↦ Ok (own_deed i w d) ]
 
--- what an event comes to by the state alone, or its first refusal. The refusals of each event, in their order (a trade's own are those of its verdict):
+-- what an event comes to by the state alone, or its first refusal. The refusals of each event, in their order (a trade's own are those of its verdict, also of
+-- one that was accepted before, while an order, a reply or an instruction that comes again is answered once more):
 --   Trade           Down, Trade
 --   Exempt          Down
 --   Priority        Down
@@ -112,24 +111,25 @@ by_own i w deed = elim deed [ Err fault ↦ Err (own_fault_refusal fault) | Ok d
 --   Send            Down, UnknownMove
 --   OrderIn         NoPacket, Down, Conflict
 --   ReplyIn         NoPacket, Down, UnknownMove, Conflict, TooMuch
---   Own             Down, Conflict, IssueSum or TooFew
+--   Own             Down, Conflict, IssueSum (a deposit) or TooFew (a withdrawal)
 --   Restart         none
--- The node's own `NoLot`, of an issue that has no open lot, comes at no pour and no close by number: a lot that has not ended is one of the node's (`AreTied`).
--- A ticket, a seal and a look do not ask whether the clearing node is up: its lots stand as they are until a restart ends them. A lot that no
--- close ends, as where the numbers of movements are spent, stands until then too. Two refusals are of none of these cases: `LotBusy`, of a lot that
--- threads draw from beside the script, and `BadTickets`, of what they bring back where it is not what may be drawn.
+-- The node's own `NoLot`, of an issue that has no open lot, comes at no pour and no close by number: a lot that has not ended is one of the node's (`AreTied`,
+-- which each event keeps). A ticket, a seal and a look do not ask whether the clearing node is up: its lots stand as they are until a restart ends them. A lot
+-- that no close ends, as where the numbers of orders are spent, stands until that restart too, and no cycle runs beside it. Two refusals are of none of these
+-- cases: `LotBusy`, of a lot that threads draw from beside the script, and `BadTickets`, of what they bring back where it is not what may be drawn.
 unfoldable pub judged : Event → Shown → Result Change Refusal
 judged (event.Trade t) w = by_clear (λ _. outcomes.Accepted) w (trade_call t w.clear.down w.clear.records)
 judged (event.Exempt member issue shares) w = by_clear (λ _. outcomes.Done) w (setting_call (entry.Exempt member issue shares) w.clear.down)
 judged (event.Priority member issue on) w = by_clear (λ _. outcomes.Done) w (setting_call (entry.Priority member issue on) w.clear.down)
 judged (event.Cycle id) w = by_clear (λ (done : Cycled). outcomes.Cycled done) w (cycle_call id w.clear.down w.clear.records w.open_lots)
 judged (event.LotOpen issue) w =
-    numbered_open issue w.clear.down w.clear.records w.open_lots w.lots >>= λ opened. Ok (Grows (outcomes.LotOpened opened.0) (with_new_lot opened.1 w))
+    numbered_open issue w.clear.down w.clear.records w.open_lots w.lots
+    >>= λ opened. Ok (Grows (outcomes.LotOpened opened.0) (record w { open_lots = opened.1.0; lots = opened.1.1 }))
 judged (event.LotPour number) w =
     numbered_pour number w.clear.down w.clear.records w.open_lots w.lots >>= λ poured. Ok (Leaves (outcomes.Poured poured.0) (record w { open_lots = poured.1 }))
 judged (event.Reserve number member) w = reserve_call number member w.lots >>= λ drawn. Ok (Leaves (outcomes.Drawn drawn.0) (record w { lots = drawn.1 }))
-judged (event.LookPoured number) w = going_lot w.lots number >>= λ lot. Ok (Leaves (outcomes.LookedPoured (lent_of w.open_lots lot.issue)) w)
-judged (event.LookAsked number) w = going_lot w.lots number >>= λ lot. Ok (Leaves (outcomes.LookedAsked (asked_sum lot.tickets) lot.sealed) w)
+judged (event.LookPoured number) w = look_call number w.open_lots w.lots >>= λ look. Ok (Leaves (outcomes.LookedPoured look.poured) w)
+judged (event.LookAsked number) w = look_call number w.open_lots w.lots >>= λ look. Ok (Leaves (outcomes.LookedAsked look.asked look.sealed) w)
 judged (event.Seal number) w = change_call with_seal number w.lots >>= λ sealed. Ok (Leaves outcomes.Done (record w { lots = sealed.1 }))
 judged (event.LotClose number) w =
     numbered_close number w.clear.down w.clear.records w.open_lots w.lots >>= λ d. Ok (clear_deed (λ (done : Closed). outcomes.Closed done) (with_lot_ended number) w d)
@@ -153,7 +153,7 @@ outcome_of told (Err r) = outcomes.Refused r
 -- ---- by what the surroundings decide
 
 -- what the surroundings decide at an event, and nothing else does:
---   `Goes`: nothing is in the way
+--   `Goes`: nothing is in the way; at a restart the journal gives the records as they were, without the undecided one
 --   `NoMemory`: there is none, or the journal is full; what takes none goes on all the same
 --   `DeviceFails`: the device fails, at a commit or a restart; what has neither goes on all the same
 --   `ClearReads`, `DepotReads`: at a restart of that node its journal gives these records, the newest first; else as `Goes`

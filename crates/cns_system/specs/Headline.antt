@@ -39,30 +39,33 @@ reckoned c movements member issue =
     pos (bought (due_in c) member issue + confirmed_sum movements (confirmed_of c) Cover member issue)
     -ℤ pos (sold (due_in c) member issue + confirmed_sum movements (confirmed_of c) Delivery member issue)
 
--- the shares of an issue in the pool, by what the clearing node has acknowledged: those that are free, those that are lent to its open lot, and those on their way to members
+-- the shares of an issue in the pool, by the clearing node's records: those that are free, those that are set aside for its open lot, and those that open deliveries
+-- ask for, sent or not. (The open lots only part the free from the lent: the sum is of the records.)
 abbrev pub pool_shares : List ClearRecord → List Lot → ℕ → ℕ
 pool_shares c lots issue = free_of (order_book_of c) lots issue + lent_of lots issue + out_of (order_book_of c) issue
 
--- the records that the clearing node has acknowledged (an undecided one is not among them, so this holds while a node is down too) and its open lots, the
--- depository's openings and its records likewise, and the packets that were put on the link of orders and on that of replies. A cover brings shares from a member's account to the CNS account, a delivery takes them from there to a
--- member's; a movement is confirmed once the clearing node has the depository's reply, and an order is open until then
+-- the clearing node's records, which its journal has taken or read back (an undecided one is not among them, so this holds while a node is down too), and its open lots, the
+-- depository's opening balances and its records likewise, and the packets that were put on the link of orders and on that of replies. A cover brings shares from a member's
+-- account to the CNS account, a delivery takes them from there to a member's; a movement is confirmed once the clearing node has the depository's reply, and an order is open
+-- until then
 pub record Headline (c : List ClearRecord) (open_lots : List Lot) (openings : List Opening) (p : List DepRecord) (order_packets reply_packets : List (List ℕ)) : Type 0 where
   -- Same: each executed movement agrees with the order of its number at the clearing node, so it has its kind, member, issue and quantity,
   -- and its cycle, where both have one; a delivery moved all that it asks for, and a cover no more than it. Each confirmed movement was
-  -- executed, and moved so much.
+  -- executed, and moved just the shares that were confirmed.
   pub executed : All (IsAsOrdered (order_book_of c).orders) (executed_of p)
   pub confirmed : All (IsExecuted (executed_of p)) (confirmed_of c)
-  -- Link: each packet of an order is the frame of the order of its number, and each packet of a reply that of an executed movement.
+  -- Link: each packet of an order is the frame of the order that the clearing node has under that order's number, and each packet of a reply that of the
+  -- reply to an executed movement.
   pub sent : (k : ℕ) (bytes : List ℕ) → slice_get order_packets k ≡ Some bytes → IsOrderPacket (order_book_of c).orders bytes
   pub answered : (k : ℕ) (bytes : List ℕ) → slice_get reply_packets k ≡ Some bytes → IsReplyPacket (executed_of p) bytes
-  -- Lawful: each record of the clearing node may stand after those before it.
+  -- Lawful: each record of the clearing node may stand after those before it (that an allocation follows the plan and the groups of its lot is `AreStrict`).
   pub lawful : IsLawful c
-  -- Stock: no number was executed twice, each movement moved what the giving account then had, at most what was asked for, each instruction
-  -- of a member was carried out once, where nothing refused it, and no account gave more than its opening and what was moved into it.
+  -- Stock: no number was executed twice, each movement moved what the giving account then had, at most what was asked for; no instruction of a member was
+  -- carried out twice, and none that is refused; and no account gave more than its opening and what was moved into it.
   pub stock : IsLawfulDepot openings p
   pub given : (account : Account) (issue : ℕ) → moved_out p account issue ≤ opening_shares openings account issue + moved_in p account issue
-  -- Netted: each position is the netted trades, with confirmed covers added and confirmed deliveries taken off. There is one position: that
-  -- of the netting history, of which the longs, the shorts and the reports are, is the same.
+  -- Netted: each position is what the member bought less what it sold in due trades, with confirmed covers added and confirmed deliveries taken off. There is
+  -- one position: that of the netting history, by which the longs, the shorts and the reports go, is the same.
   pub netted : (member issue : ℕ) → position_in c member issue ≡ reckoned c (executed_of p) member issue
   pub one_position : (member issue : ℕ) → position_of (history_of c) member issue ≡ position_in c member issue
   -- Pool: in each issue the longs are the shorts and the pool; the pool, with what confirmed deliveries moved, is what confirmed covers

@@ -9,7 +9,7 @@ use Rattle.cns_allocate.specs.declared.planned.Planned.{Planned}
 use Rattle.cns_records.specs.declared.clear_record.ClearRecord.{ClearRecord}
 use Rattle.cns_clearing.specs.Lots.{plan_in}
 
--- its issue, the members that wait for a ticket, the tickets in the order in which they were drawn, whether it is sealed, and whether
+-- its issue, the members that wait for a ticket (whose turn comes by group), the tickets in the order in which they were drawn, whether it is sealed, and whether
 -- it has ended
 pub record LotState : Type 0 where
   pub issue : ℕ

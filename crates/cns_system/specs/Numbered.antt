@@ -10,7 +10,7 @@ use Rattle.cns_records.specs.declared.clear_record.ClearRecord.{ClearRecord}
 use Rattle.cns_records.specs.declared.refusal.Refusal.{Refusal}
 use Rattle.cns_records.specs.declared.refusal.Refusal.TheVariants as refusal
 use Rattle.cns_clearing.specs.Answers.{close_call, need_up, open_call, pour_call}
-use Rattle.cns_clearing.specs.Lots.{new_lot}
+use Rattle.cns_clearing.specs.Lots.{avail_in}
 use Rattle.cns_clearing.specs.Node.{ClearNode}
 use Rattle.cns_clearing.specs.Node as node
 use Rattle.cns_clearing.specs.Pools.{lent_of, lot_of}
@@ -39,24 +39,20 @@ pub record AreTied (open_lots : List Lot) (lots : List LotState) : Type 0 where
   pub once : (m n : ℕ) (k l : LotState) → at_number lots m ≡ Some k → at_number lots n ≡ Some l → k.ended ≡ false → l.ended ≡ false → k.issue ≡ l.issue → m ≡ n
 
 -- a lot is opened, as the node opens one of the issue, where there is a number for it (a lot that has ended keeps its own, also over a restart): what is told of
--- it, and the lot
-unfoldable pub numbered_open : ℕ → Bool → List ClearRecord → List Lot → List LotState → Result (Opened × Lot) Refusal
+-- it, the open lots, and the lots by number then
+unfoldable pub numbered_open : ℕ → Bool → List ClearRecord → List Lot → List LotState → Result (Opened × (List Lot × List LotState)) Refusal
 numbered_open issue down c open_lots lots = do
   opened ← open_call issue down c open_lots
   need (nat_lt (length lots) 1000000) refusal.LotsSpent
-  let lot = new_lot c issue
-  Ok (record { number = length lots + 1; poured = lot.poured; plan = opened.0 }, lot)
+  Ok (record { number = length lots + 1; poured = avail_in c issue; plan = opened.0 }, (opened.1, lots ++ numbered_lot issue opened.0 ∷ []))
 
--- the node with this lot opened
-abbrev pub with_opened : Lot → NumberedNode → NumberedNode
-with_opened lot n = record {
-  clear = record n.clear { lots = n.clear.lots ++ lot ∷ [] };
-  lots = n.lots ++ numbered_lot lot.issue lot.plan ∷ [];
-}
+-- the node with these open lots, and these lots by number
+abbrev pub having_lots : List Lot × List LotState → NumberedNode → NumberedNode
+having_lots both n = record { clear = record n.clear { lots = both.0 }; lots = both.1 }
 
 -- so it is, and this node is left
 abbrev pub opening_call : ℕ → NumberedNode → Result (Opened × NumberedNode) Refusal
-opening_call issue n = numbered_open issue n.clear.log.down n.clear.log.records n.clear.lots n.lots >>= λ opened. Ok (opened.0, with_opened opened.1 n)
+opening_call issue n = numbered_open issue n.clear.log.down n.clear.log.records n.clear.lots n.lots >>= λ opened. Ok (opened.0, having_lots opened.1 n)
 
 -- the lot of a number is poured into, as the node pours into its lot of the issue: what it gets, and the open lots then. (A seal
 -- does not keep shares out.)
@@ -81,6 +77,7 @@ abbrev pub IsNumberedCommit : (List LotState → List LotState) → ClearRecord 
 IsNumberedCommit ends r done old new =
     node.IsCommitted r done old.clear new.clear × (new.lots ≡ elim done [ Ok _ ↦ ends old.lots | Err _ ↦ old.lots ])
 
--- what a lot shows beside the node's open lots: the shares that are lent to it, those of its tickets, and its seal
-abbrev pub shown : List Lot → LotState → Look
-shown open_lots lot = record { poured = lent_of open_lots lot.issue; asked = asked_sum lot.tickets; sealed = lot.sealed }
+-- what a look at the lot of a number shows: the shares that are lent to it, those of its tickets, and its seal
+abbrev pub look_call : ℕ → List Lot → List LotState → Result Look Refusal
+look_call number open_lots lots =
+    going_lot lots number >>= λ lot. Ok (record { poured = lent_of open_lots lot.issue; asked = asked_sum lot.tickets; sealed = lot.sealed })

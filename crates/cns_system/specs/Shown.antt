@@ -1,5 +1,5 @@
--- Both nodes and the link as events change them: all that contracts see of them but what they tell of the keepers' devices.
-use Rattle.std.specs.Prelude.{List, [], ◌∷◌, ◌++◌, map, Option}
+-- Both nodes and the link as events change them: all that contracts see of them, except what they tell of the keepers' devices.
+use Rattle.std.specs.Prelude.{List, map, Option}
 use Rattle.cns_journal.specs.RecordLog.{LogShown, log_shown, with_added, with_undecided}
 use Rattle.cns_trades.specs.declared.opening.Opening.{Opening}
 use Rattle.cns_movements.specs.declared.order.Order.{Order}
@@ -9,7 +9,6 @@ use Rattle.cns_records.specs.declared.dep_record.DepRecord.{DepRecord}
 use Rattle.cns_clearing.specs.Lots.{lots_after}
 use Rattle.cns_clearing.specs.declared.lot.Lot.{Lot}
 use Rattle.cns_system.specs.Lot.{LotState}
-use Rattle.cns_system.specs.Lot.{numbered_lot}
 use Rattle.cns_system.specs.World.{World, order_spelt, reply_spelt}
 
 -- the clearing node's log, its open lots by issue, and all lots in the order of their numbers; the depository's openings, and its log; and the packets
@@ -48,7 +47,3 @@ depot_added e w = record w { depot = with_added e w.depot }
 
 abbrev pub depot_failed : DepRecord → Shown → Shown
 depot_failed e w = record w { depot = with_undecided e w.depot }
-
--- a lot is opened
-abbrev pub with_new_lot : Lot → Shown → Shown
-with_new_lot lot w = record w { open_lots = w.open_lots ++ lot ∷ []; lots = w.lots ++ numbered_lot lot.issue lot.plan ∷ [] }

@@ -1,4 +1,4 @@
-ghost use Rattle.std.specs.Prelude.{◌≡◌, ◌^◌, ◌≤◌, [], length, map, MatchResult, IfOk};
+ghost use Rattle.std.specs.Prelude.{◌≡◌, ◌^◌, ◌≤◌, [], length, map, IfOk};
 ghost use Rattle.cns_records.specs.Call.{CallLeaves, Changes, Grows};
 ghost use Rattle.cns_records.specs.Refusals.{commit_refusal};
 ghost use Rattle.cns_records.specs.declared.clear_record.ClearRecord.TheVariants.{Exempt, Priority};
@@ -8,8 +8,8 @@ ghost use Rattle.cns_clearing.specs.Lots.{plan_in};
 ghost use Rattle.cns_clearing.specs.Node.{NodePlanned, RestartLeaves};
 ghost use Rattle.cns_clearing.specs.Pools.{lent_of};
 ghost use Rattle.cns_system.specs.Lot.{planned_sum, with_end, with_seal};
-ghost use Rattle.cns_system.specs.Lots.{HasLot, HasNone, change_call, reserve_call};
-ghost use Rattle.cns_system.specs.Numbered.{AreTied, IsNumberedCommit, numbered_close, with_lot_ended, opening_call, numbered_pour, shown};
+ghost use Rattle.cns_system.specs.Lots.{change_call, reserve_call};
+ghost use Rattle.cns_system.specs.Numbered.{AreTied, IsNumberedCommit, look_call, numbered_close, with_lot_ended, opening_call, numbered_pour};
 ghost use Rattle.cns_system.specs.Readers.{unconfirmed};
 
 use crate::entry::Look;
@@ -35,7 +35,7 @@ pub struct Opened {
     pub number: u64,
     /// The shares that were poured into it.
     pub poured: u64,
-    /// The members that it serves, who are the longs of its issue.
+    /// The members that it serves: the longs of its issue that are still to receive shares.
     pub plan: Plan,
 }
 
@@ -158,7 +158,7 @@ impl<K: Keeper> NumberedClearing<K> {
 
     /// What was poured into a lot, the shares of its tickets, and whether it is sealed.
     pub fn look(&self, number: u64) -> Result<Look, Refusal>
-        ensures { MatchResult result (λ look. HasLot self.now.lots number (λ lot. look ≡ shown self.now.clear.lots lot)) (HasNone self.now.lots number) }
+        ensures { result ≡ look_call number self.now.clear.lots self.now.lots }
     {
         let lot = self.lots.find(number)?;
         Ok(Look {

@@ -1,7 +1,6 @@
 ghost use Rattle.std.specs.Prelude.{◌≡◌, Ok, Err};
-ghost use Rattle.cns_records.specs.Refusals.{replay_refusal};
 ghost use Rattle.cns_depository.specs.Answers.{own_fault_refusal};
-ghost use Rattle.cns_system.specs.Happens.{outcome_of, own_told, taken_told};
+ghost use Rattle.cns_system.specs.Happens.{outcome_of, own_told, restart_told, taken_told};
 ghost use Rattle.cns_system.specs.declared.entry.Look.{Look};
 ghost use Rattle.cns_system.specs.declared.outcome.Outcome.TheVariants as outcomes;
 
@@ -150,7 +149,7 @@ impl Outcome {
     }
 
     pub(crate) fn of_restart(answer: Result<Restarted, ReplayFault>) -> Outcome
-        ensures { result ≡ elim answer [ Ok done ↦ outcomes.Restarted done.records done.kept | Err fault ↦ outcomes.Refused (replay_refusal fault) ] }
+        ensures { result ≡ restart_told answer }
     {
         match answer {
             Ok(Restarted { records, kept }) => Outcome::Restarted { records, kept },

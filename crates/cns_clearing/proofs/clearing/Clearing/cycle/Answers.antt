@@ -1,9 +1,10 @@
-use Rattle.std.proofs.Common.{◌≡◌, Some, refl, rules}
+use Rattle.std.proofs.Common.{◌≡◌, Err, Some, refl, rules, subst}
 use Rattle.cns_netting.specs.History.{becoming_due}
 use Rattle.cns_movements.specs.Book.{next_orders}
-use Rattle.cns_clearing.specs.Answers.{covers_in, cycle_call}
+use Rattle.cns_clearing.specs.Answers.{NodeLeaves, covers_in, cycle_call}
 use Rattle.cns_clearing.specs.Books.{history_of, order_book_of}
-use Rattle.cns_clearing.proofs.CallsLemmas.{adds, cycle_beside_lots, cycle_early, cycle_goes, cycle_short, cycle_spent, short_of}
+use Rattle.cns_clearing.specs.Node.{ClearNode}
+use Rattle.cns_clearing.proofs.CallsLemmas.{adds, cycle_beside_lots, cycle_early, cycle_goes, cycle_spent, short_of}
 use Rattle.cns_clearing.proofs.clearing.Clearing.cycle.Goals as goal
 
 pub returns-in_err-books : goal.returns-in_err-books
@@ -17,7 +18,9 @@ pub returns-then-not-is_empty : goal.returns-then-not-is_empty
 returns-then-not-is_empty g c = cycle_beside_lots _ _ (search rules) (search rules) (search rules)
 
 pub returns-in_default : goal.returns-in_default
-returns-in_default g c = cycle_short _ _ _ _ (search rules) (search rules) (search rules) (search rules) (search rules)
+returns-in_default g c =
+    let refused = λ (n : ClearNode). NodeLeaves (cycle_call c.args.id n.log.down n.log.records n.lots) (Err c.refusal_without_memory.result) n c.refusal_without_memory.new.self in
+    subst refused (search rules) c.refusal_without_memory.ensures
 
 pub returns-then-are_spent : goal.returns-then-are_spent
 returns-then-are_spent g c = cycle_spent _ _ _ (search rules) (search rules) (search rules) (search rules) (search rules)

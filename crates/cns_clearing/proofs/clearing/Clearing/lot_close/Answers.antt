@@ -1,7 +1,7 @@
 use Rattle.std.proofs.Common.{◌∙◌, true, false, sym, refl, rules}
 use Rattle.std.proofs.lemmas.Bool.{true≢false}
 use Rattle.cns_clearing.specs.Answers.{tested_close_call}
-use Rattle.cns_clearing.proofs.CallsLemmas.{tested_bad, tested_good}
+use Rattle.cns_clearing.proofs.CallsLemmas.{tested_bad}
 use Rattle.cns_clearing.proofs.clearing.Clearing.lot_close.Goals as goal
 
 pub lot_close_served-requires : goal.lot_close_served-requires
@@ -20,4 +20,4 @@ returns-then-not-is_served g c =
     )
 
 pub returns : goal.returns
-returns g c = (true, (λ up. (λ is. c.is_served.ensures.served c.if-not-is_served.false, λ served. refl)), tested_good _ _ _ _ _ _ c.lot_close_served.ensures)
+returns g c = (true, (λ up. (λ is. c.is_served.ensures.served c.if-not-is_served.false, λ served. refl)), c.lot_close_served.ensures)

@@ -3,7 +3,7 @@ use Rattle.std.specs.Prelude.{min}
 use Rattle.cns_movements.specs.Book.{next_orders}
 use Rattle.cns_pool.specs.Pool.{asked_sum}
 use Rattle.cns_records.proofs.CallLemmas.{refused}
-use Rattle.cns_clearing.specs.Answers.{close_call, deliveries_by}
+use Rattle.cns_clearing.specs.Answers.{close_call, deliveries_by, tested_close_call}
 use Rattle.cns_clearing.specs.Books.{Books, are_spent, latest_of, order_book_of}
 use Rattle.cns_clearing.proofs.AllocationLemmas.{allocable, asked_small, close_asks}
 use Rattle.cns_clearing.proofs.CallsLemmas.{adds, close_goes, short_of}
@@ -33,7 +33,7 @@ add-requires-clause-effects g c =
     rw c.in_ok-allocation.ensures (record { asks = c.of_asks-effects.ensures.asks ∙ asks; rows = c.of_asks-effects.ensures.rows })
 
 pub returns-in_err-up : goal.returns-in_err-up
-unfolding close_call
+unfolding tested_close_call
 returns-in_err-up g c = rw c.in_err-up.ensures.down.1 (search rules, refl)
 
 pub returns-in_err-lot : goal.returns-in_err-lot
@@ -54,7 +54,7 @@ returns-in_err-orders g c = short_of _ _ _ _ _ _ (close_goes c.args.self.now _ _
 
 pub returns-in_err-add : goal.returns-in_err-add
 returns-in_err-add g c =
-    adds _ _ _ c.add.result _ _ _ (close_goes c.args.self.now _ _ _ _ (search rules) c.in_ok-lot.ensures.closes) (search rules) (rw c.in_ok-allocation.ensures at c.add.ensures)
+    adds _ _ _ c.add.result _ _ _ (close_goes c.args.self.now _ _ _ _ (search rules) c.in_ok-lot.ensures.closes) (search rules) (rw c.in_ok-allocation.ensures at c.add.ensures.commits)
 
 pub returns : goal.returns
 returns g c =
@@ -64,4 +64,4 @@ returns g c =
     let granted : c.min-granted.result ≡ min lot.poured (asked_sum c.args.tickets.now) = search (rules, c.count-poured.ensures.value) in
     let orders : c.in_ok-orders.orders ≡ next_orders (order_book_of c.args.self.now.log.records) (latest_of c.args.self.now.log.records) (deliveries_by lot c.args.tickets.now c.args.sealed) =
     c.in_ok-orders.ensures ∙ rw (c.latest.ensures, c.books-books.ensures.books, c.as_slice.ensures.value, asks) refl in
-    adds _ _ _ c.add.result _ _ _ (close_goes c.args.self.now _ _ _ _ (search rules) closes) (rw (c.in_ok-add.was, granted, orders)) (rw c.in_ok-allocation.ensures at c.add.ensures)
+    adds _ _ _ c.add.result _ _ _ (close_goes c.args.self.now _ _ _ _ (search rules) closes) (rw (c.in_ok-add.was, granted, orders)) (rw c.in_ok-allocation.ensures at c.add.ensures.commits)

@@ -1,4 +1,4 @@
-use Rattle.cns_clearing.proofs.LotLemmas.{lots_opened}
+use Rattle.cns_clearing.proofs.LotLemmas.{lots_new}
 use Rattle.cns_clearing.proofs.NodeLemmas.{node_lots}
 use Rattle.cns_clearing.proofs.clearing.Clearing.lot_open_with.Goals as goal
 
@@ -11,7 +11,7 @@ invariant_of-self-2 g c =
     let avail = rw (← c.self.view_is) at c.avail-poured.ensures in
     let plan = rw (← c.self.view_is) at c.requires.plan in
     let none = rw (← c.self.view_is) at c.requires.first in
-    node_lots _ _ _ c.self.invariant (rw (c.open.ensures, c.in_ok-room.ensures.same, count, avail, plan) (lots_opened _ _ c.args.issue c.self.invariant.lots none))
+    node_lots _ _ _ c.self.invariant (rw (c.open.ensures, c.in_ok-room.ensures.same, count, avail, plan) (lots_new _ _ c.args.issue c.self.invariant.lots none))
 
 pub returns-clause-ok : goal.returns-clause-ok
 returns-clause-ok g c =

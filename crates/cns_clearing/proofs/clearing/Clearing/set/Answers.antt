@@ -9,8 +9,8 @@ returns-in_err-up g c = rw c.in_err-up.ensures.down.1 (search rules, refl)
 
 pub returns-in_err-add : goal.returns-in_err-add
 unfolding setting_call
-returns-in_err-add g c = adds _ _ _ _ _ _ _ (rw c.in_ok-up.ensures.up) (search rules) c.add.ensures
+returns-in_err-add g c = adds _ _ _ _ _ _ _ (rw c.in_ok-up.ensures.up) (search rules) c.add.ensures.commits
 
 pub returns : goal.returns
 unfolding setting_call
-returns g c = adds _ _ _ _ _ _ _ (rw c.in_ok-up.ensures.up) (search rules) c.add.ensures
+returns g c = adds _ _ _ _ _ _ _ (rw c.in_ok-up.ensures.up) (search rules) c.add.ensures.commits

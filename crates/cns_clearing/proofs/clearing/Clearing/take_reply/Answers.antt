@@ -20,7 +20,7 @@ pub returns-in-TooMuch : goal.returns-in-TooMuch
 returns-in-TooMuch g c = reply_much _ _ (search rules) (search rules)
 
 pub returns-in_err-add : goal.returns-in_err-add
-returns-in_err-add g c = adds _ _ _ _ _ _ _ (reply_done _ _ _ (search rules) (search rules)) (search rules) c.add.ensures
+returns-in_err-add g c = adds _ _ _ _ _ _ _ (reply_done _ _ _ (search rules) (search rules)) (search rules) c.add.ensures.commits
 
 pub returns : goal.returns
-returns g c = adds _ _ _ _ _ _ _ (reply_done _ _ _ (search rules) (search rules)) (search rules) c.add.ensures
+returns g c = adds _ _ _ _ _ _ _ (reply_done _ _ _ (search rules) (search rules)) (search rules) c.add.ensures.commits

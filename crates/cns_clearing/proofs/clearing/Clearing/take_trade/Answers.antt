@@ -11,7 +11,7 @@ pub returns-then-ne : goal.returns-then-ne
 returns-then-ne g c = trade_other _ _ _ (search rules) (search rules) (search rules)
 
 pub returns-in_err-add : goal.returns-in_err-add
-returns-in_err-add g c = adds _ _ _ _ _ _ _ (trade_new _ _ _ (search rules) (search rules)) (search rules) c.add.ensures
+returns-in_err-add g c = adds _ _ _ _ _ _ _ (trade_new _ _ _ (search rules) (search rules)) (search rules) c.add.ensures.commits
 
 pub returns : goal.returns
-returns g c = adds _ _ _ _ _ _ _ (trade_new _ _ _ (search rules) (search rules)) (search rules) c.add.ensures
+returns g c = adds _ _ _ _ _ _ _ (trade_new _ _ _ (search rules) (search rules)) (search rules) c.add.ensures.commits
