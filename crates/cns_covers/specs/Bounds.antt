@@ -16,8 +16,8 @@ amount_of kind moved = elim kind [ Cover ↦ pos moved | Delivery ↦ neg_ℤ (p
 abbrev pub want_in : List NetEntry → Orders → ℕ → ℕ → ℕ
 want_in h book member issue = (credit h member issue - debit h member issue) - open_sum book.orders book.replies Delivery member issue
 
--- what covers brought a member and still may bring is at most what it sold in due trades; what deliveries took of its position
--- and still may take is at most what it bought
+-- what covers credited to a member's position and still may credit is at most what it sold in due trades; what deliveries debited from it and still may debit
+-- is at most what it bought
 pub record AreBounded (h : List NetEntry) (book : Orders) : Type 0 where
   pub covered : (member issue : ℕ) → settled_credit h member issue + open_sum book.orders book.replies Cover member issue ≤ sold (due h) member issue
   pub delivered : (member issue : ℕ) → settled_debit h member issue + open_sum book.orders book.replies Delivery member issue ≤ bought (due h) member issue

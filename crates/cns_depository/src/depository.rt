@@ -20,11 +20,11 @@ use cns_records::{DepRecord, Instruction};
 use std::alloc::{AllocError, Global};
 use std::marker::Model;
 
-/// The depository's stock record: its openings and the movements that it executed, each of which its
-/// keeper acknowledged.
+/// The depository's stock record: its openings, and the movements that it executed and the members' own
+/// instructions that it carried out, each of which its keeper acknowledged.
 ///
-/// Contracts see the openings and the log of the records: the executed movements, the newest first;
-/// the record whose commit failed, until a restart decides it; whether the depository is down; how often
+/// Contracts see the openings and the log of the records, the newest first; the record whose commit
+/// failed, until a restart decides it; whether the depository is down; how often
 /// its keeper's device has failed; whether its keeper is honest; and what is known beforehand of its
 /// keeper: how the next commit ends, and whether a restart keeps the record whose commit failed. (This
 /// project's own rules.)
@@ -57,9 +57,8 @@ impl<K: Keeper> Depository<K> {
     /// gives. A refused opening hands the keeper back, at `BadJournal` with all payloads that it gave, and
     /// drops the openings.
     ///
-    /// Refuses `BadJournal` where a payload is no record of a movement that may stand after those
-    /// before it, beginning from the openings. Costs a few look-ups for each payload. (This project's
-    /// own rule.)
+    /// Refuses `BadJournal` where a payload is no record that may stand after those before it, beginning
+    /// from the openings. Costs a few look-ups for each payload. (This project's own rule.)
     pub fn open(alloc: Global, keeper: K, openings: Openings) -> Result<Depository<K>, Refused<K>>
         ensures ok { IfOk result (IsOpened openings (K.state keeper)) }
         ensures err { IfErr result (λ refused. IsUnread openings refused.fault (map vec_items refused.rejected.items) (K.state keeper) (K.state refused.keeper)) }
@@ -88,7 +87,7 @@ impl<K: Keeper> Depository<K> {
         self.log.is_down()
     }
 
-    /// The records of the orders that were executed, the first one first.
+    /// The records, the first one first: of the orders that were executed, and of the members' own instructions.
     pub fn records(&self) -> &[DepRecord]
         ensures records { reverse result.now ≡ self.now.log.records }
         ensures lawful { IsLawfulDepot self.now.openings self.now.log.records }
@@ -118,7 +117,7 @@ impl<K: Keeper> Depository<K> {
     }
 
     /// Each balance that is not 0, by issue, then account: the CNS account first, then the members by
-    /// number. Costs two look-ups for each account and issue that has an opening or that an order named,
+    /// number. Costs two look-ups for each account and issue that has an opening or that a record names,
     /// and what it takes to sort these. (This project's own rule.)
     pub fn balances(&self, alloc: Global) -> Result<BalanceRows, AllocError>
         ensures rows { IfOk result (λ rows. rows ≡ balance_rows_of self.now.openings self.now.log.records) }
@@ -187,11 +186,11 @@ impl<K: Keeper> Depository<K> {
 
     /// Reads the journal again, and puts the depository up. A refused restart leaves it down and
     /// changes nothing else, except that it may then no longer be known beforehand whether the record
-    /// whose commit failed stands, and that at `BadJournal` the payloads that it read are kept (`rejected`).
-    /// How the next commit ends stays known in any case.
+    /// whose commit failed stands, that at `BadJournal` the payloads that it read are kept (`rejected`), and
+    /// that at `Device` its keeper's failures are more. How the next commit ends stays known in any case.
     ///
-    /// Refuses `BadJournal` where a payload is no record of a movement that may stand after those
-    /// before it. Costs a few look-ups for each payload. (This project's own rule.)
+    /// Refuses `BadJournal` where a payload is no record that may stand after those before it. Costs a few
+    /// look-ups for each payload. (This project's own rule.)
     pub fn restart(&mut self) -> Result<Restarted, ReplayFault>
         ensures { RestartLeaves result self.old self.new }
     {

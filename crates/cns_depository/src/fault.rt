@@ -21,7 +21,7 @@ pub enum DepFault {
     /// Another order was executed under this number.
     #[error("another order has this number")]
     Conflict,
-    /// There is no memory. Nothing has changed.
+    /// There is no memory, or the journal is full. Nothing has changed.
     #[error("out of memory")]
     OutOfMemory,
     /// The device of the journal failed. The depository is down until it is restarted.
@@ -92,7 +92,7 @@ pub enum OwnFault {
     /// The member's account has fewer shares of the issue.
     #[error("the account has fewer shares")]
     TooFew,
-    /// There is no memory. Nothing has changed.
+    /// There is no memory, or the journal is full. Nothing has changed.
     #[error("out of memory")]
     OutOfMemory,
     /// The device of the journal failed. The depository is down until it is restarted.

@@ -21,7 +21,8 @@ pub record LogState (R : Type 0) : Type 0 where
   pub honest : Bool
   pub foresight : Foresight
 
--- what a log shows but what it tells of its keeper: the records, the newest first; the record whose commit failed; and whether the node is down
+-- what a log shows, except what it tells of its keeper: the records, the newest first; the record whose commit failed, which is undecided until a restart; and
+-- whether the node is down
 pub record LogShown (R : Type 0) : Type 0 where
   pub records : List R
   pub tried : Option R
@@ -54,7 +55,7 @@ pub record IsLog {R : Type 0} (spelling : R → List ℕ) (fits : R → Type 0) 
   pub foreseen : keeper.honest ≡ true → (stands : Bool) → keeper.foresight.stands ≡ Some stands
       → (r : R) × (tried ≡ Some r) × (keeper.journal ≡ record { kept = map spelling items; undecided = Some (spelling r) })
 
--- a record is committed: it is added; or the device fails, so that it is undecided and the node is down
+-- a record is given to the journal: it is added; or the device fails, so that it is undecided (a restart finds it in the journal, or does not) and the node is down
 abbrev pub with_added : {R : Type 0} → R → LogShown R → LogShown R
 with_added r log = record log { records = r ∷ log.records }
 

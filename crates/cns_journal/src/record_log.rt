@@ -198,7 +198,7 @@ fn reread<K: Keeper, L: Ledger>(
 /// Why a record is not added.
 #[derive(Clone, Copy, PartialEq, Eq, Debug, Error)]
 pub enum CommitFault {
-    /// There is no memory. Nothing has changed.
+    /// There is no memory, or the journal is full. Nothing has changed.
     #[error("out of memory")]
     OutOfMemory,
     /// The device of the journal failed. The log is down until it is read again.

@@ -37,7 +37,7 @@ bought trades member issue = sum_by (λ (t : Trade). if (t.buyer == member) && (
 unfoldable pub sold : List Trade → ℕ → ℕ → ℕ
 sold trades member issue = sum_by (λ (t : Trade). if (t.seller == member) && (t.issue == issue) then t.quantity else 0) trades
 
--- what a settled amount credits to a position, and what it debits from it
+-- what an amount credits, and what it debits: its size above 0, and below 0 (of what is settled, or of a position)
 abbrev pub credit_part : ℤ → ℕ
 credit_part amount = elim amount [ pos n ↦ n | negsuc n ↦ 0 ]
 
@@ -81,6 +81,7 @@ unfoldable pub short_up_to : ℕ → List NetEntry → ℕ → ℕ
 short_up_to zero h issue = 0
 short_up_to (suc n) h issue = short_up_to n h issue + (debit h (suc n) issue - credit h (suc n) issue)
 
+-- the positions of all longs of an issue, and those of all shorts: members have the numbers 1 to 9999
 abbrev pub longs_of : List NetEntry → ℕ → ℕ
 longs_of h issue = long_up_to 9999 h issue
 

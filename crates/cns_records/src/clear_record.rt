@@ -18,7 +18,7 @@ use cns_movements::{DAY_SIZE, Reply, cycle_bytes, day_bytes};
 use cns_trades::Trade;
 use std::alloc::{AllocError, Global};
 
-// The kinds of records, as their payloads tell them. The depository's kind is 7.
+// The kinds of records, as their payloads tell them. The depository's kinds are 7 and 8.
 const ACCEPT: u8 = 1;
 
 const EXEMPT: u8 = 2;

@@ -5,9 +5,11 @@ use thiserror::Error;
 
 /// Why something that was asked of a node, of one of its lots or of the link is refused.
 ///
-/// A refusal adds no record. Only `Device`, and a refused restart, leave anything changed. Each call
-/// names the refusals that it may answer, in the order in which they are tested: the first that
-/// applies is told. (This project's own rules.)
+/// A refusal adds no record, but the record of a commit that was refused as `Device` is undecided: a restart
+/// finds it in the journal, or does not. Only `Device` and a refused restart leave anything changed: the node
+/// is down then, and at a refused restart of the clearing node its lots have ended. Each call names the refusals
+/// that it may answer, in the order in which they are tested: the first that applies is told. (This project's
+/// own rules.)
 #[derive(Clone, Copy, PartialEq, Eq, Debug, Error)]
 pub enum Refusal {
     /// The node is down until it is restarted.
@@ -78,8 +80,7 @@ pub enum Refusal {
     /// The journal's payload in this place, counted from 1, is the first bad one.
     #[error("record {place} of the journal is bad")]
     BadJournal { place: u64 },
-    /// There is no memory, or the journal is full. Nothing has changed, but that a node whose restart met it is down, and that
-    /// the clearing node's lots have then ended.
+    /// There is no memory, or the journal is full. Nothing has changed, but by a restart that met it.
     #[error("out of memory")]
     OutOfMemory,
     /// The device of the journal failed. The node is down until it is restarted.
