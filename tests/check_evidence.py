@@ -1,5 +1,5 @@
 #!/usr/bin/env python3
-"""Says whether the calls that README.md's tables name as evidence are calls that the program makes.
+"""Says whether the calls that the tables of README.md and docs/CLAIMS.md name as evidence are calls that the program makes.
 
 The second column of a table whose head is `Claim` names calls between backquotes, and the crate that has them. Those before the
 words "for who uses the crate" must be reached from `main` of cnsd, and those behind these words must not be. A call is
@@ -22,6 +22,7 @@ CALL = re.compile(r"(\bself\.(?:\w+\.)?|\.\s*|\b[A-Za-z_]\w*::)?\b([a-z_]\w*)(?:
 FIELD = re.compile(r"    (?:pub(?:\([a-z]+\))? )?(\w+): (?:&(?:'\w+ )?(?:mut )?)?(?:Option<|Box<)?(\w+)")
 PASSED = re.compile(r"\b([A-Z]\w*)::([a-z_]\w*)\b(?!\()")
 MARK = "for who uses the crate"
+DOCUMENTS = ("README.md", "docs/CLAIMS.md")
 
 
 class Function:
@@ -148,7 +149,7 @@ def reached_from_main(found, fields):
 
 
 def rows_of(text):
-    """The second columns of the tables of claims, each with its line's number."""
+    """The second columns of the tables of claims of a document, each with its line's number."""
     claims = False
     for number, line in enumerate(text.split("\n"), 1):
         if not line.startswith("|"):
@@ -174,13 +175,19 @@ def names_in(cell):
     return found
 
 
+def claims():
+    """The second columns of all tables of claims, each with the document and the line that it stands in."""
+    for document in DOCUMENTS:
+        with open(os.path.join(TOP, document), encoding="utf-8") as text:
+            for number, cell in rows_of(text.read()):
+                yield f"{document}:{number}", cell
+
+
 def main():
     found, fields, named = read_crates()
     reached = reached_from_main(found, fields)
     passed, faults = 0, []
-    with open(os.path.join(TOP, "README.md"), encoding="utf-8") as text:
-        rows = list(rows_of(text.read()))
-    for number, cell in rows:
+    for place, cell in claims():
         here, _, beside = cell.partition(MARK)
         for part, wanted in ((here, True), (beside, False)):
             # (what stands in parentheses says where a call or a clause is)
@@ -191,9 +198,9 @@ def main():
                 if name is None and any(owner in it for it in named.values()):
                     passed += 1
                 elif not functions:
-                    faults.append(f"README.md:{number}: {called} is no function, type or trait")
+                    faults.append(f"{place}: {called} is no function, type or trait")
                 elif any(it in reached for it in functions) != wanted:
-                    faults.append(f"README.md:{number}: the program {'does not call' if wanted else 'calls'} {called}")
+                    faults.append(f"{place}: the program {'does not call' if wanted else 'calls'} {called}")
                 else:
                     passed += 1
     return say_end(passed, faults)
