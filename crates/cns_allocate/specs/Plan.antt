@@ -39,12 +39,12 @@ plan_of issue h book settings were_long = by_group (filter_map (planned_of issue
 pub record LongsFit (h : List NetEntry) : Type 0 where
   pub within : (member issue : ℕ) → credit h member issue - debit h member issue ≤ 1000000000000000000
 
--- each ask is for a share at least, and no group comes after a later one: what workers need of a plan that they serve
+-- each ask is for a share at least, and earlier groups come first: what workers need of a plan that they serve
 pub record IsServable (plan : List Planned) : Type 0 where
   pub asks : All (λ (p : Planned). 1 ≤ p.asked) plan
   pub groups : AllPairs (λ (p q : Planned). rank p.group ≤ rank q.group) plan
 
--- each ask is one of an order, no member is planned twice, and no group comes after a later one
+-- each ask is one of an order, no member is planned twice, and earlier groups come first
 pub record IsPlan (plan : List Planned) : Type 0 where
   pub asked : All (λ (p : Planned). IsAsked p.asked) plan
   pub once : (member : ℕ) → count_by (λ (p : Planned). p.member == member) plan ≤ 1

@@ -41,8 +41,8 @@ pub record AreDrawnOf (planned : List Planned) (tickets : List Ticket) : Type 0 
   pub permutation : IsPermutation (drawers ++ others) planned
   pub drawn : AllZip IsDrawnBy tickets drawers
 
--- tickets that follow a plan: some of it drew them, and where these stand in their order, and behind them the others, no group comes
--- after a later one; where nothing is sealed, everybody planned drew one
+-- tickets that follow a plan: some of its members drew them; these in the order of their tickets, and then the others, stand by group, earlier groups first; where
+-- the lot is not sealed, each planned member drew one
 pub record FollowPlan (plan : List Planned) (tickets : List Ticket) (sealed : Bool) : Type 0 where
   pub drawn : AreDrawnOf plan tickets
   pub groups : AllPairs (λ (p q : Planned). rank p.group ≤ rank q.group) (drawn.drawers ++ drawn.others)

@@ -82,7 +82,7 @@ cycle_call id down c lots = do
 
 -- ---- lots
 
--- a lot is opened where none of the issue is open: it has all shares of the issue that are there, and its plan, which is told
+-- a lot is opened where none of the issue is open: it has all shares of the issue that are there, which is to say available (`avail_in`), and its plan, which is told
 unfoldable pub open_call : ℕ → Bool → List ClearRecord → List Lot → Result (List Planned × List Lot) Refusal
 open_call issue down c lots = need_up down >> need (is_none (lot_of lots issue)) refusal.LotAlready >> Ok ((new_lot c issue).plan, lots_opened c issue lots)
 
@@ -100,7 +100,7 @@ pub record IsPoured (node : ClearNode) (issue shares : ℕ) : Type 0 where
   pub all : lot.poured + shares ≡ avail_in node.log.records issue
   pub few : lot.poured + shares ≤ 10 ^ 18
 
--- a ticket of a pool as that of a record
+-- a lot's ticket as that of a record
 abbrev pub recorded_ticket : Ticket → Drawn
 recorded_ticket t = record { member = t.member; start = t.start; asked = t.asked }
 
@@ -147,7 +147,7 @@ tested_close_call serve issue tickets sealed down c lots = do
   need serve refusal.BadTickets
   close_deed tickets sealed c lot
 
--- it closes with tickets of which it is known that they do
+-- it closes with tickets that are known to serve its plan, so `BadTickets` does not come
 abbrev pub close_call : ℕ → List Ticket → Bool → Bool → List ClearRecord → List Lot → Result (Deed ClearRecord Closed) Refusal
 close_call issue tickets sealed down c lots = tested_close_call true issue tickets sealed down c lots
 

@@ -47,11 +47,12 @@ pub record Books : Type 0 where
   pub recent : List PositionRow
   pub previous : List PositionRow
 
--- the covers that a cycle of this date orders: of what is short once the trades of this date are due too, by the orders and confirmations before
+-- the covers that a cycle of this date orders: of what is short once all trades that settle on this date or before it are due too, by the orders and
+-- confirmations before
 abbrev pub covers_on : Books → ℕ → List Ask
 covers_on b day = covers_of (Netted day ∷ b.history) b.orders b.exemptions
 
--- the tickets of a record as those of a pool
+-- the tickets of a record as those of a lot (whose tickets and shares cns_pool calls a pool; the pool of an issue is another thing)
 abbrev pub pool_tickets : List Drawn → List Ticket
 pool_tickets drawn = map (λ (d : Drawn). record { member = d.member; start = d.start; asked = d.asked }) drawn
 
@@ -99,8 +100,8 @@ is_later last id = elim last [ None ↦ true | Some other ↦ is_after id other 
 abbrev pub are_spent : Orders → ℕ → Bool
 are_spent book count = not (count == 0) && nat_lt 1000000 (length book.orders + count)
 
--- an allocation may follow: its lot was opened not after its last pour; its tickets tile, each is of another member and asks for
--- no more than its member is long of, less that one's open deliveries; the shares poured are there, and there are numbers for its deliveries
+-- an allocation may follow: its lot was opened not after its last pour; its tickets stand end to end from 0, no two are of one member, and each asks for no more
+-- than its member is long of, less what that member's open deliveries ask for; the shares poured are available, and there are numbers for its deliveries
 pub record IsAllocable (b : Books) (a : Allocation) : Type 0 where
   pub order : a.opened ≤ a.upto
   pub chained : AreChained 0 (intervals_of (pool_tickets a.drawn))
@@ -109,8 +110,8 @@ pub record IsAllocable (b : Books) (a : Allocation) : Type 0 where
   pub there : a.poured ≤ avail_of b.orders a.issue
   pub numbers : are_spent b.orders (length (deliveries_in a)) ≡ false
 
--- a record may follow those of the books: a trade is new; a cycle is later than the latest one, and there are numbers for its
--- covers; a confirmation is the first one of an order, and not above what that asked for
+-- a record may follow those of the books: a trade is new; a cycle is later than the latest one, and there are numbers for its covers; an allocation is as
+-- `IsAllocable` says; a confirmation is the first one of an order, and not above what that asked for; a setting always may
 abbrev pub Allows : Books → ClearRecord → Type 0
 Allows b (Accept t) = verdict (accepted b.history) t ≡ verdicts.New
 Allows b (Cycle id) = (is_later b.latest id ≡ true) × (are_spent b.orders (length (covers_on b id.day)) ≡ false)

@@ -21,7 +21,7 @@ longs_among issue rows = filter_map (λ row. if (row.issue == issue) && not (cre
 abbrev pub plan_in : List ClearRecord → ℕ → List Planned
 plan_in c issue = plan_of issue (books_of c).history (books_of c).orders (books_of c).priorities (longs_among issue (books_of c).previous)
 
--- the shares of an issue that covers brought, less those that deliveries took or still may take
+-- the shares of an issue that confirmed covers brought, less those that confirmed deliveries took and those that unconfirmed ones ask for
 abbrev pub avail_in : List ClearRecord → ℕ → ℕ
 avail_in c issue = avail_of (books_of c).orders issue
 
@@ -59,7 +59,8 @@ pub record IsAllocation (c : List ClearRecord) (a : Allocation) : Type 0 where
   pub lot : IsLot c (record { issue = a.issue; opened = a.opened; upto = a.upto; poured = a.poured; plan = plan })
   pub served : IsServed plan (pool_tickets a.drawn) a.sealed
 
--- an allocation may follow these records in the strict sense: not only as its tickets, shares and orders fit them, but since it closes a lot that they have
+-- an allocation may follow these records in the strict sense: it closes a lot as they have it, by tickets that serve its plan (`IsAllocable` asks only that
+-- tickets, shares and numbers fit the books)
 abbrev pub ClosesLot : List ClearRecord → ClearRecord → Type 0
 ClosesLot c (Allocate a) = IsAllocation c a
 ClosesLot c _ = Unit {0}
@@ -72,7 +73,7 @@ new_lot c issue = record { issue = issue; opened = length c; upto = length c; po
 abbrev pub lots_opened : List ClearRecord → ℕ → List Lot → List Lot
 lots_opened c issue lots = lots ++ new_lot c issue ∷ []
 
--- a lot once that of an issue has these shares after so many records
+-- a lot; where it is that of the issue, once it has these shares in all, as of so many records
 abbrev pub refilled : ℕ → ℕ → ℕ → Lot → Lot
 refilled issue upto poured lot = if lot.issue == issue then record lot { upto = upto; poured = poured } else lot
 
@@ -83,6 +84,10 @@ lots_poured c issue lots = map (refilled issue (length c) (avail_in c issue)) lo
 -- the lots without that of an issue
 abbrev pub without_lot : ℕ → List Lot → List Lot
 without_lot issue lots = filter (λ (lot : Lot). not (lot.issue == issue)) lots
+
+-- the open lots once the node restarts: they all end, also where the restart is refused
+abbrev pub lots_restarted : List Lot → List Lot
+lots_restarted lots = []
 
 -- the lots once a record was added: an allocation closes the lot of its issue
 abbrev pub lots_after : ClearRecord → List Lot → List Lot

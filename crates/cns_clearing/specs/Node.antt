@@ -12,7 +12,7 @@ use Rattle.cns_journal.specs.declared.record_log.Restarted.{Restarted}
 use Rattle.cns_records.specs.Clear.{spelling, HasPayload, AreWritable}
 use Rattle.cns_records.specs.declared.clear_record.ClearRecord.{ClearRecord}
 use Rattle.cns_clearing.specs.Books.{Books, books_of, IsAllowed}
-use Rattle.cns_clearing.specs.Lots.{AreLots, lots_after}
+use Rattle.cns_clearing.specs.Lots.{AreLots, lots_after, lots_restarted}
 use Rattle.cns_clearing.specs.declared.lot.Lot.{Lot}
 
 -- the log of the records, and the open lots
@@ -45,9 +45,9 @@ IsCommitted r (Err commit.Device) old new = Failed r old new
 abbrev pub NodePlanned : Bool → Result (Unit {0}) NotPlanned → ClearNode → ClearNode → Type 0
 NodePlanned stands result old new = LogPlanned stands result old.log new.log × (new.lots ≡ old.lots)
 
--- what a restart leaves, by its answer: it ends all lots, also where it is refused
+-- what a restart leaves, by its answer
 abbrev pub RestartLeaves : Result Restarted ReplayFault → ClearNode → ClearNode → Type 0
-RestartLeaves result old new = LogRestarts spelling IsAllowed HasPayload result old.log new.log × (new.lots ≡ [])
+RestartLeaves result old new = LogRestarts spelling IsAllowed HasPayload result old.log new.log × (new.lots ≡ lots_restarted old.lots)
 
 -- what an opening gives: a node that is up, with the records that its keeper gave
 abbrev pub IsOpened : KeeperState → ClearNode → Type 0

@@ -36,7 +36,7 @@ unfoldable pub asked_of_pool : ℕ → List Ask → ℕ
 asked_of_pool issue [] = 0
 asked_of_pool issue (a ∷ asks) = (if is_delivery a.kind && (a.issue == issue) then a.asked else 0) + asked_of_pool issue asks
 
--- the shares that covers brought, less those that deliveries took or still may take
+-- the shares that confirmed covers brought, less those that confirmed deliveries took and those that unconfirmed ones ask for
 abbrev pub avail_of : Orders → ℕ → ℕ
 avail_of book issue = covered_of book issue - (delivered_of book issue + out_of book issue)
 

@@ -556,8 +556,8 @@ impl<K: Keeper> Clearing<K> {
         Ok(self.books())
     }
 
-    // Why a cycle is refused whose covers there is no memory to list, where no lot is open and it is later than
-    // the latest one: for want of numbers, and else for want of memory.
+    // Why a node that is up refuses a cycle whose covers there is no memory to list, where no lot is open and it
+    // is later than the latest one: for want of numbers, and else for want of memory.
     fn refusal_without_memory(&mut self, id: &CycleId) -> Refusal
         requires up { self.old.log.down ≡ false }
         requires later { is_later (latest_of self.old.log.records) id.now ≡ true }

@@ -8,8 +8,8 @@ use cns_ids::Cusip;
 use std::alloc::{AllocError, Global};
 use std::marker::Model;
 
-/// The pool of an issue, by what was confirmed. The balance of account 0 at the depository is another one while
-/// an executed movement is not confirmed.
+/// The pool of an issue, by what was confirmed. The balance of account 0 at the depository may be another
+/// one while an executed movement is not confirmed.
 #[derive(Clone, Copy, PartialEq, Eq, Debug)]
 pub struct PoolRow {
     pub issue: Cusip,

@@ -47,7 +47,7 @@ dep_refusal Device = refusal.Device
 abbrev pub reply_to : Movement → Reply
 reply_to m = record { number = m.order.number; moved = m.moved }
 
--- an order under whose number this movement was executed: the reply is told that was kept, where the executed order agrees with it
+-- an order under whose number this movement was executed: where the two orders agree, the reply to that movement is told again
 abbrev pub known_call : Order → Movement → Result (Deed DepRecord Answer) DepFault
 known_call o known = need (agrees_with known.order o) Conflict >> Ok (Tells (Again (reply_to known)))
 
@@ -86,7 +86,7 @@ own_fault_refusal own.TooFew = refusal.TooFew
 own_fault_refusal own.OutOfMemory = refusal.OutOfMemory
 own_fault_refusal own.Device = refusal.Device
 
--- an instruction under whose number this one of its member was carried out
+-- an instruction `i` whose number its member used before, for `held`: it is answered once more where both are the same
 abbrev pub held_call : Instruction → Instruction → Result (Deed DepRecord Own) OwnFault
 held_call i held = need (same_instruction held i) own.Conflict >> Ok (Tells done.Again)
 

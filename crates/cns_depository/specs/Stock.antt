@@ -90,7 +90,7 @@ held_in openings p issue = (issue_sum openings issue + taken_from p Outside issu
 -- ---- which records may stand
 
 -- the movement of a new order: it moves what the giving account has, at most what is asked, and 0 where that has nothing. With it the order is done: what a cover
--- did not move, the next cycle asks for
+-- did not move, a cycle after its confirmation may ask for anew, as far as the member is then short of it
 abbrev pub movement : List Opening → List DepRecord → Order → Movement
 movement openings p o = record { order = o; moved = min o.asked (balance_of openings p (giver o) o.issue) }
 

@@ -8,7 +8,7 @@ use thiserror::Error;
 pub enum Answer {
     /// The order is executed from now on.
     Done(Reply),
-    /// The order was executed before, and this is the reply that was kept.
+    /// The order was executed before, and this is the reply to that movement.
     Again(Reply),
 }
 

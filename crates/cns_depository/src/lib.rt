@@ -1,5 +1,5 @@
-//! The depository: what its accounts hold at the start, the movements that it executed, and the
-//! journal that keeps them.
+//! The depository: what its accounts hold at the start, the movements that it executed, the members' own
+//! instructions that it carried out, and the journal that keeps them.
 //!
 //! An order is executed once, and moves what the giving account has, at most what is asked. A member's
 //! own instruction brings shares into its account from outside, or takes them out. Nothing is ever taken

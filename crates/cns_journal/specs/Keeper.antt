@@ -23,7 +23,8 @@ pub data Forecast : Type 0 where
   Succeeds : Forecast
   Fails : Bool → Forecast
 
--- what is known beforehand of a keeper: how its next commit ends, and whether the undecided record stands at the reopening
+-- what is known beforehand of a keeper, whose failures a trial may plan (of a real device nothing is known): how its next commit ends, and whether the undecided
+-- record stands at the reopening
 pub record Foresight : Type 0 where
   pub next : Forecast
   pub stands : Option Bool

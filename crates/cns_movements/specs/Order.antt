@@ -69,7 +69,8 @@ abbrev pub without_cycle : Order → Order
 without_cycle o = record o { cycle = None }
 
 -- when two orders agree: all else that one says the other says too, and where both have a cycle, it is the same.
--- An order without a cycle agrees with two that have different ones: so from two agreements with one order none of the other two follows.
+-- An order without a cycle agrees with two that have different ones: that two orders agree with one does not say that they agree with
+-- each other.
 pub record AgreesWith (a b : Order) : Type 0 where
   pub same : without_cycle a ≡ without_cycle b
   pub cycles : (x y : CycleId) → a.cycle ≡ Some x → b.cycle ≡ Some y → x ≡ y

@@ -68,11 +68,11 @@ debit h member issue = sold (due h) member issue + settled_debit h member issue
 abbrev pub position_of : List NetEntry → ℕ → ℕ → ℤ
 position_of h member issue = pos (credit h member issue) -ℤ pos (debit h member issue)
 
--- the trades that a netting of a date makes due
+-- how many trades a netting of a date makes due
 abbrev pub becoming_due : List NetEntry → ℕ → ℕ
 becoming_due h day = length (due (Netted day ∷ h)) - length (due h)
 
--- the sizes of the positions above 0 of the members 1 to n in an issue, and of those below 0
+-- the sum of the positions above 0 of the members 1 to n in an issue, and that of the sizes of those below 0
 unfoldable pub long_up_to : ℕ → List NetEntry → ℕ → ℕ
 long_up_to zero h issue = 0
 long_up_to (suc n) h issue = long_up_to n h issue + (credit h (suc n) issue - debit h (suc n) issue)
@@ -81,7 +81,7 @@ unfoldable pub short_up_to : ℕ → List NetEntry → ℕ → ℕ
 short_up_to zero h issue = 0
 short_up_to (suc n) h issue = short_up_to n h issue + (debit h (suc n) issue - credit h (suc n) issue)
 
--- the positions of all longs of an issue, and those of all shorts: members have the numbers 1 to 9999
+-- the shares of all long positions of an issue together, and those of all short ones: members have the numbers 1 to 9999
 abbrev pub longs_of : List NetEntry → ℕ → ℕ
 longs_of h issue = long_up_to 9999 h issue
 

@@ -2,7 +2,7 @@ ghost use Rattle.std.specs.Prelude.{◌≡◌, ◌<◌, [], ◌∷◌, ◌++◌,
 
 use cns_ids::MemberNo;
 
-/// The place that a member drew in the order of a lot: `asked` shares from `start` on, of which it is granted
+/// The place that a member drew in the order of a pool: `asked` shares from `start` on, of which it is granted
 /// those that were poured by the close. (This project's own rule.)
 ///
 /// It is the half-open interval from `start` to `start + asked`. Each ticket that a pool draws has at

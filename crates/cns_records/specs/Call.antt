@@ -2,12 +2,13 @@
 use Rattle.std.specs.Prelude.{◌≡◌, ◌⊎◌, Result, Ok, Err}
 use Rattle.cns_journal.specs.declared.record_log.CommitFault.{CommitFault}
 
--- a call that is not refused is answered so, and changes nothing of the node; or has this record committed, and is answered so once that is acknowledged
+-- what a call that is not refused comes to: it answers this and changes nothing of the node; or it has this record committed, and answers this once that is
+-- acknowledged
 pub data Deed (R X : Type 0) : Type 0 where
   Tells : X → Deed R X
   Commits : R → X → Deed R X
 
--- what a call is answered whose record was given to the journal, by what its commit came to
+-- what a call is answered whose record was to be committed, by what its commit came to
 abbrev pub answered : {X E : Type 0} → (CommitFault → E) → X → Result (Unit {0}) CommitFault → Result X E
 answered refusal x (Ok _) = Ok x
 answered refusal x (Err fault) = Err (refusal fault)

@@ -35,7 +35,7 @@ use Rattle.cns_depository.specs.declared.fault.OwnFault.{OwnFault}
 use Rattle.cns_depository.specs.declared.movement.Movement.{Movement}
 use Rattle.cns_system.specs.Happens.{Change, Decision, Grows, Leaves, by_clear, by_order, by_own, clear_deed, judged, taken_told, with_reply_put}
 use Rattle.cns_system.specs.Lot.{LotState, numbered_lot, with_seal, with_ticket}
-use Rattle.cns_system.specs.Lots.{going_lot, turn_ticket, with_lot}
+use Rattle.cns_system.specs.Lots.{draw_call, going_lot, with_lot}
 use Rattle.cns_system.specs.Numbered.{look_call, with_lot_ended, numbered_close, numbered_open, numbered_pour}
 use Rattle.cns_system.specs.Shown.{Shown, clear_added, clear_failed, depot_added, depot_failed}
 use Rattle.cns_system.specs.declared.event.Event.TheVariants as event
@@ -44,7 +44,7 @@ use Rattle.cns_system.specs.declared.numbered.Opened.{Opened}
 use Rattle.cns_system.specs.declared.outcome.Outcome.{Outcome}
 use Rattle.cns_system.specs.declared.outcome.Outcome.TheVariants as outcomes
 use Rattle.cns_system.proofs.HappensLemmas.{Holds}
-use Rattle.cns_system.proofs.LotsLemmas.{IsGoing, going_parts, with_new_lot}
+use Rattle.cns_system.proofs.LotsLemmas.{IsGoing, going_parts, ok_drawn, with_new_lot}
 use Rattle.cns_system.proofs.NumberedLemmas.{IsDrawn, ticket_parts}
 use Rattle.cns_system.proofs.OrderDeeds.{IsOrderDeed, IsOwnDeed, order_deeds, own_deeds}
 use Rattle.cns_system.proofs.RecordedLemmas.{Commits, IsClose, Recorded, allocated, close_records, ok_up, reply_records}
@@ -125,9 +125,9 @@ module _ (P : Outcome → Shown → Type 0) (d : Decision) (w : Shown) where
   unfolding judged
   reserve_holds number member draws =
       let told : Ticket × List LotState → Result Change Refusal = λ drawn. Ok (Leaves (outcomes.Drawn drawn.0) (record w { lots = drawn.1 })) in
-      let drawn : LotState → Ticket → Result (Ticket × List LotState) Refusal = λ lot t. Ok (t, with_lot number (with_ticket t lot) w.lots) in
-      steps_by (Holds P d w) (going_lot w.lots number) (λ lot. turn_ticket lot member >>= drawn lot) told
-      (λ lot going. ok_then (λ (p : Ticket × List LotState). IfOk (told p) (Holds P d w)) (turn_ticket lot member) (drawn lot)
+      let made : Ticket × LotState → Result (Ticket × List LotState) Refusal = λ drawn. Ok (drawn.0, with_lot number drawn.1 w.lots) in
+      steps_by (Holds P d w) (going_lot w.lots number) (λ lot. draw_call member lot >>= made) told
+      (λ lot going. ok_drawn (λ (p : Ticket × List LotState). IfOk (told p) (Holds P d w)) member lot made
       (λ t is. draws lot t (going_parts w.lots number lot going) (ticket_parts lot member t is)))
 
   pub seal_holds : (number : ℕ) → ((lot : LotState) → IsGoing w.lots number lot → P outcomes.Done (record w { lots = with_lot number (with_seal lot) w.lots }))

@@ -129,21 +129,24 @@ passed_on P (Ok x) r is same holds = absurd (cc is)
 passed_on P (Err s) r is same holds = subst (λ (t : Refusal). P (Err t)) (sym same) holds
 
 -- what a reserve comes to where the next ticket of its member would be refused, or is this one
-abbrev drawing : ℕ → List LotState → LotState → Ticket → Result (Ticket × List LotState) Refusal
-drawing number lots lot ticket = Ok (ticket, with_lot number (with_ticket ticket lot) lots)
+abbrev drawing : ℕ → List LotState → LotState → Result Ticket Refusal → Result (Ticket × List LotState) Refusal
+drawing number lots lot next =
+    let drawn : Ticket → Result (Ticket × LotState) Refusal = λ t. Ok (t, with_ticket t lot) in
+    let left : Ticket × LotState → Result (Ticket × List LotState) Refusal = λ d. Ok (d.0, with_lot number d.1 lots) in
+    (next >>= drawn) >>= left
 
 reserve_as : (number member : ℕ) (lots : List LotState)
     → MatchResult (ticket_call number member lots) (λ (t : Ticket). (new : List LotState) × (reserve_call number member lots ≡ Ok (t, new))) (λ (r : Refusal). reserve_call number member lots ≡ Err r)
 reserve_as number member lots = by (going_lot lots number)
   where
     of : (lot : LotState) (next : Result Ticket Refusal)
-        → MatchResult next (λ (t : Ticket). (new : List LotState) × ((next >>= drawing number lots lot) ≡ Ok (t, new))) (λ (r : Refusal). (next >>= drawing number lots lot) ≡ Err r)
+        → MatchResult next (λ (t : Ticket). (new : List LotState) × (drawing number lots lot next ≡ Ok (t, new))) (λ (r : Refusal). drawing number lots lot next ≡ Err r)
     of lot (Ok t) = (with_lot number (with_ticket t lot) lots, refl)
     of lot (Err r) = refl
 
     by : (g : Result LotState Refusal)
-        → MatchResult (g >>= λ lot. turn_ticket lot member) (λ (t : Ticket). (new : List LotState) × ((g >>= λ lot. turn_ticket lot member >>= drawing number lots lot) ≡ Ok (t, new)))
-        (λ (r : Refusal). (g >>= λ lot. turn_ticket lot member >>= drawing number lots lot) ≡ Err r)
+        → MatchResult (g >>= λ lot. turn_ticket lot member) (λ (t : Ticket). (new : List LotState) × ((g >>= λ lot. drawing number lots lot (turn_ticket lot member)) ≡ Ok (t, new)))
+        (λ (r : Refusal). (g >>= λ lot. drawing number lots lot (turn_ticket lot member)) ≡ Err r)
     by (Ok lot) = of lot (turn_ticket lot member)
     by (Err r) = refl
 

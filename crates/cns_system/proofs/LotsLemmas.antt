@@ -1,6 +1,6 @@
 -- The lots by number: which one a number finds, and what a change of it leaves.
 use Rattle.std.proofs.Common.{◌≡◌, ◌-◌, ℕ, List, [], ◌∷◌, ◌++◌, get_or, Option, Some, None, Result, Ok, Err, Bool, true, false, not, ap, subst, sym, refl, ◌∙◌}
-use Rattle.std.specs.Prelude.{◌==◌, slice_get, slice_set, if◌then◌else◌}
+use Rattle.std.specs.Prelude.{◌==◌, IfOk, slice_get, slice_set, if◌then◌else◌}
 use Rattle.std.specs.Option.{ok_or}
 use Rattle.std.proofs.lemmas.List.{set-get_or}
 use Rattle.cns_ids.specs.Steps.{◌>>=◌, ◌>>◌, need}
@@ -19,6 +19,15 @@ use Rattle.cns_system.specs.Shown.{Shown}
 -- the lots once this one is opened
 abbrev pub with_new_lot : Lot → Shown → Shown
 with_new_lot lot w = record w { open_lots = w.open_lots ++ lot ∷ []; lots = w.lots ++ numbered_lot lot.issue lot.plan ∷ [] }
+
+-- what holds of the ticket that a member draws of a lot, and of the lot then, holds of what is made of both
+pub ok_drawn : {X : Type 0} (Q : X → Type 0) (member : ℕ) (lot : LotState) (made : Ticket × LotState → Result X Refusal)
+    → ((t : Ticket) → turn_ticket lot member ≡ Ok t → IfOk (made (t, with_ticket t lot)) Q) → IfOk (draw_call member lot >>= made) Q
+ok_drawn Q member lot made holds = by (turn_ticket lot member) refl
+  where
+    by : (t : Result Ticket Refusal) → turn_ticket lot member ≡ t → IfOk ((t >>= λ x. Ok (x, with_ticket x lot)) >>= made) Q
+    by (Ok t) is = holds t is
+    by (Err r) is = tt
 
 -- ---- the lot of a number, which has not ended
 

@@ -39,9 +39,9 @@ use Rattle.cns_records.specs.declared.refusal.Refusal.TheVariants as refusal
 use Rattle.cns_clearing.specs.declared.lot.Lot.{Lot}
 use Rattle.cns_system.specs.Lot.{LotState, IsOfPlan, numbered_lot, planned_sum, ticket_in, with_end, with_seal, with_ticket}
 use Rattle.cns_wire.specs.Packet.{at_number}
-use Rattle.cns_system.specs.Lots.{change_call, going_lot, turn_ticket, reserve_call, with_lot}
+use Rattle.cns_system.specs.Lots.{change_call, draw_call, going_lot, turn_ticket, reserve_call, with_lot}
 use Rattle.cns_system.specs.Numbered.{AreTied, IsNumberedCommit, NumberedNode, having_lots, numbered_close, with_lot_ended, numbered_open, opening_call, numbered_pour}
-use Rattle.cns_system.proofs.LotsLemmas.{IsGoing, going_parts}
+use Rattle.cns_system.proofs.LotsLemmas.{IsGoing, going_parts, ok_drawn}
 use Rattle.cns_system.proofs.RecordedLemmas.{IsCloseOf, IsMet, Recorded, close_record, is_met}
 use Rattle.cns_system.proofs.StepLemmas.{ok_then}
 use Rattle.cns_system.proofs.TiedLemmas.{ended_lots, found_poured, found_without, poured_keeps, tied_changed, tied_more}
@@ -113,8 +113,8 @@ seal_tied open_lots n r lots after are h =
 pub reserve_tied : (open_lots : List Lot) (n member : ℕ) (r : Result Ticket Refusal) (lots after : List LotState) → AreTied open_lots lots
     → Changes (reserve_call n member lots) r lots after → AreTied open_lots after
 reserve_tied open_lots n member r lots after are h =
-    changed_by (AreTied open_lots) lots n (λ l. turn_ticket l member >>= λ t. Ok (t, with_lot n (with_ticket t l) lots)) r after are
-    (λ l at. ok_then (λ xs. AreTied open_lots xs.1) (turn_ticket l member) (λ t. Ok (t, with_lot n (with_ticket t l) lots))
+    changed_by (AreTied open_lots) lots n (λ l. draw_call member l >>= λ drawn. Ok (drawn.0, with_lot n drawn.1 lots)) r after are
+    (λ l at. ok_drawn (λ xs. AreTied open_lots xs.1) member l (λ drawn. Ok (drawn.0, with_lot n drawn.1 lots))
     (λ t is. stays_tied open_lots lots n l (with_ticket t l) are at.found at.going refl (λ plan of. drawn_stays plan l member t (ticket_parts l member t is) of))) h
 
 -- ---- calls of the node alone

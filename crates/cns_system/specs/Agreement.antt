@@ -15,7 +15,7 @@ abbrev pub IsOrdered : List Order → Movement → Type 0
 IsOrdered orders m =
     ((o : Order) × (order_of orders m.order.number ≡ Some o) × AgreesWith m.order o) × (m.order.kind ≡ Delivery → m.moved ≡ m.order.asked)
 
--- a confirmed movement was executed, and moved so much
+-- what a reply tells is so: the movement of its number was executed, and moved so many shares
 abbrev pub IsExecuted : List Movement → Reply → Type 0
 IsExecuted movements r = (m : Movement) × (movement_of movements r.number ≡ Some m) × (m.moved ≡ r.moved)
 

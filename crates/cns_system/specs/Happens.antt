@@ -1,7 +1,8 @@
 -- What happens at each event, as a function of what the surroundings decide (this project's own rules). Each event has one case, which tells
 -- the refusals by the state in their order; want of memory and the device come after these, by the decision. A refusal leaves all as it was, but for
--- `Device` at a commit, which puts the node down and leaves its record undecided (a restart finds it in the journal, or does not), and for a refused restart.
-use Rattle.std.specs.Prelude.{ℕ, ◌+◌, List, [], ◌∷◌, ◌++◌, length, map, Some, Result, Ok, Err}
+-- `Device` at a commit, which puts the node down and leaves its record undecided (a restart finds it in the journal, or does not), and for a refused restart, which
+-- leaves the node down, also if it was up, with its records and its undecided one, and, of the clearing node, ends all lots.
+use Rattle.std.specs.Prelude.{ℕ, ◌+◌, List, [], ◌∷◌, ◌++◌, length, Some, Result, Ok, Err}
 use Rattle.std.specs.Option.{ok_or, option_flatten}
 use Rattle.cns_journal.specs.RecordLog.{LogShown, restarted}
 use Rattle.cns_journal.specs.declared.record_log.ReplayFault.{ReplayFault}
@@ -20,6 +21,7 @@ use Rattle.cns_records.specs.declared.instruction.Instruction.{Instruction}
 use Rattle.cns_records.specs.declared.refusal.Refusal.{Refusal}
 use Rattle.cns_records.specs.declared.refusal.Refusal.TheVariants as refusal
 use Rattle.cns_clearing.specs.Answers.{cycle_call, order_call, reply_call, setting_call, trade_call}
+use Rattle.cns_clearing.specs.Lots.{lots_restarted}
 use Rattle.cns_clearing.specs.declared.answer.Closed.{Closed}
 use Rattle.cns_clearing.specs.declared.answer.Cycled.{Cycled}
 use Rattle.cns_clearing.specs.declared.answer.Taken.{Taken}
@@ -31,8 +33,8 @@ use Rattle.cns_depository.specs.declared.fault.DepFault.{DepFault}
 use Rattle.cns_depository.specs.declared.fault.Own.{Own}
 use Rattle.cns_depository.specs.declared.fault.Own.TheVariants as own
 use Rattle.cns_depository.specs.declared.fault.OwnFault.{OwnFault}
-use Rattle.cns_system.specs.Lot.{LotState, with_end, with_seal}
-use Rattle.cns_system.specs.Lots.{change_call, reserve_call}
+use Rattle.cns_system.specs.Lot.{LotState, with_seal}
+use Rattle.cns_system.specs.Lots.{all_ended, change_call, reserve_call}
 use Rattle.cns_system.specs.Numbered.{look_call, numbered_close, with_lot_ended, numbered_open, numbered_pour}
 use Rattle.cns_system.specs.Shown.{Shown, clear_added, clear_failed, depot_added, depot_failed}
 use Rattle.cns_system.specs.declared.event.Event.{Event}
@@ -45,9 +47,9 @@ use Rattle.cns_system.specs.declared.outcome.Outcome.TheVariants as outcomes
 -- ---- by the state alone
 
 -- what an event that is not refused by the state of the nodes and the link tells and leaves:
---   `Leaves`: so it is in any case, without memory and without a record
---   `Grows`: so it is where there is memory for it; it has no record
---   `Commits`: so it is once its record is acknowledged; where the commit fails at the device, the second `Shown` is left
+--   `Leaves`: so it is, whatever the decision: it takes no memory and has no record
+--   `Grows`: so it is, unless memory is wanting; it has no record, so the device has no part in it
+--   `Commits`: so it is once its record is acknowledged; where memory is wanting all stays; where the device fails, that is told and the second `Shown` is left
 --   `Restarts`: the node reads its journal again
 pub data Change : Type 0 where
   Leaves : Outcome → Shown → Change
@@ -55,8 +57,8 @@ pub data Change : Type 0 where
   Commits : Outcome → Shown → Shown → Change
   Restarts : NodeName → Change
 
--- what a call of the clearing node comes to, as that of an event; `ends` says what becomes of the lots by number once a record is acknowledged (what
--- becomes of the node's open lots is said in `clear_added`)
+-- the change that a call of the clearing node makes; `told` is the outcome by its answer, and `ends` says what becomes of the lots by number once a record is
+-- acknowledged (what becomes of the node's open lots is said in `clear_added`)
 abbrev pub clear_deed : {X : Type 0} → (X → Outcome) → (List LotState → List LotState) → Shown → Deed ClearRecord X → Change
 clear_deed told ends w (call.Tells x) = Leaves (told x) w
 clear_deed told ends w (call.Commits r x) = Commits (told x) (record (clear_added r w) { lots = ends w.lots }) (clear_failed r w)
@@ -68,7 +70,7 @@ by_clear told w deed = deed >>= λ d. Ok (clear_deed told (λ lots. lots) w d)
 abbrev pub taken_told : Reply → Taken → Outcome
 taken_told r t = elim t [ taken.Done ↦ outcomes.Confirmed r | taken.Again ↦ outcomes.ConfirmedAgain r ]
 
--- what an order comes to at the depository, and its reply as the next packet on the link of replies
+-- an order at the depository: its reply is put on the link of replies as the next packet, once the order is executed, or again where it was executed before
 abbrev pub with_reply_put : Reply → Shown → Shown
 with_reply_put r w = record w { reply_packets = w.reply_packets ++ Some r ∷ [] }
 
@@ -86,7 +88,7 @@ order_deed w (call.Commits e a) = Commits (answer_told (length w.reply_packets +
 abbrev pub by_order : Shown → Result (Deed DepRecord Answer) DepFault → Result Change Refusal
 by_order w deed = elim deed [ Err fault ↦ Err (dep_refusal fault) | Ok d ↦ Ok (order_deed w d) ]
 
--- what a member's own instruction comes to there
+-- a member's own instruction at the depository: what is told of it, and what it comes to
 abbrev pub own_told : Instruction → Own → Outcome
 own_told i o = elim o [ own.Done ↦ outcomes.Instructed i | own.Again ↦ outcomes.InstructedAgain i ]
 
@@ -97,8 +99,8 @@ own_deed i w (call.Commits e o) = Commits (own_told i o) (depot_added e w) (depo
 abbrev pub by_own : Instruction → Shown → Result (Deed DepRecord Own) OwnFault → Result Change Refusal
 by_own i w deed = elim deed [ Err fault ↦ Err (own_fault_refusal fault) | Ok d ↦ Ok (own_deed i w d) ]
 
--- what an event comes to by the state alone, or its first refusal. The refusals of each event, in their order (a trade's own are those of its verdict, also of
--- one that was accepted before, while an order, a reply or an instruction that comes again is answered once more):
+-- what an event comes to by the state alone, or its first refusal. The refusals of each event, in their order (`Trade` carries the verdict; a trade that was accepted
+-- before is refused too, while an order, a reply or an instruction that comes again is answered once more):
 --   Trade           Down, Trade
 --   Exempt          Down
 --   Priority        Down
@@ -112,11 +114,12 @@ by_own i w deed = elim deed [ Err fault ↦ Err (own_fault_refusal fault) | Ok d
 --   OrderIn         NoPacket, Down, Conflict
 --   ReplyIn         NoPacket, Down, UnknownMove, Conflict, TooMuch
 --   Own             Down, Conflict, IssueSum (a deposit) or TooFew (a withdrawal)
---   Restart         none
+--   Restart         none (by the decision: OutOfMemory, BadJournal, Device)
 -- The node's own `NoLot`, of an issue that has no open lot, comes at no pour and no close by number: a lot that has not ended is one of the node's (`AreTied`,
 -- which each event keeps). A ticket, a seal and a look do not ask whether the clearing node is up: its lots stand as they are until a restart ends them. A lot
--- that no close ends, as where the numbers of orders are spent, stands until that restart too, and no cycle runs beside it. Two refusals are of none of these
--- cases: `LotBusy`, of a lot that threads draw from beside the script, and `BadTickets`, of what they bring back where it is not what may be drawn.
+-- that no close ends, as where the numbers of orders are spent, stands until that restart too, and no cycle runs beside it. Besides, `OutOfMemory`, `Device` and
+-- `BadJournal` come by the decision, not by the state; and two refusals come of no event here: `LotBusy`, of a lot that workers are serving (`FloorStep`), and
+-- `BadTickets`, of tickets that are handed in where one is not what its member would draw next, or where they do not serve the plan.
 unfoldable pub judged : Event → Shown → Result Change Refusal
 judged (event.Trade t) w = by_clear (λ _. outcomes.Accepted) w (trade_call t w.clear.down w.clear.records)
 judged (event.Exempt member issue shares) w = by_clear (λ _. outcomes.Done) w (setting_call (entry.Exempt member issue shares) w.clear.down)
@@ -152,12 +155,14 @@ outcome_of told (Err r) = outcomes.Refused r
 
 -- ---- by what the surroundings decide
 
--- what the surroundings decide at an event, and nothing else does:
+-- all that the surroundings decide at an event. Here each may be given at any event; which may come, by what is known of the keeper and whether it is honest, is
+-- said in `decision_at`:
 --   `Goes`: nothing is in the way; at a restart the journal gives the records as they were, without the undecided one
---   `NoMemory`: there is none, or the journal is full; what takes none goes on all the same
+--   `NoMemory`: there is no memory, or the journal is full: what grows, a commit and a restart are refused; what takes none goes on all the same
 --   `DeviceFails`: the device fails, at a commit or a restart; what has neither goes on all the same
---   `ClearReads`, `DepotReads`: at a restart of that node its journal gives these records, the newest first; else as `Goes`
---   `FindsBad`: at a restart the journal's payload in this place is the first that is bad; else as `Goes`
+--   `ClearReads`, `DepotReads`: at a restart of that node its journal gives just these records, whichever they are, the newest first (also where the undecided one
+--   comes back); at a restart of the other node, and at any other event, as `Goes`
+--   `FindsBad`: at a restart the journal's payload in this place is the first that is bad; at any other event as `Goes`
 pub data Decision : Type 0 where
   Goes : Decision
   NoMemory : Decision
@@ -185,7 +190,7 @@ restart_by d log records left = let done = restarted (reading_by d records) log 
 -- a restart of the clearing node ends all lots, also where it is refused; what the other node's journal would give decides nothing
 abbrev pub node_restarted : Decision → NodeName → Shown → Outcome × Shown
 node_restarted d node.Clear w =
-    restart_by d w.clear (elim d [ ClearReads c ↦ c | _ ↦ w.clear.records ]) (λ log. record w { clear = log; open_lots = []; lots = map with_end w.lots })
+    restart_by d w.clear (elim d [ ClearReads c ↦ c | _ ↦ w.clear.records ]) (λ log. record w { clear = log; open_lots = lots_restarted w.open_lots; lots = all_ended w.lots })
 node_restarted d node.Depot w = restart_by d w.depot (elim d [ DepotReads p ↦ p | _ ↦ w.depot.records ]) (λ log. record w { depot = log })
 
 -- what becomes of a change

@@ -49,8 +49,8 @@ pool_shares c lots issue = free_of (order_book_of c) lots issue + lent_of lots i
 -- account to the CNS account, a delivery takes them from there to a member's; a movement is confirmed once the clearing node has the depository's reply, and an order is open
 -- until then
 pub record Headline (c : List ClearRecord) (open_lots : List Lot) (openings : List Opening) (p : List DepRecord) (order_packets reply_packets : List (List ℕ)) : Type 0 where
-  -- Same: each executed movement agrees with the order of its number at the clearing node, so it has its kind, member, issue and quantity,
-  -- and its cycle, where both have one; a delivery moved all that it asks for, and a cover no more than it. Each confirmed movement was
+  -- Same: each executed movement agrees with the order of its number at the clearing node, so kind, member, issue and quantity are the
+  -- same in both nodes, and the cycle too where both have one; a delivery moved all that it asks for, and a cover no more than it. Each confirmed movement was
   -- executed, and moved just the shares that were confirmed.
   pub executed : All (IsAsOrdered (order_book_of c).orders) (executed_of p)
   pub confirmed : All (IsExecuted (executed_of p)) (confirmed_of c)
@@ -60,16 +60,19 @@ pub record Headline (c : List ClearRecord) (open_lots : List Lot) (openings : Li
   pub answered : (k : ℕ) (bytes : List ℕ) → slice_get reply_packets k ≡ Some bytes → IsReplyPacket (executed_of p) bytes
   -- Lawful: each record of the clearing node may stand after those before it (that an allocation follows the plan and the groups of its lot is `AreStrict`).
   pub lawful : IsLawful c
-  -- Stock: no number was executed twice, each movement moved what the giving account then had, at most what was asked for; no instruction of a member was
-  -- carried out twice, and none that is refused; and no account gave more than its opening and what was moved into it.
+  -- Stock: no number was executed twice, and each movement moved what was asked for, or all that the giving account then had where that is less; no instruction
+  -- of a member was carried out twice; each deposit left the issue at 10^18 shares or fewer, and each withdrawal was of shares that the member then had; and no
+  -- account gave more than its opening and what was moved into it.
   pub stock : IsLawfulDepot openings p
   pub given : (account : Account) (issue : ℕ) → moved_out p account issue ≤ opening_shares openings account issue + moved_in p account issue
-  -- Netted: each position is what the member bought less what it sold in due trades, with confirmed covers added and confirmed deliveries taken off. There is
-  -- one position: that of the netting history, by which the longs, the shorts and the reports go, is the same.
+  -- Netted: each position, which the clearing node reckons from its own records, is the one reckoned with the shares that the depository moved: what the member
+  -- bought less what it sold in due trades, with confirmed covers added and confirmed deliveries taken off. There is one position: that of the netting history,
+  -- by which the longs, the shorts and the reports go, is the same.
   pub netted : (member issue : ℕ) → position_in c member issue ≡ reckoned c (executed_of p) member issue
   pub one_position : (member issue : ℕ) → position_of (history_of c) member issue ≡ position_in c member issue
-  -- Pool: in each issue the longs are the shorts and the pool; the pool, with what confirmed deliveries moved, is what confirmed covers
-  -- brought; and what confirmed deliveries moved, with what open ones ask for, is no more than executed covers brought.
+  -- Pool: in each issue the sum of all long positions is that of all short ones and the shares in the pool; the shares in the pool, with those that confirmed
+  -- deliveries moved, are those that confirmed covers brought; and what confirmed deliveries moved, with what open ones ask for, is no more than executed covers
+  -- brought to the CNS account, confirmed or not.
   pub pool : (issue : ℕ) → longs_of (history_of c) issue ≡ shorts_of (history_of c) issue + pool_shares c open_lots issue
   pub whole : (issue : ℕ) → pool_shares c open_lots issue + delivered_of (order_book_of c) issue ≡ covered_of (order_book_of c) issue
   pub backed : (issue : ℕ) → delivered_of (order_book_of c) issue + out_of (order_book_of c) issue ≤ moved_in p Cns issue
@@ -78,7 +81,9 @@ pub record Headline (c : List ClearRecord) (open_lots : List Lot) (openings : Li
   pub available : (issue : ℕ) → delivered_of (order_book_of c) issue + out_of (order_book_of c) issue ≤ covered_of (order_book_of c) issue
   pub lent : (issue : ℕ) → lent_of open_lots issue ≤ avail_of (order_book_of c) issue
 
--- the headline of both nodes, where both keepers are honest: where each one's journal reads back what it acknowledged
+-- the headline of both nodes, where both keepers are honest. A keeper is what keeps a node's journal; it is honest where each reading that succeeds gives the records
+-- that it acknowledged, in their order, and then at most the undecided one (`ReadingLeaves`). This is assumed, and no event changes it; `Occurs` promises the
+-- headline after each event
 abbrev pub IsAgreed : World → Type 0
 IsAgreed w =
     w.clear.clear.log.honest ≡ true → w.depot.log.honest ≡ true
@@ -94,8 +99,8 @@ IsBalanced w =
     (longs_of (history_of c) issue + delivered_of (order_book_of c) issue ≡ shorts_of (history_of c) issue + covered_of (order_book_of c) issue)
     × (pool_shares c w.clear.clear.lots issue + delivered_of (order_book_of c) issue ≡ covered_of (order_book_of c) issue)
 
--- each allocation that the clearing node has, also one whose commit failed, closed a lot that was as the records before it have it, by
--- tickets that serve its plan, where its keeper is honest; and while it is up no record of it is undecided. Each event keeps this; of
--- the records with which a node is opened it is not tested
+-- where the clearing node's keeper is honest: each allocation that it has closed a lot that was as the records before it have it, by tickets that serve its plan, and
+-- so does the undecided one, should it come back; and while the node is up no record is undecided. Each event keeps this; at an opening it is not tested of the
+-- records that are read
 abbrev pub AreStrict : World → Type 0
 AreStrict w = w.clear.clear.log.honest ≡ true → IsLawfulLog ClosesLot w.clear.clear.log

@@ -1,6 +1,6 @@
 -- The lots in the order of their numbers, which are counted from 1, and what each call of them comes to (this project's own rules). The first
 -- refusal that applies is told.
-use Rattle.std.specs.Prelude.{◌≡◌, ℕ, ◌-◌, not, false, List, Some, Result, Ok, Err, slice_set}
+use Rattle.std.specs.Prelude.{◌≡◌, ℕ, ◌-◌, not, false, List, map, Some, Result, Ok, Err, slice_set}
 use Rattle.std.specs.Option.{ok_or}
 use Rattle.cns_ids.specs.Steps.{◌>>=◌, ◌>>◌, need}
 use Rattle.cns_wire.specs.Packet.{at_number}
@@ -11,7 +11,7 @@ use Rattle.cns_allocate.specs.declared.turns.Turn.TheVariants as turn
 use Rattle.cns_records.specs.declared.clear_record.ClearRecord.{ClearRecord}
 use Rattle.cns_records.specs.declared.refusal.Refusal.{Refusal}
 use Rattle.cns_records.specs.declared.refusal.Refusal.TheVariants as refusal
-use Rattle.cns_system.specs.Lot.{LotState, IsOfPlan, IsPlanOf, ticket_in, with_ticket}
+use Rattle.cns_system.specs.Lot.{LotState, IsOfPlan, IsPlanOf, ticket_in, with_end, with_ticket}
 
 -- the lots, and for how many more there is room
 pub record LotsRoom : Type 0 where
@@ -38,6 +38,10 @@ HasLot lots number P = (lot : LotState) × (going_lot lots number ≡ Ok lot) ×
 abbrev pub HasNone : List LotState → ℕ → Refusal → Type 0
 HasNone lots number refused = going_lot lots number ≡ Err refused
 
+-- the lots by number once all have ended
+abbrev pub all_ended : List LotState → List LotState
+all_ended lots = map with_end lots
+
 -- the lots with this one in the place of a number
 abbrev pub with_lot : ℕ → LotState → List LotState → List LotState
 with_lot number lot lots = slice_set lots (number - 1) lot
@@ -57,12 +61,12 @@ turn_ticket lot member = do
 abbrev pub ticket_call : ℕ → ℕ → List LotState → Result Ticket Refusal
 ticket_call number member lots = going_lot lots number >>= λ lot. turn_ticket lot member
 
--- a member draws it, of a lot and of the lot of a number
+-- a member draws it, of a lot, and of the lot of a number
 abbrev pub draw_call : ℕ → LotState → Result (Ticket × LotState) Refusal
 draw_call member lot = turn_ticket lot member >>= λ ticket. Ok (ticket, with_ticket ticket lot)
 
 abbrev pub reserve_call : ℕ → ℕ → List LotState → Result (Ticket × List LotState) Refusal
 reserve_call number member lots = do
   lot ← going_lot lots number
-  ticket ← turn_ticket lot member
-  Ok (ticket, with_lot number (with_ticket ticket lot) lots)
+  drawn ← draw_call member lot
+  Ok (drawn.0, with_lot number drawn.1 lots)

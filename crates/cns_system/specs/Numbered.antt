@@ -10,7 +10,7 @@ use Rattle.cns_records.specs.declared.clear_record.ClearRecord.{ClearRecord}
 use Rattle.cns_records.specs.declared.refusal.Refusal.{Refusal}
 use Rattle.cns_records.specs.declared.refusal.Refusal.TheVariants as refusal
 use Rattle.cns_clearing.specs.Answers.{close_call, need_up, open_call, pour_call}
-use Rattle.cns_clearing.specs.Lots.{avail_in}
+use Rattle.cns_clearing.specs.Lots.{new_lot}
 use Rattle.cns_clearing.specs.Node.{ClearNode}
 use Rattle.cns_clearing.specs.Node as node
 use Rattle.cns_clearing.specs.Pools.{lent_of, lot_of}
@@ -44,13 +44,13 @@ unfoldable pub numbered_open : ℕ → Bool → List ClearRecord → List Lot �
 numbered_open issue down c open_lots lots = do
   opened ← open_call issue down c open_lots
   need (nat_lt (length lots) 1000000) refusal.LotsSpent
-  Ok (record { number = length lots + 1; poured = avail_in c issue; plan = opened.0 }, (opened.1, lots ++ numbered_lot issue opened.0 ∷ []))
+  Ok (record { number = length lots + 1; poured = (new_lot c issue).poured; plan = opened.0 }, (opened.1, lots ++ numbered_lot issue opened.0 ∷ []))
 
 -- the node with these open lots, and these lots by number
 abbrev pub having_lots : List Lot × List LotState → NumberedNode → NumberedNode
 having_lots both n = record { clear = record n.clear { lots = both.0 }; lots = both.1 }
 
--- so it is, and this node is left
+-- so a lot is opened of a node with its lots by number
 abbrev pub opening_call : ℕ → NumberedNode → Result (Opened × NumberedNode) Refusal
 opening_call issue n = numbered_open issue n.clear.log.down n.clear.log.records n.clear.lots n.lots >>= λ opened. Ok (opened.0, having_lots opened.1 n)
 

@@ -1,4 +1,4 @@
--- Both nodes and the link as events change them: all that contracts see of them, except what they tell of the keepers' devices.
+-- Both nodes and the link as events change them: what contracts see of them, with packets as what they spell, and without what is said of the keepers.
 use Rattle.std.specs.Prelude.{List, map, Option}
 use Rattle.cns_journal.specs.RecordLog.{LogShown, log_shown, with_added, with_undecided}
 use Rattle.cns_trades.specs.declared.opening.Opening.{Opening}
@@ -12,8 +12,8 @@ use Rattle.cns_system.specs.Lot.{LotState}
 use Rattle.cns_system.specs.World.{World, order_spelt, reply_spelt}
 
 -- the clearing node's log, its open lots by issue, and all lots in the order of their numbers; the depository's openings, and its log; and the packets
--- that were put on the link of orders and on that of replies, the oldest first, each as what it spells (`None` for a packet that is no frame: no event
--- puts such a one there). A packet is never taken off the link: it may arrive never, once or often, and in any order
+-- that were put on the link of orders and on that of replies, the oldest first, each as what it spells (`None` for a packet that is no frame of an order on
+-- the one link, of a reply on the other: no event puts such a one there). A packet is never taken off the link: it may arrive never, once or often, and in any order
 pub record Shown : Type 0 where
   pub clear : LogShown ClearRecord
   pub open_lots : List Lot

@@ -115,7 +115,7 @@ pub struct Begun {
     pub lot: u64,
     /// The shares that were poured into it as it was opened.
     pub poured: u64,
-    /// The members that it serves, who are the longs of its issue.
+    /// The members that it serves: the longs of its issue that are still to receive shares.
     pub plan: Plan,
     /// Its cell.
     pub cell: Arc<PoolCell>,

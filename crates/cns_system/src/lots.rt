@@ -1,8 +1,8 @@
-ghost use Rattle.std.specs.Prelude.{◌≡◌, ◌↔◌, ◌⊎◌, ◌-◌, ◌^◌, ◌<◌, ◌≤◌, true, [], ◌∷◌, ◌++◌, length, map, IfOk, MatchResult, OnErr, OnOk, IsTrue};
+ghost use Rattle.std.specs.Prelude.{◌≡◌, ◌↔◌, ◌⊎◌, ◌-◌, ◌^◌, ◌<◌, ◌≤◌, true, [], ◌∷◌, ◌++◌, length, IfOk, MatchResult, OnErr, OnOk, IsTrue};
 ghost use Rattle.cns_pool.specs.Pool.{asked_sum};
 ghost use Rattle.cns_system.specs.Lot.{numbered_lot, planned_sum, with_end, with_seal};
 ghost use Rattle.cns_records.specs.Call.{Changes};
-ghost use Rattle.cns_system.specs.Lots.{HasLot, HasNone, change_call, reserve_call, ticket_call};
+ghost use Rattle.cns_system.specs.Lots.{HasLot, HasNone, all_ended, change_call, reserve_call, ticket_call};
 
 use crate::entry::LotEntry;
 use cns_allocate::{Plan, Planned};
@@ -135,7 +135,7 @@ impl LotBook {
 
     /// Ends each lot.
     pub fn end_all(&mut self)
-        ensures { self.new.lots ≡ map with_end self.old.lots }
+        ensures { self.new.lots ≡ all_ended self.old.lots }
     {
         let alloc = self.allocator();
         end_each(alloc, &mut self.lots);
@@ -216,7 +216,7 @@ impl LotBook {
 
 // Ends each of these lots.
 fn end_each(alloc: Global, lots: &mut Vec<LotEntry>)
-    ensures { lots.new.items ≡ map with_end lots.old.items }
+    ensures { lots.new.items ≡ all_ended lots.old.items }
 {
     for index in 0..lots.len() {
         let one = &mut lots[index];

@@ -1,4 +1,4 @@
-ghost use Rattle.std.specs.Prelude.{◌≡◌, ◌^◌, ◌≤◌, [], length, map, IfOk};
+ghost use Rattle.std.specs.Prelude.{◌≡◌, ◌^◌, ◌≤◌, [], length, IfOk};
 ghost use Rattle.cns_records.specs.Call.{CallLeaves, Changes, Grows};
 ghost use Rattle.cns_records.specs.Refusals.{commit_refusal};
 ghost use Rattle.cns_records.specs.declared.clear_record.ClearRecord.TheVariants.{Exempt, Priority};
@@ -7,8 +7,8 @@ ghost use Rattle.cns_allocate.specs.Plan.{IsPlan};
 ghost use Rattle.cns_clearing.specs.Lots.{plan_in};
 ghost use Rattle.cns_clearing.specs.Node.{NodePlanned, RestartLeaves};
 ghost use Rattle.cns_clearing.specs.Pools.{lent_of};
-ghost use Rattle.cns_system.specs.Lot.{planned_sum, with_end, with_seal};
-ghost use Rattle.cns_system.specs.Lots.{change_call, reserve_call};
+ghost use Rattle.cns_system.specs.Lot.{planned_sum, with_seal};
+ghost use Rattle.cns_system.specs.Lots.{all_ended, change_call, reserve_call};
 ghost use Rattle.cns_system.specs.Numbered.{AreTied, IsNumberedCommit, look_call, numbered_close, with_lot_ended, opening_call, numbered_pour};
 ghost use Rattle.cns_system.specs.Readers.{unconfirmed};
 
@@ -225,7 +225,7 @@ impl<K: Keeper> NumberedClearing<K> {
     /// Restarts the node as it does itself. All lots end, also where the restart is refused.
     pub fn restart(&mut self) -> Result<Restarted, ReplayFault>
         ensures clear { RestartLeaves result self.old.clear self.new.clear }
-        ensures lots { self.new.lots ≡ map with_end self.old.lots }
+        ensures lots { self.new.lots ≡ all_ended self.old.lots }
     {
         self.lots.end_all();
         self.node.restart()
