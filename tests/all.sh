@@ -99,11 +99,19 @@ lines_of() {
     ((count <= most)) || printf '(%d more)\n' "$((count - most))"
 }
 
-# say_end: the times, what failed, the last line and the exit status.
+# processor_seconds FILE: the sum of what `times` wrote there: of the shell and of all that it waited for, user and system.
+processor_seconds() {
+    awk '{gsub(/[ms]/, " "); all += 60 * $1 + $2 + 60 * $3 + $4} END {printf "%d\n", all}' "$1"
+}
+
+# say_end: the times, those of all parts and of the processors together, what failed, the last line and the exit status.
 say_end() {
     local i
     printf '== seconds\n'
     ((${#times[@]} == 0)) || printf '%s\n' "${times[@]}"
+    # (not in a substitution, where `times` would tell of that shell alone)
+    times >"$work/times"
+    printf '%7d  %s\n' "$SECONDS" 'all together' "$(processor_seconds "$work/times")" "of a processor, of which there are $(nproc)"
     if ((${#failures[@]} > 0)); then
         printf '== failed\n'
         for ((i = 0; i < ${#failures[@]}; i++)); do

@@ -121,6 +121,18 @@ for name in "${stubs[@]#*|}" "${of_program[@]}"; do
     fi
 done
 
+# The times of the whole run, and of a processor in it: a part that keeps one busy is counted.
+fresh
+stub tests/check_book.py "for ((i = 0; i < 300000; i++)); do :; done; echo '1 passed, 0 failed'"
+expect 'a part that takes its time' '33 passed, 0 failed'
+sed '1,/^== seconds$/d' "$work/said" >"$work/times"
+if grep -q -E '^ +[0-9]+  all together$' "$work/times" && grep -q -E "^ +[1-9][0-9]*  of a processor, of which there are $(nproc)\$" "$work/times"; then
+    passed=$((passed + 1))
+else
+    wrong=$((wrong + 1))
+    printf 'WRONG a part that takes its time: no time of all, or none of a processor\n'
+fi
+
 # The folders of cases.
 fresh
 rm "$tree"/examples/*
