@@ -43,7 +43,6 @@ use Rattle.cns_system.specs.Lots.{change_call, draw_call, going_lot, turn_ticket
 use Rattle.cns_system.specs.Numbered.{AreTied, IsNumberedCommit, NumberedNode, having_lots, numbered_close, with_lot_ended, numbered_open, opening_call, numbered_pour}
 use Rattle.cns_system.proofs.LotsLemmas.{IsGoing, going_parts, ok_drawn}
 use Rattle.cns_system.proofs.RecordedLemmas.{IsCloseOf, IsMet, Recorded, close_record, is_met}
-use Rattle.cns_system.proofs.StepLemmas.{ok_then}
 use Rattle.cns_system.proofs.TiedLemmas.{ended_lots, found_poured, found_without, poured_keeps, tied_changed, tied_more}
 
 -- ---- changes of the lots by number alone
