@@ -562,7 +562,8 @@ impl<K: Keeper> Clearing<K> {
         requires up { self.old.log.down ≡ false }
         requires later { is_later (latest_of self.old.log.records) id.now ≡ true }
         requires quiet { self.old.lots ≡ [] }
-        ensures { NodeLeaves (cycle_call id.now self.old.log.down self.old.log.records self.old.lots) (Err result) self.old self.new }
+        ensures refusal { NodeLeaves (cycle_call id.now self.old.log.down self.old.log.records self.old.lots) (Err result) self.old self.new }
+        ensures same { self.new ≡ self.old }
     {
         let count = self.books.cover_count(id.day);
         if self.books.are_spent(count) {

@@ -20,7 +20,7 @@ returns-then-not-is_empty g c = cycle_beside_lots _ _ (search rules) (search rul
 pub returns-in_default : goal.returns-in_default
 returns-in_default g c =
     let refused = λ (n : ClearNode). NodeLeaves (cycle_call c.args.id n.log.down n.log.records n.lots) (Err c.refusal_without_memory.result) n c.refusal_without_memory.new.self in
-    subst refused (search rules) c.refusal_without_memory.ensures
+    subst refused (search rules) c.refusal_without_memory.ensures.refusal
 
 pub returns-then-are_spent : goal.returns-then-are_spent
 returns-then-are_spent g c = cycle_spent _ _ _ (search rules) (search rules) (search rules) (search rules) (search rules)
